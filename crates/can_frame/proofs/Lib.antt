@@ -1,0 +1,4 @@
+pub mod Cutting
+pub mod Long
+pub mod Numbers
+pub mod Shifts

@@ -1,0 +1,30 @@
+//! Frames of the bus, and the words that every crate above speaks in.
+//!
+//! A frame has a 29-bit identifier ([`Ident`]) and 1 to 8 bytes, of which the last is the tail
+//! ([`Tail`]). Identifiers and tails are field tables (`specs/Identifier.antt`, `specs/Tail.antt`),
+//! read and written here, both ways. A transfer is a payload cut into frames (`specs/Cutting.antt`):
+//! what is sent is such a cutting, and what is received is the payload of which the frames are one.
+//! Its CRC is the remainder of a division of polynomials (`specs/TransferCrc.antt`). `specs/Log.antt`
+//! has entries and logs, which give node IDs to unique IDs.
+//!
+//! The rules are those of the UAVCAN v0 specification, "CAN bus transport layer".
+#![tactic(auto)]
+
+mod entry;
+mod frame;
+mod identifier;
+pub mod laws;
+mod mark;
+mod node_id;
+mod step;
+mod tail;
+mod transfer_crc;
+
+pub use entry::{Entry, Uid, is_zero};
+pub use frame::{BadFrame, Frame};
+pub use identifier::{Ident, Kind};
+pub use mark::Mark;
+pub use node_id::NodeId;
+pub use step::{Judged, Role, Seen, Sent, What, Why};
+pub use tail::Tail;
+pub use transfer_crc::crc;

@@ -1,0 +1,58 @@
+ghost use Rattle.std.specs.Prelude.{◌≡◌, ◌<◌, ◌^◌};
+ghost use Rattle.can_frame.specs.TransferCrc.{bits_of, message_bits, transfer_crc};
+ghost use Rattle.can_frame.specs.Register.{shift, run};
+
+/// The CRC of a payload under the signature of its data type: CRC-16/CCITT-FALSE over the eight bytes
+/// of the signature, low byte first, and the payload.
+pub fn crc(signature: u64, payload: &[u8]) -> u16
+    ensures { result ≡ transfer_crc signature payload.now }
+{
+    let register = take_bytes(0xffff, &signature.to_le_bytes());
+    take_bytes(register, payload)
+}
+
+fn take_bytes(register: u16, bytes: &[u8]) -> u16
+    ensures { bits_of 16 result ≡ run (bits_of 16 register) (message_bits bytes.now) }
+{
+    let mut register = register;
+    for byte in bytes {
+        register = take_byte(register, *byte);
+    }
+    register
+}
+
+fn take_byte(register: u16, byte: u8) -> u16
+    ensures { bits_of 16 result ≡ run (bits_of 16 register) (bits_of 8 byte) }
+{
+    let register = take_bit(register, byte / 128 % 2 == 1);
+    let register = take_bit(register, byte / 64 % 2 == 1);
+    let register = take_bit(register, byte / 32 % 2 == 1);
+    let register = take_bit(register, byte / 16 % 2 == 1);
+    let register = take_bit(register, byte / 8 % 2 == 1);
+    let register = take_bit(register, byte / 4 % 2 == 1);
+    let register = take_bit(register, byte / 2 % 2 == 1);
+    take_bit(register, byte % 2 == 1)
+}
+
+fn take_bit(register: u16, bit: bool) -> u16
+    ensures { bits_of 16 result ≡ shift (bits_of 16 register) bit }
+{
+    let top = register / 32768 == 1;
+    let moved = register % 32768 * 2;
+    if top != bit { moved ^ 0x1021 } else { moved }
+}
+
+#[cfg(test)]
+mod tests {
+    use super::*;
+
+    const ALLOCATION: u64 = 0x0b2a_8126_20a1_1d40;
+
+    #[test]
+    fn published_values(rt: HostRuntime) {
+        assert_eq!(rt; take_bytes(0xffff, b"123456789"), 0x29b1);
+        assert_eq!(rt; crc(ALLOCATION, &[]), 0xf258);
+        let payload = [0, 0, 1, 2, 3, 4, 5, 6, 7, 8, 9, 10, 11];
+        assert_eq!(rt; crc(ALLOCATION, &payload), 0x5d58);
+    }
+}

@@ -1,0 +1,179 @@
+ghost use Rattle.std.specs.Prelude.{◌≡◌, ◌↔◌, ℕ, ◌+◌, ◌≤◌, ◌<◌, ◌⊎◌, length, List, [], Option, Some, None, IfOk, IsErr, vec_len, vec_capacity};
+ghost use Rattle.std.specs.Io.{WritesAtMost};
+ghost use Rattle.std.specs.Io.KnownBytes.{WriteAppends};
+ghost use Rattle.outside.specs.Faults.{HasWriteCause};
+ghost use Rattle.outside.specs.Contents.{TellsAsBefore, one_more, MemoryOutput};
+
+use crate::Failed;
+use std::alloc::{AllocError, Global};
+use std::io::Write;
+use std::marker::Model;
+
+/// Where bytes go.
+pub trait Sink {
+    /// The bytes written, where the sink tells them.
+    ghost written: { Self → Option (List ℕ) };
+
+    /// How many of its calls failed, or took nothing of a piece that was not empty.
+    ghost faults: { Self → ℕ };
+
+    /// Takes leading bytes of the piece, and answers how many. Nothing, of a piece that is not empty,
+    /// is a fault of the sink, and is counted.
+    fn write(&mut self, piece: &[u8]) -> Result<usize, Failed>
+        ensures bound { WritesAtMost result piece.now }
+        ensures bytes { WriteAppends (written self.old) (written self.new) result piece.now }
+        ensures tells { TellsAsBefore (written self.old) (written self.new) }
+        ensures cause { HasWriteCause (faults self.old) (faults self.new) piece.now result };
+}
+
+/// Keeps what is written, up to its capacity. One write can be made to fail and one to take nothing,
+/// for tests.
+#[derive(Drop)]
+pub struct MemorySink {
+    bytes: Vec<u8>,
+    capacity: usize,
+    fail_at: Option<u64>,
+    zero_at: Option<u64>,
+    calls: u64,
+    faults: u64,
+}
+
+impl Model for MemorySink {
+    ghost Value = { MemoryOutput };
+
+    ghost view = { λ s. record { written = s.bytes.items; capacity = s.capacity; fail_at = s.fail_at; zero_at = s.zero_at; calls = s.calls; faults = s.faults } };
+
+    ghost invariant = { λ s. (vec_len s.bytes ≤ s.capacity) × (s.capacity ≤ vec_capacity s.bytes) };
+}
+
+impl MemorySink {
+    /// An empty sink for `capacity` bytes; it takes its memory here, once. Writes are numbered from 1:
+    /// the one with the number `fail_at` fails, and the one with the number `zero_at`, if it is
+    /// another, takes nothing. A write that does not fit fails too.
+    pub fn new(
+        alloc: Global,
+        capacity: usize,
+        fail_at: Option<u64>,
+        zero_at: Option<u64>,
+    ) -> Result<MemorySink, AllocError>
+        ensures { IfOk result (λ sink. sink ≡ record { written = []; capacity = capacity; fail_at = fail_at; zero_at = zero_at; calls = 0; faults = 0 }) }
+    {
+        Ok(MemorySink {
+            bytes: Vec::with_capacity(alloc, capacity)?,
+            capacity,
+            fail_at,
+            zero_at,
+            calls: 0,
+            faults: 0,
+        })
+    }
+
+    /// What was written so far.
+    pub fn written(&self) -> &[u8]
+        ensures { result.now ≡ self.now.written }
+    {
+        &self.bytes
+    }
+}
+
+impl Sink for MemorySink {
+    ghost written = { λ s. Some s.written };
+
+    ghost faults = { λ s. s.faults };
+
+    fn write(&mut self, piece: &[u8]) -> Result<usize, Failed>
+        ensures bound { WritesAtMost result piece.now }
+        ensures bytes { WriteAppends (Some self.old.written) (Some self.new.written) result piece.now }
+        ensures tells { TellsAsBefore (Some self.old.written) (Some self.new.written) }
+        ensures cause { HasWriteCause self.old.faults self.new.faults piece.now result }
+        ensures calls { self.new.calls ≡ one_more self.old.calls }
+        ensures takes_nothing { self.old.zero_at ≡ Some self.new.calls → IfOk result (λ count. count ≡ 0) }
+        ensures takes_all { IfOk result (λ count. (self.old.zero_at ≡ Some self.new.calls) ⊎ (count ≡ length piece.now)) }
+        ensures fails_at { self.old.fail_at ≡ Some self.new.calls → IsErr result }
+        ensures fails { IsErr result → (self.old.fail_at ≡ Some self.new.calls) ⊎ (self.old.capacity < length self.old.written + length piece.now) }
+    {
+        self.calls = self.calls.saturating_add(1);
+        if self.fail_at == Some(self.calls) {
+            self.faults = self.faults.saturating_add(1);
+            return Err(Failed);
+        }
+        if self.zero_at == Some(self.calls) {
+            self.faults = self.faults.saturating_add(1);
+            return Ok(0);
+        }
+        if piece.len() > self.capacity - self.bytes.len() {
+            self.faults = self.faults.saturating_add(1);
+            return Err(Failed);
+        }
+        match self.bytes.extend_from_slice(piece) {
+            Ok(()) => Ok(piece.len()),
+            Err(_) => unreachable!(),
+        }
+    }
+}
+
+/// A std writer, with a count of its faults. It tells no contents.
+#[derive(Drop)]
+pub struct StdSink<W> {
+    writer: W,
+    faults: u64,
+}
+
+impl<W: Write> StdSink<W> {
+    pub fn new(writer: W) -> StdSink<W> {
+        StdSink { writer, faults: 0 }
+    }
+}
+
+impl<W: Write> Sink for StdSink<W> {
+    ghost written = { λ _. None };
+
+    ghost faults = { λ s. s.faults };
+
+    fn write(&mut self, piece: &[u8]) -> Result<usize, Failed> {
+        match self.writer.write(piece) {
+            Ok(count) => {
+                if count == 0 && !piece.is_empty() {
+                    self.faults = self.faults.saturating_add(1);
+                }
+                Ok(count)
+            }
+            Err(_) => {
+                self.faults = self.faults.saturating_add(1);
+                Err(Failed)
+            }
+        }
+    }
+}
+
+#[cfg(test)]
+mod tests {
+    use super::*;
+    use std::test::Fail;
+
+    #[test]
+    fn a_sink_in_memory_fails_and_takes_nothing_as_told(rt: HostRuntime) -> Result<(), Fail> {
+        let mut sink = MemorySink::new(rt.alloc(), 4, Some(2), Some(3))?;
+        assert_eq!(rt; sink.write(b"ab"), Ok(2));
+        assert_eq!(rt; sink.write(b"cd"), Err(Failed));
+        assert_eq!(rt; sink.write(b"cd"), Ok(0));
+        assert_eq!(rt; sink.write(b"cde"), Err(Failed));
+        assert_eq!(rt; sink.write(b"cd"), Ok(2));
+        assert_eq!(rt; sink.written(), b"abcd".as_slice());
+        Ok(())
+    }
+
+    #[test]
+    fn a_sink_without_capacity_takes_no_byte(rt: HostRuntime) -> Result<(), Fail> {
+        let mut sink = MemorySink::new(rt.alloc(), 0, None, None)?;
+        assert_eq!(rt; sink.write(b"a"), Err(Failed));
+        Ok(())
+    }
+
+    #[test]
+    fn a_std_writer_is_a_sink(rt: HostRuntime) -> Result<(), Fail> {
+        let mut sink = StdSink::new(Vec::new(rt.alloc()));
+        assert_eq!(rt; sink.write(b"xyz"), Ok(3));
+        Ok(())
+    }
+}

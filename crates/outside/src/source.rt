@@ -1,0 +1,143 @@
+ghost use Rattle.std.specs.Prelude.{◌≡◌, ◌↔◌, ℕ, ◌<◌, min, length, List, Option, Some, None, IfOk, IsErr};
+ghost use Rattle.std.specs.Io.{ReadsAtMost};
+ghost use Rattle.std.specs.Io.KnownBytes.{ReadConsumes};
+ghost use Rattle.outside.specs.Faults.{HasCause};
+ghost use Rattle.outside.specs.Contents.{TellsAsBefore, one_more, MemoryInput};
+
+use crate::Failed;
+use std::io::Read;
+use std::marker::Model;
+
+/// Where bytes come from.
+pub trait Source {
+    /// The bytes that are left, where the source tells them.
+    ghost left: { Self → Option (List ℕ) };
+
+    /// How many of its calls failed.
+    ghost faults: { Self → ℕ };
+
+    /// Takes bytes from the front into the start of `buf`, and answers how many: at most as many as
+    /// `buf` has. Nothing, for a buffer that is not empty, is the end of the input.
+    fn read(&mut self, buf: &mut [u8]) -> Result<usize, Failed>
+        ensures bound { ReadsAtMost result buf.new }
+        ensures bytes { ReadConsumes (left self.old) (left self.new) result buf.new }
+        ensures tells { TellsAsBefore (left self.old) (left self.new) }
+        ensures cause { HasCause (faults self.old) (faults self.new) result };
+}
+
+/// The bytes of a slice. One call can be made to fail, for tests.
+#[derive(Drop)]
+pub struct MemorySource<'a> {
+    bytes: &'a [u8],
+    fail_at: Option<u64>,
+    calls: u64,
+    faults: u64,
+}
+
+impl<'a> Model for MemorySource<'a> {
+    ghost Value = { MemoryInput };
+
+    ghost view = { λ s. record { left = s.bytes.now; fail_at = s.fail_at; calls = s.calls; faults = s.faults } };
+
+    ghost invariant = { λ s. length s.bytes.now < 18446744073709551616 };
+}
+
+impl<'a> MemorySource<'a> {
+    /// A source of these bytes. The call of `read` with the number `fail_at`, counted from 1, fails.
+    pub fn new(bytes: &'a [u8], fail_at: Option<u64>) -> MemorySource<'a>
+        ensures { result ≡ record { left = bytes.entry.now; fail_at = fail_at; calls = 0; faults = 0 } }
+    {
+        MemorySource {
+            bytes,
+            fail_at,
+            calls: 0,
+            faults: 0,
+        }
+    }
+}
+
+impl Source for MemorySource<'_> {
+    ghost left = { λ s. Some s.left };
+
+    ghost faults = { λ s. s.faults };
+
+    fn read(&mut self, buf: &mut [u8]) -> Result<usize, Failed>
+        ensures bound { ReadsAtMost result buf.new }
+        ensures bytes { ReadConsumes (Some self.old.left) (Some self.new.left) result buf.new }
+        ensures tells { TellsAsBefore (Some self.old.left) (Some self.new.left) }
+        ensures cause { HasCause self.old.faults self.new.faults result }
+        ensures calls { self.new.calls ≡ one_more self.old.calls }
+        ensures fails { IsErr result ↔ (self.old.fail_at ≡ Some self.new.calls) }
+        ensures count { IfOk result (λ count. count ≡ min (length self.old.left) (length buf.old)) }
+    {
+        self.calls = self.calls.saturating_add(1);
+        if self.fail_at == Some(self.calls) {
+            self.faults = self.faults.saturating_add(1);
+            return Err(Failed);
+        }
+        let count = self.bytes.len().min(buf.len());
+        let (front, rest) = self.bytes.split_at(count);
+        buf[..count].copy_from_slice(front);
+        self.bytes = rest;
+        Ok(count)
+    }
+}
+
+/// A std reader, with a count of its faults. It tells no contents.
+#[derive(Drop)]
+pub struct StdSource<R> {
+    reader: R,
+    faults: u64,
+}
+
+impl<R: Read> StdSource<R> {
+    pub fn new(reader: R) -> StdSource<R> {
+        StdSource { reader, faults: 0 }
+    }
+}
+
+impl<R: Read> Source for StdSource<R> {
+    ghost left = { λ _. None };
+
+    ghost faults = { λ s. s.faults };
+
+    fn read(&mut self, buf: &mut [u8]) -> Result<usize, Failed> {
+        match self.reader.read(buf) {
+            Ok(count) => Ok(count),
+            Err(_) => {
+                self.faults = self.faults.saturating_add(1);
+                Err(Failed)
+            }
+        }
+    }
+}
+
+#[cfg(test)]
+mod tests {
+    use super::*;
+    use std::test::Fail;
+
+    #[test]
+    fn a_source_in_memory_fails_once(rt: HostRuntime) -> Result<(), Fail> {
+        let mut source = MemorySource::new(b"abcde", Some(2));
+        let mut buf = [0; 3];
+        assert_eq!(rt; source.read(&mut buf), Ok(3));
+        assert_eq!(rt; buf, *b"abc");
+        assert_eq!(rt; source.read(&mut buf), Err(Failed));
+        assert_eq!(rt; source.read(&mut buf), Ok(2));
+        assert_eq!(rt; buf, *b"dec");
+        assert_eq!(rt; source.read(&mut buf), Ok(0));
+        Ok(())
+    }
+
+    #[test]
+    fn a_std_reader_is_a_source(rt: HostRuntime) -> Result<(), Fail> {
+        let mut source = StdSource::new(b"xyz".as_slice());
+        let mut buf = [0; 2];
+        assert_eq!(rt; source.read(&mut buf), Ok(2));
+        assert_eq!(rt; buf, *b"xy");
+        assert_eq!(rt; source.read(&mut buf), Ok(1));
+        assert_eq!(rt; source.read(&mut buf), Ok(0));
+        Ok(())
+    }
+}
