@@ -42,9 +42,13 @@ next_out frames = find (is_least frames) frames
 unfoldable pub left_behind : List Queued → List Queued
 left_behind frames = remove frames (position_or_len (is_least frames) frames)
 
+-- what is read past the end
+abbrev pub blank : Queued
+blank = record { id = 0; bytes = []; mark = record { step = 0; re = 0; place = 0 } }
+
 -- the identifier of the frame at a place
 abbrev pub id_at : List Queued → ℕ → ℕ
-id_at frames place = (slice_index_or frames place (record { id = 0; bytes = []; mark = record { step = 0; re = 0; place = 0 } })).id
+id_at frames place = (slice_index_or frames place blank).id
 
 -- the frame at this place goes out next: none has a lower identifier, and each before it has a higher one
 pub record GoesNext (frames : List Queued) (place : ℕ) : Type 0 where
