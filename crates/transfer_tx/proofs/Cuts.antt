@@ -1,10 +1,9 @@
 -- The frames of a transfer, one after the other.
-use Rattle.std.proofs.Common.{◌≡◌, ℕ, zero, suc, ◌+◌, ◌-◌, ◌*◌, ◌/◌, ◌≤◌, ◌<◌, true, false, List, [], ◌∷◌, ◌++◌, length, take, drop, get_or, map, refl, ap, ◌∙◌, arith, nat_le, nat_eq, inl, inr, length-append, length-drop, append_assoc, add-one, eq-eqb}
+use Rattle.std.proofs.Common.{◌≡◌, ℕ, zero, suc, ◌+◌, ◌-◌, ◌/◌, ◌≤◌, ◌<◌, true, false, List, [], ◌∷◌, ◌++◌, length, take, drop, get_or, map, refl, ap, ◌∙◌, arith, nat_le, nat_eq, inl, inr, length-append, length-drop, append_assoc, add-one, eq-eqb}
 use Rattle.std.proofs.lemmas.Bool.{le-leb, lt-leb}
 use Rattle.std.proofs.lemmas.List.{map-append}
-use Rattle.std.proofs.lemmas.Bool.Decides.{leb_tells, eqb_tells}
-use Rattle.std.specs.Prelude.{filter}
-use Rattle.can_frame.specs.Cutting.{Piece, bytes_cut, crc_bytes, cut, frame_bytes, frames_of, tail_at}
+use Rattle.std.proofs.lemmas.Bool.Decides.{leb_tells}
+use Rattle.can_frame.specs.Cutting.{Piece, bytes_cut, cut, frame_bytes, frames_of, tail_at}
 use Rattle.can_frame.specs.Identifier.{identifier_number}
 use Rattle.transfer_tx.specs.declared.marked.Marked.{Marked}
 use Rattle.transfer_tx.specs.declared.outgoing.Outgoing.{Outgoing}
@@ -54,7 +53,7 @@ pub queued_frames-by_place : (what : Outgoing) (step re k : ℕ) (d : Queued) (e
     get_or (queued_frames what step re) k d ≡ record {
       id = identifier_number what.ident;
       bytes = frame_bytes (get_or (frames_of what.signature what.id what.payload.items) k e);
-      mark = record { step = step; re = re; place = k }
+      mark = record { step = step; re = re; place = k };
     }
 unfolding queued_frames
 queued_frames-by_place what step re k d e h =

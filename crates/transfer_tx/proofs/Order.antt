@@ -1,5 +1,5 @@
 -- Which frame goes out next, and that those of one identifier stay in order.
-use Rattle.std.proofs.Common.{◌≡◌, ◌≢◌, ℕ, zero, suc, ◌+◌, ◌≤◌, ◌<◌, true, false, Bool, List, [], ◌∷◌, ◌++◌, length, map, take, drop, get_or, refl, ap, sym, ◌∙◌, arith, nat_le, nat_eq, inl, inr, append_assoc, append-nil, cond, below_more, subst}
+use Rattle.std.proofs.Common.{◌≡◌, ◌≢◌, ℕ, suc, ◌+◌, ◌≤◌, ◌<◌, true, false, Bool, List, [], ◌∷◌, ◌++◌, length, map, take, drop, get_or, refl, ap, sym, ◌∙◌, arith, nat_le, nat_eq, inl, inr, append_assoc, append-nil, cond, below_more, subst}
 use Rattle.std.specs.Prelude.{Option, None, Some, find, remove, option_to_list, slice_get}
 use Rattle.std.specs.List.{list_all, position_or_len}
 use Rattle.std.proofs.lemmas.Bool.{cases_Bool, le-leb, lt-leb}
@@ -115,9 +115,9 @@ taken_out p id same [] = refl
 taken_out p id same (x ∷ xs) = elim (cases_Bool (p x)) [
   | inl t ↦ let t' : p x ≡ true = t in rw t' refl
   | inr f ↦
-    let f' : p x ≡ false = f in
-    let e : 1 + position_or_len p xs ≡ suc (position_or_len p xs) = omega arith in
-    rw (f', e) (one_found p id x xs (remove xs (position_or_len p xs)) (find p xs) same f (found_passes p xs) (taken_out p id same xs))
+      let f' : p x ≡ false = f in
+      let e : 1 + position_or_len p xs ≡ suc (position_or_len p xs) = omega arith in
+      rw (f', e) (one_found p id x xs (remove xs (position_or_len p xs)) (find p xs) same f (found_passes p xs) (taken_out p id same xs))
 ]
 
 one_pop : (id : ℕ) (frames : List Queued) → of_identifier id (option_to_list (next_out frames) ++ left_behind frames) ≡ of_identifier id frames

@@ -1,5 +1,5 @@
 -- The queue of a sender: the frames that wait, in the order in which they were offered.
-use Rattle.std.specs.Prelude.{◌≡◌, ℕ, suc, ◌+◌, ◌/◌, ◌<◌, ◌≤◌, nat_le, Bool, List, [], ◌∷◌, length, if◌then◌else◌, Option, find, remove, slice_index_or}
+use Rattle.std.specs.Prelude.{ℕ, suc, ◌+◌, ◌/◌, ◌<◌, ◌≤◌, nat_le, Bool, List, [], ◌∷◌, length, if◌then◌else◌, Option, find, remove, slice_index_or}
 use Rattle.std.specs.List.{list_all, position_or_len}
 use Rattle.can_frame.specs.declared.mark.Mark.{Mark}
 use Rattle.can_frame.specs.Cutting.{Piece, frame_bytes, frames_of}

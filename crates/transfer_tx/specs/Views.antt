@@ -1,5 +1,4 @@
 -- What contracts see of a frame and its mark.
-use Rattle.std.specs.Prelude.{List}
 use Rattle.transfer_tx.specs.declared.marked.Marked.{Marked}
 use Rattle.transfer_tx.specs.Queue.{Queued}
 

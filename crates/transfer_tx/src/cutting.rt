@@ -51,7 +51,7 @@ pub(crate) struct Stamp {
     pub step: u64,
     pub re: u64,
     pub ghost narrow: { id < 2 ^ 29 },
-    pub ghost in_turn: { transfer_id < 32 },
+    pub ghost five_bits: { transfer_id < 32 },
 }
 
 impl Stamp {
@@ -78,9 +78,10 @@ impl Stamp {
     fn frame(&self, bytes: &[u8], place: u8, last: bool) -> Marked
         requires { length bytes.now ≤ 7 }
         ensures { queued_of result ≡ record {
-            id = self.now.id;
-            bytes = frame_bytes (record { bytes = bytes.now; tail = tail_at self.now.transfer_id place last });
-            mark = record { step = self.now.step; re = self.now.re; place = place } } }
+          id = self.now.id;
+          bytes = frame_bytes (record { bytes = bytes.now; tail = tail_at self.now.transfer_id place last });
+          mark = record { step = self.now.step; re = self.now.re; place = place };
+        } }
     {
         let tail = Tail {
             start: place == 0,

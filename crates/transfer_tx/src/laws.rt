@@ -13,9 +13,10 @@ pub fn frames_by_place()
     ensures count { (what : Outgoing) (step re : ℕ) → length (queued_frames what step re) ≡ frame_count (length what.payload.items) }
     ensures frame { (what : Outgoing) (step re place : ℕ) (d : Queued) (e : Piece) → place < frame_count (length what.payload.items) →
         slice_index_or (queued_frames what step re) place d ≡ record {
-            id = identifier_number what.ident;
-            bytes = frame_bytes (slice_index_or (frames_of what.signature what.id what.payload.items) place e);
-            mark = record { step = step; re = re; place = place } } }
+          id = identifier_number what.ident;
+          bytes = frame_bytes (slice_index_or (frames_of what.signature what.id what.payload.items) place e);
+          mark = record { step = step; re = re; place = place };
+        } }
 {}
 
 /// What goes out next is the frame than which none has a lower identifier and none before it the

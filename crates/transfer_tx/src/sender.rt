@@ -1,4 +1,4 @@
-ghost use Rattle.std.specs.Prelude.{◌≡◌, ◌↔◌, ◌+◌, ◌<◌, ◌≤◌, [], ◌++◌, length, IsErr, IsNone, OnErr, OnOk, map, option_map};
+ghost use Rattle.std.specs.Prelude.{◌≡◌, ◌↔◌, ◌+◌, ◌<◌, ◌≤◌, [], ◌++◌, length, IfOk, IsErr, IsNone, OnErr, OnOk, map, option_map, option_to_list};
 ghost use Rattle.can_frame.specs.Identifier.{IsIdentifier};
 ghost use Rattle.transfer_tx.specs.Queue.{GoesNext, frame_count, left_behind, next_out, queued_frames};
 ghost use Rattle.transfer_tx.specs.Views.{queued_of};
@@ -33,7 +33,7 @@ impl<const Q: usize> Model for Sender<Q> {
 }
 
 impl<const Q: usize> Sender<Q> {
-    /// An empty queue.
+    /// An empty queue, of at most 1,024 places.
     pub fn new() -> Sender<Q>
         requires { Q ≤ 1024 }
         ensures { result ≡ [] }
@@ -68,10 +68,11 @@ impl<const Q: usize> Sender<Q> {
         ensures count { OnOk result (length self.new ≡ length self.old + frame_count (length what.now.payload.items)) }
         ensures err { OnErr result (self.new ≡ self.old) }
     {
-        let bytes = bytes_to_cut(what.signature, what.payload.as_slice());
-        if self.frames.remaining_capacity() < frames_needed(what.payload.len()) {
+        let payload = what.payload.as_slice();
+        if self.room() < frames_needed(payload.len()) {
             return Err(NoRoom);
         }
+        let bytes = bytes_to_cut(what.signature, payload);
         let stamp = Stamp {
             id: what.ident.write(),
             transfer_id: what.id,
@@ -88,6 +89,7 @@ impl<const Q: usize> Sender<Q> {
         ensures next { option_map queued_of result ≡ next_out self.old }
         ensures rest { self.new ≡ left_behind self.old }
         ensures none { IsNone result ↔ (self.old ≡ []) }
+        ensures count { length self.new + length (option_to_list result) ≡ length self.old }
     {
         if self.frames.is_empty() {
             return None;
@@ -109,4 +111,71 @@ fn next_place(frames: &[Marked]) -> usize
         }
     }
     least
+}
+
+#[cfg(test)]
+mod tests {
+    use super::*;
+    use can_frame::{Ident, Kind, Mark};
+    use std::test::Fail;
+
+    /// A broadcast of node 1 with priority 30 and transfer ID 1.
+    fn broadcast(number: u16, signature: u64, bytes: &[u8]) -> Result<Outgoing, Fail>
+        ensures { IfOk result (λ what. IsIdentifier what.ident × (what.id < 32)) }
+    {
+        let mut payload = ArrayVec::new();
+        payload
+            .try_extend_from_slice(bytes)
+            .map_err(|_| "too long")?;
+        Ok(Outgoing {
+            ident: Ident {
+                priority: 30,
+                kind: Kind::Message,
+                number,
+                source: 1,
+                dest: 0,
+                discriminator: 0,
+            },
+            signature,
+            id: 1,
+            payload,
+        })
+    }
+
+    #[test]
+    fn the_lower_identifier_overtakes(rt: HostRuntime) -> Result<(), Fail> {
+        let node_status = broadcast(341, 0x0f08_68d0_c1a7_c6f1, &[1, 0, 0, 0, 0x58, 0, 0])?;
+        let payload = [0, 0, 1, 2, 3, 4, 5, 6, 7, 8, 9, 10, 11];
+        let allocation = broadcast(1, 0x0b2a_8126_20a1_1d40, &payload)?;
+        let mut sender = Sender::<32>::new();
+        assert_eq!(rt; sender.offer(&node_status, 7, 0), Ok(()));
+        assert_eq!(rt; sender.offer(&allocation, 8, 5), Ok(()));
+        let rows: [(u32, &[u8], u64, u64, u8); 4] = [
+            (0x1e00_0101, &[0x58, 0x5d, 0, 0, 1, 2, 3, 0x81], 8, 5, 0),
+            (0x1e00_0101, &[4, 5, 6, 7, 8, 9, 10, 0x21], 8, 5, 1),
+            (0x1e00_0101, &[11, 0x41], 8, 5, 2),
+            (0x1e01_5501, &[1, 0, 0, 0, 0x58, 0, 0, 0xc1], 7, 0, 0),
+        ];
+        for (id, bytes, step, re, place) in rows {
+            let out = sender.pop().ok_or("empty")?;
+            assert_eq!(rt; out.frame.id, id);
+            assert_eq!(rt; out.frame.bytes.as_slice(), bytes);
+            assert_eq!(rt; out.mark, Mark { step, re, place });
+        }
+        assert_eq!(rt; sender.pop(), None);
+        Ok(())
+    }
+
+    #[test]
+    fn all_or_nothing(rt: HostRuntime) -> Result<(), Fail> {
+        let one_frame = broadcast(341, 0x0f08_68d0_c1a7_c6f1, &[0; 7])?;
+        let three_frames = broadcast(1, 0x0b2a_8126_20a1_1d40, &[0; 13])?;
+        let mut sender = Sender::<3>::new();
+        assert_eq!(rt; sender.offer(&one_frame, 1, 0), Ok(()));
+        assert_eq!(rt; sender.offer(&three_frames, 1, 0), Err(NoRoom));
+        assert_eq!(rt; sender.room(), 2);
+        sender.clear();
+        assert_eq!(rt; sender.room(), 3);
+        Ok(())
+    }
 }

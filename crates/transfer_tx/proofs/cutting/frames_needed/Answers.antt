@@ -1,4 +1,4 @@
-use Rattle.std.proofs.Common.{ap, sym, ◌∙◌}
+use Rattle.std.proofs.Common.{ap, ◌∙◌}
 use Rattle.transfer_tx.specs.Queue.{frame_count}
 use Rattle.transfer_tx.proofs.Cuts.{count_of_long, count_of_short, length-frames_of}
 use Rattle.transfer_tx.proofs.cutting.frames_needed.Goals as goal

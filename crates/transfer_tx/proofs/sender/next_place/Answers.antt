@@ -10,7 +10,7 @@ loop-place-preserved c =
     let same = ap (λ marked. marked.frame.id) c.index-frames-least.is in
     elim c.if-marked-frames.branch [
       | then-marked-frames w ↦
-        rw w.least-is (record { present = c.loop-place-test.true; least = lower _ c.loop-place.least c.loop-place.place c.loop-place.invariant.least (omega (arith, w.if-marked-frames.true, same)) })
+          rw w.least-is (record { present = c.loop-place-test.true; least = lower _ c.loop-place.least c.loop-place.place c.loop-place.invariant.least (omega (arith, w.if-marked-frames.true, same)) })
       | else-marked-frames w ↦
-        rw w.least-is (record { present = c.loop-place.invariant.present; least = as_low _ c.loop-place.least c.loop-place.place c.loop-place.invariant.least (omega (arith, w.if-marked-frames.false, same)) })
+          rw w.least-is (record { present = c.loop-place.invariant.present; least = as_low _ c.loop-place.least c.loop-place.place c.loop-place.invariant.least (omega (arith, w.if-marked-frames.false, same)) })
     ]
