@@ -1,0 +1,101 @@
+-- The frames of a transfer, one after the other.
+use Rattle.std.proofs.Common.{◌≡◌, ℕ, zero, suc, ◌+◌, ◌-◌, ◌/◌, ◌≤◌, ◌<◌, true, false, List, [], ◌∷◌, ◌++◌, length, take, drop, get_or, map, refl, ap, ◌∙◌, arith, nat_le, nat_eq, inl, inr, length-append, length-drop, append_assoc, add-one, eq-eqb}
+use Rattle.std.proofs.lemmas.Bool.{le-leb, lt-leb}
+use Rattle.std.proofs.lemmas.List.{map-append}
+use Rattle.std.proofs.lemmas.Bool.Decides.{leb_tells}
+use Rattle.can_frame.specs.Cutting.{Piece, bytes_cut, cut, frame_bytes, frames_of, tail_at}
+use Rattle.can_frame.specs.Identifier.{identifier_number}
+use Rattle.transfer_tx.specs.declared.marked.Marked.{Marked}
+use Rattle.transfer_tx.specs.declared.outgoing.Outgoing.{Outgoing}
+use Rattle.transfer_tx.specs.Queue.{Queued, frame_count, marked, queued_frames}
+use Rattle.transfer_tx.specs.Run.{of_identifier}
+use Rattle.transfer_tx.specs.Views.{queued_of}
+
+length-cut : (id place more : ℕ) (bytes : List ℕ) → length (cut id place more bytes) ≡ suc more
+length-cut id place zero bytes = refl
+length-cut id place (suc more) bytes = ap suc (length-cut id (suc place) more (drop 7 bytes))
+
+-- one frame, and one for each seven further bytes
+pub count-cut : (signature : ℕ) (payload : List ℕ) → suc ((length (bytes_cut signature payload) - 1) / 7) ≡ frame_count (length payload)
+count-cut signature payload = elim (leb_tells (length payload) 7) [
+  | inl short ↦ let t : nat_le (length payload) 7 ≡ true = short.0 in let h : length payload ≤ 7 = short.1 in rw t (omega arith)
+  | inr long ↦ let t : nat_le (length payload) 7 ≡ false = long.0 in let h : 7 < length payload = long.1 in rw t (omega arith)
+]
+
+pub count_of_short : (n : ℕ) → n ≤ 7 → frame_count n ≡ 1
+count_of_short n h = let t : nat_le n 7 ≡ true = le-leb _ _ h in rw t refl
+
+pub count_of_long : (n : ℕ) → 7 < n → frame_count n ≡ (n - 6) / 7 + 2
+count_of_long n h = let t : nat_le n 7 ≡ false = lt-leb _ _ h in rw t (omega arith)
+
+pub length-frames_of : (signature id : ℕ) (payload : List ℕ) → length (frames_of signature id payload) ≡ frame_count (length payload)
+unfolding frames_of
+length-frames_of signature id payload = length-cut id 0 _ _ ∙ count-cut signature payload
+
+length-marked : (id step re place : ℕ) (pieces : List Piece) → length (marked id step re place pieces) ≡ length pieces
+length-marked id step re place [] = refl
+length-marked id step re place (piece ∷ pieces) = ap suc (length-marked id step re (suc place) pieces)
+
+pub length-queued_frames : (what : Outgoing) (step re : ℕ) → length (queued_frames what step re) ≡ frame_count (length what.payload.items)
+unfolding queued_frames
+length-queued_frames what step re = length-marked _ step re 0 _ ∙ length-frames_of what.signature what.id what.payload.items
+
+marked-by_place : (id step re place k : ℕ) (pieces : List Piece) (d : Queued) (e : Piece) → k < length pieces →
+    get_or (marked id step re place pieces) k d ≡ record { id = id; bytes = frame_bytes (get_or pieces k e); mark = record { step = step; re = re; place = place + k } }
+marked-by_place id step re place k [] d e h = absurd (omega arith)
+marked-by_place id step re place zero (piece ∷ pieces) d e h = let p : place + 0 ≡ place = omega arith in rw p refl
+marked-by_place id step re place (suc k) (piece ∷ pieces) d e h =
+    let p : suc place + k ≡ place + suc k = omega arith in
+    marked-by_place id step re (suc place) k pieces d e (omega arith)
+    ∙ ap (λ at. record { id = id; bytes = frame_bytes (get_or pieces k e); mark = record { step = step; re = re; place = at } }) p
+
+pub queued_frames-by_place : (what : Outgoing) (step re k : ℕ) (d : Queued) (e : Piece) → k < frame_count (length what.payload.items) →
+    get_or (queued_frames what step re) k d ≡ record {
+      id = identifier_number what.ident;
+      bytes = frame_bytes (get_or (frames_of what.signature what.id what.payload.items) k e);
+      mark = record { step = step; re = re; place = k };
+    }
+unfolding queued_frames
+queued_frames-by_place what step re k d e h =
+    let n = length-frames_of what.signature what.id what.payload.items in
+    let p : 0 + k ≡ k = omega arith in
+    marked-by_place _ step re 0 k (frames_of what.signature what.id what.payload.items) d e (omega arith)
+    ∙ ap (λ at. record { id = identifier_number what.ident; bytes = frame_bytes (get_or (frames_of what.signature what.id what.payload.items) k e); mark = record { step = step; re = re; place = at } }) p
+
+one_identifier : (id step re place : ℕ) (pieces : List Piece) → of_identifier id (marked id step re place pieces) ≡ marked id step re place pieces
+one_identifier id step re place [] = refl
+one_identifier id step re place (piece ∷ pieces) =
+    let t : nat_eq id id ≡ true = eq-eqb id id refl in
+    rw t (ap (λ more. record { id = id; bytes = frame_bytes piece; mark = record { step = step; re = re; place = place } } ∷ more) (one_identifier id step re (suc place) pieces))
+
+pub queued_frames-one_identifier : (what : Outgoing) (step re : ℕ) →
+    of_identifier (identifier_number what.ident) (queued_frames what step re) ≡ queued_frames what step re
+unfolding queued_frames
+queued_frames-one_identifier what step re = one_identifier (identifier_number what.ident) step re 0 _
+
+-- ---- the loop that cuts
+
+fewer : (bytes : List ℕ) → 7 < length bytes → (length bytes - 1) / 7 ≡ suc ((length (drop 7 bytes) - 1) / 7)
+fewer bytes h = omega (arith, length-drop 7 bytes)
+
+-- seven bytes more
+pub one_more : (id step re tid place : ℕ) (rest piece more : List ℕ) (frames after : List Marked) (x : Marked) →
+    7 < length rest → piece ≡ take 7 rest → more ≡ drop 7 rest → after ≡ frames ++ x ∷ [] →
+    queued_of x ≡ record { id = id; bytes = frame_bytes (record { bytes = piece; tail = tail_at tid place false }); mark = record { step = step; re = re; place = place } } →
+    map queued_of after ++ marked id step re (place + 1) (cut tid (place + 1) ((length more - 1) / 7) more)
+    ≡ map queued_of frames ++ marked id step re place (cut tid place ((length rest - 1) / 7) rest)
+one_more id step re tid place rest piece more frames after x h front back pushed made =
+    let n = fewer rest h in
+    rw (pushed, map-append queued_of frames (x ∷ []), add-one place, n, back, append_assoc (map queued_of frames) (queued_of x ∷ []))
+    (rw (made, front) refl)
+
+-- what an offer puts at the end
+pub offered_frames : (what : Outgoing) (step re id : ℕ) (bytes : List ℕ) (before now : List Queued) →
+    id ≡ identifier_number what.ident → bytes ≡ bytes_cut what.signature what.payload.items → before ≡ now →
+    before ++ marked id step re 0 (cut what.id 0 ((length bytes - 1) / 7) bytes) ≡ now ++ queued_frames what step re
+unfolding queued_frames frames_of
+offered_frames what step re id bytes before now number same e = rw (number, same, e) refl
+
+pub offered_count : (what : Outgoing) (step re : ℕ) (now : List Queued) →
+    length (now ++ queued_frames what step re) ≡ length now + frame_count (length what.payload.items)
+offered_count what step re now = length-append now (queued_frames what step re) ∙ ap (λ n. length now + n) (length-queued_frames what step re)

@@ -1,0 +1,181 @@
+ghost use Rattle.std.specs.Prelude.{◌≡◌, ◌↔◌, ◌+◌, ◌<◌, ◌≤◌, [], ◌++◌, length, IfOk, IsErr, IsNone, OnErr, OnOk, map, option_map, option_to_list};
+ghost use Rattle.can_frame.specs.Identifier.{IsIdentifier};
+ghost use Rattle.transfer_tx.specs.Queue.{GoesNext, frame_count, left_behind, next_out, queued_frames};
+ghost use Rattle.transfer_tx.specs.Views.{queued_of};
+
+use crate::cutting::{Stamp, bytes_to_cut};
+use crate::{Marked, Outgoing, frames_needed};
+use arrayvec::ArrayVec;
+use std::marker::Model;
+
+/// The queue has too little room for all the frames of a transfer.
+#[derive(Clone, Copy, Debug, PartialEq, Eq)]
+pub struct NoRoom;
+
+/// A queue of at most Q frames that wait for the bus.
+#[derive(Drop)]
+pub struct Sender<const Q: usize> {
+    /// In the order in which they were offered.
+    frames: ArrayVec<Marked, Q>,
+}
+
+impl<const Q: usize> Model for Sender<Q> {
+    ghost use Rattle.std.specs.Prelude.{◌≤◌, List, map};
+    ghost use Rattle.arrayvec.specs.ArrayVec.{array_vec_len};
+    ghost use Rattle.transfer_tx.specs.Queue.{Queued};
+    ghost use Rattle.transfer_tx.specs.Views.{queued_of};
+
+    ghost Value = { List Queued };
+
+    ghost view = { λ s. map queued_of s.frames.items };
+
+    ghost invariant = { λ s. array_vec_len s.frames ≤ Q };
+}
+
+impl<const Q: usize> Sender<Q> {
+    /// An empty queue, of at most 1,024 places.
+    pub fn new() -> Sender<Q>
+        requires { Q ≤ 1024 }
+        ensures { result ≡ [] }
+    {
+        Sender {
+            frames: ArrayVec::new(),
+        }
+    }
+
+    /// How many more frames fit.
+    pub fn room(&self) -> usize
+        ensures { result + length self.now ≡ Q }
+    {
+        self.frames.remaining_capacity()
+    }
+
+    /// Drops all queued frames.
+    pub fn clear(&mut self)
+        ensures { self.new ≡ [] }
+    {
+        self.frames.clear();
+    }
+
+    /// Cuts a transfer into its frames and puts all of them at the end, or none where they do not fit.
+    /// `step` is the number of the step that makes them, `re` the step of the request that they
+    /// answer, or 0.
+    pub fn offer(&mut self, what: &Outgoing, step: u64, re: u64) -> Result<(), NoRoom>
+        requires ident { IsIdentifier what.now.ident }
+        requires id { what.now.id < 32 }
+        ensures none { IsErr result ↔ (Q < length self.old + frame_count (length what.now.payload.items)) }
+        ensures ok { OnOk result (self.new ≡ self.old ++ queued_frames what.now step re) }
+        ensures count { OnOk result (length self.new ≡ length self.old + frame_count (length what.now.payload.items)) }
+        ensures err { OnErr result (self.new ≡ self.old) }
+    {
+        let payload = what.payload.as_slice();
+        if self.room() < frames_needed(payload.len()) {
+            return Err(NoRoom);
+        }
+        let bytes = bytes_to_cut(what.signature, payload);
+        let stamp = Stamp {
+            id: what.ident.write(),
+            transfer_id: what.id,
+            step,
+            re,
+        };
+        stamp.cut(bytes.as_slice(), &mut self.frames);
+        Ok(())
+    }
+
+    /// Takes the next frame out: among those with the least identifier, the one that was offered
+    /// first.
+    pub fn pop(&mut self) -> Option<Marked>
+        ensures next { option_map queued_of result ≡ next_out self.old }
+        ensures rest { self.new ≡ left_behind self.old }
+        ensures none { IsNone result ↔ (self.old ≡ []) }
+        ensures count { length self.new + length (option_to_list result) ≡ length self.old }
+    {
+        if self.frames.is_empty() {
+            return None;
+        }
+        let place = next_place(self.frames.as_slice());
+        Some(self.frames.remove(place))
+    }
+}
+
+/// The place of the first frame with the least identifier.
+fn next_place(frames: &[Marked]) -> usize
+    requires { 0 < length frames.now }
+    ensures { GoesNext (map queued_of frames.now) result }
+{
+    let mut least = 0;
+    for (place, marked) in frames.iter().enumerate() {
+        if marked.frame.id < frames[least].frame.id {
+            least = place;
+        }
+    }
+    least
+}
+
+#[cfg(test)]
+mod tests {
+    use super::*;
+    use can_frame::{Ident, Kind, Mark};
+    use std::test::Fail;
+
+    /// A broadcast of node 1 with priority 30 and transfer ID 1.
+    fn broadcast(number: u16, signature: u64, bytes: &[u8]) -> Result<Outgoing, Fail>
+        ensures { IfOk result (λ what. IsIdentifier what.ident × (what.id < 32)) }
+    {
+        let mut payload = ArrayVec::new();
+        payload
+            .try_extend_from_slice(bytes)
+            .map_err(|_| "too long")?;
+        Ok(Outgoing {
+            ident: Ident {
+                priority: 30,
+                kind: Kind::Message,
+                number,
+                source: 1,
+                dest: 0,
+                discriminator: 0,
+            },
+            signature,
+            id: 1,
+            payload,
+        })
+    }
+
+    #[test]
+    fn the_lower_identifier_overtakes(rt: HostRuntime) -> Result<(), Fail> {
+        let node_status = broadcast(341, 0x0f08_68d0_c1a7_c6f1, &[1, 0, 0, 0, 0x58, 0, 0])?;
+        let payload = [0, 0, 1, 2, 3, 4, 5, 6, 7, 8, 9, 10, 11];
+        let allocation = broadcast(1, 0x0b2a_8126_20a1_1d40, &payload)?;
+        let mut sender = Sender::<32>::new();
+        assert_eq!(rt; sender.offer(&node_status, 7, 0), Ok(()));
+        assert_eq!(rt; sender.offer(&allocation, 8, 5), Ok(()));
+        let rows: [(u32, &[u8], u64, u64, u8); 4] = [
+            (0x1e00_0101, &[0x58, 0x5d, 0, 0, 1, 2, 3, 0x81], 8, 5, 0),
+            (0x1e00_0101, &[4, 5, 6, 7, 8, 9, 10, 0x21], 8, 5, 1),
+            (0x1e00_0101, &[11, 0x41], 8, 5, 2),
+            (0x1e01_5501, &[1, 0, 0, 0, 0x58, 0, 0, 0xc1], 7, 0, 0),
+        ];
+        for (id, bytes, step, re, place) in rows {
+            let out = sender.pop().ok_or("empty")?;
+            assert_eq!(rt; out.frame.id, id);
+            assert_eq!(rt; out.frame.bytes.as_slice(), bytes);
+            assert_eq!(rt; out.mark, Mark { step, re, place });
+        }
+        assert_eq!(rt; sender.pop(), None);
+        Ok(())
+    }
+
+    #[test]
+    fn all_or_nothing(rt: HostRuntime) -> Result<(), Fail> {
+        let one_frame = broadcast(341, 0x0f08_68d0_c1a7_c6f1, &[0; 7])?;
+        let three_frames = broadcast(1, 0x0b2a_8126_20a1_1d40, &[0; 13])?;
+        let mut sender = Sender::<3>::new();
+        assert_eq!(rt; sender.offer(&one_frame, 1, 0), Ok(()));
+        assert_eq!(rt; sender.offer(&three_frames, 1, 0), Err(NoRoom));
+        assert_eq!(rt; sender.room(), 2);
+        sender.clear();
+        assert_eq!(rt; sender.room(), 3);
+        Ok(())
+    }
+}
