@@ -1,0 +1,200 @@
+ghost use Rattle.std.specs.Prelude.{◌≡◌, ◌≤◌, ◌<◌, ℕ, length, Bool, true, false, slice_index, slice_index_or};
+ghost use Rattle.disk_model.specs.Contents.{image_size};
+ghost use Rattle.disk_model.specs.Pattern.{IsUsable};
+
+use crate::calls::Calls;
+use crate::ranges::{copy_range, mark, overwrite, repeat_over, unmark, unmarked};
+use crate::{Disk, IMAGE};
+use outside::{Failed, Pattern};
+
+/// A disk in memory. One device call can be set to fail and one to stop the disk.
+#[derive(Drop)]
+pub struct MemoryDisk {
+    seen: [u8; IMAGE],
+    stable: [u8; IMAGE],
+
+    /// The bytes that were written since the last sync that succeeded, all of them from `low` up to
+    /// `high`: a sync touches no others.
+    touched: [bool; IMAGE],
+    low: usize,
+    high: usize,
+
+    calls: Calls,
+    ghost stable_size: { length stable ≡ image_size },
+    ghost seen_size: { length seen ≡ length stable },
+    ghost range: { high ≤ image_size },
+    ghost below: { (i : ℕ) → i < low → slice_index_or touched i false ≡ false },
+    ghost above: { (i : ℕ) → high ≤ i → slice_index_or touched i false ≡ false },
+    ghost agrees: { (i : ℕ) → slice_index_or touched i false ≡ false → slice_index seen i ≡ slice_index stable i },
+}
+
+impl MemoryDisk {
+    ghost use Rattle.disk_model.specs.Contents.{IsSettled};
+    ghost use Rattle.disk_model.specs.Memory.{memory_contents, memory_calls, nothing_set, Restarts};
+
+    /// A disk that holds `image`, all of it stable, with nothing set to fail.
+    pub fn new(image: &[u8; IMAGE]) -> MemoryDisk
+        ensures seen { (memory_contents result).seen ≡ image.now }
+        ensures stable { (memory_contents result).stable ≡ image.now }
+        ensures settled { IsSettled (memory_contents result) }
+        ensures calls { memory_calls result ≡ nothing_set 0 }
+    {
+        MemoryDisk {
+            seen: *image,
+            stable: *image,
+            touched: unmarked(),
+            low: IMAGE,
+            high: 0,
+            calls: Calls::nothing_set(0),
+        }
+    }
+
+    /// The device call numbered `call`, counted from 1 from here on, does not act and fails, and so do
+    /// all later ones until a restart. It takes the place of an earlier `stop_at`; 0 is none.
+    pub fn stop_at(&mut self, call: u64)
+        ensures calls { memory_calls self.new ≡ record (memory_calls self.old) { stop_in = call } }
+        ensures contents { memory_contents self.new ≡ memory_contents self.old }
+    {
+        self.calls.stop_in = call;
+    }
+
+    /// The device call numbered `call`, counted from 1 from here on, does not act and fails. It takes
+    /// the place of an earlier `fail_at`; 0 is none.
+    pub fn fail_at(&mut self, call: u64)
+        ensures calls { memory_calls self.new ≡ record (memory_calls self.old) { fail_in = call } }
+        ensures contents { memory_contents self.new ≡ memory_contents self.old }
+    {
+        self.calls.fail_in = call;
+    }
+
+    /// Whether a device call has stopped the disk, and no restart came since.
+    pub fn stopped(&self) -> bool
+        ensures { result ≡ (memory_calls self.now).stopped }
+    {
+        self.calls.stopped
+    }
+
+    /// Starts the disk again after a stop that left what `pattern` says of the bytes that were written
+    /// since the last sync that succeeded. Nothing is set to fail then.
+    pub fn restart(&mut self, pattern: Pattern)
+        requires { IsUsable pattern }
+        ensures { Restarts pattern self.old self.new }
+    {
+        match pattern {
+            Pattern::Old => self.seen.copy_from_slice(&self.stable),
+            Pattern::New => self.stable.copy_from_slice(&self.seen),
+            Pattern::Bytes(bytes) => {
+                repeat_over(&mut self.seen, &self.touched, &bytes);
+                self.stable.copy_from_slice(&self.seen);
+            }
+        }
+        unmark(&mut self.touched, self.low, self.high);
+        self.low = IMAGE;
+        self.high = 0;
+        self.calls = Calls::nothing_set(self.calls.faults);
+    }
+}
+
+impl Disk for MemoryDisk {
+    ghost use Rattle.disk_model.specs.Memory.{memory_contents, DoesInMemory};
+
+    ghost tells = { λ d. true };
+
+    ghost contents = { λ d. memory_contents d };
+
+    ghost does = { λ old call ok new. DoesInMemory old call ok new };
+
+    ghost faults = { λ d. d.calls.faults };
+
+    ghost sound = { λ d told. record { size = d.stable_size; current = record { size = d.seen_size; kept = d.agrees } } };
+
+    fn read(&mut self, at: usize, buf: &mut [u8]) -> Result<(), Failed> {
+        if !self.calls.count() {
+            return Err(Failed);
+        }
+        let end = at + buf.len();
+        buf.copy_from_slice(&self.seen[at..end]);
+        Ok(())
+    }
+
+    fn write(&mut self, at: usize, bytes: &[u8]) -> Result<(), Failed> {
+        if !self.calls.count() {
+            return Err(Failed);
+        }
+        let end = at + bytes.len();
+        mark(&mut self.touched, at, end);
+        overwrite(&mut self.seen, at, bytes);
+        self.low = self.low.min(at);
+        self.high = self.high.max(end);
+        Ok(())
+    }
+
+    fn sync(&mut self) -> Result<(), Failed> {
+        if !self.calls.count() {
+            return Err(Failed);
+        }
+        copy_range(&mut self.stable, &self.seen, self.low, self.high);
+        unmark(&mut self.touched, self.low, self.high);
+        self.low = IMAGE;
+        self.high = 0;
+        Ok(())
+    }
+
+    fn faults(&self) -> u64 {
+        self.calls.faults
+    }
+}
+
+#[cfg(test)]
+mod tests {
+    use super::*;
+    use arrayvec::ArrayVec;
+
+    /// The first bytes after a restart, of a disk of zeros where 1 2 3 were written at 0 and synced, and
+    /// then 9 9 at 1 and 7 at 5.
+    fn restarted(pattern: Pattern) -> Option<[u8; 8]>
+        requires { IsUsable pattern }
+    {
+        let mut disk = MemoryDisk::new(&[0; IMAGE]);
+        disk.write(0, &[1, 2, 3]).ok()?;
+        disk.sync().ok()?;
+        disk.write(1, &[9, 9]).ok()?;
+        disk.write(5, &[7]).ok()?;
+        disk.restart(pattern);
+        let mut bytes = [0; 8];
+        disk.read(0, &mut bytes).ok()?;
+        Some(bytes)
+    }
+
+    #[test]
+    fn a_restart_remakes_what_was_written_since_the_sync(rt: HostRuntime) {
+        let mut bytes = ArrayVec::new();
+        bytes.push(0xaa);
+        bytes.push(0xbb);
+        assert_eq!(rt; restarted(Pattern::Old), Some([1, 2, 3, 0, 0, 0, 0, 0]));
+        assert_eq!(rt; restarted(Pattern::New), Some([1, 9, 9, 0, 0, 7, 0, 0]));
+        assert_eq!(rt;
+            restarted(Pattern::Bytes(bytes)),
+            Some([1, 0xaa, 0xbb, 0, 0, 0xaa, 0, 0])
+        );
+    }
+
+    #[test]
+    fn device_calls_fail_where_they_are_set_to(rt: HostRuntime) {
+        let mut disk = MemoryDisk::new(&[0; IMAGE]);
+        disk.fail_at(2);
+        disk.stop_at(4);
+        assert_eq!(rt; disk.sync(), Ok(()));
+        assert_eq!(rt; disk.sync(), Err(Failed));
+        assert_eq!(rt; disk.sync(), Ok(()));
+        assert!(rt; !disk.stopped());
+        assert_eq!(rt; disk.sync(), Err(Failed));
+        assert!(rt; disk.stopped());
+        disk.stop_at(9);
+        assert_eq!(rt; disk.sync(), Err(Failed));
+        disk.restart(Pattern::Old);
+        assert!(rt; !disk.stopped());
+        assert_eq!(rt; disk.sync(), Ok(()));
+        assert_eq!(rt; disk.faults(), 3);
+    }
+}

@@ -1,0 +1,5 @@
+pub mod Image
+pub mod Opening
+pub mod StoreViews
+pub mod Table
+pub mod TableViews

@@ -1,0 +1,25 @@
+//! A store of 132 keys, each with a value of up to 32 bytes, that survives stops.
+//!
+//! An image of the disk stands for a map from keys to values (`specs/Image.antt`). Each key has two
+//! copies and a selector that chooses one of them. A put writes the other copy, and then turns the
+//! selector: a stop at any moment leaves the old map or the new one, and once the put has succeeded the
+//! new one alone. After a put that failed a store answers the same fault for ever; whether that put is
+//! done, only an opening finds.
+//!
+//! [`Store::put`] and [`Store::open`] say besides which device calls were made, for who follows them
+//! call by call on a disk in memory.
+#![tactic(auto)]
+
+mod fault;
+pub mod laws;
+mod load;
+mod replace;
+mod store;
+mod table;
+#[cfg(test)]
+mod tests;
+mod value;
+
+pub use fault::{Fault, OpenFault, OpenRefused};
+pub use store::Store;
+pub use value::{KEYS, VALUE, Value, value_of};

@@ -1,0 +1,69 @@
+ghost use Rattle.std.specs.Prelude.{◌≡◌, ◌≢◌, ◌≤◌, ◌<◌, ℕ, IfOk, IfErr, length, slice_index};
+ghost use Rattle.arrayvec.specs.ArrayVec.{array_vec_len};
+ghost use Rattle.kv_store.specs.Image.{StandsFor, IsFirstDamaged, chosen_copy, key_count, put_in, turned, value_limit};
+ghost use Rattle.kv_store.specs.Table.{value_at};
+
+use crate::value::{KEYS, Value, read_value, value_of};
+use arrayvec::ArrayVec;
+use disk_model::IMAGE;
+
+/// The value of each key, and which of its copies its selector chooses.
+#[derive(Drop)]
+pub struct Table {
+    values: ArrayVec<Value, 132>,
+    copies: [u8; KEYS],
+    ghost full: { array_vec_len values ≡ key_count },
+    ghost short: { (key : ℕ) → length (value_at values.items key) ≤ value_limit },
+    ghost bits: { (key : ℕ) → slice_index copies key < 2 },
+}
+
+impl Table {
+    ghost use Rattle.kv_store.specs.TableViews.{table_map, table_copy};
+
+    /// The table that an image stands for. The error is the first key that is damaged.
+    pub fn read(image: &[u8; IMAGE]) -> Result<Table, u8>
+        ensures map { IfOk result (λ table. StandsFor image.now (table_map table)) }
+        ensures copies { IfOk result (λ table. (key : ℕ) → key < key_count → chosen_copy image.now key ≡ table_copy table key) }
+        ensures damaged { IfErr result (λ key. IsFirstDamaged image.now key) }
+    {
+        let mut values: ArrayVec<Value, 132> = ArrayVec::new();
+        let mut copies = [0; KEYS];
+        for key in 0..KEYS {
+            match read_value(image, key) {
+                Some(value) => values.push(value),
+                None => return Err(key as u8),
+            }
+            copies[key] = image[67 * key] % 2;
+        }
+        Ok(Table { values, copies })
+    }
+
+    pub fn get(&self, key: u8) -> &Value
+        requires { key < key_count }
+        ensures value { result.now.items ≡ table_map self.now key }
+        ensures short { array_vec_len result.now ≤ value_limit }
+    {
+        &self.values[key as usize]
+    }
+
+    /// The copy of a key that its selector chooses.
+    pub fn copy(&self, key: u8) -> u8
+        requires { key < key_count }
+        ensures copy { result ≡ table_copy self.now key }
+        ensures bit { result < 2 }
+    {
+        self.copies[key as usize]
+    }
+
+    pub fn set(&mut self, key: u8, copy: u8, value: &Value)
+        requires key { key < key_count }
+        requires copy { copy < 2 }
+        requires short { array_vec_len value.now ≤ value_limit }
+        ensures map { (k : ℕ) → table_map self.new k ≡ put_in (table_map self.old) key value.now.items k }
+        ensures copy { table_copy self.new key ≡ copy }
+        ensures others { (k : ℕ) → k ≢ key → table_copy self.new k ≡ table_copy self.old k }
+    {
+        self.copies[key as usize] = copy;
+        self.values[key as usize] = value_of(value);
+    }
+}
