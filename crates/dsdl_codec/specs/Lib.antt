@@ -1,2 +1,9 @@
 pub mod Allocation
+pub mod AppendAnswer
+pub mod AppendRequest
+pub mod Discovery
+pub mod Entry
 pub mod NodeStatus
+pub mod Verdict
+pub mod VoteAnswer
+pub mod VoteRequest

@@ -1,7 +1,7 @@
-ghost use Rattle.std.specs.Prelude.{◌≡◌, Some, IfSome, IsNone, List, ℕ};
+ghost use Rattle.std.specs.Prelude.{◌≡◌, ◌+◌, Some, IfSome, IsNone, List, ℕ};
 ghost use Rattle.arrayvec.specs.ArrayVec.{array_vec_len};
 
-use crate::payload::{LONGEST, append};
+use crate::payload::append;
 use arrayvec::ArrayVec;
 
 /// A message of the exchange by which a node without an ID gets one
@@ -42,6 +42,7 @@ impl Allocation {
         requires { IsAllocation self.now }
         ensures bytes { result.items ≡ allocation_bytes self.now }
         ensures spelled { SpellsAllocation self.now result.items }
+        ensures length { array_vec_len result ≡ 1 + array_vec_len self.now.uid }
     {
         let mut payload = ArrayVec::new();
         payload.push(self.node * 2 + if self.first_part { 1 } else { 0 });

@@ -2,8 +2,20 @@
 #![tactic(auto)]
 
 mod allocation;
+mod append_answer;
+mod append_request;
+mod discovery;
+mod entry;
 mod node_status;
 mod payload;
+mod verdict;
+mod vote_answer;
+mod vote_request;
 
 pub use allocation::Allocation;
+pub use append_answer::AppendAnswer;
+pub use append_request::AppendRequest;
+pub use discovery::Discovery;
 pub use node_status::NodeStatus;
+pub use vote_answer::VoteAnswer;
+pub use vote_request::VoteRequest;

@@ -1,4 +1,5 @@
 ghost use Rattle.std.specs.Prelude.{◌≡◌, Some, IfSome, IsNone, List, ℕ};
+ghost use Rattle.arrayvec.specs.ArrayVec.{array_vec_len};
 
 use crate::payload::append;
 use arrayvec::ArrayVec;
@@ -49,6 +50,7 @@ impl NodeStatus {
         requires { IsNodeStatus self.now }
         ensures bytes { result.items ≡ node_status_bytes self.now }
         ensures spelled { SpellsNodeStatus self.now result.items }
+        ensures length { array_vec_len result ≡ 7 }
     {
         let mut payload = ArrayVec::new();
         append(&mut payload, &self.uptime.to_le_bytes());
