@@ -5,9 +5,10 @@
 use Rattle.std.specs.Prelude.{◌≡◌, ℕ, ◌+◌, ◌*◌, ◌/◌, ◌%◌, ◌<◌, ◌≤◌, nat_eq, nat_le, cond, List, [], ◌∷◌, length, Option, Some, None}
 use Rattle.dsdl_codec.specs.declared.allocation.Allocation.{Allocation}
 
--- the node ID is within its seven bits
-abbrev pub IsAllocation : Allocation → Type 0
-IsAllocation allocation = allocation.node < 128
+-- the values that have bytes
+pub record IsAllocation (allocation : Allocation) : Type 0 where
+  pub node : allocation.node < 128
+  pub uid : length allocation.uid.items ≤ 16
 
 -- the bytes of a value
 abbrev pub allocation_bytes : Allocation → List ℕ
@@ -15,8 +16,7 @@ allocation_bytes allocation = (allocation.node * 2 + cond allocation.first_part 
 
 -- these are the bytes of the value
 pub record SpellsAllocation (allocation : Allocation) (bytes : List ℕ) : Type 0 where
-  pub widths : IsAllocation allocation
-  pub uid : length allocation.uid.items ≤ 16
+  pub fits : IsAllocation allocation
   pub written : bytes ≡ allocation_bytes allocation
 
 -- the value of bytes, where they are some value's

@@ -10,9 +10,11 @@ use Rattle.std.specs.Int.{to_le_bytes, from_le_bytes, w32}
 use Rattle.dsdl_codec.specs.Entry.{IsEntry, entry_padding, optional_entry_bytes, optional_entry_of}
 use Rattle.dsdl_codec.specs.declared.append_request.AppendRequest.{AppendRequest}
 
--- the node ID of an entry is within its seven bits
-abbrev pub IsAppendRequest : AppendRequest → Type 0
-IsAppendRequest request = IfSome request.entry (λ entry. entry.node < 128)
+-- the values that have bytes
+pub record IsAppendRequest (request : AppendRequest) : Type 0 where
+  pub term : request.term < 2 ^ 32
+  pub prev_term : request.prev_term < 2 ^ 32
+  pub entry : IfSome request.entry IsEntry
 
 -- the bytes of a value, with this padding bit
 abbrev pub append_request_bytes : AppendRequest → ℕ → List ℕ
@@ -27,9 +29,7 @@ append_request_padding bytes = entry_padding (drop 10 bytes)
 
 -- these are the bytes of the value, whatever the padding
 pub record SpellsAppendRequest (request : AppendRequest) (bytes : List ℕ) : Type 0 where
-  pub term : request.term < 2 ^ 32
-  pub prev_term : request.prev_term < 2 ^ 32
-  pub entry : IfSome request.entry IsEntry
+  pub fits : IsAppendRequest request
   pub written : bytes ≡ append_request_bytes request (append_request_padding bytes)
 
 -- the value of bytes, where they are some value's

@@ -5,13 +5,17 @@
 use Rattle.std.specs.Prelude.{◌≡◌, ℕ, ◌≤◌, nat_le, cond, List, [], ◌∷◌, length, Option, Some, None}
 use Rattle.dsdl_codec.specs.declared.discovery.Discovery.{Discovery}
 
+-- the values that have bytes
+abbrev pub IsDiscovery : Discovery → Type 0
+IsDiscovery discovery = length discovery.known.items ≤ 5
+
 -- the bytes of a value
 abbrev pub discovery_bytes : Discovery → List ℕ
 discovery_bytes discovery = discovery.size ∷ discovery.known.items
 
 -- these are the bytes of the value
 pub record SpellsDiscovery (discovery : Discovery) (bytes : List ℕ) : Type 0 where
-  pub known : length discovery.known.items ≤ 5
+  pub fits : IsDiscovery discovery
   pub written : bytes ≡ discovery_bytes discovery
 
 -- the value of bytes, where they are some value's

@@ -3,7 +3,10 @@ pub mod AppendAnswer
 pub mod AppendRequest
 pub mod Discovery
 pub mod Entry
+pub mod Fields
+pub mod HardwareVersion
 pub mod NodeStatus
+pub mod SoftwareVersion
 pub mod Verdict
 pub mod VoteAnswer
 pub mod VoteRequest

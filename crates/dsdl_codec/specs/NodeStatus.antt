@@ -7,11 +7,13 @@ use Rattle.std.specs.Prelude.{◌≡◌, ℕ, ◌+◌, ◌*◌, ◌/◌, ◌%◌
 use Rattle.std.specs.Int.{to_le_bytes, from_le_bytes, w16, w32}
 use Rattle.dsdl_codec.specs.declared.node_status.NodeStatus.{NodeStatus}
 
--- the small fields are within their bits
+-- the values that have bytes
 pub record IsNodeStatus (status : NodeStatus) : Type 0 where
+  pub uptime : status.uptime < 2 ^ 32
   pub health : status.health < 4
   pub mode : status.mode < 8
   pub sub_mode : status.sub_mode < 8
+  pub vendor : status.vendor < 2 ^ 16
 
 -- the bytes of a value
 abbrev pub node_status_bytes : NodeStatus → List ℕ
@@ -21,9 +23,7 @@ node_status_bytes status =
 
 -- these are the bytes of the value
 pub record SpellsNodeStatus (status : NodeStatus) (bytes : List ℕ) : Type 0 where
-  pub widths : IsNodeStatus status
-  pub uptime : status.uptime < 2 ^ 32
-  pub vendor : status.vendor < 2 ^ 16
+  pub fits : IsNodeStatus status
   pub written : bytes ≡ node_status_bytes status
 
 -- the value of bytes, where they are some value's

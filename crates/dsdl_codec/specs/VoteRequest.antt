@@ -6,14 +6,18 @@ use Rattle.std.specs.Prelude.{◌≡◌, ℕ, ◌^◌, ◌<◌, List, [], ◌∷
 use Rattle.std.specs.Int.{to_le_bytes, from_le_bytes, w32}
 use Rattle.dsdl_codec.specs.declared.vote_request.VoteRequest.{VoteRequest}
 
+-- the values that have bytes
+pub record IsVoteRequest (request : VoteRequest) : Type 0 where
+  pub term : request.term < 2 ^ 32
+  pub last_term : request.last_term < 2 ^ 32
+
 -- the bytes of a value
 abbrev pub vote_request_bytes : VoteRequest → List ℕ
 vote_request_bytes request = to_le_bytes w32 request.term ++ to_le_bytes w32 request.last_term ++ request.last_index ∷ []
 
 -- these are the bytes of the value
 pub record SpellsVoteRequest (request : VoteRequest) (bytes : List ℕ) : Type 0 where
-  pub term : request.term < 2 ^ 32
-  pub last_term : request.last_term < 2 ^ 32
+  pub fits : IsVoteRequest request
   pub written : bytes ≡ vote_request_bytes request
 
 -- the value of bytes, where they are some value's

@@ -1,4 +1,4 @@
-ghost use Rattle.std.specs.Prelude.{◌≡◌, ◌+◌, Some, IfSome, IsNone, List, ℕ};
+ghost use Rattle.std.specs.Prelude.{◌≡◌, ◌<◌, ◌+◌, Some, IfSome, IsNone, List, ℕ};
 ghost use Rattle.arrayvec.specs.ArrayVec.{array_vec_len};
 
 use crate::payload::append;
@@ -20,7 +20,7 @@ pub struct Allocation {
 }
 
 impl Allocation {
-    ghost use Rattle.dsdl_codec.specs.Allocation.{IsAllocation, SpellsAllocation, allocation_bytes, allocation_of};
+    ghost use Rattle.dsdl_codec.specs.Allocation.{SpellsAllocation, allocation_bytes, allocation_of};
 
     /// The value of a payload; `None` where it has no byte, or more than 17.
     pub fn read(payload: &[u8]) -> Option<Allocation>
@@ -39,7 +39,7 @@ impl Allocation {
 
     /// The payload of 1 to 17 bytes.
     pub fn write(&self) -> ArrayVec<u8, 376>
-        requires { IsAllocation self.now }
+        requires { self.now.node < 128 }
         ensures bytes { result.items ≡ allocation_bytes self.now }
         ensures spelled { SpellsAllocation self.now result.items }
         ensures length { array_vec_len result ≡ 1 + array_vec_len self.now.uid }

@@ -1,4 +1,4 @@
-ghost use Rattle.std.specs.Prelude.{◌≡◌, Some, IfSome, IsNone, List, ℕ};
+ghost use Rattle.std.specs.Prelude.{◌≡◌, ◌<◌, Some, IfSome, IsNone, List, ℕ};
 ghost use Rattle.arrayvec.specs.ArrayVec.{array_vec_len};
 
 use crate::payload::append;
@@ -24,7 +24,7 @@ pub struct NodeStatus {
 }
 
 impl NodeStatus {
-    ghost use Rattle.dsdl_codec.specs.NodeStatus.{IsNodeStatus, SpellsNodeStatus, node_status_bytes, node_status_of};
+    ghost use Rattle.dsdl_codec.specs.NodeStatus.{SpellsNodeStatus, node_status_bytes, node_status_of};
 
     /// The value of a payload; `None` where it has not 7 bytes.
     pub fn read(payload: &[u8]) -> Option<NodeStatus>
@@ -47,7 +47,9 @@ impl NodeStatus {
 
     /// The payload of 7 bytes.
     pub fn write(&self) -> ArrayVec<u8, 376>
-        requires { IsNodeStatus self.now }
+        requires health { self.now.health < 4 }
+        requires mode { self.now.mode < 8 }
+        requires sub_mode { self.now.sub_mode < 8 }
         ensures bytes { result.items ≡ node_status_bytes self.now }
         ensures spelled { SpellsNodeStatus self.now result.items }
         ensures length { array_vec_len result ≡ 7 }

@@ -1,5 +1,9 @@
-ghost use Rattle.std.specs.Prelude.{◌≡◌, ◌≤◌, ◌+◌, ◌++◌, length};
+//! What the data types have in common: their bytes are those of their fields, one field after the
+//! other.
+
+ghost use Rattle.std.specs.Prelude.{◌≡◌, ◌≤◌, ◌+◌, ◌++◌, IfSome, IsSomeAnd, List, ℕ, length};
 ghost use Rattle.arrayvec.specs.ArrayVec.{array_vec_len};
+ghost use Rattle.dsdl_codec.specs.Fields.{BeginsWith, BeginsWithCounted};
 
 use arrayvec::ArrayVec;
 
@@ -16,4 +20,27 @@ pub fn append(payload: &mut ArrayVec<u8, LONGEST>, bytes: &[u8])
         Ok(()) => {}
         Err(_) => unreachable!(),
     }
+}
+
+/// A field of `N` bytes, and what is left.
+pub fn split<const N: usize>(bytes: &[u8]) -> Option<(&[u8; N], &[u8])>
+    ensures found { IfSome result (λ parts. BeginsWith N parts.0.now parts.1.now bytes.now) }
+    ensures only { (field left : List ℕ) → BeginsWith N field left bytes.now →
+        IsSomeAnd result (λ parts. (parts.0.now ≡ field) × (parts.1.now ≡ left)) }
+{
+    bytes.split_first_chunk::<N>()
+}
+
+/// An array behind the byte that counts it, and what is left.
+pub fn split_counted(bytes: &[u8]) -> Option<(&[u8], &[u8])>
+    ensures found { IfSome result (λ parts. BeginsWithCounted parts.0.now parts.1.now bytes.now) }
+    ensures only { (items left : List ℕ) → BeginsWithCounted items left bytes.now →
+        IsSomeAnd result (λ parts. (parts.0.now ≡ items) × (parts.1.now ≡ left)) }
+{
+    let (count, rest) = bytes.split_first()?;
+    let count = *count as usize;
+    if rest.len() < count {
+        return None;
+    }
+    Some(rest.split_at(count))
 }
