@@ -5,6 +5,7 @@ pub mod Discovery
 pub mod Entry
 pub mod Fields
 pub mod HardwareVersion
+pub mod NodeInfo
 pub mod NodeStatus
 pub mod SoftwareVersion
 pub mod Verdict

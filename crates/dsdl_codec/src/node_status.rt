@@ -33,16 +33,23 @@ impl NodeStatus {
         ensures none { IsNone result → (status : NodeStatus) → SpellsNodeStatus status payload.now → ⊥ }
         ensures only { (status : NodeStatus) → SpellsNodeStatus status payload.now → result ≡ Some status }
     {
-        let [a, b, c, d, state, e, f] = payload else {
-            return None;
-        };
-        Some(NodeStatus {
-            uptime: u32::from_le_bytes([*a, *b, *c, *d]),
-            health: *state / 64,
-            mode: *state / 8 % 8,
-            sub_mode: *state % 8,
-            vendor: u16::from_le_bytes([*e, *f]),
-        })
+        let bytes = <[u8; 7]>::try_from(payload).ok()?;
+        Some(NodeStatus::from_bytes(bytes))
+    }
+
+    pub(crate) fn from_bytes(bytes: [u8; 7]) -> NodeStatus
+        ensures value { node_status_of bytes ≡ Some result }
+        ensures found { SpellsNodeStatus result bytes }
+        ensures only { (status : NodeStatus) → SpellsNodeStatus status bytes → result ≡ status }
+    {
+        let [a, b, c, d, state, e, f] = bytes;
+        NodeStatus {
+            uptime: u32::from_le_bytes([a, b, c, d]),
+            health: state / 64,
+            mode: state / 8 % 8,
+            sub_mode: state % 8,
+            vendor: u16::from_le_bytes([e, f]),
+        }
     }
 
     /// The payload of 7 bytes.

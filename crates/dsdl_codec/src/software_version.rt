@@ -11,34 +11,19 @@ pub struct SoftwareVersion {
 }
 
 impl SoftwareVersion {
-    ghost use Rattle.dsdl_codec.specs.SoftwareVersion.{SpellsSoftwareVersion, software_version_bytes, software_version_of};
+    ghost use Rattle.dsdl_codec.specs.SoftwareVersion.{SpellsSoftwareVersion};
 
-    /// The value of 15 bytes.
-    pub fn read(bytes: &[u8]) -> Option<SoftwareVersion>
-        ensures value { result ≡ software_version_of bytes.now }
-        ensures found { IfSome result (λ version. SpellsSoftwareVersion version bytes.now) }
-        ensures only { (version : SoftwareVersion) → SpellsSoftwareVersion version bytes.now → result ≡ Some version }
+    pub fn from_bytes(bytes: &[u8; 15]) -> SoftwareVersion
+        ensures found { SpellsSoftwareVersion result bytes.now }
+        ensures only { (version : SoftwareVersion) → SpellsSoftwareVersion version bytes.now → result ≡ version }
     {
-        let [major, minor, flags, a, b, c, d, e, f, g, h, i, j, k, l] = bytes else {
-            return None;
-        };
-        Some(SoftwareVersion {
-            major: *major,
-            minor: *minor,
-            flags: *flags,
-            commit: u32::from_le_bytes([*a, *b, *c, *d]),
-            crc: u64::from_le_bytes([*e, *f, *g, *h, *i, *j, *k, *l]),
-        })
-    }
-
-    /// The 15 bytes.
-    pub fn write(self) -> [u8; 15]
-        ensures { result ≡ software_version_bytes self }
-    {
-        let [a, b, c, d] = self.commit.to_le_bytes();
-        let [e, f, g, h, i, j, k, l] = self.crc.to_le_bytes();
-        [
-            self.major, self.minor, self.flags, a, b, c, d, e, f, g, h, i, j, k, l,
-        ]
+        let [major, minor, flags, a, b, c, d, e, f, g, h, i, j, k, l] = *bytes;
+        SoftwareVersion {
+            major,
+            minor,
+            flags,
+            commit: u32::from_le_bytes([a, b, c, d]),
+            crc: u64::from_le_bytes([e, f, g, h, i, j, k, l]),
+        }
     }
 }

@@ -1,0 +1,56 @@
+use Rattle.std.proofs.Common.{arith}
+use Rattle.dsdl_codec.proofs.NodeInfos.{begins_with_status, then_software, then_hardware, spelled_status, spelled_software}
+use Rattle.dsdl_codec.proofs.node_info.NodeInfo.read.Goals as goal
+
+pub returns-in_err-status-clause-none : goal.returns-in_err-status-clause-none
+returns-in_err-status-clause-none c = λ _ info s. c.in_err-status.ensures.only _ _ (begins_with_status info _ s)
+
+pub returns-in_err-status-clause-only : goal.returns-in_err-status-clause-only
+returns-in_err-status-clause-only c = λ info s. absurd (c.in_err-status.ensures.only _ _ (begins_with_status info _ s))
+
+pub returns-in_err-software-clause-none : goal.returns-in_err-software-clause-none
+returns-in_err-software-clause-none c = λ _ info s.
+    let status = c.in_ok-status.ensures.only _ _ (begins_with_status info _ s) in
+    c.in_err-software.ensures.only _ _ (then_software info _ s _ status.1)
+
+pub returns-in_err-software-clause-only : goal.returns-in_err-software-clause-only
+returns-in_err-software-clause-only c = λ info s.
+    let status = c.in_ok-status.ensures.only _ _ (begins_with_status info _ s) in
+    absurd (c.in_err-software.ensures.only _ _ (then_software info _ s _ status.1))
+
+pub returns-in_err-hardware-clause-none : goal.returns-in_err-hardware-clause-none
+returns-in_err-hardware-clause-none c = λ _ info s.
+    let status = c.in_ok-status.ensures.only _ _ (begins_with_status info _ s) in
+    let software = c.in_ok-software.ensures.only _ _ (then_software info _ s _ status.1) in
+    c.in_err-hardware.ensures.only _ _ (then_hardware info _ s _ software.1)
+
+pub returns-in_err-hardware-clause-only : goal.returns-in_err-hardware-clause-only
+returns-in_err-hardware-clause-only c = λ info s.
+    let status = c.in_ok-status.ensures.only _ _ (begins_with_status info _ s) in
+    let software = c.in_ok-software.ensures.only _ _ (then_software info _ s _ status.1) in
+    absurd (c.in_err-hardware.ensures.only _ _ (then_hardware info _ s _ software.1))
+
+pub returns-in_err-ok-clause-none : goal.returns-in_err-ok-clause-none
+returns-in_err-ok-clause-none c = λ _ info s.
+    let status = c.in_ok-status.ensures.only _ _ (begins_with_status info _ s) in
+    let software = c.in_ok-software.ensures.only _ _ (then_software info _ s _ status.1) in
+    let hardware = c.in_ok-hardware.ensures.only _ _ (then_hardware info _ s _ software.1) in
+    let name = s.fits.name in
+    grind (arith, hardware.1, name)
+
+pub returns-in_err-ok-clause-only : goal.returns-in_err-ok-clause-only
+returns-in_err-ok-clause-only c = λ info s.
+    let status = c.in_ok-status.ensures.only _ _ (begins_with_status info _ s) in
+    let software = c.in_ok-software.ensures.only _ _ (then_software info _ s _ status.1) in
+    let hardware = c.in_ok-hardware.ensures.only _ _ (then_hardware info _ s _ software.1) in
+    let name = s.fits.name in
+    absurd (grind (arith, hardware.1, name))
+
+pub returns-clause-only : goal.returns-clause-only
+returns-clause-only c = λ info s.
+    let status = c.in_ok-status.ensures.only _ _ (begins_with_status info _ s) in
+    let software = c.in_ok-software.ensures.only _ _ (then_software info _ s _ status.1) in
+    let hardware = c.in_ok-hardware.ensures.only _ _ (then_hardware info _ s _ software.1) in
+    let state = c.from_bytes.ensures.only _ (spelled_status info _ s _ status.0) in
+    let version = c.from_bytes-software.ensures.only _ (spelled_software info _ s _ software.0) in
+    grind (arith, state, version, hardware.0, hardware.1)
