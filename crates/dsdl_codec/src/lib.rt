@@ -24,3 +24,6 @@ pub use node_info::NodeInfo;
 pub use node_status::NodeStatus;
 pub use vote_answer::VoteAnswer;
 pub use vote_request::VoteRequest;
+
+#[cfg(test)]
+mod tests;
