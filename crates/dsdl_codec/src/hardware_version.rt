@@ -1,4 +1,4 @@
-ghost use Rattle.std.specs.Prelude.{◌≡◌, ◌≤◌, ◌+◌, ◌++◌, Some, IfSome, IsSomeAnd, List, ℕ, length};
+ghost use Rattle.std.specs.Prelude.{◌≡◌, ◌<◌, ◌+◌, ◌++◌, Some, IfSome, IsNone, IsSomeAnd, List, ℕ, length, slice_index_or};
 ghost use Rattle.arrayvec.specs.ArrayVec.{array_vec_len};
 
 use crate::payload::{split, split_counted};
@@ -22,6 +22,7 @@ impl HardwareVersion {
         ensures found { IfSome result (λ read. BeginsWithHardwareVersion read.0 read.1.now bytes.now) }
         ensures only { (version : HardwareVersion) (left : List ℕ) → BeginsWithHardwareVersion version left bytes.now →
             IsSomeAnd result (λ read. (read.0 ≡ version) × (read.1.now ≡ left)) }
+        ensures short { IsNone result → length bytes.now < 19 + slice_index_or bytes.now 18 0 }
     {
         let [major, minor, rest @ ..] = bytes else {
             return None;

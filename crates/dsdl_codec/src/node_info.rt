@@ -39,11 +39,12 @@ pub struct NodeInfo {
 }
 
 impl NodeInfo {
-    ghost use Rattle.dsdl_codec.specs.NodeInfo.{SpellsNodeInfo, node_info_bytes};
+    ghost use Rattle.dsdl_codec.specs.NodeInfo.{SpellsNodeInfo, node_info_bytes, node_info_of};
 
     /// The value of a payload; `None` where it has fewer than 41 bytes, or fewer than its certificate
     /// counts, or more than 80 behind that.
     pub fn read(payload: &[u8]) -> Option<NodeInfo>
+        ensures value { result ≡ node_info_of payload.now }
         ensures found { IfSome result (λ info. SpellsNodeInfo info payload.now) }
         ensures none { IsNone result → (info : NodeInfo) → SpellsNodeInfo info payload.now → ⊥ }
         ensures only { (info : NodeInfo) → SpellsNodeInfo info payload.now → result ≡ Some info }

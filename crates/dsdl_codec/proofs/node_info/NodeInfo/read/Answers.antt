@@ -1,5 +1,6 @@
-use Rattle.std.proofs.Common.{arith}
-use Rattle.dsdl_codec.proofs.NodeInfos.{begins_with_status, then_software, then_hardware, spelled_status, spelled_software}
+use Rattle.std.proofs.Common.{◌≡◌, ◌≤◌, length, sym, subst, arith}
+use Rattle.dsdl_codec.specs.HardwareVersion.{BeginsWithHardwareVersion}
+use Rattle.dsdl_codec.proofs.NodeInfos.{count_behind, length-behind, hardware_sizes, node_info_of_short, node_info_of_long, node_info_of_spelled, spelled_parts, begins_with_status, then_software, then_hardware, spelled_status, spelled_software}
 use Rattle.dsdl_codec.proofs.node_info.NodeInfo.read.Goals as goal
 
 pub returns-in_err-status-clause-none : goal.returns-in_err-status-clause-none
@@ -54,3 +55,38 @@ returns-clause-only c = λ info s.
     let state = c.from_bytes.ensures.only _ (spelled_status info _ s _ status.0) in
     let version = c.from_bytes-software.ensures.only _ (spelled_software info _ s _ software.0) in
     grind (arith, state, version, hardware.0, hardware.1)
+
+pub returns-in_err-status-clause-value : goal.returns-in_err-status-clause-value
+returns-in_err-status-clause-value c =
+    let short = c.in_err-status.ensures.short in
+    let none = node_info_of_short c.args.payload.now (grind arith) in
+    grind (arith, none)
+
+pub returns-in_err-software-clause-value : goal.returns-in_err-software-clause-value
+returns-in_err-software-clause-value c =
+    let size = length-behind _ _ _ _ c.in_ok-status.ensures.found in
+    let short = c.in_err-software.ensures.short in
+    let none = node_info_of_short c.args.payload.now (grind (arith, size, short)) in
+    grind (arith, none)
+
+pub returns-in_err-hardware-clause-value : goal.returns-in_err-hardware-clause-value
+returns-in_err-hardware-clause-value c =
+    let count = count_behind _ _ _ _ _ c.in_ok-status.ensures.found c.in_ok-software.ensures.found in
+    let short = c.in_err-hardware.ensures.short in
+    let none = node_info_of_short c.args.payload.now (grind (arith, count.0, count.1, short)) in
+    grind (arith, none)
+
+pub returns-in_err-ok-clause-value : goal.returns-in_err-ok-clause-value
+returns-in_err-ok-clause-value c =
+    let count = count_behind _ _ _ _ _ c.in_ok-status.ensures.found c.in_ok-software.ensures.found in
+    let sizes = hardware_sizes _ _ _ c.in_ok-hardware.ensures.found in
+    let none = node_info_of_long c.args.payload.now (grind (arith, count.0, count.1, sizes.0, sizes.1)) in
+    grind (arith, none)
+
+pub returns-clause-value : goal.returns-clause-value
+returns-clause-value c =
+    let name : c.in_ok-ok.field-0.items ≡ c.in_ok-hardware.name.now = grind arith in
+    let short : length c.in_ok-ok.field-0.items ≤ 80 = grind arith in
+    let hardware = subst (λ left. BeginsWithHardwareVersion c.in_ok-hardware.hardware left c.in_ok-software.rest.now) (sym name) c.in_ok-hardware.ensures.found in
+    sym (node_info_of_spelled _ _
+      (spelled_parts _ _ _ _ _ _ c.in_ok-status.ensures.found c.in_ok-software.ensures.found hardware c.from_bytes.ensures.found c.from_bytes-software.ensures.found short))
