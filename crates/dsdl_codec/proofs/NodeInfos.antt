@@ -57,18 +57,18 @@ module _ (uid certificate name : List ℕ) (u : length uid ≡ 16) where
   pub count_at_16 : slice_index_or (in_order uid certificate name) 16 0 ≡ length certificate
   count_at_16 =
       subst (λ n. slice_index_or (in_order uid certificate name) n 0 ≡ length certificate) u
-        (get_or-append_seam uid (length certificate) (certificate ++ name) 0)
+      (get_or-append_seam uid (length certificate) (certificate ++ name) 0)
 
   pub certificate_at_17 : drop 17 (in_order uid certificate name) ≡ certificate ++ name
   certificate_at_17 =
       let size : length uid + suc zero ≡ 17 = omega (arith, u) in
       subst (λ n. drop n (in_order uid certificate name) ≡ certificate ++ name) size
-        (drop-append-add uid (length certificate ∷ certificate ++ name) (suc zero))
+      (drop-append-add uid (length certificate ∷ certificate ++ name) (suc zero))
 
   pub name_at_end : drop (17 + length certificate) (in_order uid certificate name) ≡ name
   name_at_end =
       subst (λ n. drop n (in_order uid certificate name) ≡ name) (omega (arith, u))
-        (drop-append-add uid (length certificate ∷ certificate ++ name) (suc (length certificate)) ∙ drop-append_seam certificate name)
+      (drop-append-add uid (length certificate ∷ certificate ++ name) (suc (length certificate)) ∙ drop-append_seam certificate name)
 
   pub length-in_order : length (in_order uid certificate name) ≡ 17 + length certificate + length name
   length-in_order = grind (arith, common_steps, u)
@@ -87,10 +87,10 @@ node_info_from-parts info u =
     let whole = in_order uid certificate name in
     let count = count_at_16 uid certificate name u in
     let certificate_whole : take (slice_index_or whole 16 0) (drop 17 whole) ≡ certificate =
-        rw (count, certificate_at_17 uid certificate name u) (take-append_seam certificate name) in
+    rw (count, certificate_at_17 uid certificate name u) (take-append_seam certificate name) in
     let size : 19 + slice_index_or whole 16 0 ≡ suc (suc (17 + length certificate)) = omega (arith, count) in
     let name_whole : drop (19 + slice_index_or whole 16 0) (info.hw_major ∷ info.hw_minor ∷ whole) ≡ name =
-        rw size (name_at_end uid certificate name u) in
+    rw size (name_at_end uid certificate name u) in
     rw (uid_first uid certificate name u, certificate_whole, name_whole) refl
 
 -- the bytes of a status and of a software version, and what is behind them
@@ -114,8 +114,8 @@ node_info_of-front info fits =
     let rest = info.hw_major ∷ info.hw_minor ∷ in_order info.uid info.certificate.items info.name.items in
     let version = software_version_of (software_version_bytes (software_in info)) in
     rw (has_node_info_size-front info fits)
-      (subst (λ s. node_info_from s version rest ≡ Some info) (sym status)
-        (subst (λ v. node_info_from (Some info.status) v rest ≡ Some info) (sym software) (node_info_from-parts info fits.uid)))
+    (subst (λ s. node_info_from s version rest ≡ Some info) (sym status)
+    (subst (λ v. node_info_from (Some info.status) v rest ≡ Some info) (sym software) (node_info_from-parts info fits.uid)))
 
 pub node_info_of_spelled : (info : NodeInfo) (bytes : List ℕ) → SpellsNodeInfo info bytes → node_info_of bytes ≡ Some info
 node_info_of_spelled info bytes s =
@@ -141,23 +141,24 @@ pub spelled_parts : (info : NodeInfo) (bytes status software rest left : List �
     → SpellsNodeInfo info bytes
 spelled_parts info bytes status software rest left a b c d e n =
     let whole : bytes ≡ status ++ (software ++ (hardware_version_bytes (hardware_in info) ++ info.name.items)) =
-        a.written ∙ ap (λ r. status ++ r) (b.written ∙ ap (λ l. software ++ l) c.written) in
+    a.written ∙ ap (λ r. status ++ r) (b.written ∙ ap (λ l. software ++ l) c.written) in
     record {
       fits = record { status = d.fits; sw_commit = e.fits.commit; sw_crc = e.fits.crc; uid = c.fits.uid; certificate = c.fits.certificate; name = n };
       written = whole
-        ∙ ap (λ x. x ++ (software ++ (hardware_version_bytes (hardware_in info) ++ info.name.items))) d.written
-        ∙ ap (λ y. node_status_bytes info.status ++ (y ++ (hardware_version_bytes (hardware_in info) ++ info.name.items))) e.written;
+          ∙ ap (λ x. x ++ (software ++ (hardware_version_bytes (hardware_in info) ++ info.name.items))) d.written
+          ∙ ap (λ y. node_status_bytes info.status ++ (y ++ (hardware_version_bytes (hardware_in info) ++ info.name.items))) e.written;
     }
 
 -- what stands at byte 40 stands at byte 18 behind the status and the software version
 pub count_behind : (bytes status software rest left : List ℕ) → BeginsWith 7 status rest bytes → BeginsWith 15 software left rest →
     (slice_index_or bytes 40 0 ≡ slice_index_or left 18 0) × (length bytes ≡ 22 + length left)
 count_behind bytes status software rest left a b = (
-    ap (λ b. slice_index_or b 40 0) a.written
+  ap (λ b. slice_index_or b 40 0) a.written
       ∙ get_or-append_right status rest 7 40 0 a.width (omega arith)
       ∙ ap (λ r. slice_index_or r 33 0) b.written
       ∙ get_or-append_right software left 15 33 0 b.width (omega arith),
-    grind (arith, common_steps))
+  grind (arith, common_steps),
+)
 
 pub length-behind : (size : ℕ) (field left bytes : List ℕ) → BeginsWith size field left bytes → length bytes ≡ size + length left
 length-behind size field left bytes a = grind (arith, common_steps)

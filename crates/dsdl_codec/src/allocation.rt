@@ -1,7 +1,7 @@
 ghost use Rattle.std.specs.Prelude.{◌≡◌, ◌<◌, ◌+◌, Some, IfSome, IsNone, List, ℕ};
 ghost use Rattle.arrayvec.specs.ArrayVec.{array_vec_len};
 
-use crate::payload::append;
+use crate::payload::{Payload, append};
 use arrayvec::ArrayVec;
 
 /// A message of the exchange by which a node without an ID gets one
@@ -38,13 +38,13 @@ impl Allocation {
     }
 
     /// The payload of 1 to 17 bytes.
-    pub fn write(&self) -> ArrayVec<u8, 376>
+    pub fn write(&self) -> Payload
         requires { self.now.node < 128 }
         ensures bytes { result.items ≡ allocation_bytes self.now }
         ensures spelled { SpellsAllocation self.now result.items }
         ensures length { array_vec_len result ≡ 1 + array_vec_len self.now.uid }
     {
-        let mut payload = ArrayVec::new();
+        let mut payload = Payload::new();
         payload.push(self.node * 2 + if self.first_part { 1 } else { 0 });
         append(&mut payload, &self.uid);
         payload

@@ -1,8 +1,8 @@
 ghost use Rattle.std.specs.Prelude.{◌≡◌, Some, IfSome, IsNone, List, ℕ};
 ghost use Rattle.arrayvec.specs.ArrayVec.{array_vec_len};
 
+use crate::payload::Payload;
 use crate::verdict;
-use arrayvec::ArrayVec;
 
 /// The answer to a request
 /// (the response of `uavcan.protocol.dynamic_node_id.server.AppendEntries`).
@@ -29,7 +29,7 @@ impl AppendAnswer {
     }
 
     /// The payload of 5 bytes.
-    pub fn write(&self) -> ArrayVec<u8, 376>
+    pub fn write(&self) -> Payload
         ensures bytes { result.items ≡ append_answer_bytes self.now 0 }
         ensures spelled { SpellsAppendAnswer self.now result.items }
         ensures length { array_vec_len result ≡ 5 }

@@ -2,8 +2,7 @@ ghost use Rattle.std.specs.Prelude.{◌≡◌, ◌<◌, ◌+◌, Some, IfSome, I
 ghost use Rattle.arrayvec.specs.ArrayVec.{array_vec_len};
 
 use crate::entry::{append_entry, read_optional_entry};
-use crate::payload::append;
-use arrayvec::ArrayVec;
+use crate::payload::{Payload, append};
 use can_frame::Entry;
 
 /// A leader tells a member to append an entry, or that it still leads
@@ -51,13 +50,13 @@ impl AppendRequest {
     }
 
     /// The payload of 10 bytes, or of 31 with an entry.
-    pub fn write(&self) -> ArrayVec<u8, 376>
+    pub fn write(&self) -> Payload
         requires { IfSome self.now.entry (λ entry. entry.node < 128) }
         ensures bytes { result.items ≡ append_request_bytes self.now 0 }
         ensures spelled { SpellsAppendRequest self.now result.items }
         ensures length { array_vec_len result ≡ 10 + length (optional_entry_bytes self.now.entry 0) }
     {
-        let mut payload = ArrayVec::new();
+        let mut payload = Payload::new();
         append(&mut payload, &self.term.to_le_bytes());
         append(&mut payload, &self.prev_term.to_le_bytes());
         payload.push(self.prev_index);

@@ -1,7 +1,7 @@
 ghost use Rattle.std.specs.Prelude.{◌≡◌, ◌+◌, Some, IfSome, IsNone, List, ℕ};
 ghost use Rattle.arrayvec.specs.ArrayVec.{array_vec_len};
 
-use crate::payload::append;
+use crate::payload::{Payload, append};
 use arrayvec::ArrayVec;
 
 /// What allocators of one cluster tell each other until all know all
@@ -33,12 +33,12 @@ impl Discovery {
     }
 
     /// The payload of 1 to 6 bytes.
-    pub fn write(&self) -> ArrayVec<u8, 376>
+    pub fn write(&self) -> Payload
         ensures bytes { result.items ≡ discovery_bytes self.now }
         ensures spelled { SpellsDiscovery self.now result.items }
         ensures length { array_vec_len result ≡ 1 + array_vec_len self.now.known }
     {
-        let mut payload = ArrayVec::new();
+        let mut payload = Payload::new();
         payload.push(self.size);
         append(&mut payload, &self.known);
         payload

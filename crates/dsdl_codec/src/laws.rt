@@ -10,6 +10,8 @@ ghost use Rattle.dsdl_codec.specs.AppendRequest.{IsAppendRequest, SpellsAppendRe
 ghost use Rattle.dsdl_codec.specs.declared.append_request.AppendRequest.{AppendRequest};
 ghost use Rattle.dsdl_codec.specs.Discovery.{IsDiscovery, SpellsDiscovery, discovery_bytes, discovery_of};
 ghost use Rattle.dsdl_codec.specs.declared.discovery.Discovery.{Discovery};
+ghost use Rattle.dsdl_codec.specs.NodeInfo.{IsNodeInfo, SpellsNodeInfo, node_info_bytes, node_info_of};
+ghost use Rattle.dsdl_codec.specs.declared.node_info.NodeInfo.{NodeInfo};
 ghost use Rattle.dsdl_codec.specs.NodeStatus.{IsNodeStatus, SpellsNodeStatus, node_status_bytes, node_status_of};
 ghost use Rattle.dsdl_codec.specs.declared.node_status.NodeStatus.{NodeStatus};
 ghost use Rattle.dsdl_codec.specs.VoteAnswer.{SpellsVoteAnswer, vote_answer_bytes, vote_answer_of};
@@ -35,6 +37,12 @@ pub fn append_requests_both_ways()
 pub fn discoveries_both_ways()
     ensures is_read { (discovery : Discovery) (bytes : List ℕ) → SpellsDiscovery discovery bytes → discovery_of bytes ≡ Some discovery }
     ensures read_again { (discovery : Discovery) → IsDiscovery discovery → discovery_of (discovery_bytes discovery) ≡ Some discovery }
+{}
+
+#[tactic(auto, using(crate::proofs::NodeInfos::node_info_of_spelled))]
+pub fn node_infos_both_ways()
+    ensures is_read { (info : NodeInfo) (bytes : List ℕ) → SpellsNodeInfo info bytes → node_info_of bytes ≡ Some info }
+    ensures read_again { (info : NodeInfo) → IsNodeInfo info → node_info_of (node_info_bytes info) ≡ Some info }
 {}
 
 pub fn node_statuses_both_ways()

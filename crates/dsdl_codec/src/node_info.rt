@@ -3,7 +3,7 @@ ghost use Rattle.arrayvec.specs.ArrayVec.{array_vec_len};
 
 use crate::hardware_version::HardwareVersion;
 use crate::node_status::NodeStatus;
-use crate::payload::{append, split};
+use crate::payload::{Payload, append, split};
 use crate::software_version::SoftwareVersion;
 use arrayvec::ArrayVec;
 use can_frame::Uid;
@@ -69,7 +69,7 @@ impl NodeInfo {
     }
 
     /// The payload of 41 to 376 bytes.
-    pub fn write(&self) -> ArrayVec<u8, 376>
+    pub fn write(&self) -> Payload
         requires health { self.now.status.health < 4 }
         requires mode { self.now.status.mode < 8 }
         requires sub_mode { self.now.status.sub_mode < 8 }

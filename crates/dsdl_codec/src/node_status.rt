@@ -1,8 +1,7 @@
 ghost use Rattle.std.specs.Prelude.{◌≡◌, ◌<◌, Some, IfSome, IsNone, List, ℕ};
 ghost use Rattle.arrayvec.specs.ArrayVec.{array_vec_len};
 
-use crate::payload::append;
-use arrayvec::ArrayVec;
+use crate::payload::{Payload, append};
 
 /// What each node tells of itself once a second (`uavcan.protocol.NodeStatus`).
 #[derive(Clone, Copy, Debug, Default, PartialEq, Eq)]
@@ -53,7 +52,7 @@ impl NodeStatus {
     }
 
     /// The payload of 7 bytes.
-    pub fn write(&self) -> ArrayVec<u8, 376>
+    pub fn write(&self) -> Payload
         requires health { self.now.health < 4 }
         requires mode { self.now.mode < 8 }
         requires sub_mode { self.now.sub_mode < 8 }
@@ -61,7 +60,7 @@ impl NodeStatus {
         ensures spelled { SpellsNodeStatus self.now result.items }
         ensures length { array_vec_len result ≡ 7 }
     {
-        let mut payload = ArrayVec::new();
+        let mut payload = Payload::new();
         append(&mut payload, &self.uptime.to_le_bytes());
         payload.push(self.health * 64 + self.mode * 8 + self.sub_mode);
         append(&mut payload, &self.vendor.to_le_bytes());

@@ -7,11 +7,11 @@ ghost use Rattle.dsdl_codec.specs.Fields.{BeginsWith, BeginsWithCounted};
 
 use arrayvec::ArrayVec;
 
-/// The longest payload of a transfer, in bytes.
-pub const LONGEST: usize = 376;
+/// The payload of a transfer: at most 376 bytes.
+pub type Payload = ArrayVec<u8, 376>;
 
 /// Appends bytes for which there is room.
-pub fn append(payload: &mut ArrayVec<u8, LONGEST>, bytes: &[u8])
+pub fn append(payload: &mut Payload, bytes: &[u8])
     requires { array_vec_len payload.old + length bytes.now ≤ 376 }
     ensures items { payload.new.items ≡ payload.old.items ++ bytes.now }
     ensures len { array_vec_len payload.new ≡ array_vec_len payload.old + length bytes.now }

@@ -6,7 +6,6 @@ use crate::{
     Allocation, AppendAnswer, AppendRequest, Discovery, NodeInfo, NodeStatus, VoteAnswer,
     VoteRequest,
 };
-use arrayvec::ArrayVec;
 use can_frame::Entry;
 use std::test::Fail;
 

@@ -4,8 +4,7 @@ ghost use Rattle.std.specs.Prelude.{◌≡◌, Some, IfSome, IsNone, Bool, ℕ};
 ghost use Rattle.arrayvec.specs.ArrayVec.{array_vec_len};
 ghost use Rattle.dsdl_codec.specs.Verdict.{SpellsVerdict, verdict_bytes, verdict_of};
 
-use crate::payload::append;
-use arrayvec::ArrayVec;
+use crate::payload::{Payload, append};
 
 pub fn read(payload: &[u8]) -> Option<(u32, bool)>
     ensures value { result ≡ verdict_of payload.now }
@@ -18,12 +17,12 @@ pub fn read(payload: &[u8]) -> Option<(u32, bool)>
     Some((u32::from_le_bytes([*a, *b, *c, *d]), *state >= 128))
 }
 
-pub fn write(term: u32, flag: bool) -> ArrayVec<u8, 376>
+pub fn write(term: u32, flag: bool) -> Payload
     ensures bytes { result.items ≡ verdict_bytes term flag 0 }
     ensures spelled { SpellsVerdict term flag result.items }
     ensures length { array_vec_len result ≡ 5 }
 {
-    let mut payload = ArrayVec::new();
+    let mut payload = Payload::new();
     append(&mut payload, &term.to_le_bytes());
     payload.push(if flag { 128 } else { 0 });
     payload

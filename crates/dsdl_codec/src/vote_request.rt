@@ -1,8 +1,7 @@
 ghost use Rattle.std.specs.Prelude.{◌≡◌, Some, IfSome, IsNone, List, ℕ};
 ghost use Rattle.arrayvec.specs.ArrayVec.{array_vec_len};
 
-use crate::payload::append;
-use arrayvec::ArrayVec;
+use crate::payload::{Payload, append};
 
 /// A candidate asks for a vote
 /// (the request of `uavcan.protocol.dynamic_node_id.server.RequestVote`).
@@ -39,12 +38,12 @@ impl VoteRequest {
     }
 
     /// The payload of 9 bytes.
-    pub fn write(&self) -> ArrayVec<u8, 376>
+    pub fn write(&self) -> Payload
         ensures bytes { result.items ≡ vote_request_bytes self.now }
         ensures spelled { SpellsVoteRequest self.now result.items }
         ensures length { array_vec_len result ≡ 9 }
     {
-        let mut payload = ArrayVec::new();
+        let mut payload = Payload::new();
         append(&mut payload, &self.term.to_le_bytes());
         append(&mut payload, &self.last_term.to_le_bytes());
         payload.push(self.last_index);

@@ -89,4 +89,4 @@ returns-clause-value c =
     let short : length c.in_ok-ok.field-0.items ≤ 80 = grind arith in
     let hardware = subst (λ left. BeginsWithHardwareVersion c.in_ok-hardware.hardware left c.in_ok-software.rest.now) (sym name) c.in_ok-hardware.ensures.found in
     sym (node_info_of_spelled _ _
-      (spelled_parts _ _ _ _ _ _ c.in_ok-status.ensures.found c.in_ok-software.ensures.found hardware c.from_bytes.ensures.found c.from_bytes-software.ensures.found short))
+    (spelled_parts _ _ _ _ _ _ c.in_ok-status.ensures.found c.in_ok-software.ensures.found hardware c.from_bytes.ensures.found c.from_bytes-software.ensures.found short))
