@@ -1,16 +1,17 @@
-ghost use Rattle.std.specs.Prelude.{◌≡◌, Some, IfSome, IsNone, List, ℕ};
+ghost use Rattle.std.specs.Prelude.{◌≡◌, Some, IfSome, IsNone};
 ghost use Rattle.arrayvec.specs.ArrayVec.{array_vec_len};
 
 use crate::payload::Payload;
 use crate::verdict;
 
-/// The answer to a request
+/// What a member answers to a leader's [`AppendRequest`](crate::AppendRequest)
 /// (the response of `uavcan.protocol.dynamic_node_id.server.AppendEntries`).
 #[derive(Clone, Copy, Debug, PartialEq, Eq)]
 pub struct AppendAnswer {
     /// The term of the member that answers.
     pub term: u32,
 
+    /// Whether its log now agrees with the leader's as far as the request goes.
     pub success: bool,
 }
 

@@ -1,4 +1,4 @@
-ghost use Rattle.std.specs.Prelude.{◌≡◌, ◌+◌, Some, IfSome, IsNone, List, ℕ};
+ghost use Rattle.std.specs.Prelude.{◌≡◌, ◌+◌, Some, IfSome, IsNone};
 ghost use Rattle.arrayvec.specs.ArrayVec.{array_vec_len};
 
 use crate::payload::{Payload, append};

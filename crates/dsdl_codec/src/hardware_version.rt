@@ -1,5 +1,4 @@
-ghost use Rattle.std.specs.Prelude.{◌≡◌, ◌<◌, ◌+◌, ◌++◌, Some, IfSome, IsNone, IsSomeAnd, List, ℕ, length, slice_index_or};
-ghost use Rattle.arrayvec.specs.ArrayVec.{array_vec_len};
+ghost use Rattle.std.specs.Prelude.{◌≡◌, ◌<◌, ◌+◌, Some, IfSome, IsNone, IsSomeAnd, List, ℕ, length, slice_index_or};
 
 use crate::payload::{split, split_counted};
 use arrayvec::ArrayVec;
@@ -15,7 +14,7 @@ pub struct HardwareVersion {
 }
 
 impl HardwareVersion {
-    ghost use Rattle.dsdl_codec.specs.HardwareVersion.{BeginsWithHardwareVersion, hardware_version_bytes};
+    ghost use Rattle.dsdl_codec.specs.HardwareVersion.{BeginsWithHardwareVersion};
 
     /// The value that the bytes begin with, and the bytes behind it.
     pub fn read(bytes: &[u8]) -> Option<(HardwareVersion, &[u8])>

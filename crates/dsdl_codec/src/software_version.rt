@@ -1,4 +1,4 @@
-ghost use Rattle.std.specs.Prelude.{◌≡◌, Some, IfSome, List, ℕ};
+ghost use Rattle.std.specs.Prelude.{◌≡◌};
 
 /// The version of a node's software (`uavcan.protocol.SoftwareVersion`).
 #[derive(Clone, Copy)]

@@ -1,6 +1,6 @@
 //! A term and a flag: the bytes of both answers of a cluster.
 
-ghost use Rattle.std.specs.Prelude.{◌≡◌, Some, IfSome, IsNone, Bool, ℕ};
+ghost use Rattle.std.specs.Prelude.{◌≡◌, Some, IfSome, Bool, ℕ};
 ghost use Rattle.arrayvec.specs.ArrayVec.{array_vec_len};
 ghost use Rattle.dsdl_codec.specs.Verdict.{SpellsVerdict, verdict_bytes, verdict_of};
 
