@@ -1,0 +1,13 @@
+pub mod Allocation
+pub mod AppendAnswer
+pub mod AppendRequest
+pub mod Discovery
+pub mod Entry
+pub mod Fields
+pub mod HardwareVersion
+pub mod NodeInfo
+pub mod NodeStatus
+pub mod SoftwareVersion
+pub mod Verdict
+pub mod VoteAnswer
+pub mod VoteRequest
