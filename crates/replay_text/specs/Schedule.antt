@@ -55,10 +55,14 @@ Spells (Crash n calls pattern) line = (word : List ℕ) × (line ≡ codes "cras
     × SpellsPattern pattern word
 Spells (Fault n call) line = line ≡ codes "fault" ∷ decimal n ∷ decimal call ∷ []
 
--- a line, without its line feed, reads as a row
-pub record Reads (row : Row) (line : List ℕ) : Type 0 where
+-- the words are those of a row whose fields are in their ranges
+pub record ReadsWords (row : Row) (line : List (List ℕ)) : Type 0 where
   pub fields : IsRow row
-  pub spelled : Spells row (words line)
+  pub spelled : Spells row line
+
+-- a line, without its line feed, reads as a row
+abbrev pub Reads : Row → List ℕ → Type 0
+Reads row line = ReadsWords row (words line)
 
 abbrev pub pattern_word : Pattern → List ℕ
 pattern_word Old = codes "old"

@@ -1,4 +1,4 @@
-ghost use Rattle.std.specs.Prelude.{◌≡◌, ◌<◌, ◌≤◌, ◌+◌, ◌*◌, ◌++◌, [], length, decimal};
+ghost use Rattle.std.specs.Prelude.{◌≡◌, ◌<◌, ◌≤◌, ◌+◌, ◌*◌, ◌++◌, [], length, decimal, codes};
 ghost use Rattle.hex.specs.Hex.{encode_lower};
 
 use arrayvec::ArrayVec;
@@ -53,18 +53,29 @@ impl Line {
         self.text(Buffer::new().format(n).as_bytes());
     }
 
-    /// Appends bytes in hexadecimal, two lower case digits each, the high half first.
+    /// Appends a space and a number in decimal.
+    pub fn field(&mut self, n: u64)
+        requires { length self.old + 21 ≤ 400 }
+        ensures text { self.new ≡ self.old ++ codes " " ++ decimal n }
+        ensures len { length self.new ≤ length self.old + 21 }
+        ensures short { n < 1000 → length self.new ≤ length self.old + 4 }
+    {
+        self.text(b" ");
+        self.number(n);
+    }
+
+    /// Appends up to 16 bytes in hexadecimal, two lower case digits each, the high half first.
     pub fn hex(&mut self, bytes: &[u8])
-        requires { length self.old + 2 * length bytes.now ≤ 400 }
+        requires few { length bytes.now ≤ 16 }
+        requires room { length self.old + 2 * length bytes.now ≤ 400 }
         ensures text { self.new ≡ self.old ++ encode_lower bytes.now }
         ensures len { length self.new ≡ length self.old + 2 * length bytes.now }
     {
-        for byte in bytes {
-            let mut digits = [0; 2];
-            match hex::encode_to_slice([*byte], &mut digits) {
-                Ok(()) => self.text(&digits),
-                Err(_) => unreachable!(),
-            }
+        let mut digits = [0; 32];
+        let digits = &mut digits[..2 * bytes.len()];
+        match hex::encode_to_slice(bytes, digits) {
+            Ok(()) => self.text(digits),
+            Err(_) => unreachable!(),
         }
     }
 

@@ -1,4 +1,6 @@
-ghost use Rattle.std.specs.Prelude.{◌≡◌, ◌≤◌, ◌<◌, ◌+◌, ◌*◌, ◌++◌, length, flat_map};
+ghost use Rattle.std.specs.Prelude.{◌≡◌, ◌≤◌, ◌<◌, ◌+◌, ◌*◌, ◌++◌, codes, length, decimal, flat_map};
+ghost use Rattle.hex.specs.Hex.{encode_lower};
+ghost use Rattle.replay_text.specs.Words.{identifier_bytes};
 ghost use Rattle.replay_text.specs.Report.{cause_number, line_head, role_letter, seen_word, sent_mark, told_line, transfer_name};
 
 use crate::{Line, Told};
@@ -6,7 +8,7 @@ use arrayvec::ArrayVec;
 use can_frame::{Frame, Role, Seen, Sent, What};
 
 /// The line that tells what row number `row` did, its line feed included. The longest is that of a step
-/// with twelve transfers, of 190 bytes.
+/// that offered twelve transfers: 190 bytes.
 pub fn write_told(row: u64, told: &Told) -> ArrayVec<u8, 400>
     ensures { result.items ≡ told_line row told.now }
 {
@@ -20,16 +22,12 @@ pub fn write_told(row: u64, told: &Told) -> ArrayVec<u8, 400>
             last,
             commit,
         } => {
-            line.text(b" ");
-            line.number(u64::from(*n));
-            line.text(b" open ");
-            line.number(u64::from(*term));
-            line.text(b" ");
-            line.number(u64::from(*vote));
-            line.text(b" ");
-            line.number(u64::from(*last));
-            line.text(b" ");
-            line.number(u64::from(*commit));
+            line.field(u64::from(*n));
+            line.text(b" open");
+            line.field(u64::from(*term));
+            line.field(u64::from(*vote));
+            line.field(u64::from(*last));
+            line.field(u64::from(*commit));
         }
         Told::Stepped {
             n,
@@ -41,60 +39,61 @@ pub fn write_told(row: u64, told: &Told) -> ArrayVec<u8, 400>
             seen,
             sent,
         } => {
-            line.text(b" ");
-            line.number(u64::from(*n));
-            line.text(b" ");
+            line.field(u64::from(*n));
             line.text(letter(*role));
-            line.text(b" ");
-            line.number(u64::from(*term));
-            line.text(b" ");
-            line.number(u64::from(*last));
-            line.text(b" ");
-            line.number(u64::from(*commit));
-            line.text(b" ");
-            line.number(u64::from(*queued));
-            line.text(b" ");
+            line.field(u64::from(*term));
+            line.field(u64::from(*last));
+            line.field(u64::from(*commit));
+            line.field(u64::from(*queued));
             write_seen(&mut line, *seen);
             write_marks(&mut line, sent);
         }
-        Told::Failed { n } => {
-            line.text(b" ");
-            line.number(u64::from(*n));
-            line.text(b" fault");
-        }
-        Told::Stopped { n } => {
-            line.text(b" ");
-            line.number(u64::from(*n));
-            line.text(b" stop");
-        }
-        Told::Armed { n } => {
-            line.text(b" ");
-            line.number(u64::from(*n));
-            line.text(b" armed");
-        }
+        Told::Failed { n } => write_event(&mut line, *n, b" fault"),
+        Told::Stopped { n } => write_event(&mut line, *n, b" stop"),
+        Told::Armed { n } => write_event(&mut line, *n, b" armed"),
         Told::Popped { n, k, frame } => {
-            line.text(b" ");
-            line.number(u64::from(*n));
-            line.text(b" send ");
-            line.number(u64::from(*k));
-            write_frame(&mut line, frame);
+            write_event(&mut line, *n, b" send");
+            write_frame(&mut line, *k, frame);
         }
         Told::Outside { k } => {
-            line.text(b" ext ");
-            line.number(u64::from(*k));
+            line.text(b" ext");
+            line.field(u64::from(*k));
         }
     }
     line.text(b"\n");
     line.into_bytes()
 }
 
+fn write_event(line: &mut Line, n: u8, event: &[u8])
+    requires { length line.old + 21 + length event.now ≤ 400 }
+    ensures text { line.new ≡ line.old ++ codes " " ++ decimal n ++ event.now }
+    ensures len { length line.new ≤ length line.old + 4 + length event.now }
+{
+    line.field(u64::from(n));
+    line.text(event);
+}
+
+fn write_frame(line: &mut Line, k: u32, frame: &Frame)
+    requires { length line.old + 47 ≤ 400 }
+    ensures text { line.new ≡ line.old ++ codes " " ++ decimal k
+        ++ codes " " ++ encode_lower (identifier_bytes frame.now.id) ++ codes " " ++ encode_lower frame.now.bytes.items }
+    ensures len { length line.new ≤ length line.old + 47 }
+{
+    line.field(u64::from(k));
+    line.text(b" ");
+    line.hex(&frame.id.to_be_bytes());
+    line.text(b" ");
+    line.hex(&frame.bytes);
+}
+
 fn letter(role: Role) -> &'static [u8]
-    ensures { result.now ≡ role_letter role }
+    ensures letter { result.now ≡ codes " " ++ role_letter role }
+    ensures len { length result.now ≡ 2 }
 {
     match role {
-        Role::Follower => b"F",
-        Role::Candidate => b"C",
-        Role::Leader => b"L",
+        Role::Follower => b" F",
+        Role::Candidate => b" C",
+        Role::Leader => b" L",
     }
 }
 
@@ -116,10 +115,11 @@ fn name(what: What) -> &'static [u8]
 }
 
 fn write_seen(line: &mut Line, seen: Seen)
-    requires { length line.old + 25 ≤ 400 }
-    ensures text { line.new ≡ line.old ++ seen_word seen }
-    ensures len { length line.new ≤ length line.old + 8 }
+    requires { length line.old + 26 ≤ 400 }
+    ensures text { line.new ≡ line.old ++ codes " " ++ seen_word seen }
+    ensures len { length line.new ≤ length line.old + 9 }
 {
+    line.text(b" ");
     match seen {
         Seen::Ticked => line.text(b"tick"),
         Seen::Took => line.text(b"took"),
@@ -133,8 +133,7 @@ fn write_seen(line: &mut Line, seen: Seen)
 }
 
 fn write_marks(line: &mut Line, sent: &[Sent])
-    requires few { length sent.now ≤ 12 }
-    requires room { length line.old + 11 * length sent.now + 20 ≤ 400 }
+    requires { length line.old + 11 * length sent.now + 20 ≤ 400 }
     ensures text { line.new ≡ line.old ++ flat_map sent_mark sent.now }
     ensures len { length line.new ≤ length line.old + 11 * length sent.now }
 {
@@ -144,7 +143,7 @@ fn write_marks(line: &mut Line, sent: &[Sent])
 }
 
 fn write_mark(line: &mut Line, transfer: Sent)
-    requires { length line.old + 31 ≤ 400 }
+    requires { length line.old + 28 ≤ 400 }
     ensures text { line.new ≡ line.old ++ sent_mark transfer }
     ensures len { length line.new ≤ length line.old + 11 }
 {
@@ -152,14 +151,4 @@ fn write_mark(line: &mut Line, transfer: Sent)
     line.text(name(transfer.what));
     line.text(b":");
     line.number(u64::from(transfer.to));
-}
-
-fn write_frame(line: &mut Line, frame: &Frame)
-    requires { length line.old + 26 ≤ 400 }
-    ensures len { length line.new ≤ length line.old + 26 }
-{
-    line.text(b" ");
-    line.hex(&frame.id.to_be_bytes());
-    line.text(b" ");
-    line.hex(&frame.bytes);
 }

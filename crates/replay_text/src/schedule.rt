@@ -1,8 +1,20 @@
-ghost use Rattle.std.specs.Prelude.{◌≡◌, Some, IfSome, IsNone};
+ghost use Rattle.std.specs.Prelude.{◌≡◌, ◌<◌, ◌≤◌, ◌^◌, ◌∷◌, [], ℕ, List, Some, IfSome, IsNone, codes, decimal};
+ghost use Rattle.arrayvec.specs.ArrayVec.{ArrayVec as Items};
+ghost use Rattle.outside.specs.declared.pattern.Pattern.{Pattern as PatternValue};
 ghost use Rattle.replay_text.specs.declared.row.Row.{Row as RowValue};
-ghost use Rattle.replay_text.specs.Schedule.{Reads};
+ghost use Rattle.replay_text.specs.Schedule.{Reads, ReadsWords, IsPattern, IsRepeated, SpellsPattern, last_call, last_moment};
+ghost use Rattle.replay_text.specs.Words.{IsHex, words};
 
 use crate::Row;
+use crate::word::{one_word, read_bytes, read_identifier, read_number, split_word, three_words, two_words};
+use can_frame::Frame;
+use outside::Pattern;
+
+/// The last moment, in milliseconds.
+const LAST_MOMENT: u64 = 1_000_000_000_000_000;
+
+/// The highest number of a disk call.
+const LAST_CALL: u64 = 1_000_000;
 
 /// The row that a line reads as, without its line feed; `None` where it reads as none.
 pub fn read_row(line: &[u8]) -> Option<Row>
@@ -10,6 +22,124 @@ pub fn read_row(line: &[u8]) -> Option<Row>
     ensures none { IsNone result → (row : RowValue) → Reads row line.now → ⊥ }
     ensures only { (row : RowValue) → Reads row line.now → result ≡ Some row }
 {
-    let _line = line;
-    None
+    let (name, fields) = split_word(line)?;
+    match name {
+        b"open" => read_open(fields),
+        b"tick" => read_tick(fields),
+        b"rx" => read_rx(fields),
+        b"send" => read_send(fields),
+        b"ext" => read_ext(fields),
+        b"crash" => read_crash(fields),
+        b"fault" => read_fault(fields),
+        _ => None,
+    }
+}
+
+fn read_open(fields: &[u8]) -> Option<Row>
+    ensures found { IfSome result (λ row. ReadsWords row (codes "open" ∷ words fields.now)) }
+    ensures only { (row : RowValue) → ReadsWords row (codes "open" ∷ words fields.now) → result ≡ Some row }
+{
+    let (n, ms, word) = read_turn(fields)?;
+    Some(Row::Open { n, ms, word })
+}
+
+fn read_tick(fields: &[u8]) -> Option<Row>
+    ensures found { IfSome result (λ row. ReadsWords row (codes "tick" ∷ words fields.now)) }
+    ensures only { (row : RowValue) → ReadsWords row (codes "tick" ∷ words fields.now) → result ≡ Some row }
+{
+    let (n, ms, word) = read_turn(fields)?;
+    Some(Row::Tick { n, ms, word })
+}
+
+fn read_turn(fields: &[u8]) -> Option<(u8, u64, u32)>
+    ensures found { IfSome result (λ turn. (turn.1 ≤ last_moment) × (words fields.now ≡ decimal turn.0 ∷ decimal turn.1 ∷ decimal turn.2 ∷ [])) }
+    ensures only { (n ms word : ℕ) → n < 256 → ms ≤ last_moment → word < 2 ^ 32
+        → words fields.now ≡ decimal n ∷ decimal ms ∷ decimal word ∷ [] → result ≡ Some (n, ms, word) }
+{
+    let (n, ms, word) = three_words(fields)?;
+    let n = read_number(n, 255)?;
+    let ms = read_number(ms, LAST_MOMENT)?;
+    let word = read_number(word, 4_294_967_295)?;
+    Some((n as u8, ms, word as u32))
+}
+
+fn read_rx(fields: &[u8]) -> Option<Row>
+    ensures found { IfSome result (λ row. ReadsWords row (codes "rx" ∷ words fields.now)) }
+    ensures only { (row : RowValue) → ReadsWords row (codes "rx" ∷ words fields.now) → result ≡ Some row }
+{
+    let (n, k, ms) = three_words(fields)?;
+    let n = read_number(n, 255)?;
+    let k = read_number(k, 4_294_967_295)?;
+    let ms = read_number(ms, LAST_MOMENT)?;
+    Some(Row::Rx { n: n as u8, k: k as u32, ms })
+}
+
+fn read_send(fields: &[u8]) -> Option<Row>
+    ensures found { IfSome result (λ row. ReadsWords row (codes "send" ∷ words fields.now)) }
+    ensures only { (row : RowValue) → ReadsWords row (codes "send" ∷ words fields.now) → result ≡ Some row }
+{
+    let n = one_word(fields)?;
+    let n = read_number(n, 255)?;
+    Some(Row::Send { n: n as u8 })
+}
+
+fn read_ext(fields: &[u8]) -> Option<Row>
+    ensures found { IfSome result (λ row. ReadsWords row (codes "ext" ∷ words fields.now)) }
+    ensures only { (row : RowValue) → ReadsWords row (codes "ext" ∷ words fields.now) → result ≡ Some row }
+{
+    let (id, bytes) = two_words(fields)?;
+    let id = read_identifier(id)?;
+    let bytes = read_bytes::<8>(bytes)?;
+    let frame = Frame::from_parts(id, &bytes).ok()?;
+    Some(Row::Ext { frame })
+}
+
+fn read_crash(fields: &[u8]) -> Option<Row>
+    ensures found { IfSome result (λ row. ReadsWords row (codes "crash" ∷ words fields.now)) }
+    ensures only { (row : RowValue) → ReadsWords row (codes "crash" ∷ words fields.now) → result ≡ Some row }
+{
+    let (n, calls, pattern) = three_words(fields)?;
+    let n = read_number(n, 255)?;
+    let calls = read_number(calls, LAST_CALL)?;
+    let pattern = read_pattern(pattern)?;
+    Some(Row::Crash {
+        n: n as u8,
+        calls: calls as u32,
+        pattern,
+    })
+}
+
+fn read_pattern(word: &[u8]) -> Option<Pattern>
+    ensures found { IfSome result (λ pattern. IsPattern pattern × SpellsPattern pattern word.now) }
+    ensures only { (pattern : PatternValue) → IsPattern pattern → SpellsPattern pattern word.now → result ≡ Some pattern }
+{
+    match word {
+        b"old" => Some(Pattern::Old),
+        b"new" => Some(Pattern::New),
+        _ => read_repeated(word),
+    }
+}
+
+fn read_repeated(word: &[u8]) -> Option<Pattern>
+    ensures found { IfSome result (λ pattern. IsPattern pattern × SpellsPattern pattern word.now) }
+    ensures only { (bytes : Items ℕ) → IsRepeated bytes.items → IsHex bytes.items word.now → result ≡ Some (Pattern.Bytes bytes) }
+{
+    let bytes = read_bytes::<16>(word)?;
+    if bytes.is_empty() {
+        return None;
+    }
+    Some(Pattern::Bytes(bytes))
+}
+
+fn read_fault(fields: &[u8]) -> Option<Row>
+    ensures found { IfSome result (λ row. ReadsWords row (codes "fault" ∷ words fields.now)) }
+    ensures only { (row : RowValue) → ReadsWords row (codes "fault" ∷ words fields.now) → result ≡ Some row }
+{
+    let (n, call) = two_words(fields)?;
+    let n = read_number(n, 255)?;
+    let call = read_number(call, LAST_CALL)?;
+    if call == 0 {
+        return None;
+    }
+    Some(Row::Fault { n: n as u8, call: call as u32 })
 }
