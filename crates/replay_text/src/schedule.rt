@@ -1,9 +1,11 @@
 ghost use Rattle.std.specs.Prelude.{◌≡◌, ◌<◌, ◌≤◌, ◌^◌, ◌∷◌, [], ℕ, List, Some, IfSome, IsNone, codes, decimal};
 ghost use Rattle.arrayvec.specs.ArrayVec.{ArrayVec as Items};
+ghost use Rattle.hex.specs.Hex.{IsBytes};
+ghost use Rattle.can_frame.specs.declared.frame.Frame.{Frame as FrameValue};
 ghost use Rattle.outside.specs.declared.pattern.Pattern.{Pattern as PatternValue};
 ghost use Rattle.replay_text.specs.declared.row.Row.{Row as RowValue};
 ghost use Rattle.replay_text.specs.Schedule.{Reads, ReadsWords, IsPattern, IsRepeated, SpellsPattern, last_call, last_moment};
-ghost use Rattle.replay_text.specs.Words.{IsHex, words};
+ghost use Rattle.replay_text.specs.Words.{IsHex, identifier_bytes, words};
 
 use crate::Row;
 use crate::word::{one_word, read_bytes, read_identifier, read_number, split_word, three_words, two_words};
@@ -88,10 +90,21 @@ fn read_ext(fields: &[u8]) -> Option<Row>
     ensures only { (row : RowValue) → ReadsWords row (codes "ext" ∷ words fields.now) → result ≡ Some row }
 {
     let (id, bytes) = two_words(fields)?;
+    let frame = read_frame(id, bytes)?;
+    Some(Row::Ext { frame })
+}
+
+fn read_frame(id: &[u8], bytes: &[u8]) -> Option<Frame>
+    ensures found { IfSome result (λ frame. IsBytes frame.bytes.items
+        × IsHex (identifier_bytes frame.id) id.now × IsHex frame.bytes.items bytes.now) }
+    ensures only { (frame : FrameValue) → IsHex (identifier_bytes frame.id) id.now → IsHex frame.bytes.items bytes.now → result ≡ Some frame }
+{
     let id = read_identifier(id)?;
     let bytes = read_bytes::<8>(bytes)?;
-    let frame = Frame::from_parts(id, &bytes).ok()?;
-    Some(Row::Ext { frame })
+    match Frame::from_parts(id, &bytes) {
+        Ok(frame) => Some(frame),
+        Err(_) => None,
+    }
 }
 
 fn read_crash(fields: &[u8]) -> Option<Row>

@@ -2,6 +2,7 @@ ghost use Rattle.std.specs.Prelude.{◌≡◌, ◌<◌, ◌≤◌, ◌∷◌, �
 ghost use Rattle.std.specs.Prelude.{◌==◌};
 ghost use Rattle.std.specs.List.{position_or_len};
 ghost use Rattle.arrayvec.specs.ArrayVec.{ArrayVec as Items};
+ghost use Rattle.hex.specs.Hex.{IsBytes};
 ghost use Rattle.replay_text.specs.Words.{IsHex, identifier_bytes, words};
 
 use arrayvec::ArrayVec;
@@ -65,10 +66,10 @@ pub fn read_identifier(word: &[u8]) -> Option<u32>
     ensures found { IfSome result (λ id. IsHex (identifier_bytes id) word.now) }
     ensures only { (id : ℕ) → id < 2 ^ 32 → IsHex (identifier_bytes id) word.now → result ≡ Some id }
 {
-    let mut bytes = [0; 4];
-    match hex::decode_to_slice(word, &mut bytes) {
-        Ok(()) => Some(u32::from_be_bytes(bytes)),
-        Err(_) => None,
+    let bytes = read_bytes::<4>(word)?;
+    match bytes.as_slice() {
+        [a, b, c, d] => Some(u32::from_be_bytes([*a, *b, *c, *d])),
+        _ => None,
     }
 }
 
