@@ -1,9 +1,9 @@
 //! Laws of the definitions, each the contract of a function that does nothing.
 
-ghost use Rattle.std.specs.Prelude.{◌≡◌, ◌≤◌, ◌++◌, ◌∷◌, [], ℕ, Some, None, List, Contains, length};
+ghost use Rattle.std.specs.Prelude.{◌≡◌, ◌≢◌, ◌<◌, ◌≤◌, ◌++◌, ◌∷◌, ℕ, List, All, length};
 ghost use Rattle.replay_text.specs.declared.row.Row.{Row};
 ghost use Rattle.replay_text.specs.Schedule.{IsRow, Reads, row_text};
-ghost use Rattle.replay_text.specs.Lines.{ReadsRows, after_line, first_line};
+ghost use Rattle.replay_text.specs.Lines.{BeginsWith, ReadsRows};
 
 /// A line reads as at most one row.
 pub fn a_line_has_one_row()
@@ -15,17 +15,21 @@ pub fn a_row_is_read_again()
     ensures { (row : Row) → IsRow row → Reads row (row_text row) }
 {}
 
-/// No line of a row is longer than 120 bytes (the longest has 50), or has a line feed in it.
+/// The line of a row has at most 50 bytes, and no line feed in it.
 pub fn lines_of_rows_are_short()
-    ensures short { (row : Row) (line : List ℕ) → Reads row line → length line ≤ 120 }
-    ensures one_line { (row : Row) (line : List ℕ) → Reads row line → Contains line 10 → ⊥ }
+    ensures short { (row : Row) (line : List ℕ) → Reads row line → length line ≤ 50 }
+    ensures one_line { (row : Row) (line : List ℕ) → Reads row line → All (λ byte. byte ≢ 10) line }
 {}
 
-/// Bytes without a line feed are one line without an end; with one behind them, they are the first line.
-pub fn lines_end_with_a_line_feed()
-    ensures open { (line : List ℕ) → (Contains line 10 → ⊥) → (first_line line ≡ line) × (after_line line ≡ None) }
-    ensures ended { (line rest : List ℕ) → (Contains line 10 → ⊥) →
-        (first_line (line ++ 10 ∷ rest) ≡ line) × (after_line (line ++ 10 ∷ rest) ≡ Some rest) }
+/// What the bytes up to a line feed say of the row that begins some bytes: with a line feed behind them
+/// they are its line; with none, or above 120 bytes, no row begins with them.
+pub fn a_line_ends_with_a_line_feed()
+    ensures begins { (row : Row) (line rest : List ℕ) → Reads row line → BeginsWith row (line ++ 10 ∷ rest) rest }
+    ensures only { (row : Row) (line rest next : List ℕ) → All (λ byte. byte ≢ 10) line → BeginsWith row (line ++ 10 ∷ rest) next
+        → Reads row line × (next ≡ rest) }
+    ensures unended { (row : Row) (line next : List ℕ) → All (λ byte. byte ≢ 10) line → BeginsWith row line next → ⊥ }
+    ensures long { (row : Row) (line rest next : List ℕ) → All (λ byte. byte ≢ 10) line → 120 < length line
+        → BeginsWith row (line ++ rest) next → ⊥ }
 {}
 
 /// Rows that are read one after the other are read together.
