@@ -117,12 +117,12 @@ spells-row_words (Tick n ms word) fields = refl
 spells-row_words (Rx n k ms) fields = refl
 spells-row_words (Send n) fields = refl
 spells-row_words (Ext frame) fields = (
-      encode_lower (identifier_bytes frame.id),
-      encode_lower frame.bytes.items,
-      refl,
-      decode_of-encode_lower (identifier_bytes frame.id) (identifier-bytes frame.id),
-      decode_of-encode_lower frame.bytes.items fields,
-    )
+  encode_lower (identifier_bytes frame.id),
+  encode_lower frame.bytes.items,
+  refl,
+  decode_of-encode_lower (identifier_bytes frame.id) (identifier-bytes frame.id),
+  decode_of-encode_lower frame.bytes.items fields,
+)
 spells-row_words (Crash n calls pattern) fields = (pattern_word pattern, refl, pattern-word pattern fields.2)
 spells-row_words (Fault n call) fields = refl
 

@@ -22,12 +22,8 @@ pub fn write_told(row: u64, told: &Told) -> ArrayVec<u8, 400>
             last,
             commit,
         } => {
-            line.field(u64::from(*n));
-            line.text(b" open");
-            line.field(u64::from(*term));
-            line.field(u64::from(*vote));
-            line.field(u64::from(*last));
-            line.field(u64::from(*commit));
+            write_event(&mut line, *n, b" open");
+            write_state(&mut line, *term, *vote, *last, *commit);
         }
         Told::Stepped {
             n,
@@ -39,12 +35,8 @@ pub fn write_told(row: u64, told: &Told) -> ArrayVec<u8, 400>
             seen,
             sent,
         } => {
-            line.field(u64::from(*n));
-            line.text(letter(*role));
-            line.field(u64::from(*term));
-            line.field(u64::from(*last));
-            line.field(u64::from(*commit));
-            line.field(u64::from(*queued));
+            write_event(&mut line, *n, letter(*role));
+            write_state(&mut line, *term, *last, *commit, *queued);
             write_seen(&mut line, *seen);
             write_marks(&mut line, sent);
         }
@@ -64,6 +56,7 @@ pub fn write_told(row: u64, told: &Told) -> ArrayVec<u8, 400>
     line.into_bytes()
 }
 
+/// A node and what happened to it.
 fn write_event(line: &mut Line, n: u8, event: &[u8])
     requires { length line.old + 21 + length event.now ≤ 400 }
     ensures text { line.new ≡ line.old ++ codes " " ++ decimal n ++ event.now }
@@ -71,6 +64,19 @@ fn write_event(line: &mut Line, n: u8, event: &[u8])
 {
     line.field(u64::from(n));
     line.text(event);
+}
+
+/// The term, and the three numbers that a line has behind it.
+fn write_state(line: &mut Line, term: u32, first: u8, second: u8, third: u8)
+    requires { length line.old + 84 ≤ 400 }
+    ensures text { line.new ≡ line.old ++ codes " " ++ decimal term
+        ++ codes " " ++ decimal first ++ codes " " ++ decimal second ++ codes " " ++ decimal third }
+    ensures len { length line.new ≤ length line.old + 33 }
+{
+    line.field(u64::from(term));
+    line.field(u64::from(first));
+    line.field(u64::from(second));
+    line.field(u64::from(third));
 }
 
 fn write_frame(line: &mut Line, k: u32, frame: &Frame)

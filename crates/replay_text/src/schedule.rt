@@ -8,7 +8,10 @@ ghost use Rattle.replay_text.specs.Schedule.{Reads, ReadsWords, IsPattern, IsRep
 ghost use Rattle.replay_text.specs.Words.{IsHex, identifier_bytes, words};
 
 use crate::Row;
-use crate::word::{one_word, read_bytes, read_identifier, read_number, split_word, three_words, two_words};
+use crate::word::{
+    one_word, read_bytes, read_identifier, read_number, read_u8, read_u32, split_word, three_words,
+    two_words,
+};
 use can_frame::Frame;
 use outside::Pattern;
 
@@ -16,7 +19,7 @@ use outside::Pattern;
 const LAST_MOMENT: u64 = 1_000_000_000_000_000;
 
 /// The highest number of a disk call.
-const LAST_CALL: u64 = 1_000_000;
+const LAST_CALL: u32 = 1_000_000;
 
 /// The row that a line reads as, without its line feed; `None` where it reads as none.
 pub fn read_row(line: &[u8]) -> Option<Row>
@@ -53,16 +56,18 @@ fn read_tick(fields: &[u8]) -> Option<Row>
     Some(Row::Tick { n, ms, word })
 }
 
+/// The fields of `open` and `tick`: a node, a moment and a random word.
 fn read_turn(fields: &[u8]) -> Option<(u8, u64, u32)>
-    ensures found { IfSome result (λ turn. (turn.1 ≤ last_moment) × (words fields.now ≡ decimal turn.0 ∷ decimal turn.1 ∷ decimal turn.2 ∷ [])) }
+    ensures found { IfSome result (λ turn. (turn.1 ≤ last_moment)
+        × (words fields.now ≡ decimal turn.0 ∷ decimal turn.1 ∷ decimal turn.2 ∷ [])) }
     ensures only { (n ms word : ℕ) → n < 256 → ms ≤ last_moment → word < 2 ^ 32
         → words fields.now ≡ decimal n ∷ decimal ms ∷ decimal word ∷ [] → result ≡ Some (n, ms, word) }
 {
     let (n, ms, word) = three_words(fields)?;
-    let n = read_number(n, 255)?;
+    let n = read_u8(n)?;
     let ms = read_number(ms, LAST_MOMENT)?;
-    let word = read_number(word, 4_294_967_295)?;
-    Some((n as u8, ms, word as u32))
+    let word = read_u32(word, u32::MAX)?;
+    Some((n, ms, word))
 }
 
 fn read_rx(fields: &[u8]) -> Option<Row>
@@ -70,10 +75,10 @@ fn read_rx(fields: &[u8]) -> Option<Row>
     ensures only { (row : RowValue) → ReadsWords row (codes "rx" ∷ words fields.now) → result ≡ Some row }
 {
     let (n, k, ms) = three_words(fields)?;
-    let n = read_number(n, 255)?;
-    let k = read_number(k, 4_294_967_295)?;
+    let n = read_u8(n)?;
+    let k = read_u32(k, u32::MAX)?;
     let ms = read_number(ms, LAST_MOMENT)?;
-    Some(Row::Rx { n: n as u8, k: k as u32, ms })
+    Some(Row::Rx { n, k, ms })
 }
 
 fn read_send(fields: &[u8]) -> Option<Row>
@@ -81,8 +86,8 @@ fn read_send(fields: &[u8]) -> Option<Row>
     ensures only { (row : RowValue) → ReadsWords row (codes "send" ∷ words fields.now) → result ≡ Some row }
 {
     let n = one_word(fields)?;
-    let n = read_number(n, 255)?;
-    Some(Row::Send { n: n as u8 })
+    let n = read_u8(n)?;
+    Some(Row::Send { n })
 }
 
 fn read_ext(fields: &[u8]) -> Option<Row>
@@ -112,14 +117,10 @@ fn read_crash(fields: &[u8]) -> Option<Row>
     ensures only { (row : RowValue) → ReadsWords row (codes "crash" ∷ words fields.now) → result ≡ Some row }
 {
     let (n, calls, pattern) = three_words(fields)?;
-    let n = read_number(n, 255)?;
-    let calls = read_number(calls, LAST_CALL)?;
+    let n = read_u8(n)?;
+    let calls = read_u32(calls, LAST_CALL)?;
     let pattern = read_pattern(pattern)?;
-    Some(Row::Crash {
-        n: n as u8,
-        calls: calls as u32,
-        pattern,
-    })
+    Some(Row::Crash { n, calls, pattern })
 }
 
 fn read_pattern(word: &[u8]) -> Option<Pattern>
@@ -149,10 +150,10 @@ fn read_fault(fields: &[u8]) -> Option<Row>
     ensures only { (row : RowValue) → ReadsWords row (codes "fault" ∷ words fields.now) → result ≡ Some row }
 {
     let (n, call) = two_words(fields)?;
-    let n = read_number(n, 255)?;
-    let call = read_number(call, LAST_CALL)?;
+    let n = read_u8(n)?;
+    let call = read_u32(call, LAST_CALL)?;
     if call == 0 {
         return None;
     }
-    Some(Row::Fault { n: n as u8, call: call as u32 })
+    Some(Row::Fault { n, call })
 }

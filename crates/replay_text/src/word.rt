@@ -39,6 +39,24 @@ fn number_in(text: &str, most: u64) -> Option<u64>
     }
 }
 
+/// The same for a number of 8 bits.
+pub fn read_u8(word: &[u8]) -> Option<u8>
+    ensures found { IfSome result (λ n. word.now ≡ decimal n) }
+    ensures only { (n : ℕ) → n < 256 → word.now ≡ decimal n → result ≡ Some n }
+{
+    let n = read_number(word, 255)?;
+    Some(n as u8)
+}
+
+/// The same for a number of 32 bits.
+pub fn read_u32(word: &[u8], most: u32) -> Option<u32>
+    ensures found { IfSome result (λ n. (n ≤ most) × (word.now ≡ decimal n)) }
+    ensures only { (n : ℕ) → n ≤ most → word.now ≡ decimal n → result ≡ Some n }
+{
+    let n = read_number(word, u64::from(most))?;
+    Some(n as u32)
+}
+
 /// The bytes that a word of hexadecimal digits spells, where they are at most `N`.
 pub fn read_bytes<const N: usize>(word: &[u8]) -> Option<ArrayVec<u8, N>>
     ensures found { IfSome result (λ bytes. (length bytes.items ≤ N) × IsHex bytes.items word.now) }

@@ -23,5 +23,5 @@ returns-in-Err-clause-only c = λ frame id_read bytes_read.
     let bytes = one_value _ _ _ c.in_ok-bytes.was (c.read_bytes.ensures.only frame.bytes (omega arith) bytes_read) in
     let size : length c.deref.result.now ≡ length frame.bytes.items = ap length (c.deref.ensures.0 ∙ ap (λ v. v.items) bytes) in
     absurd (not_refused c.from_parts.result c.in-Err.field-0 c.in_ok-id.id c.deref.result.now c.in-Err.is
-      c.from_parts.ensures.wide.0 (λ e. (c.from_parts.ensures.empty.0 e).1) (λ e. (c.from_parts.ensures.long.0 e).1)
-      (rw id frame.narrow) (rw size frame.filled) (rw size frame.short))
+    c.from_parts.ensures.wide.0 (λ e. (c.from_parts.ensures.empty.0 e).1) (λ e. (c.from_parts.ensures.long.0 e).1)
+    (rw id frame.narrow) (rw size frame.filled) (rw size frame.short))
