@@ -1,4 +1,5 @@
 -- Rows from the front of some bytes. A line is the bytes up to the next line feed (byte 10), which ends it.
+-- No row has a line of more than 50 bytes, so a longer front without a line feed begins with no row.
 use Rattle.std.specs.Prelude.{◌≡◌, ◌≢◌, ◌==◌, ℕ, List, [], ◌∷◌, Option, Some, None, if◌then◌else◌}
 use Rattle.replay_text.specs.declared.row.Row.{Row}
 use Rattle.replay_text.specs.Schedule.{Reads}
@@ -23,7 +24,11 @@ abbrev pub ReadsRows : List Row → List ℕ → List ℕ → Type 0
 ReadsRows [] bytes rest = bytes ≡ rest
 ReadsRows (row ∷ rows) bytes rest = (next : List ℕ) × BeginsWith row bytes next × ReadsRows rows next rest
 
--- some bytes are left, and no row is read from them: no line feed ends them, or the line is no row
+-- no row is read from the front of the bytes
+abbrev pub NoRowBegins : List ℕ → Type 0
+NoRowBegins bytes = (row : Row) (rest : List ℕ) → BeginsWith row bytes rest → ⊥
+
+-- some bytes are left, and no row is read from them: no line feed ends them, or their first line is no row
 pub record BeginsWithNoRow (bytes : List ℕ) : Type 0 where
   pub left : bytes ≢ []
-  pub bad : (row : Row) (rest : List ℕ) → BeginsWith row bytes rest → ⊥
+  pub bad : NoRowBegins bytes

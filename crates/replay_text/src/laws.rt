@@ -1,9 +1,9 @@
 //! Laws of the definitions, each the contract of a function that does nothing.
 
-ghost use Rattle.std.specs.Prelude.{◌≡◌, ◌≢◌, ◌<◌, ◌≤◌, ◌++◌, ◌∷◌, ℕ, List, All, length};
+ghost use Rattle.std.specs.Prelude.{◌≡◌, ◌≢◌, ◌<◌, ◌≤◌, ◌++◌, ◌∷◌, [], ℕ, List, All, length};
 ghost use Rattle.replay_text.specs.declared.row.Row.{Row};
 ghost use Rattle.replay_text.specs.Schedule.{IsRow, Reads, row_text};
-ghost use Rattle.replay_text.specs.Lines.{BeginsWith, ReadsRows};
+ghost use Rattle.replay_text.specs.Lines.{BeginsWith, NoRowBegins, ReadsRows};
 
 /// A line reads as at most one row.
 pub fn a_line_has_one_row()
@@ -35,4 +35,11 @@ pub fn a_line_ends_with_a_line_feed()
 /// Rows that are read one after the other are read together.
 pub fn rows_follow_rows()
     ensures { (a b : List Row) (bytes middle rest : List ℕ) → ReadsRows a bytes middle → ReadsRows b middle rest → ReadsRows (a ++ b) bytes rest }
+{}
+
+/// Bytes are read in one way: where no row begins what is left, the rows and what is left are determined.
+pub fn rows_are_read_in_one_way()
+    ensures rows { (a b : List Row) (bytes rest other : List ℕ) → ReadsRows a bytes rest → ReadsRows b bytes other
+        → NoRowBegins rest → NoRowBegins other → (a ≡ b) × (rest ≡ other) }
+    ensures at_the_end { NoRowBegins [] }
 {}

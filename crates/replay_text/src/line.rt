@@ -86,9 +86,10 @@ impl Line {
         &self.bytes
     }
 
-    /// The bytes.
+    /// The bytes, at most 400.
     pub fn into_bytes(self) -> ArrayVec<u8, 400>
         ensures bytes { result.items ≡ self }
+        ensures fits { length result.items ≤ 400 }
     {
         self.bytes
     }

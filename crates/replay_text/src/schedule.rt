@@ -157,3 +157,104 @@ fn read_fault(fields: &[u8]) -> Option<Row>
     }
     Some(Row::Fault { n, call })
 }
+
+#[cfg(test)]
+mod tests {
+    use super::*;
+    use std::test::Fail;
+
+    #[test]
+    fn lines_that_are_no_rows(rt: HostRuntime) {
+        let lines: [&[u8]; 22] = [
+            b"",
+            b"open 1 0",
+            b"open  1 0 0",
+            b"open 1 0 0 ",
+            b"open 1 0 4294967296",
+            b"Open 1 0 0",
+            b"tick 1 01 0",
+            b"tick 1 +1 0",
+            b"tick 256 0 0",
+            b"tick 1 1000000000000001 0",
+            b"rx 1 4294967296 0",
+            b"send 1 1",
+            b"ext 20000000 00c0",
+            b"ext 1e000500 c",
+            b"ext 1e000500 000000000000000000",
+            b"ext 1e00500 00c0",
+            b"crash 1 1000001 old",
+            b"crash 1 1 5",
+            b"crash 1 1 OLD",
+            b"fault 1 0",
+            b"fault 1 1000001",
+            b"xxxxxxxxxxxxxxxxxxxxxxxxxxxxxxxxxxxxxxxxxxxxxxxxxxxxxxxxxxxxxxxxxxxxxxxxxxxxxxxxxxxxxxxxxxxxxxxxxxxxxxxxxxxxxxxxxxxxxxxx",
+        ];
+        for line in lines {
+            assert_eq!(rt; read_row(line), None);
+        }
+    }
+
+    #[test]
+    fn a_row_of_each_kind(rt: HostRuntime) -> Result<(), Fail> {
+        let frame = Frame::from_parts(0x1e00_0500, &[0xfb, 0, 1, 2, 3, 4, 5, 0xc0]);
+        let frame = frame.ok().ok_or("no frame")?;
+        let pattern = read_bytes::<16>(b"5A").ok_or("no bytes")?;
+        let rows = [
+            (
+                b"open 255 1000000000000000 4294967295".as_slice(),
+                Row::Open {
+                    n: 255,
+                    ms: 1_000_000_000_000_000,
+                    word: 4_294_967_295,
+                },
+            ),
+            (
+                b"tick 1 2000 0",
+                Row::Tick {
+                    n: 1,
+                    ms: 2000,
+                    word: 0,
+                },
+            ),
+            (
+                b"rx 2 4294967295 1001",
+                Row::Rx {
+                    n: 2,
+                    k: 4_294_967_295,
+                    ms: 1001,
+                },
+            ),
+            (b"send 0", Row::Send { n: 0 }),
+            (b"ext 1E000500 fb000102030405c0", Row::Ext { frame }),
+            (
+                b"crash 2 1000000 old",
+                Row::Crash {
+                    n: 2,
+                    calls: 1_000_000,
+                    pattern: Pattern::Old,
+                },
+            ),
+            (
+                b"crash 2 0 new",
+                Row::Crash {
+                    n: 2,
+                    calls: 0,
+                    pattern: Pattern::New,
+                },
+            ),
+            (
+                b"crash 2 5 5a",
+                Row::Crash {
+                    n: 2,
+                    calls: 5,
+                    pattern: Pattern::Bytes(pattern),
+                },
+            ),
+            (b"fault 1 1", Row::Fault { n: 1, call: 1 }),
+        ];
+        for (line, row) in rows {
+            assert_eq!(rt; read_row(line), Some(row));
+        }
+        Ok(())
+    }
+}

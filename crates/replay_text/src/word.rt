@@ -1,8 +1,6 @@
-ghost use Rattle.std.specs.Prelude.{◌≡◌, ◌<◌, ◌≤◌, ◌∷◌, ◌^◌, [], ℕ, List, decimal, length, Some, IfSome, IsNone};
-ghost use Rattle.std.specs.Prelude.{◌==◌};
+ghost use Rattle.std.specs.Prelude.{◌≡◌, ◌<◌, ◌≤◌, ◌∷◌, ◌^◌, [], ℕ, List, decimal, length, Some, IfSome, IsNone, ◌==◌};
 ghost use Rattle.std.specs.List.{position_or_len};
 ghost use Rattle.arrayvec.specs.ArrayVec.{ArrayVec as Items};
-ghost use Rattle.hex.specs.Hex.{IsBytes};
 ghost use Rattle.replay_text.specs.Words.{IsHex, identifier_bytes, words};
 
 use arrayvec::ArrayVec;
