@@ -1,5 +1,5 @@
 -- What the reading of numbers and bytes rests on.
-use Rattle.std.proofs.Common.{◌≡◌, ◌<◌, ◌≤◌, ◌+◌, ◌*◌, ◌%◌, ◌^◌, ◌==◌, ℕ, List, length, Bool, true, false, cond, Result, Ok, Err, arith, inl, inr, sym, ◌∙◌}
+use Rattle.std.proofs.Common.{◌≡◌, ◌<◌, ◌*◌, ◌%◌, ◌^◌, ℕ, List, length, Result, Ok, Err, arith, inl, inr, sym, ◌∙◌}
 use Rattle.std.specs.List.{AllPass}
 use Rattle.std.specs.Fmt.{decimal}
 use Rattle.std.specs.Str.Parse.{ParsesUnsigned}
@@ -7,7 +7,6 @@ use Rattle.std.proofs.lemmas.Bool.{cases_eq}
 use Rattle.std.proofs.lemmas.Fmt.{parse-decimal}
 use Rattle.hex.specs.Hex.{IsBytes, decode_of, decode_pairs, is_hex_digit}
 use Rattle.hex.proofs.HexLemmas.{decode_of-even, decode_of-odd, decode_pairs-ok}
-use Rattle.hex.specs.declared.error.FromHexError.{FromHexError}
 
 -- a text that is refused spells no number
 pub refused : {E : Type 0} (n : ℕ) (text : List ℕ) (r : Result ℕ E) (e : E) → n < 2 ^ 64 → text ≡ decimal n → ParsesUnsigned 64 10 text r → r ≡ Err e → ⊥

@@ -1,5 +1,5 @@
 -- Words are those of one row at most.
-use Rattle.std.proofs.Common.{◌≡◌, ◌<◌, ◌≤◌, ◌^◌, ℕ, List, [], ◌∷◌, length, get_or, refl, sym, ap, ◌∙◌, arith}
+use Rattle.std.proofs.Common.{◌≡◌, ◌<◌, ◌^◌, ℕ, List, ◌∷◌, length, get_or, refl, sym, ap, ◌∙◌, arith}
 use Rattle.std.specs.Prelude.{codes}
 use Rattle.std.specs.Fmt.{decimal}
 use Rattle.std.specs.Int.{from_be_bytes, w32}
@@ -11,7 +11,7 @@ use Rattle.outside.specs.declared.pattern.Pattern.TheVariants.{Old, New, Bytes}
 use Rattle.can_frame.specs.declared.frame.Frame.{Frame}
 use Rattle.replay_text.specs.declared.row.Row.{Row}
 use Rattle.replay_text.specs.declared.row.Row.TheVariants.{Open, Tick, Rx, Send, Ext, Crash, Fault}
-use Rattle.replay_text.specs.Schedule.{IsPattern, IsRow, ReadsWords, Spells, SpellsPattern, last_moment, last_call}
+use Rattle.replay_text.specs.Schedule.{ReadsWords, Spells, SpellsPattern}
 use Rattle.replay_text.specs.Words.{IsHex, identifier_bytes}
 use Rattle.replay_text.proofs.Frames.{same_frame}
 use Rattle.replay_text.proofs.Numbers.{length-decoded}

@@ -1,5 +1,5 @@
 -- What the words of a row say of its line.
-use Rattle.std.proofs.Common.{◌≡◌, ◌≢◌, ◌<◌, ◌≤◌, ◌+◌, ◌*◌, ◌^◌, ℕ, zero, suc, List, [], ◌∷◌, ◌++◌, length, refl, sym, ap, ◌∙◌, arith, length-append}
+use Rattle.std.proofs.Common.{◌≡◌, ◌≢◌, ◌<◌, ◌≤◌, ◌+◌, ◌^◌, ℕ, zero, suc, List, [], ◌∷◌, length, refl, arith, length-append}
 use Rattle.std.specs.List.{All, join_with_byte}
 use Rattle.std.specs.Prelude.{codes}
 use Rattle.std.specs.Fmt.{decimal}
@@ -11,8 +11,8 @@ use Rattle.outside.specs.declared.pattern.Pattern.{Pattern}
 use Rattle.outside.specs.declared.pattern.Pattern.TheVariants.{Old, New, Bytes}
 use Rattle.replay_text.specs.declared.row.Row.{Row}
 use Rattle.replay_text.specs.declared.row.Row.TheVariants.{Open, Tick, Rx, Send, Ext, Crash, Fault}
-use Rattle.replay_text.specs.Schedule.{IsPattern, IsRow, last_moment, last_call, Reads, ReadsWords, Spells, SpellsPattern, row_text, row_words, pattern_word}
-use Rattle.replay_text.specs.Words.{IsHex, identifier_bytes, words}
+use Rattle.replay_text.specs.Schedule.{IsPattern, IsRow, last_moment, last_call, Reads, Spells, SpellsPattern, row_text, row_words, pattern_word}
+use Rattle.replay_text.specs.Words.{identifier_bytes, words}
 use Rattle.replay_text.proofs.Numbers.{length-decoded}
 use Rattle.replay_text.proofs.Visible.{AreVisible, IsVisible, bytes-joined, join-words, visible-decimal, visible-hex, visible-literal, words-joined}
 

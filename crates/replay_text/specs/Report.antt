@@ -1,5 +1,5 @@
 -- Lines of a report: words with single spaces, and a line feed at the end.
-use Rattle.std.specs.Prelude.{ℕ, Bool, cond, List, [], ◌++◌, codes, decimal, flat_map}
+use Rattle.std.specs.Prelude.{ℕ, cond, List, ◌++◌, codes, decimal, flat_map}
 use Rattle.hex.specs.Hex.{encode_lower}
 use Rattle.can_frame.specs.declared.step.Role.{Role}
 use Rattle.can_frame.specs.declared.step.Role.TheVariants.{Follower, Candidate, Leader}

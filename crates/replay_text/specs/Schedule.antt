@@ -4,7 +4,6 @@ use Rattle.std.specs.List.{join_with_byte}
 use Rattle.hex.specs.Hex.{IsBytes, encode_lower}
 use Rattle.outside.specs.declared.pattern.Pattern.{Pattern}
 use Rattle.outside.specs.declared.pattern.Pattern.TheVariants.{Old, New, Bytes}
-use Rattle.can_frame.specs.declared.frame.Frame.{Frame}
 use Rattle.replay_text.specs.declared.row.Row.{Row}
 use Rattle.replay_text.specs.declared.row.Row.TheVariants.{Open, Tick, Rx, Send, Ext, Crash, Fault}
 use Rattle.replay_text.specs.Words.{IsHex, identifier_bytes, words}
@@ -28,7 +27,7 @@ IsPattern Old = Unit {0}
 IsPattern New = Unit {0}
 IsPattern (Bytes bytes) = IsRepeated bytes.items
 
--- the fields of a row are in their ranges (those of a frame always are)
+-- the fields of a row are in their ranges (the identifier and the size of a frame always are)
 abbrev pub IsRow : Row → Type 0
 IsRow (Open n ms word) = (n < 256) × (ms ≤ last_moment) × (word < 2 ^ 32)
 IsRow (Tick n ms word) = (n < 256) × (ms ≤ last_moment) × (word < 2 ^ 32)

@@ -1,4 +1,4 @@
-use Rattle.std.proofs.Common.{◌≡◌, ◌<◌, ◌≤◌, Some, ap, ◌∙◌, arith, length}
+use Rattle.std.proofs.Common.{◌≡◌, Some, ap, ◌∙◌, arith, length}
 use Rattle.replay_text.specs.Words.{IsHex}
 use Rattle.replay_text.proofs.Frames.{not_refused, one_value, same_frame}
 use Rattle.replay_text.proofs.Numbers.{length-decoded}
