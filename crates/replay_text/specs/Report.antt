@@ -1,0 +1,72 @@
+-- Lines of a report: words with single spaces, and a line feed at the end.
+use Rattle.std.specs.Prelude.{ℕ, cond, List, ◌++◌, codes, decimal, flat_map}
+use Rattle.hex.specs.Hex.{encode_lower}
+use Rattle.can_frame.specs.declared.step.Role.{Role}
+use Rattle.can_frame.specs.declared.step.Role.TheVariants.{Follower, Candidate, Leader}
+use Rattle.can_frame.specs.declared.step.Why.{Why}
+use Rattle.can_frame.specs.declared.step.Why.TheVariants.{NotWanted, Start, Toggle, TransferId, Crc, Length, NoBlock, NoSession, BadIdent}
+use Rattle.can_frame.specs.declared.step.Seen.{Seen}
+use Rattle.can_frame.specs.declared.step.Seen.TheVariants.{Ticked, Took, Bad, Part, Dropped}
+use Rattle.can_frame.specs.declared.step.What.{What}
+use Rattle.can_frame.specs.declared.step.What.TheVariants.{Alloc, Disc, Stat, InfoQ, Info, VoteQ, Vote, AppQ, App}
+use Rattle.can_frame.specs.declared.step.Sent.{Sent}
+use Rattle.replay_text.specs.declared.told.Told.{Told}
+use Rattle.replay_text.specs.declared.told.Told.TheVariants.{Opened, Stepped, Failed, Stopped, Armed, Popped, Outside}
+use Rattle.replay_text.specs.Words.{identifier_bytes}
+
+abbrev pub role_letter : Role → List ℕ
+role_letter Follower = codes "F"
+role_letter Candidate = codes "C"
+role_letter Leader = codes "L"
+
+-- the number of the cause for which a frame was dropped
+abbrev pub cause_number : Why → ℕ
+cause_number NotWanted = 1
+cause_number Start = 2
+cause_number Toggle = 3
+cause_number TransferId = 4
+cause_number Crc = 5
+cause_number Length = 6
+cause_number NoBlock = 7
+cause_number NoSession = 8
+cause_number BadIdent = 9
+
+abbrev pub seen_word : Seen → List ℕ
+seen_word Ticked = codes "tick"
+seen_word Took = codes "took"
+seen_word Bad = codes "bad"
+seen_word Part = codes "part"
+seen_word (Dropped why) = codes "drop:" ++ decimal (cause_number why)
+
+abbrev pub transfer_name : What → List ℕ
+transfer_name Alloc = codes "alloc"
+transfer_name Disc = codes "disc"
+transfer_name Stat = codes "stat"
+transfer_name InfoQ = codes "infoq"
+transfer_name Info = codes "info"
+transfer_name VoteQ = codes "voteq"
+transfer_name Vote = codes "vote"
+transfer_name AppQ = codes "appq"
+transfer_name App = codes "app"
+
+-- a transfer's mark behind a space: whether it fitted, its name, and its destination
+abbrev pub sent_mark : Sent → List ℕ
+sent_mark sent = codes " " ++ cond sent.fitted (codes "+") (codes "-") ++ transfer_name sent.what ++ codes ":" ++ decimal sent.to
+
+-- the number of the row and that of its node, with which most lines begin
+abbrev pub line_head : ℕ → ℕ → List ℕ
+line_head row n = decimal row ++ codes " " ++ decimal n
+
+-- the line of what a row did, its line feed included
+abbrev pub told_line : ℕ → Told → List ℕ
+told_line row (Opened n term vote last commit) = line_head row n ++ codes " open " ++ decimal term ++ codes " " ++ decimal vote
+    ++ codes " " ++ decimal last ++ codes " " ++ decimal commit ++ codes "\n"
+told_line row (Stepped n role term last commit queued seen sent) = line_head row n ++ codes " " ++ role_letter role
+    ++ codes " " ++ decimal term ++ codes " " ++ decimal last ++ codes " " ++ decimal commit ++ codes " " ++ decimal queued
+    ++ codes " " ++ seen_word seen ++ flat_map sent_mark sent.items ++ codes "\n"
+told_line row (Failed n) = line_head row n ++ codes " fault\n"
+told_line row (Stopped n) = line_head row n ++ codes " stop\n"
+told_line row (Armed n) = line_head row n ++ codes " armed\n"
+told_line row (Popped n k frame) = line_head row n ++ codes " send " ++ decimal k
+    ++ codes " " ++ encode_lower (identifier_bytes frame.id) ++ codes " " ++ encode_lower frame.bytes.items ++ codes "\n"
+told_line row (Outside k) = decimal row ++ codes " ext " ++ decimal k ++ codes "\n"

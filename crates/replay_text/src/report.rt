@@ -1,0 +1,297 @@
+ghost use Rattle.std.specs.Prelude.{◌≡◌, ◌≤◌, ◌<◌, ◌+◌, ◌*◌, ◌++◌, codes, length, decimal, flat_map};
+ghost use Rattle.hex.specs.Hex.{encode_lower};
+ghost use Rattle.replay_text.specs.Words.{identifier_bytes};
+ghost use Rattle.replay_text.specs.Report.{role_letter, seen_word, sent_mark, told_line, transfer_name};
+
+use crate::{Line, Told};
+use arrayvec::ArrayVec;
+use can_frame::{Frame, Role, Seen, Sent, What};
+
+/// The line that tells what row number `row` did, its line feed included. The longest is that of a step
+/// that offered twelve transfers, with 189 bytes: 56 to `drop:9`, 11 for each transfer as ` +alloc:255`,
+/// and the line feed.
+pub fn write_told(row: u64, told: &Told) -> ArrayVec<u8, 400>
+    ensures line { result.items ≡ told_line row told.now }
+    ensures fits { length result.items ≤ 400 }
+{
+    let mut line = Line::new();
+    line.number(row);
+    match told {
+        Told::Opened {
+            n,
+            term,
+            vote,
+            last,
+            commit,
+        } => {
+            write_event(&mut line, *n, b" open");
+            write_state(&mut line, *term, *vote, *last, *commit);
+        }
+        Told::Stepped {
+            n,
+            role,
+            term,
+            last,
+            commit,
+            queued,
+            seen,
+            sent,
+        } => {
+            write_event(&mut line, *n, letter(*role));
+            write_state(&mut line, *term, *last, *commit, *queued);
+            write_seen(&mut line, *seen);
+            write_marks(&mut line, sent);
+        }
+        Told::Failed { n } => write_event(&mut line, *n, b" fault"),
+        Told::Stopped { n } => write_event(&mut line, *n, b" stop"),
+        Told::Armed { n } => write_event(&mut line, *n, b" armed"),
+        Told::Popped { n, k, frame } => {
+            write_event(&mut line, *n, b" send");
+            write_frame(&mut line, *k, frame);
+        }
+        Told::Outside { k } => {
+            line.text(b" ext");
+            line.field(u64::from(*k));
+        }
+    }
+    line.text(b"\n");
+    line.into_bytes()
+}
+
+/// A node and what happened to it.
+fn write_event(line: &mut Line, n: u8, event: &[u8])
+    requires { length line.old + 21 + length event.now ≤ 400 }
+    ensures text { line.new ≡ line.old ++ codes " " ++ decimal n ++ event.now }
+    ensures len { length line.new ≤ length line.old + 4 + length event.now }
+{
+    line.field(u64::from(n));
+    line.text(event);
+}
+
+/// The term, and the three numbers that a line has behind it.
+fn write_state(line: &mut Line, term: u32, first: u8, second: u8, third: u8)
+    requires { length line.old + 84 ≤ 400 }
+    ensures text { line.new ≡ line.old ++ codes " " ++ decimal term
+        ++ codes " " ++ decimal first ++ codes " " ++ decimal second ++ codes " " ++ decimal third }
+    ensures len { length line.new ≤ length line.old + 33 }
+{
+    line.field(u64::from(term));
+    line.field(u64::from(first));
+    line.field(u64::from(second));
+    line.field(u64::from(third));
+}
+
+fn write_frame(line: &mut Line, k: u32, frame: &Frame)
+    requires { length line.old + 47 ≤ 400 }
+    ensures text { line.new ≡ line.old ++ codes " " ++ decimal k
+        ++ codes " " ++ encode_lower (identifier_bytes frame.now.id) ++ codes " " ++ encode_lower frame.now.bytes.items }
+    ensures len { length line.new ≤ length line.old + 47 }
+{
+    line.field(u64::from(k));
+    line.text(b" ");
+    line.hex(&frame.id.to_be_bytes());
+    line.text(b" ");
+    line.hex(&frame.bytes);
+}
+
+fn letter(role: Role) -> &'static [u8]
+    ensures letter { result.now ≡ codes " " ++ role_letter role }
+    ensures len { length result.now ≡ 2 }
+{
+    match role {
+        Role::Follower => b" F",
+        Role::Candidate => b" C",
+        Role::Leader => b" L",
+    }
+}
+
+fn name(what: What) -> &'static [u8]
+    ensures name { result.now ≡ transfer_name what }
+    ensures short { length result.now ≤ 5 }
+{
+    match what {
+        What::Alloc => b"alloc",
+        What::Disc => b"disc",
+        What::Stat => b"stat",
+        What::InfoQ => b"infoq",
+        What::Info => b"info",
+        What::VoteQ => b"voteq",
+        What::Vote => b"vote",
+        What::AppQ => b"appq",
+        What::App => b"app",
+    }
+}
+
+fn write_seen(line: &mut Line, seen: Seen)
+    requires { length line.old + 26 ≤ 400 }
+    ensures text { line.new ≡ line.old ++ codes " " ++ seen_word seen }
+    ensures len { length line.new ≤ length line.old + 9 }
+{
+    line.text(b" ");
+    match seen {
+        Seen::Ticked => line.text(b"tick"),
+        Seen::Took => line.text(b"took"),
+        Seen::Bad => line.text(b"bad"),
+        Seen::Part => line.text(b"part"),
+        Seen::Dropped(why) => {
+            line.text(b"drop:");
+            line.number(why as u64);
+        }
+    }
+}
+
+fn write_marks(line: &mut Line, sent: &[Sent])
+    requires { length line.old + 11 * length sent.now + 20 ≤ 400 }
+    ensures text { line.new ≡ line.old ++ flat_map sent_mark sent.now }
+    ensures len { length line.new ≤ length line.old + 11 * length sent.now }
+{
+    for transfer in sent {
+        write_mark(line, *transfer);
+    }
+}
+
+fn write_mark(line: &mut Line, transfer: Sent)
+    requires { length line.old + 28 ≤ 400 }
+    ensures text { line.new ≡ line.old ++ sent_mark transfer }
+    ensures len { length line.new ≤ length line.old + 11 }
+{
+    line.text(if transfer.fitted { b" +" } else { b" -" });
+    line.text(name(transfer.what));
+    line.text(b":");
+    line.number(u64::from(transfer.to));
+}
+
+#[cfg(test)]
+mod tests {
+    use super::*;
+    use can_frame::Why;
+    use std::test::Fail;
+
+    fn stepped(
+        n: u8,
+        role: Role,
+        term: u32,
+        queued: u8,
+        seen: Seen,
+        sent: &[(What, u8, bool)],
+    ) -> Told {
+        let mut list = ArrayVec::new();
+        for (what, to, fitted) in sent {
+            let transfer = Sent {
+                what: *what,
+                to: *to,
+                fitted: *fitted,
+            };
+            let _full = list.try_push(transfer);
+        }
+        Told::Stepped {
+            n,
+            role,
+            term,
+            last: 0,
+            commit: 0,
+            queued,
+            seen,
+            sent: list,
+        }
+    }
+
+    #[test]
+    fn lines_of_a_report(rt: HostRuntime) -> Result<(), Fail> {
+        let frame = Frame::from_parts(0x1e1e_0182, &[1, 0, 0, 0, 0x80, 0xc0]);
+        let frame = frame.ok().ok_or("no frame")?;
+        let lines = [
+            (
+                1,
+                Told::Opened {
+                    n: 1,
+                    term: 0,
+                    vote: 0,
+                    last: 0,
+                    commit: 0,
+                },
+                b"1 1 open 0 0 0 0\n".as_slice(),
+            ),
+            (
+                17,
+                Told::Opened {
+                    n: 1,
+                    term: 4,
+                    vote: 3,
+                    last: 2,
+                    commit: 1,
+                },
+                b"17 1 open 4 3 2 1\n",
+            ),
+            (
+                2,
+                stepped(
+                    1,
+                    Role::Leader,
+                    1,
+                    1,
+                    Seen::Ticked,
+                    &[(What::Stat, 0, true)],
+                ),
+                b"2 1 L 1 0 0 1 tick +stat:0\n",
+            ),
+            (3, Told::Outside { k: 1 }, b"3 ext 1\n"),
+            (
+                4,
+                stepped(1, Role::Leader, 1, 2, Seen::Took, &[(What::Alloc, 0, true)]),
+                b"4 1 L 1 0 0 2 took +alloc:0\n",
+            ),
+            (
+                7,
+                stepped(2, Role::Follower, 0, 0, Seen::Took, &[]),
+                b"7 2 F 0 0 0 0 took\n",
+            ),
+            (
+                19,
+                stepped(
+                    1,
+                    Role::Candidate,
+                    1,
+                    6,
+                    Seen::Ticked,
+                    &[
+                        (What::Disc, 0, true),
+                        (What::Stat, 0, true),
+                        (What::VoteQ, 2, true),
+                        (What::VoteQ, 3, true),
+                    ],
+                ),
+                b"19 1 C 1 0 0 6 tick +disc:0 +stat:0 +voteq:2 +voteq:3\n",
+            ),
+            (
+                34,
+                Told::Popped { n: 2, k: 16, frame },
+                b"34 2 send 16 1e1e0182 0100000080c0\n",
+            ),
+            (
+                36,
+                stepped(
+                    1,
+                    Role::Leader,
+                    1,
+                    30,
+                    Seen::Took,
+                    &[(What::Alloc, 0, false)],
+                ),
+                b"36 1 L 1 0 0 30 took -alloc:0\n",
+            ),
+            (
+                53,
+                stepped(2, Role::Follower, 1, 0, Seen::Dropped(Why::Toggle), &[]),
+                b"53 2 F 1 0 0 0 drop:3\n",
+            ),
+            (27, Told::Armed { n: 2 }, b"27 2 armed\n"),
+            (28, Told::Stopped { n: 2 }, b"28 2 stop\n"),
+            (29, Told::Failed { n: 2 }, b"29 2 fault\n"),
+        ];
+        for (row, told, line) in lines {
+            assert_eq!(rt; write_told(row, &told).as_slice(), line);
+        }
+        Ok(())
+    }
+}

@@ -1,0 +1,142 @@
+ghost use Rattle.std.specs.Prelude.{◌≡◌, ◌<◌, ◌≤◌, ◌∷◌, ◌^◌, [], ℕ, List, decimal, length, Some, IfSome, IsNone, ◌==◌};
+ghost use Rattle.std.specs.List.{position_or_len};
+ghost use Rattle.arrayvec.specs.ArrayVec.{ArrayVec as Items};
+ghost use Rattle.replay_text.specs.Words.{IsHex, identifier_bytes, words};
+
+use arrayvec::ArrayVec;
+use itoa::Buffer;
+use std::str;
+
+/// The number that a word spells in decimal, without sign and without leading zeros, where it is at most
+/// `most`.
+pub fn read_number(word: &[u8], most: u64) -> Option<u64>
+    ensures found { IfSome result (λ n. (n ≤ most) × (word.now ≡ decimal n)) }
+    ensures none { IsNone result → (n : ℕ) → n ≤ most → word.now ≡ decimal n → ⊥ }
+    ensures only { (n : ℕ) → n ≤ most → word.now ≡ decimal n → result ≡ Some n }
+{
+    match str::from_utf8(word) {
+        Ok(text) => number_in(text, most),
+        Err(_) => None,
+    }
+}
+
+fn number_in(text: &str, most: u64) -> Option<u64>
+    ensures found { IfSome result (λ n. (n ≤ most) × (text.now ≡ decimal n)) }
+    ensures only { (n : ℕ) → n ≤ most → text.now ≡ decimal n → result ≡ Some n }
+{
+    let Ok(n) = text.parse::<u64>() else {
+        return None;
+    };
+    if n > most {
+        return None;
+    }
+    if Buffer::new().format(n) == text {
+        Some(n)
+    } else {
+        None
+    }
+}
+
+/// The same for a number of 8 bits.
+pub fn read_u8(word: &[u8]) -> Option<u8>
+    ensures found { IfSome result (λ n. word.now ≡ decimal n) }
+    ensures only { (n : ℕ) → n < 256 → word.now ≡ decimal n → result ≡ Some n }
+{
+    let n = read_number(word, 255)?;
+    Some(n as u8)
+}
+
+/// The same for a number of 32 bits.
+pub fn read_u32(word: &[u8], most: u32) -> Option<u32>
+    ensures found { IfSome result (λ n. (n ≤ most) × (word.now ≡ decimal n)) }
+    ensures only { (n : ℕ) → n ≤ most → word.now ≡ decimal n → result ≡ Some n }
+{
+    let n = read_number(word, u64::from(most))?;
+    Some(n as u32)
+}
+
+/// The bytes that a word of hexadecimal digits spells, where they are at most `N`.
+pub fn read_bytes<const N: usize>(word: &[u8]) -> Option<ArrayVec<u8, N>>
+    ensures found { IfSome result (λ bytes. (length bytes.items ≤ N) × IsHex bytes.items word.now) }
+    ensures only { (bytes : Items ℕ) → length bytes.items ≤ N → IsHex bytes.items word.now → result ≡ Some bytes }
+{
+    let count = word.len() / 2;
+    if count > N {
+        return None;
+    }
+    let mut bytes = [0; N];
+    match hex::decode_to_slice(word, &mut bytes[..count]) {
+        Ok(()) => {
+            let mut kept = ArrayVec::new();
+            match kept.try_extend_from_slice(&bytes[..count]) {
+                Ok(()) => Some(kept),
+                Err(_) => None,
+            }
+        }
+        Err(_) => None,
+    }
+}
+
+/// The identifier that a word of eight hexadecimal digits spells.
+pub fn read_identifier(word: &[u8]) -> Option<u32>
+    ensures found { IfSome result (λ id. IsHex (identifier_bytes id) word.now) }
+    ensures only { (id : ℕ) → id < 2 ^ 32 → IsHex (identifier_bytes id) word.now → result ≡ Some id }
+{
+    let bytes = read_bytes::<4>(word)?;
+    match bytes.as_slice() {
+        [a, b, c, d] => Some(u32::from_be_bytes([*a, *b, *c, *d])),
+        _ => None,
+    }
+}
+
+/// The first word and what stands behind the space after it; `None` where there is no space.
+pub fn split_word(text: &[u8]) -> Option<(&[u8], &[u8])>
+    ensures some { IfSome result (λ parts. words text.now ≡ parts.0.now ∷ words parts.1.now) }
+    ensures none { IsNone result → words text.now ≡ text.now ∷ [] }
+{
+    let end = space_or_end(text);
+    if end == text.len() {
+        return None;
+    }
+    Some((&text[..end], &text[end + 1..]))
+}
+
+fn space_or_end(text: &[u8]) -> usize
+    ensures place { result ≡ position_or_len (λ byte. byte == 32) text.now }
+    ensures within { result ≤ length text.now }
+{
+    text.iter()
+        .position(|&byte| byte == b' ')
+        .unwrap_or(text.len())
+}
+
+/// The one word of a text; `None` where it has more.
+pub fn one_word(text: &[u8]) -> Option<&[u8]>
+    ensures some { IfSome result (λ word. words text.now ≡ word.now ∷ []) }
+    ensures none { IsNone result → (a : List ℕ) → words text.now ≡ a ∷ [] → ⊥ }
+{
+    match split_word(text) {
+        None => Some(text),
+        Some(_) => None,
+    }
+}
+
+/// The two words of a text; `None` where it has fewer or more.
+pub fn two_words(text: &[u8]) -> Option<(&[u8], &[u8])>
+    ensures some { IfSome result (λ parts. words text.now ≡ parts.0.now ∷ parts.1.now ∷ []) }
+    ensures none { IsNone result → (a b : List ℕ) → words text.now ≡ a ∷ b ∷ [] → ⊥ }
+{
+    let (first, rest) = split_word(text)?;
+    let second = one_word(rest)?;
+    Some((first, second))
+}
+
+/// The three words of a text; `None` where it has fewer or more.
+pub fn three_words(text: &[u8]) -> Option<(&[u8], &[u8], &[u8])>
+    ensures some { IfSome result (λ parts. words text.now ≡ parts.0.now ∷ parts.1.now ∷ parts.2.now ∷ []) }
+    ensures none { IsNone result → (a b c : List ℕ) → words text.now ≡ a ∷ b ∷ c ∷ [] → ⊥ }
+{
+    let (first, rest) = split_word(text)?;
+    let (second, third) = two_words(rest)?;
+    Some((first, second, third))
+}
