@@ -1,0 +1,59 @@
+ghost use Rattle.std.specs.Prelude.{◌≡◌, ◌↔◌, ℕ, List, Some, map, string_bytes};
+ghost use Rattle.std.specs.Io.KnownBytes.{Appends};
+ghost use Rattle.outside.specs.Faults.{Rose};
+ghost use Rattle.allocator_app.specs.Report.{IsBegun, IsReplayed, IsToTheEnd};
+ghost use Rattle.allocator_app.specs.Rows.{IsFollowed};
+ghost use Rattle.allocator_app.specs.Words.{IsReplay, IsSound};
+
+use crate::plans::Plan;
+use crate::replay::replay;
+use crate::status::Status;
+use crate::words::plan;
+use can_frame::NodeId;
+use outside::{Sink, Source};
+use std::alloc::Global;
+
+/// Does what the words ask for: reads a schedule from the source and writes its report to the sink.
+///
+/// The words are `replay <rows> <id>`; with other words the status is `Usage`, and nothing is read or
+/// written. `ReadFault` and `WriteFault` come only where the source or the sink failed. Else the report
+/// is exactly that of the schedule, and so is the status: `Done`, or `NotBuilt` with the number of the
+/// first row that is not of a form that is built.
+pub fn run<S: Source, K: Sink>(
+    _alloc: Global,
+    words: &[String],
+    source: &mut S,
+    sink: &mut K,
+) -> Status
+    ensures usage { (result ≡ Status.Usage) ↔ ((rows id : ℕ) → IsReplay rows id (map string_bytes words.now) → ⊥) }
+    ensures report { (bytes : List ℕ) → S.left source.old ≡ Some bytes → IsToTheEnd result →
+        (report : List ℕ) × IsReplayed (map string_bytes words.now) bytes report result × Appends (K.written sink.old) (K.written sink.new) report }
+    ensures read_fault { result ≡ Status.ReadFault → Rose (S.faults source.old) (S.faults source.new) }
+    ensures write_fault { result ≡ Status.WriteFault → Rose (K.faults sink.old) (K.faults sink.new) }
+{
+    match plan(words) {
+        Some(plan) => follow(plan, source, sink),
+        None => Status::Usage,
+    }
+}
+
+fn follow<S: Source, K: Sink>(plan: Plan, source: &mut S, sink: &mut K) -> Status
+    requires { IsSound plan }
+    ensures told { (bytes : List ℕ) → S.left source.old ≡ Some bytes → IsToTheEnd result →
+        IsFollowed plan bytes (K.written sink.old) (K.written sink.new) result }
+    ensures read { result ≡ Status.ReadFault → Rose (S.faults source.old) (S.faults source.new) }
+    ensures write { result ≡ Status.WriteFault → Rose (K.faults sink.old) (K.faults sink.new) }
+    ensures begun { IsBegun result }
+{
+    match plan {
+        Plan::Replay { rows, ids } => {
+            let [id] = ids.as_slice() else {
+                unreachable!();
+            };
+            match NodeId::new(*id) {
+                Some(id) => replay(rows, id, source, sink),
+                None => unreachable!(),
+            }
+        }
+    }
+}
