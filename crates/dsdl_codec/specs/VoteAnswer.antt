@@ -1,7 +1,7 @@
 -- VoteAnswer against its bytes (the response of uavcan.protocol.dynamic_node_id.server.RequestVote).
 --
---   uint32 term       four bytes, the low one first
---   bool vote_granted      the high bit of a byte; the seven bits below it are padding
+--   uint32 term         four bytes, the low one first
+--   bool vote_granted   the high bit of a byte; the seven bits below it are padding
 use Rattle.std.specs.Prelude.{ℕ, List, Option}
 use Rattle.std.specs.Option.{option_map}
 use Rattle.dsdl_codec.specs.Verdict.{SpellsVerdict, verdict_bytes, verdict_of}

@@ -1,4 +1,4 @@
-ghost use Rattle.std.specs.Prelude.{◌≡◌, ◌<◌, ◌+◌, Some, IfSome, IsNone, length};
+ghost use Rattle.std.specs.Prelude.{◌≡◌, ◌<◌, ◌+◌, Some, IfSome, IsNone, MatchOption};
 ghost use Rattle.arrayvec.specs.ArrayVec.{array_vec_len};
 
 use crate::entry::{append_entry, read_optional_entry};
@@ -27,7 +27,6 @@ pub struct AppendRequest {
 
 impl AppendRequest {
     ghost use Rattle.dsdl_codec.specs.AppendRequest.{SpellsAppendRequest, append_request_bytes, append_request_of};
-    ghost use Rattle.dsdl_codec.specs.Entry.{optional_entry_bytes};
 
     /// The value of a payload; `None` where it has neither 10 bytes nor 31.
     pub fn read(payload: &[u8]) -> Option<AppendRequest>
@@ -54,7 +53,7 @@ impl AppendRequest {
         requires { IfSome self.now.entry (λ entry. entry.node < 128) }
         ensures bytes { result.items ≡ append_request_bytes self.now 0 }
         ensures spelled { SpellsAppendRequest self.now result.items }
-        ensures length { array_vec_len result ≡ 10 + length (optional_entry_bytes self.now.entry 0) }
+        ensures length { MatchOption self.now.entry (array_vec_len result ≡ 10) (λ _. array_vec_len result ≡ 31) }
     {
         let mut payload = Payload::new();
         append(&mut payload, &self.term.to_le_bytes());

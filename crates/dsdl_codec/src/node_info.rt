@@ -54,7 +54,7 @@ impl NodeInfo {
         let (hardware, name) = HardwareVersion::read(rest)?;
         let software = SoftwareVersion::from_bytes(software);
         Some(NodeInfo {
-            status: NodeStatus::from_bytes(*status),
+            status: NodeStatus::from_bytes(status),
             sw_major: software.major,
             sw_minor: software.minor,
             sw_flags: software.flags,

@@ -9,7 +9,7 @@ pub struct NodeStatus {
     /// Seconds since the node started.
     pub uptime: u32,
 
-    /// 0 well, 1 a warning, 2 an error, 3 critical.
+    /// 0 well, 1 a warning, 2 an error, 3 critical. Below 4.
     pub health: u8,
 
     /// 0 in operation, 1 starting, 2 in maintenance, 3 updating its software, 7 offline. Below 8.
@@ -33,15 +33,15 @@ impl NodeStatus {
         ensures only { (status : NodeStatus) → SpellsNodeStatus status payload.now → result ≡ Some status }
     {
         let bytes = <[u8; 7]>::try_from(payload).ok()?;
-        Some(NodeStatus::from_bytes(bytes))
+        Some(NodeStatus::from_bytes(&bytes))
     }
 
-    pub(crate) fn from_bytes(bytes: [u8; 7]) -> NodeStatus
-        ensures value { node_status_of bytes ≡ Some result }
-        ensures found { SpellsNodeStatus result bytes }
-        ensures only { (status : NodeStatus) → SpellsNodeStatus status bytes → result ≡ status }
+    pub(crate) fn from_bytes(bytes: &[u8; 7]) -> NodeStatus
+        ensures value { node_status_of bytes.now ≡ Some result }
+        ensures found { SpellsNodeStatus result bytes.now }
+        ensures only { (status : NodeStatus) → SpellsNodeStatus status bytes.now → result ≡ status }
     {
-        let [a, b, c, d, state, e, f] = bytes;
+        let [a, b, c, d, state, e, f] = *bytes;
         NodeStatus {
             uptime: u32::from_le_bytes([a, b, c, d]),
             health: state / 64,

@@ -6,6 +6,7 @@ ghost use Rattle.dsdl_codec.specs.Verdict.{SpellsVerdict, verdict_bytes, verdict
 
 use crate::payload::{Payload, append};
 
+/// The term and the flag of 5 bytes.
 pub fn read(payload: &[u8]) -> Option<(u32, bool)>
     ensures value { result ≡ verdict_of payload.now }
     ensures found { IfSome result (λ verdict. SpellsVerdict verdict.0 verdict.1 payload.now) }
@@ -17,6 +18,7 @@ pub fn read(payload: &[u8]) -> Option<(u32, bool)>
     Some((u32::from_le_bytes([*a, *b, *c, *d]), *state >= 128))
 }
 
+/// The 5 bytes, with padding 0.
 pub fn write(term: u32, flag: bool) -> Payload
     ensures bytes { result.items ≡ verdict_bytes term flag 0 }
     ensures spelled { SpellsVerdict term flag result.items }
