@@ -1,0 +1,15 @@
+pub mod Acceptance
+pub mod Arrangement
+pub mod Assembly
+pub mod Blocks
+pub mod Comes
+pub mod Cuttings
+pub mod Earlier
+pub mod Found
+pub mod InTurn
+pub mod Keeps
+pub mod Lengths
+pub mod Marks
+pub mod Places
+pub mod Pointwise
+pub mod Steps

@@ -1,0 +1,13 @@
+pub mod Acceptance
+pub mod Keys
+pub mod Marks
+pub mod Outcome
+pub mod Parts
+pub mod Places
+pub mod Reassembly
+pub mod Sessions
+pub mod Stands
+pub mod StandsFor
+pub mod Told
+pub mod Turns
+pub mod Verdicts
