@@ -49,7 +49,7 @@ in_turn piece session end e =
     rw (id, own_bool (nat_eq (length session.taken) 0), own_bool (nat_eq (length session.taken % 2) 1)) refl in
     subst (λ tail. out_of_turn tail session ≡ None) (sym e) known
 
-last_of : (id place : ℕ) (taken : List Piece) (piece : Piece) → IsPart id place (taken ++ piece ∷ []) →
+pub last_of : (id place : ℕ) (taken : List Piece) (piece : Piece) → IsPart id place (taken ++ piece ∷ []) →
     IsPart id place taken × (length piece.bytes ≡ 7) × (piece.tail ≡ tail_at id (place + length taken) false)
 last_of id place [] piece p =
     let e : place ≡ place + 0 = omega arith in (tt, p.0, p.1 ∙ ap (λ n. tail_at id n false) e)

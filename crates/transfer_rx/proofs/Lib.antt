@@ -3,6 +3,7 @@ pub mod Arrangement
 pub mod Assembly
 pub mod Blocks
 pub mod Comes
+pub mod Completeness
 pub mod Cuttings
 pub mod Earlier
 pub mod Found

@@ -5,6 +5,7 @@ pub mod Outcome
 pub mod Parts
 pub mod Places
 pub mod Reassembly
+pub mod Run
 pub mod Sessions
 pub mod Stands
 pub mod StandsFor

@@ -1,8 +1,14 @@
 //! Laws of the definition, each the contract of a function that does nothing.
 
-ghost use Rattle.std.specs.Prelude.{◌≡◌, ◌≤◌, ℕ, true, false, List, length};
+ghost use Rattle.std.specs.Prelude.{◌≡◌, ◌≤◌, ℕ, true, false, List, length, map};
 ghost use Rattle.can_frame.specs.Cutting.{Piece, frames_of};
+ghost use Rattle.transfer_rx.specs.declared.accept.Wanted.{Wanted};
+ghost use Rattle.transfer_rx.specs.Keys.{key_of};
+ghost use Rattle.transfer_rx.specs.Marks.{is_whole};
 ghost use Rattle.transfer_rx.specs.Outcome.{Delivers, assembled, fits_no_payload, sizes};
+ghost use Rattle.transfer_rx.specs.Reassembly.{Arrival, Gives, Setting, answer, piece_in};
+ghost use Rattle.transfer_rx.specs.Run.{ComesWhole, of_key, run};
+ghost use Rattle.transfer_rx.specs.Sessions.{Session};
 
 /// Frames are delivered as a payload exactly where they are the cutting of it.
 pub fn delivers_cuttings()
@@ -20,3 +26,17 @@ pub fn refuses_lengths()
         (payload : List ℕ) × (length payload ≤ 376) × (sizes pieces ≡ sizes (frames_of signature id payload)) }
 {}
 
+/// Completeness: a transfer that comes in order from its first frame to its last, among frames of
+/// other sessions, is delivered, where it may begin, no frame comes more than 2,000 ms after an
+/// earlier one, and the blocks suffice.
+pub fn delivers_what_comes_whole()
+    ensures { (setting : Setting) (sessions : List Session) (w : Wanted) (payload : List ℕ) (arrivals before : List Arrival) (first last : Arrival) →
+        ComesWhole setting sessions w payload arrivals before first last →
+        answer setting (run setting sessions before) last ≡ Gives (record {
+          ident = w.ident;
+          id = (piece_in last).tail.id;
+          payload = payload;
+          mark = last.mark;
+          whole = is_whole (map (λ arrival. arrival.mark) (of_key setting (key_of w.ident) arrivals));
+        }) }
+{}
