@@ -161,3 +161,6 @@ fn delivered(took: Took) -> Option<Transfer>
         Took::Dropped(_) => None,
     }
 }
+
+#[cfg(test)]
+mod tests;
