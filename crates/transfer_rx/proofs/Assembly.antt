@@ -6,7 +6,7 @@ use Rattle.std.specs.Cmp.Lexicographic.{pointwise}
 use Rattle.can_frame.specs.TransferCrc.{transfer_crc}
 use Rattle.can_frame.specs.Cutting.{Piece, bytes_cut, crc_bytes, cut, joined, payload_of, tail_at}
 use Rattle.can_frame.specs.declared.step.Why.TheVariants.{Crc}
-use Rattle.can_frame.proofs.Cutting.{joined-frames, short_cut, long_cut, one_piece, several_pieces}
+use Rattle.transfer_rx.proofs.Cuts.{joined-frames, short_cut, long_cut, one_piece, several_pieces}
 use Rattle.transfer_rx.specs.Outcome.{Delivers, Spoils, assembled, cut_again, same_piece}
 use Rattle.transfer_rx.specs.Parts.{IsPart}
 use Rattle.transfer_rx.proofs.Lengths.{frames_as, joined-push, length-push, total}

@@ -18,7 +18,7 @@ use Rattle.transfer_rx.specs.Parts.{IsPart}
 use Rattle.transfer_rx.specs.Reassembly.{Arrival, Gives, Setting, Step, answer, answer_of, at_session, grown, in_turn, next, piece_in, session_after, session_step, step}
 use Rattle.transfer_rx.specs.Run.{ComesWhole, MayBegin, has_session_key, is_of, of_key, run}
 use Rattle.transfer_rx.specs.Sessions.{Session, continued, is_recent, next_id, opened, others, remembered, restarted, restarts, session_for, session_of}
-use Rattle.can_frame.proofs.Cutting.{joined-frames}
+use Rattle.transfer_rx.proofs.Cuts.{joined-frames}
 use Rattle.transfer_rx.proofs.Comes.{for-key, opens}
 use Rattle.transfer_rx.proofs.Cuttings.{delivered_last}
 use Rattle.transfer_rx.proofs.Earlier.{Parts, frame_parts, grows, last_of}

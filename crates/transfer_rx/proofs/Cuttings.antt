@@ -6,7 +6,7 @@ use Rattle.std.proofs.lemmas.Bool.Decides.{leb_tells}
 use Rattle.std.proofs.lemmas.List.{length-map}
 use Rattle.can_frame.specs.declared.step.Why.TheVariants.{Crc}
 use Rattle.can_frame.specs.Cutting.{IsCutting, Piece, bytes_cut, crc_bytes, cut, frames_of, joined, payload_of}
-use Rattle.can_frame.proofs.Cutting.{uncut, short_cut, long_cut, one_piece, several_pieces}
+use Rattle.transfer_rx.proofs.Cuts.{uncut, short_cut, long_cut, one_piece, several_pieces}
 use Rattle.transfer_rx.specs.Sessions.{Session}
 use Rattle.transfer_rx.specs.Outcome.{Delivers, Spoils, assembled, cut_again, fits_no_payload, lacks_blocks, outcome, same_piece, sizes}
 use Rattle.transfer_rx.proofs.InTurn.{end_length, ends}

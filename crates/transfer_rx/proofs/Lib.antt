@@ -4,6 +4,7 @@ pub mod Assembly
 pub mod Blocks
 pub mod Comes
 pub mod Completeness
+pub mod Cuts
 pub mod Cuttings
 pub mod Earlier
 pub mod Found
@@ -14,3 +15,4 @@ pub mod Marks
 pub mod Places
 pub mod Pointwise
 pub mod Steps
+pub mod Unmarking

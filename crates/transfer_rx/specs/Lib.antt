@@ -11,4 +11,5 @@ pub mod Stands
 pub mod StandsFor
 pub mod Told
 pub mod Turns
+pub mod Unmarked
 pub mod Verdicts

@@ -6,9 +6,10 @@ ghost use Rattle.transfer_rx.specs.declared.accept.Wanted.{Wanted};
 ghost use Rattle.transfer_rx.specs.Keys.{key_of};
 ghost use Rattle.transfer_rx.specs.Marks.{is_whole};
 ghost use Rattle.transfer_rx.specs.Outcome.{Delivers, assembled, fits_no_payload, sizes};
-ghost use Rattle.transfer_rx.specs.Reassembly.{Arrival, Gives, Setting, answer, piece_in};
+ghost use Rattle.transfer_rx.specs.Reassembly.{Arrival, Gives, Setting, answer, next, piece_in};
 ghost use Rattle.transfer_rx.specs.Run.{ComesWhole, of_key, run};
 ghost use Rattle.transfer_rx.specs.Sessions.{Session};
+ghost use Rattle.transfer_rx.specs.Unmarked.{unmarked, unmarked_answer, unmarked_arrival};
 
 /// Frames are delivered as a payload exactly where they are the cutting of it.
 pub fn delivers_cuttings()
@@ -39,4 +40,12 @@ pub fn delivers_what_comes_whole()
           mark = last.mark;
           whole = is_whole (map (λ arrival. arrival.mark) (of_key setting (key_of w.ident) arrivals));
         }) }
+{}
+
+/// Marks change nothing but the mark and `whole` of what is delivered.
+pub fn marks_change_marks_alone()
+    ensures answer { (setting : Setting) (a b : List Session) (x y : Arrival) → map unmarked a ≡ map unmarked b → unmarked_arrival x ≡ unmarked_arrival y →
+        unmarked_answer (answer setting a x) ≡ unmarked_answer (answer setting b y) }
+    ensures sessions { (setting : Setting) (a b : List Session) (x y : Arrival) → map unmarked a ≡ map unmarked b → unmarked_arrival x ≡ unmarked_arrival y →
+        map unmarked (next setting a x) ≡ map unmarked (next setting b y) }
 {}
