@@ -6,6 +6,7 @@ pub mod Comes
 pub mod Completeness
 pub mod Cuts
 pub mod Cuttings
+pub mod Deliveries
 pub mod Earlier
 pub mod Found
 pub mod InTurn
@@ -14,5 +15,6 @@ pub mod Lengths
 pub mod Marks
 pub mod Places
 pub mod Pointwise
+pub mod Soundness
 pub mod Steps
 pub mod Unmarking

@@ -7,6 +7,7 @@ pub mod Places
 pub mod Reassembly
 pub mod Run
 pub mod Sessions
+pub mod Sound
 pub mod Stands
 pub mod StandsFor
 pub mod Told

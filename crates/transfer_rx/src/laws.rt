@@ -1,14 +1,15 @@
 //! Laws of the definition, each the contract of a function that does nothing.
 
-ghost use Rattle.std.specs.Prelude.{◌≡◌, ◌≤◌, ℕ, true, false, List, length, map};
+ghost use Rattle.std.specs.Prelude.{◌≡◌, ◌≤◌, ℕ, true, false, List, [], length, map};
 ghost use Rattle.can_frame.specs.Cutting.{Piece, frames_of};
 ghost use Rattle.transfer_rx.specs.declared.accept.Wanted.{Wanted};
 ghost use Rattle.transfer_rx.specs.Keys.{key_of};
 ghost use Rattle.transfer_rx.specs.Marks.{is_whole};
 ghost use Rattle.transfer_rx.specs.Outcome.{Delivers, assembled, fits_no_payload, sizes};
-ghost use Rattle.transfer_rx.specs.Reassembly.{Arrival, Gives, Setting, answer, next, piece_in};
+ghost use Rattle.transfer_rx.specs.Reassembly.{Arrival, Delivery, Gives, Setting, answer, next, piece_in};
 ghost use Rattle.transfer_rx.specs.Run.{ComesWhole, of_key, run};
 ghost use Rattle.transfer_rx.specs.Sessions.{Session};
+ghost use Rattle.transfer_rx.specs.Sound.{ArePossible, IsDelivered};
 ghost use Rattle.transfer_rx.specs.Unmarked.{unmarked, unmarked_answer, unmarked_arrival};
 
 /// Frames are delivered as a payload exactly where they are the cutting of it.
@@ -48,4 +49,18 @@ pub fn marks_change_marks_alone()
         unmarked_answer (answer setting a x) ≡ unmarked_answer (answer setting b y) }
     ensures sessions { (setting : Setting) (a b : List Session) (x y : Arrival) → map unmarked a ≡ map unmarked b → unmarked_arrival x ≡ unmarked_arrival y →
         map unmarked (next setting a x) ≡ map unmarked (next setting b y) }
+{}
+
+/// The sessions of a receiver keep different keys, frames in their order, a mark for each, and are
+/// no more than there is room for.
+pub fn sessions_stay_possible()
+    ensures none { (setting : Setting) → ArePossible setting [] }
+    ensures step { (setting : Setting) (sessions : List Session) (arrival : Arrival) → ArePossible setting sessions → ArePossible setting (next setting sessions arrival) }
+{}
+
+/// What is delivered is the payload of whole frames: of an anonymous one alone, or of those that a
+/// session had taken and the one that completes them.
+pub fn deliveries_are_whole_transfers()
+    ensures { (setting : Setting) (sessions : List Session) (arrival : Arrival) (delivery : Delivery) → answer setting sessions arrival ≡ Gives delivery →
+        IsDelivered setting sessions arrival delivery }
 {}

@@ -14,7 +14,8 @@ use crate::verdict::{is_alone, joined};
 use arrayvec::ArrayVec;
 use can_frame::{Frame, Ident, Kind, Mark, Why};
 
-/// Reassembles the transfers of the rows, in S sessions and N blocks of 28 bytes.
+/// Reassembles the transfers that its rows accept, in at most S sessions, whose frames use at most N
+/// blocks of 28 bytes.
 #[derive(Drop)]
 pub struct Receiver<F, const S: usize, const N: usize> {
     me: u8,
@@ -26,6 +27,9 @@ pub struct Receiver<F, const S: usize, const N: usize> {
 impl<F: Fn(Kind, u16) -> Option<u64> + Copy, const S: usize, const N: usize> Receiver<F, S, N> {
     ghost use Rattle.transfer_rx.specs.StandsFor.{StandsFor, accept_of, setting_of};
 
+    /// A receiver without sessions. `me` is its own node ID, 1 to 127: it takes services for this node
+    /// and no frame from it. With 0 it takes services for every node, and frames from every one.
+    /// `accept` gives the signature of the first row with a kind and number, where there is one.
     pub fn new(me: u8, rows: ArrayVec<AcceptRow, 16>, accept: F) -> Receiver<F, S, N>
         requires callable { F.IsAlwaysCallable accept }
         requires answers { AnswersByRows (F.post accept) rows.items }
@@ -43,7 +47,9 @@ impl<F: Fn(Kind, u16) -> Option<u64> + Copy, const S: usize, const N: usize> Rec
         }
     }
 
-    /// Takes a frame at a moment, and tells what it led to.
+    /// Takes a frame at a moment in milliseconds, and tells what it led to. Of a frame that is dropped
+    /// the cause is told, and its session goes on as the definition says: after a wrong CRC or length,
+    /// or for want of blocks, it waits for the next transfer ID.
     pub fn take(&mut self, frame: &Frame, mark: Mark, now: u64) -> Took
         requires callable { F.IsAlwaysCallable (accept_of self.old) }
         requires answers { AnswersByRows (F.post (accept_of self.old)) (setting_of self.old).rows }
@@ -66,7 +72,7 @@ impl<F: Fn(Kind, u16) -> Option<u64> + Copy, const S: usize, const N: usize> Rec
         self.sessions.settle(turn, wanted.ident, frame, mark, now)
     }
 
-    /// What `take` would deliver.
+    /// The transfer that `take` would deliver, if any. Nothing changes.
     pub fn peek(&self, frame: &Frame, mark: Mark, now: u64) -> Option<Transfer>
         requires callable { F.IsAlwaysCallable (accept_of self.now) }
         requires answers { AnswersByRows (F.post (accept_of self.now)) (setting_of self.now).rows }
