@@ -1,12 +1,12 @@
 -- Sessions at places.
-use Rattle.std.proofs.Common.{◌≡◌, ◌≢◌, ℕ, zero, suc, ◌+◌, ◌<◌, ◌≤◌, true, false, not, Bool, List, [], ◌∷◌, length, get_or, set, replicate, refl, sym, ap, ◌∙◌, arith, subst, inl, inr}
+use Rattle.std.proofs.Common.{◌≡◌, ◌≢◌, ℕ, zero, suc, ◌+◌, ◌<◌, ◌≤◌, true, false, not, List, [], ◌∷◌, length, get_or, set, replicate, refl, sym, ap, ◌∙◌, arith, subst, inl, inr}
 use Rattle.std.specs.Prelude.{Option, None, Some}
 use Rattle.std.specs.List.{sum_by}
 use Rattle.std.proofs.lemmas.Bool.{cases_Bool}
 use Rattle.std.proofs.lemmas.List.Sums.{sum_by-cons, sum_by-set}
 use Rattle.transfer_rx.specs.declared.key.Key.{Key}
 use Rattle.transfer_rx.specs.Keys.{same_key}
-use Rattle.transfer_rx.specs.Places.{AreAt, Arranged, IsPlaceFor, Places, counted, has_key, is_free, kept, left}
+use Rattle.transfer_rx.specs.Places.{AreAt, Arranged, IsPlaceFor, Places, counted, has_key, is_free, left}
 use Rattle.transfer_rx.specs.Sessions.{AreDifferent, Session, is_recent, others, remembered, session_of}
 use Rattle.transfer_rx.proofs.Found.{filter-different, filter-dropped, filter-filter, found-key, found-others, others-none, others-others, others-own, same_key-equal, same_key-ne, ne-same_key, session_of-filter, session_of-others, session_of-others_own, sum-others, sum-ones}
 
@@ -63,23 +63,25 @@ put_at (o ∷ places) sessions key session zero a k l h =
 put_at (None ∷ places) sessions key session (suc place) a k l h = put_at places sessions key session place a k (omega arith) h
 put_at (Some first ∷ places) sessions key session (suc place) a k l h =
     let ne : key ≢ first.key = λ e.
-        let here : get_or places place None ≡ Some first = h ∙ ap (λ x. session_of x sessions) e ∙ a.0 in
-        let found : session_of first.key (others first.key sessions) ≡ Some first = there places (others first.key sessions) place first a.1 here in
-        let none : session_of first.key (others first.key sessions) ≡ None = session_of-others_own first.key sessions in
-        absurd cc in
+    let here : get_or places place None ≡ Some first = h ∙ ap (λ x. session_of x sessions) e ∙ a.0 in
+    let found : session_of first.key (others first.key sessions) ≡ Some first = there places (others first.key sessions) place first a.1 here in
+    let none : session_of first.key (others first.key sessions) ≡ None = session_of-others_own first.key sessions in
+    absurd cc in
     let other : same_key first.key session.key ≡ false = same_key-ne first.key session.key (λ e. ne (sym (e ∙ k))) in
     let swap : others first.key (others key sessions) ≡ others key (others first.key sessions) = others-others first.key key sessions in
-    rw (other, swap)
-    (session_of-others first.key key sessions (λ e. ne (sym e)) ∙ a.0,
-    put_at places (others first.key sessions) key session place a.1 k (omega arith) (h ∙ sym (session_of-others key first.key sessions ne)))
+    rw (other, swap) (
+      session_of-others first.key key sessions (λ e. ne (sym e)) ∙ a.0,
+      put_at places (others first.key sessions) key session place a.1 k (omega arith) (h ∙ sym (session_of-others key first.key sessions ne)),
+    )
 
 pub put : (places : Places) (sessions : List Session) (key : Key) (session : Session) (place : ℕ) → Arranged places sessions →
     session.key ≡ key → IsPlaceFor key places sessions place → Arranged (set places place (Some session)) (session ∷ others key sessions)
 put places sessions key session place a k p = record {
   at = put_at places sessions key session place a.at k p.present p.same;
-  different =
-      (ap (λ x. session_of x (others key sessions)) k ∙ session_of-others_own key sessions,
-      filter-different (λ other. not (same_key key other.key)) sessions a.different);
+  different = (
+    ap (λ x. session_of x (others key sessions)) k ∙ session_of-others_own key sessions,
+    filter-different (λ other. not (same_key key other.key)) sessions a.different,
+  );
 }
 
 -- ---- old sessions are left out

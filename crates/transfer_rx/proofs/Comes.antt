@@ -1,5 +1,5 @@
 -- The session that a frame comes to, in the code and in the definition.
-use Rattle.std.proofs.Common.{◌≡◌, ℕ, ◌<◌, true, false, Bool, List, [], ◌∷◌, length, get_or, cond, nat_lt, refl, sym, ap, ◌∙◌, arith, subst}
+use Rattle.std.proofs.Common.{◌≡◌, ℕ, ◌<◌, true, false, Bool, List, [], length, get_or, cond, nat_lt, refl, sym, ap, ◌∙◌, arith, subst}
 use Rattle.std.specs.Prelude.{Option, None, Some, Result, Ok, Err, is_some}
 use Rattle.std.proofs.lemmas.Bool.{lt-ltb, le-ltb}
 use Rattle.can_frame.specs.declared.step.Why.{Why}
@@ -9,7 +9,7 @@ use Rattle.can_frame.specs.Cutting.{Piece}
 use Rattle.transfer_rx.specs.declared.key.Key.{Key}
 use Rattle.transfer_rx.specs.declared.progress.Progress.{Progress}
 use Rattle.transfer_rx.specs.declared.progress.Found.{Found}
-use Rattle.transfer_rx.specs.Places.{Arranged, Finds, FindsAs, FindsOwn, IsAt, IsPlaceFor, Places, has_key, is_free}
+use Rattle.transfer_rx.specs.Places.{Arranged, FindsAs, FindsOwn, IsAt, Places, is_free}
 use Rattle.transfer_rx.specs.Sessions.{Session, begun, continued, opened, restarted, restarts, session_for, session_of}
 use Rattle.transfer_rx.specs.Stands.{Holds, Keeps}
 use Rattle.transfer_rx.proofs.Arrangement.{there}

@@ -1,6 +1,6 @@
 -- A transfer that comes in order, in time and with room for its blocks is delivered.
-use Rattle.std.proofs.Common.{◌≡◌, ◌≢◌, ℕ, zero, suc, ◌+◌, ◌-◌, ◌*◌, ◌/◌, ◌%◌, ◌<◌, ◌≤◌, ◌⊎◌, Bool, true, false, not, ◌&&◌, cond, List, [], ◌∷◌, ◌++◌, length, map, take, get_or, refl, sym, ap, ◌∙◌, arith, subst, inl, inr, nat_eq, nat_le, append_assoc, append-nil, length-append}
-use Rattle.std.specs.Prelude.{Option, None, Some, Result, Ok, Err, filter, AllPairs}
+use Rattle.std.proofs.Common.{◌≡◌, ◌≢◌, ℕ, suc, ◌+◌, ◌-◌, ◌*◌, ◌<◌, ◌≤◌, Bool, true, false, not, ◌&&◌, cond, List, [], ◌∷◌, ◌++◌, length, map, get_or, refl, sym, ap, ◌∙◌, arith, subst, inl, inr, nat_eq, append_assoc, append-nil, length-append}
+use Rattle.std.specs.Prelude.{Option, None, Some, Result, Ok, Err, AllPairs}
 use Rattle.std.proofs.lemmas.Bool.{cases_Bool, eq-eqb, le-leb}
 use Rattle.std.proofs.lemmas.List.{map-append}
 use Rattle.std.proofs.lemmas.List.Elements.{filter-append}
@@ -13,9 +13,9 @@ use Rattle.transfer_rx.specs.declared.key.Key.{Key}
 use Rattle.transfer_rx.specs.Acceptance.{wanted}
 use Rattle.transfer_rx.specs.Keys.{is_anonymous, key_of, same_key}
 use Rattle.transfer_rx.specs.Marks.{is_whole}
-use Rattle.transfer_rx.specs.Outcome.{Delivers, Grows, Outcome, lacks_blocks, out_of_turn, outcome}
+use Rattle.transfer_rx.specs.Outcome.{Delivers, Grows, lacks_blocks, out_of_turn, outcome}
 use Rattle.transfer_rx.specs.Parts.{IsPart}
-use Rattle.transfer_rx.specs.Reassembly.{Arrival, Gives, Setting, Step, answer, answer_of, at_session, grown, in_turn, next, piece_in, session_after, session_step, step}
+use Rattle.transfer_rx.specs.Reassembly.{Arrival, Gives, Setting, Step, answer, at_session, grown, in_turn, next, piece_in, session_after, session_step}
 use Rattle.transfer_rx.specs.Run.{ComesWhole, MayBegin, has_session_key, is_of, of_key, run}
 use Rattle.transfer_rx.specs.Sessions.{Session, continued, is_recent, next_id, opened, others, remembered, restarted, restarts, session_for, session_of}
 use Rattle.transfer_rx.proofs.Cuts.{joined-frames}
@@ -23,7 +23,7 @@ use Rattle.transfer_rx.proofs.Comes.{for-key, opens}
 use Rattle.transfer_rx.proofs.Cuttings.{delivered_last}
 use Rattle.transfer_rx.proofs.Earlier.{Parts, frame_parts, grows, last_of}
 use Rattle.transfer_rx.proofs.Earlier as earlier
-use Rattle.transfer_rx.proofs.Found.{found-key, same_key-equal, same_key-ne, ne-same_key, same_key-true, session_of-filter, session_of-others}
+use Rattle.transfer_rx.proofs.Found.{same_key-equal, same_key-ne, ne-same_key, same_key-true, session_of-filter, session_of-others}
 use Rattle.transfer_rx.proofs.Lengths.{at_most_two_more, length-joined, total}
 use Rattle.transfer_rx.proofs.Steps.{anonymous, of_session, unwanted}
 use Rattle.transfer_rx.proofs.Steps as steps
@@ -409,6 +409,28 @@ module _ (setting : Setting) (sessions : List Session) (w : Wanted) (payload : L
       ∙ ap (λ marks. Gives (record { ident = w.ident; id = (piece_in last).tail.id; payload = payload; mark = last.mark; whole = is_whole marks }))
       (ap (λ marks. marks ++ last.mark ∷ []) marked ∙ sym (marks-push setting (key_of w.ident) last own_last before))
 
+  finish_waiting : (before : List Arrival) →
+      Waits setting (key_of w.ident) last (run setting sessions before) (map piece_in (of_key setting (key_of w.ident) before)) (piece_in last).tail.id
+      (map (λ (a : Arrival). a.mark) (of_key setting (key_of w.ident) before)) →
+      IsCutting w.signature (piece_in last).tail.id payload (map piece_in (of_key setting (key_of w.ident) before) ++ piece_in last ∷ []) →
+      lacks_blocks setting.blocks (piece_in last) (map piece_in (of_key setting (key_of w.ident) before))
+      (others (key_of w.ident) (remembered last.moment (run setting sessions before))) ≡ false →
+      answer setting (run setting sessions before) last ≡ Gives (record {
+        ident = w.ident;
+        id = (piece_in last).tail.id;
+        payload = payload;
+        mark = last.mark;
+        whole = is_whole (map (λ (a : Arrival). a.mark) (of_key setting (key_of w.ident) (before ++ last ∷ [])));
+      })
+  finish_waiting before waits cutting l =
+      let still : session_of (key_of w.ident) (remembered last.moment (run setting sessions before)) ≡ Some waits.session =
+      session_of-filter (is_recent last.moment) (key_of w.ident) (run setting sessions before) waits.session waits.there
+      (le-leb (last.moment - waits.session.moment) 2000 (waits.recent.each 0 last (omega arith))) in
+      finish before waits.session
+      (finds setting.sessions (key_of w.ident) (piece_in last).tail last.moment (remembered last.moment (run setting sessions before)) waits.session still
+      ∙ ap as_ok (stays (piece_in last).tail waits.session (sym waits.expected)))
+      waits.expected waits.taken waits.marked cutting l
+
   cutting_before : (arrivals before : List Arrival) → arrivals ≡ before ++ last ∷ [] →
       IsCutting w.signature (piece_in last).tail.id payload (map piece_in (of_key setting (key_of w.ident) arrivals)) →
       IsCutting w.signature (piece_in last).tail.id payload (map piece_in (of_key setting (key_of w.ident) before) ++ piece_in last ∷ [])
@@ -468,16 +490,10 @@ several setting sessions w payload arrivals before first head last h =
           subst (λ x. lacks_blocks setting.blocks (piece_in a) (x ++ map piece_in (of_key setting key front)) (others key (remembered a.moment (run setting sessions front))) ≡ false)
           (sym b.taken) (h.blocks front back a (h.ends ∙ cut) mine);
     }) in
-    let still : session_of key (remembered last.moment (run setting sessions (head ∷ before))) ≡ Some waits.session =
-    session_of-filter (is_recent last.moment) key (run setting sessions (head ∷ before)) waits.session waits.there
-    (le-leb _ _ (waits.recent.each 0 last (omega arith))) in
-    let expected : waits.session.expected ≡ (piece_in last).tail.id = waits.expected ∙ id in
-    finish setting sessions w payload last h.accepted h.of_session (head ∷ before) waits.session
-    (finds setting.sessions key (piece_in last).tail last.moment (remembered last.moment (run setting sessions (head ∷ before))) waits.session still
-    ∙ same_ok _ _ (stays (piece_in last).tail waits.session (sym expected)))
-    expected waits.taken
-    (waits.marked ∙ ap (λ x. x ++ map (λ (a : Arrival). a.mark) (of_key setting key (head ∷ before))) b.marks) cutting
-    (h.blocks (head ∷ before) [] last h.ends (own_last setting sessions w payload last h.accepted h.of_session))
+    finish_waiting setting sessions w payload last h.accepted h.of_session (head ∷ before)
+    (subst (λ i. Waits setting key last (run setting sessions (head ∷ before)) part i (map (λ (a : Arrival). a.mark) (of_key setting key (head ∷ before)))) id
+    (subst (λ x. Waits setting key last (run setting sessions (head ∷ before)) part b.session.expected (x ++ map (λ (a : Arrival). a.mark) (of_key setting key (head ∷ before)))) b.marks waits))
+    cutting (h.blocks (head ∷ before) [] last h.ends (own_last setting sessions w payload last h.accepted h.of_session))
 
 complete-cases : (setting : Setting) (sessions : List Session) (w : Wanted) (payload : List ℕ) (arrivals before : List Arrival) (first last : Arrival) →
     ComesWhole setting sessions w payload arrivals before first last →

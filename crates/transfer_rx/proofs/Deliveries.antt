@@ -1,5 +1,5 @@
 -- What a delivery is made of.
-use Rattle.std.proofs.Common.{◌≡◌, ℕ, true, false, Bool, ◌&&◌, ◌⊎◌, List, [], ◌∷◌, ◌++◌, cond, refl, sym, ap, ◌∙◌, inl, inr}
+use Rattle.std.proofs.Common.{◌≡◌, ℕ, true, false, Bool, ◌&&◌, List, [], ◌∷◌, ◌++◌, cond, refl, sym, ap, ◌∙◌, inl, inr}
 use Rattle.std.specs.Prelude.{Option, None, Some, Result, Ok, Err}
 use Rattle.std.specs.Cmp.Lexicographic.{pointwise}
 use Rattle.std.proofs.lemmas.Bool.{cases_Bool}
@@ -13,7 +13,7 @@ use Rattle.transfer_rx.specs.Acceptance.{wanted}
 use Rattle.transfer_rx.specs.Keys.{is_anonymous, key_of}
 use Rattle.transfer_rx.specs.Marks.{is_whole}
 use Rattle.transfer_rx.specs.Outcome.{Delivers, Grows, Outcome, Spoils, cut_again, is_wrong_length, lacks_blocks, out_of_turn, outcome, same_piece}
-use Rattle.transfer_rx.specs.Reassembly.{Answer, Arrival, Continues, Delivery, Drops, Gives, Setting, Step, alone, answer, answer_of, at_session, in_turn, piece_in, session_step, step}
+use Rattle.transfer_rx.specs.Reassembly.{Arrival, Delivery, Drops, Gives, Setting, Step, answer, answer_of, at_session, in_turn, piece_in, session_step}
 use Rattle.transfer_rx.specs.Sessions.{Session, others, remembered, session_for}
 use Rattle.transfer_rx.specs.Sound.{IsDelivered}
 use Rattle.transfer_rx.proofs.Cuttings.{only}
@@ -71,27 +71,30 @@ of_a_session : (setting : Setting) (sessions : List Session) (arrival : Arrival)
 unfolding session_step
 of_a_session setting sessions arrival delivery w accepted h =
     go (session_for setting.sessions (key_of w.ident) (piece_in arrival).tail arrival.moment (remembered arrival.moment sessions)) refl h where
-  go : (r : Result Session Why) → session_for setting.sessions (key_of w.ident) (piece_in arrival).tail arrival.moment (remembered arrival.moment sessions) ≡ r →
-      (at_session setting.blocks w (piece_in arrival) arrival.mark arrival.moment (remembered arrival.moment sessions) r).answer ≡ Gives delivery →
-      IsDelivered setting sessions arrival delivery
-  go (Err why) e g = absurd cc
-  go (Ok session) e g =
-      let t = turned setting.blocks w (piece_in arrival) arrival.mark arrival.moment (others (key_of w.ident) (remembered arrival.moment sessions)) session delivery
-      (out_of_turn (piece_in arrival).tail session) g in
-      let id : (piece_in arrival).tail.id ≡ delivery.id = ap (λ (d : Delivery). d.id) t.is in
-      let payload : t.payload ≡ delivery.payload = ap (λ (d : Delivery). d.payload) t.is in
-      record {
-        w = w;
-        accepted = accepted;
-        ident = sym (ap (λ (d : Delivery). d.ident) t.is);
-        id = sym id;
-        mark = sym (ap (λ (d : Delivery). d.mark) t.is);
-        frames =
-            inr (session, e,
-            delivered_frames setting.blocks w.signature (piece_in arrival) session.taken (others (key_of w.ident) (remembered arrival.moment sessions)) t.payload t.from
-            ∙ (λ i. frames_of w.signature (id i) (payload i)),
-            sym (ap (λ (d : Delivery). d.whole) t.is));
-      }
+      go : (r : Result Session Why) → session_for setting.sessions (key_of w.ident) (piece_in arrival).tail arrival.moment (remembered arrival.moment sessions) ≡ r →
+          (at_session setting.blocks w (piece_in arrival) arrival.mark arrival.moment (remembered arrival.moment sessions) r).answer ≡ Gives delivery →
+          IsDelivered setting sessions arrival delivery
+      go (Err why) e g = absurd cc
+      go (Ok session) e g =
+          let t = turned setting.blocks w (piece_in arrival) arrival.mark arrival.moment (others (key_of w.ident) (remembered arrival.moment sessions)) session delivery
+          (out_of_turn (piece_in arrival).tail session) g in
+          let id : (piece_in arrival).tail.id ≡ delivery.id = ap (λ (d : Delivery). d.id) t.is in
+          let payload : t.payload ≡ delivery.payload = ap (λ (d : Delivery). d.payload) t.is in
+          record {
+            w = w;
+            accepted = accepted;
+            ident = sym (ap (λ (d : Delivery). d.ident) t.is);
+            id = sym id;
+            mark = sym (ap (λ (d : Delivery). d.mark) t.is);
+            frames =
+                inr (
+                  session,
+                  e,
+                  delivered_frames setting.blocks w.signature (piece_in arrival) session.taken (others (key_of w.ident) (remembered arrival.moment sessions)) t.payload t.from
+                      ∙ (λ i. frames_of w.signature (id i) (payload i)),
+                  sym (ap (λ (d : Delivery). d.whole) t.is),
+                );
+          }
 
 pub is_delivered : (setting : Setting) (sessions : List Session) (arrival : Arrival) (delivery : Delivery) → answer setting sessions arrival ≡ Gives delivery →
     IsDelivered setting sessions arrival delivery

@@ -1,6 +1,6 @@
 -- Sessions found by their key.
 use Rattle.std.proofs.Common.{◌≡◌, ◌≢◌, ℕ, ◌+◌, true, false, Bool, not, ◌&&◌, List, [], ◌∷◌, refl, sym, ap, ◌∙◌, arith, subst, cond, length, inl, inr}
-use Rattle.std.specs.Prelude.{Option, None, Some, filter, find}
+use Rattle.std.specs.Prelude.{None, Some, filter}
 use Rattle.std.specs.List.{sum_by}
 use Rattle.std.proofs.lemmas.Bool.{cases_Bool, eq-eqb, eqb-true}
 use Rattle.std.proofs.lemmas.List.Sums.{sum_by-cons}

@@ -1,8 +1,8 @@
 -- What places stand for, when old sessions are left out and when a session is set.
-use Rattle.std.proofs.Common.{◌≡◌, ℕ, ◌-◌, ◌≤◌, ◌<◌, Bool, true, false, List, [], length, get_or, Option, Some, None, refl, sym, ◌∙◌, subst, arith, nat_le, set, inl, inr, replicate}
+use Rattle.std.proofs.Common.{◌≡◌, ℕ, ◌-◌, ◌≤◌, ◌<◌, true, false, List, [], length, get_or, Option, Some, None, refl, sym, ◌∙◌, subst, arith, nat_le, set, inl, inr, replicate}
 use Rattle.std.proofs.lemmas.Bool.{le-leb, lt-leb}
 use Rattle.std.proofs.Math.ListN.{get_or-map}
-use Rattle.std.proofs.lemmas.List.{length-map, length-set, get_or_past, get_or-set_same, get_or-set_other, get_or-replicate, length-replicate}
+use Rattle.std.proofs.lemmas.List.{length-map, length-set, get_or-set_same, get_or-set_other, get_or-replicate, length-replicate}
 use Rattle.std.proofs.lemmas.Bool.Decides.{eqb_tells}
 use Rattle.transfer_rx.specs.declared.progress.Progress.{Progress}
 use Rattle.transfer_rx.specs.Sessions.{Session}

@@ -1,5 +1,5 @@
 -- What holds of the sessions of a receiver after every step.
-use Rattle.std.proofs.Common.{◌≡◌, ℕ, suc, ◌+◌, ◌*◌, ◌<◌, ◌≤◌, true, false, Bool, not, ◌&&◌, ◌||◌, List, [], ◌∷◌, ◌++◌, length, cond, nat_eq, nat_lt, refl, sym, ap, ◌∙◌, arith, subst, inl, inr, length-append}
+use Rattle.std.proofs.Common.{◌≡◌, ℕ, suc, ◌+◌, ◌*◌, ◌<◌, ◌≤◌, true, false, Bool, not, ◌||◌, List, [], ◌∷◌, ◌++◌, length, cond, nat_eq, nat_lt, refl, sym, ap, ◌∙◌, arith, subst, inl, inr, length-append}
 use Rattle.std.specs.Prelude.{Option, None, Some, Result, Ok, Err, filter}
 use Rattle.std.specs.List.{sum_by}
 use Rattle.std.specs.Cmp.Lexicographic.{pointwise}
@@ -16,8 +16,8 @@ use Rattle.transfer_rx.specs.Keys.{is_anonymous, key_of, same_key}
 use Rattle.transfer_rx.specs.Outcome.{Delivers, Grows, Outcome, Spoils, cut_again, fits_no_part, fits_no_payload, is_wrong_length, lacks_blocks, out_of_turn, outcome, same_piece}
 use Rattle.transfer_rx.specs.Parts.{IsPart}
 use Rattle.transfer_rx.specs.Places.{counted}
-use Rattle.transfer_rx.specs.Reassembly.{Arrival, Setting, Step, at_session, grown, in_turn, next, piece_in, session_after, session_step, step}
-use Rattle.transfer_rx.specs.Sessions.{AreDifferent, Session, begun, continued, is_recent, opened, others, remembered, restarted, restarts, session_for, session_of}
+use Rattle.transfer_rx.specs.Reassembly.{Arrival, Setting, Step, at_session, grown, in_turn, next, piece_in, session_after, session_step}
+use Rattle.transfer_rx.specs.Sessions.{AreDifferent, Session, continued, is_recent, opened, others, remembered, restarted, restarts, session_for, session_of}
 use Rattle.transfer_rx.specs.Sound.{ArePossible, AreSound, IsSound}
 use Rattle.transfer_rx.proofs.Comes.{for-key}
 use Rattle.transfer_rx.proofs.Found.{filter-different, others-none, session_of-others_own, sum-ones, sum-others}
@@ -155,9 +155,10 @@ fit most key tail now sessions session d s few h = go (session_of key sessions) 
 put_back : (setting : Setting) (key : Key) (sessions : List Session) (session : Session) → ArePossible setting sessions → session.key ≡ key → IsSound session →
     suc (length (others key sessions)) ≤ setting.sessions → ArePossible setting (session ∷ others key sessions)
 put_back setting key sessions session p k s few = record {
-  different =
-      (ap (λ x. session_of x (others key sessions)) k ∙ session_of-others_own key sessions,
-      filter-different (λ other. not (same_key key other.key)) sessions p.different);
+  different = (
+    ap (λ x. session_of x (others key sessions)) k ∙ session_of-others_own key sessions,
+    filter-different (λ other. not (same_key key other.key)) sessions p.different,
+  );
   sound = (s, filter_sound (λ other. not (same_key key other.key)) sessions p.sound);
   few = few;
 }
@@ -194,6 +195,7 @@ stay_possible setting sessions arrival p = go (wanted setting.rows setting.me ar
         sound = filter_sound (is_recent arrival.moment) sessions p.sound;
         few = omega arith;
       }
+
   go : (r : Result Wanted Why) → wanted setting.rows setting.me arrival.id ≡ r → ArePossible setting (next setting sessions arrival)
   go (Err why) e = subst (λ (x : Step). ArePossible setting x.sessions) (sym (unwanted setting sessions arrival why e)) p
   go (Ok w) e = elim (cases_Bool (is_anonymous w.ident.kind)) [

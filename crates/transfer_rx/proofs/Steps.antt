@@ -1,5 +1,5 @@
 -- What a frame does, case by case.
-use Rattle.std.proofs.Common.{◌≡◌, ℕ, true, false, List, [], ◌∷◌, Option, Some, None, Ok, Err, refl, ◌∙◌}
+use Rattle.std.proofs.Common.{◌≡◌, ℕ, true, false, List, ◌∷◌, Some, None, Ok, Err, refl}
 use Rattle.can_frame.specs.declared.mark.Mark.{Mark}
 use Rattle.can_frame.specs.declared.step.Why.{Why}
 use Rattle.can_frame.specs.Cutting.{Piece}
@@ -8,7 +8,7 @@ use Rattle.transfer_rx.specs.Acceptance.{wanted}
 use Rattle.transfer_rx.specs.Keys.{is_anonymous, key_of}
 use Rattle.transfer_rx.specs.Sessions.{Session, others, remembered, session_for}
 use Rattle.transfer_rx.specs.Outcome.{Outcome, Delivers, Grows, Spoils, out_of_turn, outcome}
-use Rattle.transfer_rx.specs.Reassembly.{Arrival, Drops, Setting, Step, alone, answer_of, piece_in, session_after, session_step, step}
+use Rattle.transfer_rx.specs.Reassembly.{Arrival, Drops, Setting, alone, answer_of, piece_in, session_after, session_step, step}
 
 module _ (most blocks : ℕ) (w : Wanted) (piece : Piece) (mark : Mark) (now : ℕ) (sessions : List Session) where
   pub refused : (why : Why) → session_for most (key_of w.ident) piece.tail now sessions ≡ Err why →

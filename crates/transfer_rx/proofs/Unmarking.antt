@@ -1,7 +1,6 @@
 -- A step without marks is the step, without marks.
-use Rattle.std.proofs.Common.{◌≡◌, ℕ, ◌+◌, true, false, Bool, not, ◌&&◌, List, [], ◌∷◌, ◌++◌, length, map, cond, nat_lt, refl, sym, ap, ◌∙◌, arith, inl, inr}
+use Rattle.std.proofs.Common.{◌≡◌, ℕ, ◌+◌, true, false, Bool, not, ◌&&◌, List, [], ◌∷◌, length, map, cond, nat_lt, refl, sym, ap, ◌∙◌, inl, inr}
 use Rattle.std.specs.Prelude.{Option, None, Some, Result, Ok, Err, filter, option_map}
-use Rattle.std.specs.List.{sum_by}
 use Rattle.std.proofs.lemmas.Bool.{cases_Bool}
 use Rattle.std.proofs.lemmas.List.{length-map}
 use Rattle.std.proofs.lemmas.List.Sums.{sum_by-cons}
@@ -17,8 +16,8 @@ use Rattle.transfer_rx.specs.Acceptance.{wanted}
 use Rattle.transfer_rx.specs.Keys.{is_anonymous, key_of, same_key}
 use Rattle.transfer_rx.specs.Marks.{is_whole}
 use Rattle.transfer_rx.specs.Outcome.{Delivers, Grows, Outcome, Spoils, blocks_used, out_of_turn, outcome, session_blocks}
-use Rattle.transfer_rx.specs.Reassembly.{Answer, Arrival, Drops, Gives, Setting, Step, alone, answer, answer_of, at_session, by_kind, in_turn, next, of_wanted, piece_in, session_after, session_step, step}
-use Rattle.transfer_rx.specs.Sessions.{Session, begun, continued, is_recent, opened, others, remembered, restarted, restarts, session_for, session_of}
+use Rattle.transfer_rx.specs.Reassembly.{Answer, Arrival, Drops, Gives, Setting, Step, alone, answer, answer_of, at_session, by_kind, in_turn, of_wanted, piece_in, session_after, session_step, step}
+use Rattle.transfer_rx.specs.Sessions.{Session, continued, is_recent, opened, others, remembered, restarts, session_for, session_of}
 use Rattle.transfer_rx.specs.Unmarked.{no_mark, unmarked, unmarked_answer, unmarked_arrival}
 
 filter-unmarked : (p : Session → Bool) → ((s : Session) → p (unmarked s) ≡ p s) → (sessions : List Session) → filter p (map unmarked sessions) ≡ map unmarked (filter p sessions)

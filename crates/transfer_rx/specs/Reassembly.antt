@@ -8,7 +8,6 @@ use Rattle.can_frame.specs.declared.step.Why.TheVariants.{Start, Toggle}
 use Rattle.can_frame.specs.Cutting.{Piece, piece_from}
 use Rattle.transfer_rx.specs.declared.accept.AcceptRow.{AcceptRow}
 use Rattle.transfer_rx.specs.declared.accept.Wanted.{Wanted}
-use Rattle.transfer_rx.specs.declared.key.Key.{Key}
 use Rattle.transfer_rx.specs.Acceptance.{wanted}
 use Rattle.transfer_rx.specs.Keys.{is_anonymous, key_of}
 use Rattle.transfer_rx.specs.Marks.{is_whole}

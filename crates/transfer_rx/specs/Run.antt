@@ -1,5 +1,5 @@
 -- A transfer among all the frames that come to a receiver.
-use Rattle.std.specs.Prelude.{◌≡◌, ℕ, ◌-◌, ◌<◌, ◌≤◌, ◌⊎◌, if◌then◌else◌, Bool, true, false, List, [], ◌∷◌, ◌++◌, length, map, filter, Option, Some, None, Result, Ok, Err, AllPairs}
+use Rattle.std.specs.Prelude.{◌≡◌, ℕ, ◌-◌, ◌<◌, ◌≤◌, ◌⊎◌, if◌then◌else◌, Bool, true, false, List, [], ◌∷◌, ◌++◌, length, map, filter, Some, None, Result, Ok, Err, AllPairs}
 use Rattle.can_frame.specs.declared.step.Why.{Why}
 use Rattle.can_frame.specs.Cutting.{IsCutting}
 use Rattle.transfer_rx.specs.declared.accept.Wanted.{Wanted}
@@ -40,17 +40,13 @@ pub record ComesWhole (setting : Setting) (sessions : List Session) (w : Wanted)
   -- the last frame is wanted, and of a session
   pub accepted : wanted setting.rows setting.me last.id ≡ Ok w
   pub of_session : is_anonymous w.ident.kind ≡ false
-
   -- the first of all is of this session, and the last of all is the last frame; the frames of the session are the payload's
   pub begins : (rest : List Arrival) × (arrivals ≡ first ∷ rest) × (is_of setting (key_of w.ident) first ≡ true)
   pub ends : arrivals ≡ before ++ last ∷ []
   pub cutting : IsCutting w.signature (piece_in last).tail.id payload (map piece_in (of_key setting (key_of w.ident) arrivals))
-
   -- none comes more than 2,000 ms after an earlier one
   pub in_time : AllPairs (λ earlier later. later.moment - earlier.moment ≤ 2000) arrivals
-
   pub may_begin : MayBegin setting sessions (key_of w.ident) first
-
   -- the blocks suffice for each of its frames
   pub blocks : (front back : List Arrival) (arrival : Arrival) → arrivals ≡ front ++ arrival ∷ back → is_of setting (key_of w.ident) arrival ≡ true →
       lacks_blocks setting.blocks (piece_in arrival) (map piece_in (of_key setting (key_of w.ident) front))

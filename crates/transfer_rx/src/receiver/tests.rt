@@ -67,12 +67,21 @@ fn another(kind: Kind, number: u16) -> Option<u64>
     }
 }
 
-fn accept_rows(signature: u64) -> ArrayVec<AcceptRow, 16>
-    ensures { result.items ≡ record { kind = Kind.Message; number = 1; signature = signature } ∷ [] }
+fn anonymous(kind: Kind, number: u16) -> Option<u64>
+    ensures { result ≡ first_signature (record { kind = Kind.Anonymous; number = 1; signature = ALLOCATION } ∷ []) kind number }
+{
+    match kind {
+        Kind::Anonymous if number == 1 => Some(ALLOCATION),
+        _ => None,
+    }
+}
+
+fn accept_rows(kind: Kind, signature: u64) -> ArrayVec<AcceptRow, 16>
+    ensures { result.items ≡ record { kind = kind; number = 1; signature = signature } ∷ [] }
 {
     let mut rows = ArrayVec::new();
     rows.push(AcceptRow {
-        kind: Kind::Message,
+        kind,
         number: 1,
         signature,
     });
@@ -97,7 +106,11 @@ fn first_wrong<F: Fn(Kind, u16) -> Option<u64> + Copy, const S: usize>(
 
 /// The same in a new receiver of node 2, with one session and one block.
 fn first_wrong_anew(rows: &[Row]) -> Option<usize> {
-    let mut receiver: Receiver<_, 1, 1> = Receiver::new(2, accept_rows(ALLOCATION), allocation);
+    let mut receiver: Receiver<_, 1, 1> = Receiver::new(
+        2,
+        accept_rows(Kind::Message, ALLOCATION),
+        allocation,
+    );
     first_wrong(&mut receiver, rows)
 }
 
@@ -119,7 +132,8 @@ fn leads_to<F: Fn(Kind, u16) -> Option<u64> + Copy, const S: usize>(
         place: 0,
     };
     match (receiver.take(&frame, mark, row.now), row.then) {
-        (Took::Delivered(transfer), Then::Delivered(payload)) => transfer.payload.as_slice() == payload,
+        (Took::Delivered(transfer), Then::Delivered(payload)) => transfer.payload.as_slice()
+            == payload,
         (Took::Part, Then::Part) => true,
         (Took::Dropped(why), Then::Dropped(expected)) => why == expected,
         _ => false,
@@ -188,7 +202,11 @@ fn the_blocks_are_counted(rt: HostRuntime) {
         comes(NODE_3, &A, 0, Then::Dropped(Why::NoBlock)),
         comes(NODE_3, &[0, 0xc1], 0, Then::Dropped(Why::TransferId)),
     ];
-    let mut receiver: Receiver<_, 2, 1> = Receiver::new(2, accept_rows(ALLOCATION), allocation);
+    let mut receiver: Receiver<_, 2, 1> = Receiver::new(
+        2,
+        accept_rows(Kind::Message, ALLOCATION),
+        allocation,
+    );
     assert_eq!(rt; first_wrong(&mut receiver, &rows), None);
 }
 
@@ -201,13 +219,42 @@ fn the_crc_has_the_signature(rt: HostRuntime) {
         comes(NODE_1, &[0, 0xc1], 0, Then::Dropped(Why::TransferId)),
         comes(NODE_1, &[7, 0xc2], 0, Then::Delivered(&[7])),
     ];
-    let mut receiver: Receiver<_, 1, 1> = Receiver::new(2, accept_rows(ANOTHER), another);
+    let mut receiver: Receiver<_, 1, 1> = Receiver::new(
+        2,
+        accept_rows(Kind::Message, ANOTHER),
+        another,
+    );
+    assert_eq!(rt; first_wrong(&mut receiver, &rows), None);
+}
+
+#[test]
+fn an_anonymous_frame_is_a_transfer(rt: HostRuntime) {
+    let sender = 0x1e00_0500;
+    let rows = [
+        comes(
+            sender,
+            &[0xfa, 6, 7, 0xc1],
+            0,
+            Then::Delivered(&[0xfa, 6, 7]),
+        ),
+        comes(sender, &[0xfa, 6, 7, 0xe1], 0, Then::Dropped(Why::Toggle)),
+        comes(sender, &[0xfa, 6, 7, 0x81], 0, Then::Dropped(Why::Start)),
+    ];
+    let mut receiver: Receiver<_, 1, 1> = Receiver::new(
+        2,
+        accept_rows(Kind::Anonymous, ALLOCATION),
+        anonymous,
+    );
     assert_eq!(rt; first_wrong(&mut receiver, &rows), None);
 }
 
 #[test]
 fn peek_tells_what_take_delivers(rt: HostRuntime) -> Result<(), Fail> {
-    let mut receiver: Receiver<_, 1, 1> = Receiver::new(0, accept_rows(ALLOCATION), allocation);
+    let mut receiver: Receiver<_, 1, 1> = Receiver::new(
+        0,
+        accept_rows(Kind::Message, ALLOCATION),
+        allocation,
+    );
     let frames: [&[u8]; 3] = [&A, &B, &C];
     let first = Frame::from_parts(NODE_1, frames[0])?;
     let second = Frame::from_parts(NODE_1, frames[1])?;

@@ -1,5 +1,5 @@
-use Rattle.std.proofs.Common.{◌≡◌, ◌*◌, true, false, [], get_or, length, take, sym, ◌∙◌, ap, subst}
-use Rattle.can_frame.specs.Cutting.{Piece, joined}
+use Rattle.std.proofs.Common.{◌≡◌, true, false, length, sym, ◌∙◌, ap}
+use Rattle.can_frame.specs.Cutting.{Piece}
 use Rattle.can_frame.specs.Piece.{piece_of}
 use Rattle.can_frame.specs.declared.tail.Tail.{Tail}
 use Rattle.transfer_rx.specs.Sessions.{others}
