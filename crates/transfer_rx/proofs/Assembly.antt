@@ -1,0 +1,150 @@
+-- When the last frame makes a transfer whole.
+use Rattle.std.proofs.Common.{◌≡◌, ◌≢◌, ℕ, zero, suc, ◌+◌, ◌-◌, ◌*◌, ◌/◌, ◌%◌, ◌<◌, ◌≤◌, true, false, List, [], ◌∷◌, ◌++◌, length, get_or, take, drop, refl, sym, ◌∙◌, ap, subst, arith, append_assoc, ◌⊎◌, inl, inr}
+use Rattle.std.proofs.Math.Seq.{take-append_seam, drop-append_seam}
+use Rattle.std.proofs.lemmas.Bool.{false_from_ne_true}
+use Rattle.std.specs.Cmp.Lexicographic.{pointwise}
+use Rattle.can_frame.specs.TransferCrc.{transfer_crc}
+use Rattle.can_frame.specs.Cutting.{Piece, bytes_cut, crc_bytes, cut, joined, payload_of, tail_at}
+use Rattle.can_frame.specs.declared.step.Why.TheVariants.{Crc}
+use Rattle.transfer_rx.proofs.Cuts.{joined-frames, short_cut, long_cut, one_piece, several_pieces}
+use Rattle.transfer_rx.specs.Outcome.{Delivers, Spoils, assembled, cut_again, same_piece}
+use Rattle.transfer_rx.specs.Parts.{IsPart}
+use Rattle.transfer_rx.proofs.Lengths.{frames_as, joined-push, length-push, total}
+use Rattle.transfer_rx.proofs.Pointwise.{own_pieces, same_joined}
+
+-- frames in order are the cutting of the bytes that they carry
+pub in_order : (id place : ℕ) (taken : List Piece) (piece : Piece) → IsPart id place taken →
+    piece.tail ≡ tail_at id (place + length taken) true →
+    taken ++ piece ∷ [] ≡ cut id place (length taken) (joined taken ++ piece.bytes)
+in_order id place [] piece p t =
+    let e : place + 0 ≡ place = omega arith in
+    let t' : piece.tail ≡ tail_at id place true = rw e at t in
+    λ i. (record { bytes = piece.bytes; tail = t' i }) ∷ []
+in_order id place (first ∷ taken) piece p t =
+    let e : place + suc (length taken) ≡ suc place + length taken = omega arith in
+    let r : taken ++ piece ∷ [] ≡ cut id (suc place) (length taken) (joined taken ++ piece.bytes) =
+    in_order id (suc place) taken piece p.2 (rw e at t) in
+    let rest : List ℕ = joined taken ++ piece.bytes in
+    let f : take 7 (first.bytes ++ rest) ≡ first.bytes = subst (λ n. take n (first.bytes ++ rest) ≡ first.bytes) p.0 (take-append_seam first.bytes rest) in
+    let d : drop 7 (first.bytes ++ rest) ≡ rest = subst (λ n. drop n (first.bytes ++ rest) ≡ rest) p.0 (drop-append_seam first.bytes rest) in
+    let whole : (first.bytes ++ joined taken) ++ piece.bytes ≡ first.bytes ++ rest = append_assoc first.bytes (joined taken) piece.bytes in
+    rw (whole, f, d) (λ i. (record { bytes = first.bytes; tail = p.1 i }) ∷ r i)
+
+joined_none : (taken : List Piece) → length taken ≡ 0 → joined taken ≡ []
+joined_none [] h = refl
+joined_none (piece ∷ pieces) h = cc
+
+matches : (signature id : ℕ) (pieces : List Piece) (payload : List ℕ) → payload_of pieces ≡ payload →
+    pieces ≡ cut_again signature id pieces → assembled signature id pieces ≡ Delivers payload
+matches signature id pieces payload e same =
+    let t : pointwise same_piece pieces (cut_again signature id pieces) ≡ true =
+    subst (λ x. pointwise same_piece pieces x ≡ true) same (own_pieces pieces) in
+    rw (t, e) refl
+
+module _ (signature id : ℕ) (taken : List Piece) (piece : Piece) (part : IsPart id 0 taken) (short : length piece.bytes ≤ 7)
+    (tail : piece.tail ≡ tail_at id (length taken) true) where
+  ordered : taken ++ piece ∷ [] ≡ cut id 0 (length taken) (joined (taken ++ piece ∷ []))
+  ordered =
+      let e : 0 + length taken ≡ length taken = omega arith in
+      let t : piece.tail ≡ tail_at id (0 + length taken) true = rw e tail in
+      in_order id 0 taken piece part t ∙ ap (cut id 0 (length taken)) (sym (joined-push taken piece))
+
+  recut : bytes_cut signature (payload_of (taken ++ piece ∷ [])) ≡ joined (taken ++ piece ∷ []) →
+      (length (bytes_cut signature (payload_of (taken ++ piece ∷ []))) - 1) / 7 ≡ length taken →
+      taken ++ piece ∷ [] ≡ cut_again signature id (taken ++ piece ∷ [])
+  recut b n =
+      ordered ∙ ap (cut id 0 (length taken)) (sym b) ∙ sym (frames_as signature id (length taken) (payload_of (taken ++ piece ∷ [])) n)
+
+  pub single : length taken ≡ 0 → assembled signature id (taken ++ piece ∷ []) ≡ Delivers piece.bytes
+  single z =
+      let n : length (taken ++ piece ∷ []) ≡ length taken + 1 = length-push taken piece in
+      let j : length (joined (taken ++ piece ∷ [])) ≡ 7 * length taken + length piece.bytes = total id 0 taken piece part in
+      let o : payload_of (taken ++ piece ∷ []) ≡ joined (taken ++ piece ∷ []) = one_piece _ (omega arith) in
+      let l : length (payload_of (taken ++ piece ∷ [])) ≡ length piece.bytes = ap length o ∙ omega arith in
+      let b : bytes_cut signature (payload_of (taken ++ piece ∷ [])) ≡ payload_of (taken ++ piece ∷ []) = short_cut signature _ (omega arith) in
+      let lb : length (bytes_cut signature (payload_of (taken ++ piece ∷ []))) ≡ length piece.bytes = ap length b ∙ l in
+      let none : joined taken ≡ [] = joined_none taken z in
+      matches signature id (taken ++ piece ∷ []) piece.bytes
+      (o ∙ joined-push taken piece ∙ ap (λ l. l ++ piece.bytes) none) (recut (b ∙ o) (omega arith))
+
+  module _ (payload : List ℕ) (a b : ℕ) (some : 0 < length taken) (some_bytes : 0 < length piece.bytes) (long : 7 < length payload)
+      (carried : joined (taken ++ piece ∷ []) ≡ a ∷ b ∷ payload) where
+    is_payload : payload_of (taken ++ piece ∷ []) ≡ payload
+    is_payload =
+        let n : length (taken ++ piece ∷ []) ≡ length taken + 1 = length-push taken piece in
+        several_pieces (taken ++ piece ∷ []) (omega arith) ∙ ap (drop 2) carried
+
+    cut_long : bytes_cut signature (payload_of (taken ++ piece ∷ [])) ≡ crc_bytes signature payload ++ payload
+    cut_long = ap (bytes_cut signature) is_payload ∙ long_cut signature payload long
+
+    pub whole : a ≡ transfer_crc signature payload % 256 → b ≡ transfer_crc signature payload / 256 →
+        assembled signature id (taken ++ piece ∷ []) ≡ Delivers payload
+    whole x y =
+        let c : crc_bytes signature payload ++ payload ≡ a ∷ b ∷ payload = sym (λ i. x i ∷ y i ∷ payload) in
+        let j : length (joined (taken ++ piece ∷ [])) ≡ 7 * length taken + length piece.bytes = total id 0 taken piece part in
+        let bc : bytes_cut signature (payload_of (taken ++ piece ∷ [])) ≡ joined (taken ++ piece ∷ []) = cut_long ∙ c ∙ sym carried in
+        let lb : length (bytes_cut signature (payload_of (taken ++ piece ∷ []))) ≡ 7 * length taken + length piece.bytes = ap length bc ∙ j in
+        matches signature id (taken ++ piece ∷ []) payload is_payload (recut bc (omega arith))
+
+    pub damaged : (a ≢ transfer_crc signature payload % 256) ⊎ (b ≢ transfer_crc signature payload / 256) →
+        assembled signature id (taken ++ piece ∷ []) ≡ Spoils Crc
+    damaged differs =
+        let f : pointwise same_piece (taken ++ piece ∷ []) (cut_again signature id (taken ++ piece ∷ [])) ≡ false =
+        false_from_ne_true _ (λ t.
+        let e : a ∷ b ∷ payload ≡ crc_bytes signature payload ++ payload =
+        sym carried ∙ same_joined (taken ++ piece ∷ []) (cut_again signature id (taken ++ piece ∷ [])) t
+        ∙ joined-frames signature id (payload_of (taken ++ piece ∷ [])) ∙ cut_long in
+        elim differs [ inl x ↦ x (ap (λ l. get_or l 0 0) e) | inr y ↦ y (ap (λ l. get_or l 1 0) e) ]) in
+        rw f refl
+
+front : (n : ℕ) (bytes : List ℕ) → 2 ≤ n → n ≤ length bytes →
+    take n bytes ≡ get_or bytes 0 0 ∷ get_or bytes 1 0 ∷ take (n - 2) (drop 2 bytes)
+front zero bytes h l = absurd (omega arith)
+front (suc zero) bytes h l = absurd (omega arith)
+front (suc (suc n)) [] h l = absurd (omega arith)
+front (suc (suc n)) (x ∷ []) h l = absurd (omega arith)
+front (suc (suc n)) (x ∷ y ∷ bytes) h l =
+    let e : suc (suc n) - 2 ≡ n = omega arith in rw e refl
+
+-- the CRC and the payload, in what was taken
+pub carried : (pieces : List Piece) (piece : Piece) (n : ℕ) (bytes last payload : List ℕ) → take n bytes ≡ joined pieces →
+    piece.bytes ≡ last → 2 ≤ n → n ≤ length bytes → payload ≡ take (n - 2) (drop 2 bytes) ++ last →
+    joined (pieces ++ piece ∷ []) ≡ get_or bytes 0 0 ∷ get_or bytes 1 0 ∷ payload
+carried pieces piece n bytes last payload k b two within e =
+    joined-push pieces piece ∙ (λ i. sym k i ++ b i) ∙ ap (λ l. l ++ last) (front n bytes two within)
+    ∙ ap (λ l. get_or bytes 0 0 ∷ get_or bytes 1 0 ∷ l) (sym e)
+
+pub long_payload : (id : ℕ) (pieces : List Piece) (piece : Piece) (a b : ℕ) (payload : List ℕ) → IsPart id 0 pieces →
+    10 ≤ 7 * length pieces + length piece.bytes → joined (pieces ++ piece ∷ []) ≡ a ∷ b ∷ payload → 7 < length payload
+long_payload id pieces piece a b payload part low e =
+    let n : 7 * length pieces + length piece.bytes ≡ suc (suc (length payload)) = sym (total id 0 pieces piece part) ∙ ap length e in
+    omega arith
+
+-- a last frame behind others, in the numbers and bytes that a place has
+module _ (signature id : ℕ) (pieces : List Piece) (piece : Piece) (part : IsPart id 0 pieces) (count : ℕ) (bytes last payload : List ℕ)
+    (counted : length pieces ≡ count) (same : piece.bytes ≡ last) (tail : piece.tail ≡ tail_at id (length pieces) true)
+    (kept : take (7 * count) bytes ≡ joined pieces) (room : length bytes ≡ 378) (short : length last ≤ 7) (some : 0 < count)
+    (some_bytes : 0 < length last) (low : 10 ≤ 7 * count + length last) (high : 7 * count + length last ≤ 378)
+    (is : payload ≡ take (7 * count - 2) (drop 2 bytes) ++ last) where
+  size : length piece.bytes ≡ length last
+  size = ap length same
+
+  bears : joined (pieces ++ piece ∷ []) ≡ get_or bytes 0 0 ∷ get_or bytes 1 0 ∷ payload
+  bears = carried pieces piece (7 * count) bytes last payload kept same (omega arith) (omega arith) is
+
+  long : 7 < length payload
+  long =
+      let s : length piece.bytes ≡ length last = size in
+      long_payload id pieces piece (get_or bytes 0 0) (get_or bytes 1 0) payload part (omega arith) bears
+
+  pub several_whole : get_or bytes 0 0 ≡ transfer_crc signature payload % 256 → get_or bytes 1 0 ≡ transfer_crc signature payload / 256 →
+      assembled signature id (pieces ++ piece ∷ []) ≡ Delivers payload
+  several_whole x y =
+      let s : length piece.bytes ≡ length last = size in
+      whole signature id pieces piece part (omega arith) tail payload (get_or bytes 0 0) (get_or bytes 1 0) (omega arith) (omega arith) long bears x y
+
+  pub several_damaged : (get_or bytes 0 0 ≢ transfer_crc signature payload % 256) ⊎ (get_or bytes 1 0 ≢ transfer_crc signature payload / 256) →
+      assembled signature id (pieces ++ piece ∷ []) ≡ Spoils Crc
+  several_damaged differs =
+      let s : length piece.bytes ≡ length last = size in
+      damaged signature id pieces piece part (omega arith) tail payload (get_or bytes 0 0) (get_or bytes 1 0) (omega arith) (omega arith) long bears differs

@@ -1,0 +1,117 @@
+-- What a delivery is made of.
+use Rattle.std.proofs.Common.{◌≡◌, ℕ, true, false, Bool, ◌&&◌, List, [], ◌∷◌, ◌++◌, cond, refl, sym, ap, ◌∙◌, inl, inr}
+use Rattle.std.specs.Prelude.{Option, None, Some, Result, Ok, Err}
+use Rattle.std.specs.Cmp.Lexicographic.{pointwise}
+use Rattle.std.proofs.lemmas.Bool.{cases_Bool}
+use Rattle.can_frame.specs.declared.identifier.Ident.{Ident}
+use Rattle.can_frame.specs.declared.mark.Mark.{Mark}
+use Rattle.can_frame.specs.declared.step.Why.{Why}
+use Rattle.can_frame.specs.declared.step.Why.TheVariants.{Crc, Length, NoBlock, Start, Toggle}
+use Rattle.can_frame.specs.Cutting.{Piece, frames_of, payload_of}
+use Rattle.transfer_rx.specs.declared.accept.Wanted.{Wanted}
+use Rattle.transfer_rx.specs.Acceptance.{wanted}
+use Rattle.transfer_rx.specs.Keys.{is_anonymous, key_of}
+use Rattle.transfer_rx.specs.Marks.{is_whole}
+use Rattle.transfer_rx.specs.Outcome.{Delivers, Grows, Outcome, Spoils, cut_again, is_wrong_length, lacks_blocks, out_of_turn, outcome, same_piece}
+use Rattle.transfer_rx.specs.Reassembly.{Arrival, Delivery, Drops, Gives, Setting, Step, answer, answer_of, at_session, in_turn, piece_in, session_step}
+use Rattle.transfer_rx.specs.Sessions.{Session, others, remembered, session_for}
+use Rattle.transfer_rx.specs.Sound.{IsDelivered}
+use Rattle.transfer_rx.proofs.Cuttings.{only}
+use Rattle.transfer_rx.proofs.Steps.{anonymous, of_session, unwanted}
+
+abbrev given : Ident → ℕ → List ℕ → Mark → Bool → Delivery
+given ident id payload mark whole = record { ident = ident; id = id; payload = payload; mark = mark; whole = whole }
+
+alone_gives : (ident : Ident) (piece : Piece) (mark : Mark) (delivery : Delivery) (whole toggle : Bool) →
+    cond whole (cond toggle (Drops Toggle) (Gives (given ident piece.tail.id piece.bytes mark (is_whole (mark ∷ []))))) (Drops Start) ≡ Gives delivery →
+    given ident piece.tail.id piece.bytes mark (is_whole (mark ∷ [])) ≡ delivery
+alone_gives ident piece mark delivery true true h = absurd cc
+alone_gives ident piece mark delivery true false h = cc
+alone_gives ident piece mark delivery false toggle h = absurd cc
+
+delivers_only : (wrong lacks end whole : Bool) (found payload : List ℕ) →
+    cond wrong (Spoils Length) (cond lacks (Spoils NoBlock) (cond end (cond whole (Delivers found) (Spoils Crc)) Grows)) ≡ Delivers payload →
+    cond whole (Delivers found) (Spoils Crc) ≡ Delivers payload
+delivers_only true lacks end whole found payload h = absurd cc
+delivers_only false true end whole found payload h = absurd cc
+delivers_only false false true whole found payload h = h
+delivers_only false false false whole found payload h = absurd cc
+
+delivered_frames : (blocks signature : ℕ) (piece : Piece) (taken : List Piece) (rest : List Session) (payload : List ℕ) →
+    outcome blocks signature piece taken rest ≡ Delivers payload → taken ++ piece ∷ [] ≡ frames_of signature piece.tail.id payload
+unfolding outcome
+delivered_frames blocks signature piece taken rest payload h =
+    only signature piece.tail.id payload (taken ++ piece ∷ [])
+    (delivers_only (is_wrong_length signature piece (taken ++ piece ∷ [])) (lacks_blocks blocks piece taken rest) piece.tail.end
+    (pointwise same_piece (taken ++ piece ∷ []) (cut_again signature piece.tail.id (taken ++ piece ∷ []))) (payload_of (taken ++ piece ∷ [])) payload h)
+
+-- what the next piece gives is the payload of its frames
+record IsGiven (blocks signature : ℕ) (ident : Ident) (piece : Piece) (mark : Mark) (session : Session) (rest : List Session) (delivery : Delivery) : Type 0 where
+  payload : List ℕ
+  from : outcome blocks signature piece session.taken rest ≡ Delivers payload
+  is : given ident piece.tail.id payload mark (is_whole (session.marks ++ mark ∷ [])) ≡ delivery
+
+given_by : (blocks signature : ℕ) (ident : Ident) (piece : Piece) (mark : Mark) (session : Session) (rest : List Session) (delivery : Delivery) (result : Outcome) →
+    outcome blocks signature piece session.taken rest ≡ result → answer_of ident piece mark session result ≡ Gives delivery →
+    IsGiven blocks signature ident piece mark session rest delivery
+given_by blocks signature ident piece mark session rest delivery (Delivers payload) e h = record { payload = payload; from = e; is = cc }
+given_by blocks signature ident piece mark session rest delivery Grows e h = absurd cc
+given_by blocks signature ident piece mark session rest delivery (Spoils why) e h = absurd cc
+
+turned : (blocks : ℕ) (w : Wanted) (piece : Piece) (mark : Mark) (now : ℕ) (rest : List Session) (session : Session) (delivery : Delivery) (o : Option Why) →
+    (in_turn blocks w piece mark now rest session o).answer ≡ Gives delivery → IsGiven blocks w.signature w.ident piece mark session rest delivery
+turned blocks w piece mark now rest session delivery None h =
+    given_by blocks w.signature w.ident piece mark session rest delivery (outcome blocks w.signature piece session.taken rest) refl h
+turned blocks w piece mark now rest session delivery (Some why) h = absurd cc
+
+of_a_session : (setting : Setting) (sessions : List Session) (arrival : Arrival) (delivery : Delivery) (w : Wanted) →
+    wanted setting.rows setting.me arrival.id ≡ Ok w →
+    (session_step setting.sessions setting.blocks w (piece_in arrival) arrival.mark arrival.moment (remembered arrival.moment sessions)).answer ≡ Gives delivery →
+    IsDelivered setting sessions arrival delivery
+unfolding session_step
+of_a_session setting sessions arrival delivery w accepted h =
+    go (session_for setting.sessions (key_of w.ident) (piece_in arrival).tail arrival.moment (remembered arrival.moment sessions)) refl h where
+      go : (r : Result Session Why) → session_for setting.sessions (key_of w.ident) (piece_in arrival).tail arrival.moment (remembered arrival.moment sessions) ≡ r →
+          (at_session setting.blocks w (piece_in arrival) arrival.mark arrival.moment (remembered arrival.moment sessions) r).answer ≡ Gives delivery →
+          IsDelivered setting sessions arrival delivery
+      go (Err why) e g = absurd cc
+      go (Ok session) e g =
+          let t = turned setting.blocks w (piece_in arrival) arrival.mark arrival.moment (others (key_of w.ident) (remembered arrival.moment sessions)) session delivery
+          (out_of_turn (piece_in arrival).tail session) g in
+          let id : (piece_in arrival).tail.id ≡ delivery.id = ap (λ (d : Delivery). d.id) t.is in
+          let payload : t.payload ≡ delivery.payload = ap (λ (d : Delivery). d.payload) t.is in
+          record {
+            w = w;
+            accepted = accepted;
+            ident = sym (ap (λ (d : Delivery). d.ident) t.is);
+            id = sym id;
+            mark = sym (ap (λ (d : Delivery). d.mark) t.is);
+            frames =
+                inr (
+                  session,
+                  e,
+                  delivered_frames setting.blocks w.signature (piece_in arrival) session.taken (others (key_of w.ident) (remembered arrival.moment sessions)) t.payload t.from
+                      ∙ (λ i. frames_of w.signature (id i) (payload i)),
+                  sym (ap (λ (d : Delivery). d.whole) t.is),
+                );
+          }
+
+pub is_delivered : (setting : Setting) (sessions : List Session) (arrival : Arrival) (delivery : Delivery) → answer setting sessions arrival ≡ Gives delivery →
+    IsDelivered setting sessions arrival delivery
+is_delivered setting sessions arrival delivery h = go (wanted setting.rows setting.me arrival.id) refl where
+  go : (r : Result Wanted Why) → wanted setting.rows setting.me arrival.id ≡ r → IsDelivered setting sessions arrival delivery
+  go (Err why) e = let d : Drops why ≡ Gives delivery = sym (ap (λ (x : Step). x.answer) (unwanted setting sessions arrival why e)) ∙ h in absurd cc
+  go (Ok w) e = elim (cases_Bool (is_anonymous w.ident.kind)) [
+    | inl yes_alone ↦
+        let d = alone_gives w.ident (piece_in arrival) arrival.mark delivery ((piece_in arrival).tail.start && (piece_in arrival).tail.end) (piece_in arrival).tail.toggle
+        (sym (ap (λ (x : Step). x.answer) (anonymous setting sessions arrival w e yes_alone)) ∙ h) in
+        record {
+          w = w;
+          accepted = e;
+          ident = sym (ap (λ (d : Delivery). d.ident) d);
+          id = sym (ap (λ (d : Delivery). d.id) d);
+          mark = sym (ap (λ (d : Delivery). d.mark) d);
+          frames = inl (yes_alone, sym (ap (λ (d : Delivery). d.payload) d), sym (ap (λ (d : Delivery). d.whole) d));
+        }
+    | inr none ↦ of_a_session setting sessions arrival delivery w e (sym (ap (λ (x : Step). x.answer) (of_session setting sessions arrival w e none)) ∙ h)
+  ]

@@ -1,0 +1,95 @@
+-- What places stand for, when old sessions are left out and when a session is set.
+use Rattle.std.proofs.Common.{◌≡◌, ℕ, ◌-◌, ◌≤◌, ◌<◌, true, false, List, [], length, get_or, Option, Some, None, refl, sym, ◌∙◌, subst, arith, nat_le, set, inl, inr, replicate}
+use Rattle.std.proofs.lemmas.Bool.{le-leb, lt-leb}
+use Rattle.std.proofs.Math.ListN.{get_or-map}
+use Rattle.std.proofs.lemmas.List.{length-map, length-set, get_or-set_same, get_or-set_other, get_or-replicate, length-replicate}
+use Rattle.std.proofs.lemmas.Bool.Decides.{eqb_tells}
+use Rattle.transfer_rx.specs.declared.progress.Progress.{Progress}
+use Rattle.transfer_rx.specs.Sessions.{Session}
+use Rattle.transfer_rx.specs.Stands.{Keeps, Holds}
+use Rattle.transfer_rx.specs.Places.{Places, Stand, kept, left}
+
+pub left-by_place : (now : ℕ) (places : Places) (i : ℕ) → get_or (left now places) i None ≡ kept now (get_or places i None)
+left-by_place now places i = get_or-map (kept now) places i None
+
+kept_recent : (now : ℕ) (session : Session) (moment : ℕ) → moment ≡ session.moment → now - moment ≤ 2000 →
+    kept now (Some session) ≡ Some session
+kept_recent now session moment e h =
+    let t : nat_le (now - session.moment) 2000 ≡ true = le-leb _ _ (subst (λ m. now - m ≤ 2000) e h) in rw t refl
+
+kept_old : (now : ℕ) (session : Session) (moment : ℕ) → moment ≡ session.moment → 2000 < now - moment →
+    kept now (Some session) ≡ None
+kept_old now session moment e h =
+    let t : nat_le (now - session.moment) 2000 ≡ false = lt-leb _ _ (subst (λ m. 2000 < now - m) e h) in rw t refl
+
+pub holds_recent : (now : ℕ) (p : Progress) (bytes : List ℕ) (o : Option Session) → Holds (Some p) bytes o →
+    now - p.moment ≤ 2000 → Holds (Some p) bytes (kept now o)
+holds_recent now p bytes None h r = h
+holds_recent now p bytes (Some session) h r = rw (kept_recent now session p.moment h.moment r) h
+
+pub holds_old : (now : ℕ) (p : Progress) (bytes : List ℕ) (o : Option Session) → Holds (Some p) bytes o →
+    2000 < now - p.moment → Holds None bytes (kept now o)
+holds_old now p bytes None h r = absurd h
+holds_old now p bytes (Some session) h r = rw (kept_old now session p.moment h.moment r) tt
+
+pub holds_none : (now : ℕ) (bytes : List ℕ) (o : Option Session) → Holds None bytes o → Holds None bytes (kept now o)
+holds_none now bytes None h = tt
+holds_none now bytes (Some session) h = absurd h
+
+pub all_left : (now : ℕ) (places : Places) (progress : List (Option Progress)) (bytes : List (List ℕ)) →
+    length places ≡ length progress →
+    ((i : ℕ) → i < length progress → Holds (get_or progress i None) (get_or bytes i []) (kept now (get_or places i None))) →
+    Stand progress bytes (left now places)
+all_left now places progress bytes size each = record {
+  size = length-map places (kept now) ∙ size;
+  each = λ i h. subst (λ o. Holds (get_or progress i None) (get_or bytes i []) o) (sym (left-by_place now places i)) (each i h);
+}
+
+set_here : (progress : List (Option Progress)) (bytes : List (List ℕ)) (left : Places) (place : ℕ) (p : Progress)
+    (after : List ℕ) (session : Session) → length left ≡ length progress → place < length progress → place < length bytes →
+    Keeps p after session → (i : ℕ) → i ≡ place →
+    Holds (get_or (set progress place (Some p)) i None) (get_or (set bytes place after) i []) (get_or (set left place (Some session)) i None)
+set_here progress bytes left place p after session size h w k i e =
+    let a : get_or (set progress place (Some p)) place None ≡ Some p = get_or-set_same progress place (Some p) None h in
+    let b : get_or (set bytes place after) place [] ≡ after = get_or-set_same bytes place after [] w in
+    let d : get_or (set left place (Some session)) place None ≡ Some session = get_or-set_same left place (Some session) None (omega arith) in
+    subst (λ j. Holds (get_or (set progress place (Some p)) j None) (get_or (set bytes place after) j []) (get_or (set left place (Some session)) j None)) (sym e)
+    (subst (λ x. Holds x (get_or (set bytes place after) place []) (get_or (set left place (Some session)) place None)) (sym a)
+    (subst (λ x. Holds (Some p) x (get_or (set left place (Some session)) place None)) (sym b)
+    (subst (λ x. Holds (Some p) after x) (sym d) k)))
+
+-- a place that is set anew, where its bytes change with it
+pub set_stands : (progress : List (Option Progress)) (bytes : List (List ℕ)) (left : Places) (place : ℕ) (p : Progress)
+    (after : List ℕ) (session : Session) → Stand progress bytes left → place < length progress → place < length bytes →
+    Keeps p after session → Stand (set progress place (Some p)) (set bytes place after) (set left place (Some session))
+set_stands progress bytes left place p after session s h w k = record {
+  size = length-set left place (Some session) ∙ s.size ∙ sym (length-set progress place (Some p));
+  each = λ i l.
+      let l' : i < length progress = subst (λ n. i < n) (length-set progress place (Some p)) l in
+      elim (eqb_tells i place) [
+        | inl same ↦ set_here progress bytes left place p after session s.size h w k i same.1
+        | inr other ↦
+            let a : get_or (set progress place (Some p)) i None ≡ get_or progress i None = get_or-set_other progress place i (Some p) None other.1 in
+            let b : get_or (set bytes place after) i [] ≡ get_or bytes i [] = get_or-set_other bytes place i after [] other.1 in
+            let d : get_or (set left place (Some session)) i None ≡ get_or left i None = get_or-set_other left place i (Some session) None other.1 in
+            subst (λ x. Holds x (get_or (set bytes place after) i []) (get_or (set left place (Some session)) i None)) (sym a)
+            (subst (λ x. Holds (get_or progress i None) x (get_or (set left place (Some session)) i None)) (sym b)
+            (subst (λ x. Holds (get_or progress i None) (get_or bytes i []) x) (sym d) (s.each i l')))
+      ];
+}
+
+abbrev no_progress : Option Progress
+no_progress = None
+
+abbrev no_session : Option Session
+no_session = None
+
+pub all_free : (places : ℕ) (bytes : List (List ℕ)) → Stand (replicate places None) bytes (replicate places None)
+all_free places bytes = record {
+  size = length-replicate {A = Option Session} places None ∙ sym (length-replicate {A = Option Progress} places None);
+  each = λ place l.
+      let lt : place < places = omega (arith, length-replicate {A = Option Progress} places None) in
+      let code : get_or (replicate places no_progress) place None ≡ None = get_or-replicate places place None None lt in
+      let there : get_or (replicate places no_session) place None ≡ None = get_or-replicate places place None None lt in
+      rw (code, there) tt;
+}

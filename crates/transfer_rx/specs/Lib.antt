@@ -1,0 +1,16 @@
+pub mod Acceptance
+pub mod Keys
+pub mod Marks
+pub mod Outcome
+pub mod Parts
+pub mod Places
+pub mod Reassembly
+pub mod Run
+pub mod Sessions
+pub mod Sound
+pub mod Stands
+pub mod StandsFor
+pub mod Told
+pub mod Turns
+pub mod Unmarked
+pub mod Verdicts

@@ -1,0 +1,39 @@
+-- What holds of the sessions of a receiver after every step, and of what it delivers.
+use Rattle.std.specs.Prelude.{◌≡◌, ◌≤◌, ◌⊎◌, true, List, [], ◌∷◌, ◌++◌, length, Ok}
+use Rattle.can_frame.specs.Cutting.{frames_of}
+use Rattle.transfer_rx.specs.declared.accept.Wanted.{Wanted}
+use Rattle.transfer_rx.specs.Acceptance.{wanted}
+use Rattle.transfer_rx.specs.Keys.{is_anonymous, key_of}
+use Rattle.transfer_rx.specs.Marks.{is_whole}
+use Rattle.transfer_rx.specs.Parts.{IsPart}
+use Rattle.transfer_rx.specs.Reassembly.{Arrival, Delivery, Setting, piece_in}
+use Rattle.transfer_rx.specs.Sessions.{AreDifferent, Session, remembered, session_for}
+
+-- the frames taken have seven bytes each, the expected ID and the tails of their places, and each has a mark
+pub record IsSound (session : Session) : Type 0 where
+  pub frames : IsPart session.expected 0 session.taken
+  pub marks : length session.marks ≡ length session.taken
+
+abbrev pub AreSound : List Session → Type 0
+AreSound [] = Unit {0}
+AreSound (session ∷ sessions) = IsSound session × AreSound sessions
+
+-- sessions that a receiver can have
+pub record ArePossible (setting : Setting) (sessions : List Session) : Type 0 where
+  pub different : AreDifferent sessions
+  pub sound : AreSound sessions
+  pub few : length sessions ≤ setting.sessions
+
+-- a delivery has the identifier, the ID and the mark of the frame that completed it. An anonymous one is that frame alone; of
+-- any other, the frames that its session had taken and this one are those of the payload
+pub record IsDelivered (setting : Setting) (sessions : List Session) (arrival : Arrival) (delivery : Delivery) : Type 0 where
+  pub w : Wanted
+  pub accepted : wanted setting.rows setting.me arrival.id ≡ Ok w
+  pub ident : delivery.ident ≡ w.ident
+  pub id : delivery.id ≡ (piece_in arrival).tail.id
+  pub mark : delivery.mark ≡ arrival.mark
+  pub frames : ((is_anonymous w.ident.kind ≡ true) × (delivery.payload ≡ (piece_in arrival).bytes) × (delivery.whole ≡ is_whole (arrival.mark ∷ [])))
+      ⊎ ((session : Session)
+      × (session_for setting.sessions (key_of w.ident) (piece_in arrival).tail arrival.moment (remembered arrival.moment sessions) ≡ Ok session)
+      × (session.taken ++ piece_in arrival ∷ [] ≡ frames_of w.signature delivery.id delivery.payload)
+      × (delivery.whole ≡ is_whole (session.marks ++ arrival.mark ∷ [])))

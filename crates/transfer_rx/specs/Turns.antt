@@ -1,0 +1,38 @@
+-- Where a frame comes, in the code and in the definition.
+use Rattle.std.specs.Prelude.{◌≡◌, ℕ, ◌<◌, false, length, List, Some, None, Ok, Err}
+use Rattle.can_frame.specs.Cutting.{Piece}
+use Rattle.transfer_rx.specs.declared.key.Key.{Key}
+use Rattle.transfer_rx.specs.declared.progress.Found.{Found}
+use Rattle.transfer_rx.specs.declared.turn.Turn.{Turn}
+use Rattle.transfer_rx.specs.declared.turn.Turn.TheVariants.{Refused, Out, Next}
+use Rattle.transfer_rx.specs.Sessions.{Session, others, session_for}
+use Rattle.transfer_rx.specs.Outcome.{out_of_turn, outcome}
+use Rattle.transfer_rx.specs.Places.{Finds, Places}
+use Rattle.transfer_rx.specs.Verdicts.{IfPart, says}
+
+-- a frame that goes on has seven bytes, and the place has room for them
+pub record GoesOn (found : Found) (piece : Piece) : Type 0 where
+  pub room : found.progress.taken < 54
+  pub seven : length piece.bytes ≡ 7
+  pub open_end : piece.tail.end ≡ false
+
+-- what can be done without a look at the definition
+abbrev pub IsRoomy : ℕ → Piece → Turn → Type 0
+IsRoomy places piece (Refused why) = Unit {0}
+IsRoomy places piece (Out found why) = found.place < places
+IsRoomy places piece (Next found verdict) = (found.place < places) × IfPart verdict (GoesOn found piece)
+
+-- a frame comes to its session
+pub record ComesTo (most : ℕ) (bytes : List (List ℕ)) (key : Key) (piece : Piece) (now : ℕ) (places : Places) (sessions : List Session) (found : Found) : Type 0 where
+  pub session : Session
+  pub there : session_for most key piece.tail now sessions ≡ Ok session
+  pub finds : Finds bytes key places sessions found session
+
+-- a turn is what the definition finds
+abbrev pub IsTurn : ℕ → List (List ℕ) → ℕ → Key → ℕ → Piece → ℕ → Places → List Session → Turn → Type 0
+IsTurn most bytes blocks key signature piece now places sessions (Refused why) = session_for most key piece.tail now sessions ≡ Err why
+IsTurn most bytes blocks key signature piece now places sessions (Out found why) =
+    (to : ComesTo most bytes key piece now places sessions found) × (out_of_turn piece.tail to.session ≡ Some why)
+IsTurn most bytes blocks key signature piece now places sessions (Next found verdict) =
+    (to : ComesTo most bytes key piece now places sessions found) × (out_of_turn piece.tail to.session ≡ None)
+    × (says verdict ≡ outcome blocks signature piece to.session.taken (others key sessions))

@@ -1,0 +1,30 @@
+//! Reassembly: from frames in any order, of any senders, to whole transfers.
+//!
+//! A [`Receiver`] keeps sessions, one for each kind, number and source that it hears. Contracts see
+//! its sessions by `specs/Reassembly.antt`: a list with different keys, in which each session has the
+//! whole frames that it took since its last cut. There a transfer is delivered where its frames are
+//! the cutting of a payload, as `can_frame` defines it for sending too; a frame that is not the next
+//! of its session, or that makes no transfer, is dropped, and the definition says why.
+//!
+//! The one contract: for every list of sessions that a receiver stands for, [`Receiver::take`] gives
+//! the definition's answer to a frame and leaves a receiver that stands for the sessions afterwards;
+//! [`Receiver::peek`] tells what it would deliver. The code keeps places, bytes, counts and a moment
+//! (`specs/Places.antt`); none of these shows in a public clause. [`laws`] says what the definition
+//! means: it delivers exactly cuttings, and each undamaged transfer that comes in order.
+//!
+//! The rules are those of the UAVCAN v0 specification, "CAN bus transport layer", for one interface.
+#![tactic(auto)]
+
+mod accept;
+mod key;
+pub mod laws;
+mod progress;
+mod receiver;
+mod sessions;
+mod transfer;
+mod turn;
+mod verdict;
+
+pub use accept::AcceptRow;
+pub use receiver::Receiver;
+pub use transfer::{Took, Transfer};

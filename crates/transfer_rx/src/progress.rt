@@ -1,0 +1,151 @@
+ghost use Rattle.std.specs.Prelude.{◌≡◌, ℕ, false, ◌+◌, ◌*◌, ◌<◌, ◌≤◌, ◌%◌, ◌++◌, ◌∷◌, [], List, length, take};
+
+use crate::key::Key;
+use crate::verdict::blocks_for;
+use can_frame::{Mark, Tail, Why};
+
+/// How far the session at a place has come: how many frames it took since the last cut, each of seven
+/// bytes, and whether their marks are those of one step, in order.
+#[derive(Clone, Copy, Debug)]
+pub struct Progress {
+    pub key: Key,
+    pub expected: u8,
+    pub taken: u8,
+    pub moment: u64,
+    pub step: u64,
+    pub whole: bool,
+    pub ghost id: { expected < 32 },
+    pub ghost few: { taken ≤ 54 },
+}
+
+/// The place of a session, and the session as a frame finds it.
+#[derive(Clone, Copy, Debug)]
+pub struct Found {
+    pub place: usize,
+    pub progress: Progress,
+}
+
+impl Progress {
+    ghost use Rattle.can_frame.specs.Cutting.{Piece, tail_at};
+    ghost use Rattle.transfer_rx.specs.Marks.{is_whole};
+    ghost use Rattle.transfer_rx.specs.Outcome.{out_of_turn, session_blocks};
+    ghost use Rattle.transfer_rx.specs.Reassembly.{cut_off, grown};
+    ghost use Rattle.transfer_rx.specs.Sessions.{Session, opened, restarted};
+    ghost use Rattle.transfer_rx.specs.Stands.{Begins, Keeps};
+
+    /// A session that begins with a frame.
+    pub fn opened(key: Key, tail: &Tail, now: u64) -> Progress
+        requires { tail.now.id < 32 }
+        ensures { (bytes : List ℕ) → Keeps result bytes (opened key tail.now now) }
+    {
+        Progress {
+            key,
+            expected: tail.id,
+            taken: 0,
+            moment: now,
+            step: 0,
+            whole: true,
+        }
+    }
+
+    /// Begun anew by a first frame whose ID is neither the expected one nor the one before it.
+    pub fn restarted(self, tail: &Tail) -> Progress
+        requires { tail.now.id < 32 }
+        ensures { (bytes : List ℕ) (session : Session) → Keeps self bytes session → Keeps result bytes (restarted tail.now session) }
+    {
+        if tail.start && tail.id != self.expected && (tail.id + 1) % 32 != self.expected {
+            return self.emptied(tail.id, self.moment);
+        }
+        self
+    }
+
+    /// Why the frame is not the next piece: its ID, its start bit or its toggle.
+    pub fn out_of_turn(self, tail: &Tail) -> Option<Why>
+        ensures { (bytes : List ℕ) (session : Session) → Keeps self bytes session → result ≡ out_of_turn tail.now session }
+    {
+        if tail.id != self.expected {
+            return Some(Why::TransferId);
+        }
+        if tail.start != (self.taken == 0) {
+            return Some(Why::Start);
+        }
+        if tail.toggle != (self.taken % 2 == 1) {
+            return Some(Why::Toggle);
+        }
+        None
+    }
+
+    /// At a cut the session waits for the next transfer.
+    pub fn cut_off(self, now: u64) -> Progress
+        ensures { (bytes after : List ℕ) (session : Session) → Keeps self bytes session → Keeps result after (cut_off now session) }
+    {
+        self.emptied((self.expected + 1) % 32, now)
+    }
+
+    /// With nothing taken, and an ID to wait for.
+    fn emptied(self, expected: u8, moment: u64) -> Progress
+        requires { expected < 32 }
+        ensures { (bytes : List ℕ) → Keeps result bytes (record { key = self.key; expected = expected; taken = []; marks = []; moment = moment }) }
+    {
+        Progress {
+            key: self.key,
+            expected,
+            taken: 0,
+            moment,
+            step: 0,
+            whole: true,
+        }
+    }
+
+    /// With one more frame of seven bytes.
+    pub fn grown(self, mark: Mark, now: u64) -> Progress
+        requires { self.taken < 54 }
+        ensures taken { result.taken ≡ self.taken + 1 }
+        ensures keeps { (bytes after : List ℕ) (session : Session) (piece : Piece) → Keeps self bytes session →
+            length piece.bytes ≡ 7 → piece.tail ≡ tail_at session.expected (length session.taken) false →
+            take (7 * (self.taken + 1)) after ≡ take (7 * self.taken) bytes ++ piece.bytes →
+            Keeps result after (grown piece mark now session) }
+    {
+        Progress {
+            key: self.key,
+            expected: self.expected,
+            taken: self.taken + 1,
+            moment: now,
+            step: self.step_with(mark),
+            whole: self.is_whole_with(mark),
+        }
+    }
+
+    /// The blocks that the bytes taken use.
+    pub fn blocks(self) -> usize
+        ensures few { result ≤ 14 }
+        ensures used { (bytes : List ℕ) (session : Session) → Keeps self bytes session → result ≡ session_blocks session }
+    {
+        blocks_for(7 * self.taken as usize)
+    }
+
+    /// Whether the frames with one more have the marks of one step, in order.
+    pub fn is_whole_with(self, mark: Mark) -> bool
+        ensures { (bytes : List ℕ) (session : Session) → Keeps self bytes session → result ≡ is_whole (session.marks ++ mark ∷ []) }
+    {
+        let step = self.step_with(mark);
+        if !self.whole {
+            return false;
+        }
+        if mark.step != step {
+            return false;
+        }
+        mark.place == self.taken
+    }
+
+    /// The step of the first frame.
+    fn step_with(self, mark: Mark) -> u64
+        ensures { (bytes : List ℕ) (session : Session) → Keeps self bytes session → Begins result (session.marks ++ mark ∷ []) }
+    {
+        if self.taken == 0 {
+            mark.step
+        } else {
+            self.step
+        }
+    }
+}

@@ -1,0 +1,172 @@
+ghost use Rattle.std.specs.Prelude.{◌≡◌, ℕ, ◌<◌, ◌≤◌, ◌^◌, [], List, option_map};
+ghost use Rattle.can_frame.specs.Piece.{piece_of};
+ghost use Rattle.transfer_rx.specs.Acceptance.{AnswersByRows, is_for, is_service, wanted};
+ghost use Rattle.transfer_rx.specs.Keys.{is_anonymous};
+ghost use Rattle.transfer_rx.specs.Reassembly.{alone, answer, arrival_of, delivered, next};
+ghost use Rattle.transfer_rx.specs.Sessions.{Session};
+ghost use Rattle.transfer_rx.specs.Told.{delivery_of, told};
+
+use crate::accept::{AcceptRow, Wanted};
+use crate::sessions::Sessions;
+use crate::transfer::{Took, Transfer};
+use crate::turn::foretell;
+use crate::verdict::{is_alone, joined};
+use arrayvec::ArrayVec;
+use can_frame::{Frame, Ident, Kind, Mark, Why};
+
+/// Reassembles the transfers that its rows accept, in at most S sessions, whose frames use at most N
+/// blocks of 28 bytes.
+#[derive(Drop)]
+pub struct Receiver<F, const S: usize, const N: usize> {
+    me: u8,
+    rows: ArrayVec<AcceptRow, 16>,
+    accept: F,
+    sessions: Sessions<S>,
+}
+
+impl<F: Fn(Kind, u16) -> Option<u64> + Copy, const S: usize, const N: usize> Receiver<F, S, N> {
+    ghost use Rattle.transfer_rx.specs.StandsFor.{StandsFor, accept_of, setting_of};
+
+    /// A receiver without sessions. `me` is its own node ID, 1 to 127: it takes services for this node
+    /// and no frame from it. With 0 it takes services for every node, and frames from every one.
+    /// `accept` gives the signature of the first row with a kind and number, where there is one.
+    pub fn new(me: u8, rows: ArrayVec<AcceptRow, 16>, accept: F) -> Receiver<F, S, N>
+        requires callable { F.IsAlwaysCallable accept }
+        requires answers { AnswersByRows (F.post accept) rows.items }
+        requires most { S ≤ 1024 }
+        requires blocks { N ≤ 1024 }
+        ensures sessions { StandsFor result [] }
+        ensures setting { setting_of result ≡ record { rows = rows.items; me = me; sessions = S; blocks = N } }
+        ensures accept { accept_of result ≡ accept }
+    {
+        Receiver {
+            me,
+            rows,
+            accept,
+            sessions: Sessions::new(),
+        }
+    }
+
+    /// Takes a frame at a moment in milliseconds, and tells what it led to. Of a frame that is dropped
+    /// the cause is told, and its session goes on as the definition says: after a wrong CRC or length,
+    /// or for want of blocks, it waits for the next transfer ID.
+    pub fn take(&mut self, frame: &Frame, mark: Mark, now: u64) -> Took
+        requires callable { F.IsAlwaysCallable (accept_of self.old) }
+        requires answers { AnswersByRows (F.post (accept_of self.old)) (setting_of self.old).rows }
+        ensures answer { (sessions : List Session) → StandsFor self.old sessions →
+            told result ≡ answer (setting_of self.old) sessions (arrival_of frame.now mark now) }
+        ensures sessions { (sessions : List Session) → StandsFor self.old sessions →
+            StandsFor self.new (next (setting_of self.old) sessions (arrival_of frame.now mark now)) }
+        ensures setting { setting_of self.new ≡ setting_of self.old }
+        ensures accept { accept_of self.new ≡ accept_of self.old }
+    {
+        let wanted = match self.wanted(frame) {
+            Ok(wanted) => wanted,
+            Err(why) => return Took::Dropped(why),
+        };
+        if is_anonymous(wanted.ident.kind) {
+            return alone(wanted.ident, frame, mark);
+        }
+        let turn = self.sessions.turn(&wanted, frame, now, N);
+        self.sessions.forget(now);
+        self.sessions.settle(turn, wanted.ident, frame, mark, now)
+    }
+
+    /// The transfer that `take` would deliver, if any. Nothing changes.
+    pub fn peek(&self, frame: &Frame, mark: Mark, now: u64) -> Option<Transfer>
+        requires callable { F.IsAlwaysCallable (accept_of self.now) }
+        requires answers { AnswersByRows (F.post (accept_of self.now)) (setting_of self.now).rows }
+        ensures { (sessions : List Session) → StandsFor self.now sessions →
+            option_map delivery_of result ≡ delivered (answer (setting_of self.now) sessions (arrival_of frame.now mark now)) }
+    {
+        let wanted = match self.wanted(frame) {
+            Ok(wanted) => wanted,
+            Err(_) => return None,
+        };
+        if is_anonymous(wanted.ident.kind) {
+            return delivered(alone(wanted.ident, frame, mark));
+        }
+        let turn = self.sessions.turn(&wanted, frame, now, N);
+        foretell(turn, wanted.ident, frame, mark)
+    }
+
+    /// The fields and the signature of a frame that is wanted, or why it is not.
+    fn wanted(&self, frame: &Frame) -> Result<Wanted, Why>
+        requires callable { F.IsAlwaysCallable self.now.accept }
+        requires answers { AnswersByRows (F.post self.now.accept) self.now.rows.items }
+        ensures { result ≡ wanted self.now.rows.items self.now.me frame.now.id }
+    {
+        let Some(ident) = Ident::read(frame.id) else {
+            return Err(Why::BadIdent);
+        };
+        if !self.is_for_me(&ident) {
+            return Err(Why::NotWanted);
+        }
+        match (self.accept)(ident.kind, ident.number) {
+            Some(signature) => Ok(Wanted { ident, signature }),
+            None => Err(Why::NotWanted),
+        }
+    }
+
+    fn is_for_me(&self, ident: &Ident) -> bool
+        ensures { result ≡ is_for self.now.me ident.now }
+    {
+        self.me == 0
+            || !(is_service(ident.kind) && ident.dest != self.me) && ident.source != self.me
+    }
+}
+
+fn is_service(kind: Kind) -> bool
+    ensures { result ≡ is_service kind }
+{
+    match kind {
+        Kind::Message => false,
+        Kind::Anonymous => false,
+        Kind::Request => true,
+        Kind::Response => true,
+    }
+}
+
+fn is_anonymous(kind: Kind) -> bool
+    ensures { result ≡ is_anonymous kind }
+{
+    match kind {
+        Kind::Message => false,
+        Kind::Anonymous => true,
+        Kind::Request => false,
+        Kind::Response => false,
+    }
+}
+
+/// An anonymous frame is a transfer of its own.
+fn alone(ident: Ident, frame: &Frame, mark: Mark) -> Took
+    ensures { told result ≡ alone ident (piece_of frame.now) mark }
+{
+    let tail = frame.tail();
+    if !is_alone(&tail) {
+        return Took::Dropped(Why::Start);
+    }
+    if tail.toggle {
+        return Took::Dropped(Why::Toggle);
+    }
+    Took::Delivered(Transfer {
+        ident,
+        id: tail.id,
+        payload: joined(&[], frame.data()),
+        mark,
+        whole: mark.place == 0,
+    })
+}
+
+fn delivered(took: Took) -> Option<Transfer>
+    ensures { option_map delivery_of result ≡ delivered (told took) }
+{
+    match took {
+        Took::Delivered(transfer) => Some(transfer),
+        Took::Part => None,
+        Took::Dropped(_) => None,
+    }
+}
+
+#[cfg(test)]
+mod tests;
