@@ -1,0 +1,6 @@
+pub mod Entries
+pub mod InTurn
+pub mod OnePut
+pub mod Puts
+pub mod Rules
+pub mod States

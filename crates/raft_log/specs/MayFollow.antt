@@ -1,0 +1,21 @@
+-- The logs that are stored.
+use Rattle.std.specs.Prelude.{ℕ, ◌<◌, ◌≤◌, List, length, take, slice_index_or}
+use Rattle.can_frame.specs.declared.entry.Entry.{Entry}
+use Rattle.can_frame.specs.Log.{IsDistinctFromAll, IsInjective, IsWellFormed, blank, last_term, log_limit}
+use Rattle.raft_log.specs.Stored.{Stored}
+
+-- the entry may follow the log in a term: it is well formed, terms do not fall, none is above the
+-- member's, and no node ID and no unique ID stands twice
+pub record MayFollow (log : List Entry) (term : ℕ) (entry : Entry) : Type 0 where
+  pub formed : IsWellFormed entry
+  pub order : last_term log ≤ entry.term
+  pub bound : entry.term ≤ term
+  pub distinct : IsDistinctFromAll log entry
+
+-- what every stored state keeps
+pub record IsStorable (state : Stored) : Type 0 where
+  pub vote : state.vote ≤ 125
+  pub room : length state.log ≤ log_limit
+  pub commit : state.commit ≤ length state.log
+  pub follows : (i : ℕ) → i < length state.log → MayFollow (take i state.log) state.term (slice_index_or state.log i (blank 0))
+  pub injective : IsInjective state.log

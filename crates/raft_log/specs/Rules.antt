@@ -1,0 +1,85 @@
+-- The stored state that a map, or an image, stands for.
+--
+-- key 0 version: empty, or the byte 1
+-- key 1 term: empty, which is 0, or 4 bytes, the low one first
+-- key 2 vote: empty, which is 0, or a byte of 0 to 125
+-- key 3 last: empty, which is 0, or a byte of 0 to 127
+-- key 4 commit: empty, which is 0, or a byte of 0 to last
+-- key 4 + i, for i from 1 to last: the entry at place i, 21 bytes, which may follow the entries before it
+use Rattle.std.specs.Prelude.{◌≡◌, ℕ, zero, suc, ◌+◌, ◌*◌, ◌%◌, ◌<◌, ◌≤◌, List, [], ◌∷◌, ◌++◌, length, take, drop, slice_index}
+use Rattle.can_frame.specs.declared.entry.Entry.{Entry}
+use Rattle.disk_model.specs.Contents.{Contents, MayLeave}
+use Rattle.kv_store.specs.Image.{IsFirstDamaged, key_count, length_byte, value_in, value_limit}
+use Rattle.raft_log.specs.MayFollow.{MayFollow}
+use Rattle.raft_log.specs.Stored.{Stored}
+
+-- empty, or one byte up to this
+pub record IsByteUpTo (most : ℕ) (value : List ℕ) : Type 0 where
+  pub size : length value ≤ 1
+  pub limit : slice_index value 0 ≤ most
+
+pub record IsVersion (value : List ℕ) : Type 0 where
+  pub size : length value ≤ 1
+  pub one : 0 < length value → slice_index value 0 ≡ 1
+
+abbrev pub IsTerm : List ℕ → Type 0
+IsTerm value = 0 < length value → length value ≡ 4
+
+-- a number of 4 bytes, the low one first; 0 where they are not there
+abbrev pub number_of : List ℕ → ℕ
+number_of value = slice_index value 0 + 256 * slice_index value 1 + 65536 * slice_index value 2 + 16777216 * slice_index value 3
+
+abbrev pub last_of : (ℕ → List ℕ) → ℕ
+last_of map = slice_index (map 3) 0
+
+-- the entry that 21 bytes stand for: term, unique ID, node ID; the high bit of the node ID is void
+abbrev pub entry_of : List ℕ → Entry
+entry_of value = record { term = number_of value; uid = take 16 (drop 4 value); node = slice_index value 20 % 128 }
+
+-- the first entries
+unfoldable pub entries_of : (ℕ → List ℕ) → ℕ → List Entry
+entries_of map zero = []
+entries_of map (suc n) = entries_of map n ++ entry_of (map (5 + n)) ∷ []
+
+-- the rules of the keys below this one hold
+pub record KeepsRules (map : ℕ → List ℕ) (below : ℕ) : Type 0 where
+  pub version : 0 < below → IsVersion (map 0)
+  pub term : 1 < below → IsTerm (map 1)
+  pub vote : 2 < below → IsByteUpTo 125 (map 2)
+  pub last : 3 < below → IsByteUpTo 127 (map 3)
+  pub commit : 4 < below → IsByteUpTo (last_of map) (map 4)
+  pub entry_size : (i : ℕ) → 5 + i < below → i < last_of map → length (map (5 + i)) ≡ 21
+  pub entry : (i : ℕ) → 5 + i < below → i < last_of map → MayFollow (entries_of map i) (number_of (map 1)) (entry_of (map (5 + i)))
+
+-- the key is the first whose rule does not hold
+pub record IsFirstBroken (map : ℕ → List ℕ) (key : ℕ) : Type 0 where
+  pub exists : key < key_count
+  pub before : KeepsRules map key
+  pub broken : KeepsRules map (key + 1) → ⊥
+
+-- the map keeps all rules and stands for this state
+pub record Stores (map : ℕ → List ℕ) (state : Stored) : Type 0 where
+  pub rules : KeepsRules map key_count
+  pub term : state.term ≡ number_of (map 1)
+  pub vote : state.vote ≡ slice_index (map 2) 0
+  pub log : state.log ≡ entries_of map (last_of map)
+  pub commit : state.commit ≡ slice_index (map 4) 0
+
+-- no key of the image has a length byte that is too large
+abbrev pub IsWhole : List ℕ → Type 0
+IsWhole image = (key : ℕ) → key < key_count → length_byte image key ≤ value_limit
+
+-- the image stands for this state
+pub record StandsForState (image : List ℕ) (state : Stored) : Type 0 where
+  pub whole : IsWhole image
+  pub stores : Stores (value_in image) state
+
+-- whatever a stop leaves of the disk stands for the state
+abbrev pub AlwaysStandsForState : Contents → Stored → Type 0
+AlwaysStandsForState disk state = (image : List ℕ) → MayLeave disk image → StandsForState image state
+
+-- the first key of the image that is damaged: length bytes are looked at first, over all keys, and then
+-- the rules
+pub data IsDamagedAt (image : List ℕ) (key : ℕ) : Type 0 where
+  BadLength : IsFirstDamaged image key → IsDamagedAt image key
+  BadValue : IsWhole image → IsFirstBroken (value_in image) key → IsDamagedAt image key

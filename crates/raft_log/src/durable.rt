@@ -1,0 +1,268 @@
+ghost use Rattle.std.specs.Prelude.{◌≡◌, ◌≤◌, ◌<◌, ◌+◌, ◌++◌, ◌∷◌, [], ℕ, true, Some, None, Err, OnOk, IfOk, IfErr, length, take};
+ghost use Rattle.can_frame.specs.Log.{entry_at, log_limit};
+ghost use Rattle.disk_model.specs.Contents.{AddsNoImage};
+ghost use Rattle.disk_model.specs.Device.{Makes};
+ghost use Rattle.kv_store.specs.Image.{chosen_copy, key_count, open_calls};
+ghost use Rattle.kv_store.specs.StoreViews.{store_map};
+ghost use Rattle.outside.specs.Faults.{Rose};
+ghost use Rattle.raft_log.specs.DeviceCalls.{entry_bytes};
+ghost use Rattle.raft_log.specs.MayFollow.{IsStorable, MayFollow};
+ghost use Rattle.raft_log.specs.Rules.{AlwaysStandsForState, IsDamagedAt, StandsForState, Stores, entry_of};
+ghost use Rattle.raft_log.specs.StateViews.{stored_of};
+ghost use Rattle.raft_log.specs.Stored.Put.{PutTerm, PutVote, PutEntry, PutLast, PutCommit};
+
+use crate::state::State;
+use crate::values::{write_entry, write_term};
+use can_frame::Entry;
+use disk_model::{Disk, MemoryDisk};
+use kv_store::{Fault, OpenFault, OpenRefused, Store, value_of};
+
+/// The stored state of a member, on a disk.
+#[derive(Drop)]
+pub struct Durable<D: Disk> {
+    store: Store<D>,
+    state: State,
+    ghost stored: { Stores (store_map store) (stored_of state) },
+    ghost storable: { IsStorable (stored_of state) },
+}
+
+impl<D: Disk> Durable<D> {
+    ghost use Rattle.kv_store.specs.Opening.{was_read};
+    ghost use Rattle.kv_store.specs.declared.fault.Fault.{Fault};
+    ghost use Rattle.kv_store.specs.declared.fault.OpenFault.TheVariants.{Fault as DiskFault, Damaged};
+    ghost use Rattle.raft_log.specs.DurableViews.{durable_state, durable_disk, durable_fault, durable_copies};
+    ghost use Rattle.raft_log.specs.Calls.{MakesPuts, KeepsFault};
+
+    /// The state that the disk stands for, found by a sync and one read.
+    pub fn open(disk: D) -> Result<Durable<D>, OpenRefused<D>>
+        // The state is that of what reads give, and of whatever a stop may leave from now on.
+        ensures state { IfOk result (λ durable. D.tells disk ≡ true → StandsForState (D.contents disk).seen (durable_state durable)) }
+        ensures durable { IfOk result (λ durable. D.tells disk ≡ true →
+            AlwaysStandsForState (D.contents (durable_disk durable)) (durable_state durable)) }
+        ensures copies { IfOk result (λ durable. D.tells disk ≡ true → (key : ℕ) → key < key_count →
+            durable_copies durable key ≡ chosen_copy (D.contents disk).seen key) }
+        ensures works { IfOk result (λ durable. durable_fault durable ≡ None) }
+
+        // It refuses a disk of which a key is damaged, and one that failed in this call.
+        ensures damaged { IfErr result (λ refused. (key : ℕ) → refused.why ≡ Damaged key → D.tells disk ≡ true →
+            IsDamagedAt (D.contents disk).seen key) }
+        ensures fault { IfErr result (λ refused. (fault : Fault) → refused.why ≡ DiskFault fault →
+            (fault.count ≡ D.faults refused.disk) × Rose (D.faults disk) (D.faults refused.disk)) }
+
+        // It adds no image, also where it refuses.
+        ensures images { IfOk result (λ durable. D.tells disk ≡ true → AddsNoImage (D.contents disk) (D.contents (durable_disk durable))) }
+        ensures refused { IfErr result (λ refused. D.tells disk ≡ true → AddsNoImage (D.contents disk) (D.contents refused.disk)) }
+        ensures made { IfOk result (λ durable. Makes D.does open_calls true disk (durable_disk durable)) }
+        ensures refused_made { IfErr result (λ refused. Makes D.does open_calls (was_read refused.why) disk refused.disk) }
+        ensures tells { IfOk result (λ durable. D.tells (durable_disk durable) ≡ D.tells disk) }
+        ensures refused_tells { IfErr result (λ refused. D.tells refused.disk ≡ D.tells disk) }
+        ensures later { IfOk result (λ durable. D.faults disk ≤ D.faults (durable_disk durable)) }
+        ensures refused_later { IfErr result (λ refused. D.faults disk ≤ D.faults refused.disk) }
+    {
+        let store = match Store::open(disk) {
+            Ok(store) => store,
+            Err(refused) => return Err(refused),
+        };
+        match State::read(&store) {
+            Ok(state) => Ok(Durable { store, state }),
+            Err(key) => Err(OpenRefused {
+                disk: store.into_disk(),
+                why: OpenFault::Damaged(key),
+            }),
+        }
+    }
+
+    pub fn term(&self) -> u32
+        ensures { result ≡ (durable_state self.now).term }
+    {
+        self.state.term
+    }
+
+    /// The node that it voted for in this term, 0 for none.
+    pub fn vote(&self) -> u8
+        ensures vote { result ≡ (durable_state self.now).vote }
+        ensures range { result ≤ 125 }
+    {
+        self.state.vote
+    }
+
+    /// The place of the last entry, 0 where the log is empty.
+    pub fn last(&self) -> u8
+        ensures last { result ≡ length (durable_state self.now).log }
+        ensures range { result ≤ log_limit }
+    {
+        self.state.log.len() as u8
+    }
+
+    /// The entries up to this place are committed.
+    pub fn commit(&self) -> u8
+        ensures commit { result ≡ (durable_state self.now).commit }
+        ensures range { result ≤ length (durable_state self.now).log }
+    {
+        self.state.commit
+    }
+
+    /// The entry at a place of 0 to last. At place 0 stands the blank of term 0.
+    pub fn entry(&self, place: u8) -> Entry
+        requires { place ≤ length (durable_state self.now).log }
+        ensures { result ≡ entry_at (durable_state self.now).log place }
+    {
+        if place == 0 {
+            return Entry::default();
+        }
+        self.state.log[place as usize - 1]
+    }
+
+    /// The entries at places 1 to last.
+    pub fn log(&self) -> &[Entry]
+        ensures { result.now ≡ (durable_state self.now).log }
+    {
+        &self.state.log
+    }
+
+    /// Takes a later term, with no vote in it. It puts the term, and then the vote 0.
+    pub fn set_term(&mut self, term: u32) -> Result<(), Fault>
+        requires { (durable_state self.old).term < term }
+        ensures puts { MakesPuts (PutTerm term ∷ PutVote 0 ∷ []) self.old self.new result }
+        ensures fault { KeepsFault self.old self.new result }
+    {
+        self.put_term(term)?;
+        self.put_vote(0)
+    }
+
+    /// Votes, where it has not voted in this term.
+    pub fn set_vote(&mut self, node: u8) -> Result<(), Fault>
+        requires none { (durable_state self.old).vote ≡ 0 }
+        requires least { 1 ≤ node }
+        requires most { node ≤ 125 }
+        ensures puts { MakesPuts (PutVote node ∷ []) self.old self.new result }
+        ensures fault { KeepsFault self.old self.new result }
+    {
+        self.put_vote(node)
+    }
+
+    /// Appends an entry that may follow the log. It puts the entry, and then last.
+    pub fn append(&mut self, entry: Entry) -> Result<(), Fault>
+        requires room { length (durable_state self.old).log < log_limit }
+        requires follows { MayFollow (durable_state self.old).log (durable_state self.old).term entry }
+        ensures puts { MakesPuts (PutEntry entry ∷ PutLast ((durable_state self.old).log ++ entry ∷ []) ∷ []) self.old self.new result }
+        ensures fault { KeepsFault self.old self.new result }
+    {
+        self.put_entry(&entry)?;
+        self.put_last_up(entry)
+    }
+
+    /// Keeps the entries up to a place, the committed ones among them.
+    pub fn truncate(&mut self, place: u8) -> Result<(), Fault>
+        requires kept { (durable_state self.old).commit ≤ place }
+        requires shorter { place < length (durable_state self.old).log }
+        ensures puts { MakesPuts (PutLast (take place (durable_state self.old).log) ∷ []) self.old self.new result }
+        ensures fault { KeepsFault self.old self.new result }
+    {
+        self.store.put(3, &value_of(&[place]))?;
+        self.state.truncate(place);
+        Ok(())
+    }
+
+    /// Commits the entries up to a place.
+    pub fn set_commit(&mut self, place: u8) -> Result<(), Fault>
+        requires later { (durable_state self.old).commit < place }
+        requires there { place ≤ length (durable_state self.old).log }
+        ensures puts { MakesPuts (PutCommit place ∷ []) self.old self.new result }
+        ensures fault { KeepsFault self.old self.new result }
+    {
+        self.store.put(4, &value_of(&[place]))?;
+        self.state.commit = place;
+        Ok(())
+    }
+
+    /// The disk as it stands.
+    pub fn into_disk(self) -> D
+        ensures { result ≡ durable_disk self }
+    {
+        self.store.into_disk()
+    }
+
+    fn put_term(&mut self, term: u32) -> Result<(), Fault>
+        requires { (durable_state self.old).term ≤ term }
+        ensures puts { MakesPuts (PutTerm term ∷ []) self.old self.new result }
+        ensures fault { KeepsFault self.old self.new result }
+    {
+        self.store.put(1, &value_of(&write_term(term)))?;
+        self.state.term = term;
+        Ok(())
+    }
+
+    fn put_vote(&mut self, node: u8) -> Result<(), Fault>
+        requires { node ≤ 125 }
+        ensures puts { MakesPuts (PutVote node ∷ []) self.old self.new result }
+        ensures fault { KeepsFault self.old self.new result }
+    {
+        self.store.put(2, &value_of(&[node]))?;
+        self.state.vote = node;
+        Ok(())
+    }
+
+    /// Puts an entry at the place after the last, where nothing reads it yet.
+    fn put_entry(&mut self, entry: &Entry) -> Result<(), Fault>
+        requires room { length (durable_state self.old).log < log_limit }
+        requires node { entry.now.node < 128 }
+        ensures puts { MakesPuts (PutEntry entry.now ∷ []) self.old self.new result }
+        ensures fault { KeepsFault self.old self.new result }
+        ensures there { OnOk result (store_map self.new.store (5 + length (durable_state self.old).log) ≡ entry_bytes entry.now) }
+        ensures spells { entry_of (entry_bytes entry.now) ≡ entry.now }
+    {
+        let place = self.state.log.len() as u8;
+        self.store.put(5 + place, &value_of(&write_entry(entry)))?;
+        Ok(())
+    }
+
+    /// Takes the entry that was put after the last into the log.
+    fn put_last_up(&mut self, entry: Entry) -> Result<(), Fault>
+        requires room { length (durable_state self.old).log < log_limit }
+        requires follows { MayFollow (durable_state self.old).log (durable_state self.old).term entry }
+        requires there { store_map self.old.store (5 + length (durable_state self.old).log) ≡ entry_bytes entry }
+        requires spells { entry_of (entry_bytes entry) ≡ entry }
+        ensures puts { MakesPuts (PutLast ((durable_state self.old).log ++ entry ∷ []) ∷ []) self.old self.new result }
+        ensures fault { KeepsFault self.old self.new result }
+    {
+        let place = self.state.log.len() as u8;
+        self.store.put(3, &value_of(&[place + 1]))?;
+        self.state.append(entry);
+        Ok(())
+    }
+}
+
+impl Durable<MemoryDisk> {
+    ghost use Rattle.disk_model.specs.Memory.{memory_calls, memory_contents};
+    ghost use Rattle.raft_log.specs.DurableViews.{durable_state, durable_disk, durable_fault, durable_copies};
+
+    /// `MemoryDisk::stop_at` of the disk. All else stays.
+    pub fn stop_at(&mut self, call: u64)
+        ensures calls { memory_calls (durable_disk self.new) ≡ record (memory_calls (durable_disk self.old)) { stop_in = call } }
+        ensures contents { memory_contents (durable_disk self.new) ≡ memory_contents (durable_disk self.old) }
+        ensures state { durable_state self.new ≡ durable_state self.old }
+        ensures copies { durable_copies self.new ≡ durable_copies self.old }
+        ensures fault { durable_fault self.new ≡ durable_fault self.old }
+    {
+        self.store.stop_at(call);
+    }
+
+    /// `MemoryDisk::fail_at` of the disk. All else stays.
+    pub fn fail_at(&mut self, call: u64)
+        ensures calls { memory_calls (durable_disk self.new) ≡ record (memory_calls (durable_disk self.old)) { fail_in = call } }
+        ensures contents { memory_contents (durable_disk self.new) ≡ memory_contents (durable_disk self.old) }
+        ensures state { durable_state self.new ≡ durable_state self.old }
+        ensures copies { durable_copies self.new ≡ durable_copies self.old }
+        ensures fault { durable_fault self.new ≡ durable_fault self.old }
+    {
+        self.store.fail_at(call);
+    }
+
+    /// Whether a device call has stopped the disk.
+    pub fn stopped(&self) -> bool
+        ensures { result ≡ (memory_calls (durable_disk self.now)).stopped }
+    {
+        self.store.stopped()
+    }
+}

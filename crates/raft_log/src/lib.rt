@@ -1,0 +1,22 @@
+//! The term, the vote, the log and the commit index of a member, kept through stops.
+//!
+//! An image of the disk stands for a stored state where it keeps the rules of all keys
+//! (`specs/Rules.antt`); else its first damaged key is named. [`Durable`] has the state that its disk
+//! stands for. Each call that changes it makes puts in an order that is safe to cut off anywhere
+//! (`specs/Stored.antt`): a stop at any moment of the call leaves the state after some of the first of
+//! them. So a term is stored before its vote, and an entry before last counts it.
+//!
+//! The state is that of the Raft paper (term, vote, log) and the commit index, which the paper keeps in
+//! memory; the keys are those of libuavcan's distributed server in a form of our own.
+#![tactic(auto)]
+
+mod durable;
+mod follow;
+pub mod laws;
+mod state;
+#[cfg(test)]
+mod tests;
+mod values;
+
+pub use durable::Durable;
+pub use follow::may_follow;
