@@ -1,0 +1,8 @@
+use Rattle.std.proofs.Common.{◌≡◌, ◌-◌}
+use Rattle.std.specs.List.{find}
+use Rattle.id_selector.specs.Choice.{is_free, downwards}
+use Rattle.id_selector.proofs.choice.first_down.Given as goal
+
+-- the answer is among the IDs that are left
+abbrev pub invariant-loop-id : goal.invariant-loop-id
+invariant-loop-id l = find (is_free l.taken) (downwards (l.fn.from - 1)) ≡ find (is_free l.taken) (downwards (l.id - 1))

@@ -1,0 +1,101 @@
+ghost use Rattle.std.specs.Prelude.{◌≡◌, ◌≤◌, ◌-◌, ◌↔◌, find, IfSome, IsNone};
+ghost use Rattle.std.specs.Option.{option_or};
+ghost use Rattle.id_selector.specs.Choice.{preference, upwards, downwards, is_free, chosen, IsFree, NoneFreeFrom, IsChoice};
+
+use can_frame::NodeId;
+
+/// Chooses a node ID of 1 to 125 for a device that would like `preferred`: the least free one from
+/// there up to 125, else the greatest free one below. A preference of 0 or above 125 counts as 125.
+/// `taken` says of each number whether a node has it; `None` where 1 to 125 are all taken.
+pub fn choose(taken: &[bool; 128], preferred: u8) -> Option<NodeId>
+    ensures chosen { result ≡ chosen taken.now preferred }
+    ensures choice { IsChoice taken.now preferred result }
+    ensures free { IfSome result (λ id. IsFree taken.now id) }
+    ensures none { IsNone result ↔ NoneFreeFrom taken.now 1 }
+{
+    first_free(taken, counted(preferred))
+}
+
+fn counted(preferred: u8) -> u8
+    ensures value { result ≡ preference preferred }
+    ensures least { 1 ≤ result }
+    ensures most { result ≤ 125 }
+{
+    if preferred == 0 || preferred > 125 {
+        125
+    } else {
+        preferred
+    }
+}
+
+fn first_free(taken: &[bool; 128], from: u8) -> Option<NodeId>
+    requires least { 1 ≤ from }
+    requires most { from ≤ 125 }
+    ensures { result ≡ option_or (find (is_free taken.now) (upwards from)) (find (is_free taken.now) (downwards (from - 1))) }
+{
+    first_up(taken, from).or_else(|| first_down(taken, from))
+}
+
+fn first_up(taken: &[bool; 128], from: u8) -> Option<NodeId>
+    requires { 1 ≤ from }
+    ensures { result ≡ find (is_free taken.now) (upwards from) }
+{
+    for id in from..126 {
+        if !taken[id as usize] {
+            return NodeId::new(id);
+        }
+    }
+    None
+}
+
+fn first_down(taken: &[bool; 128], from: u8) -> Option<NodeId>
+    requires { from ≤ 125 }
+    ensures { result ≡ find (is_free taken.now) (downwards (from - 1)) }
+{
+    for id in (1..from).rev() {
+        if !taken[id as usize] {
+            return NodeId::new(id);
+        }
+    }
+    None
+}
+
+#[cfg(test)]
+mod tests {
+    use super::*;
+
+    // The number that is chosen where only the IDs of `free` are free.
+    fn chosen(free: &[u8], preferred: u8) -> Option<u8> {
+        let mut taken = [true; 128];
+        for id in free {
+            if *id < 128 {
+                taken[*id as usize] = false;
+            }
+        }
+        choose(&taken, preferred).map(|node| node.get())
+    }
+
+    // The number that is chosen where only the IDs of `nodes` are taken.
+    fn chosen_beside(nodes: &[u8], preferred: u8) -> Option<u8> {
+        let mut taken = [false; 128];
+        for id in nodes {
+            if *id < 128 {
+                taken[*id as usize] = true;
+            }
+        }
+        choose(&taken, preferred).map(|node| node.get())
+    }
+
+    #[test]
+    fn upwards_then_downwards(rt: HostRuntime) {
+        assert_eq!(rt; chosen_beside(&[1], 126), Some(125));
+        assert_eq!(rt; chosen_beside(&[1], 125), Some(125));
+        assert_eq!(rt; chosen_beside(&[1], 0), Some(125));
+        assert_eq!(rt; chosen_beside(&[1], 1), Some(2));
+        assert_eq!(rt; chosen_beside(&[1, 125], 126), Some(124));
+        assert_eq!(rt; chosen(&[3], 125), Some(3));
+        assert_eq!(rt; chosen(&[3, 9, 11, 20], 10), Some(11));
+        assert_eq!(rt; chosen(&[3, 9, 126, 127], 10), Some(9));
+        assert_eq!(rt; chosen(&[0, 126, 127], 1), None);
+    }
+}
