@@ -1,0 +1,8 @@
+use Rattle.std.proofs.Common.{◌≡◌, ◌<◌, ℕ, List, false}
+use Rattle.node_discovery.specs.Watch.{Watched, is_unknown}
+use Rattle.node_discovery.specs.Stands.{StandsFor}
+use Rattle.node_discovery.proofs.watch.Watch.unknown.Given as goal
+
+-- no node so far is unknown
+abbrev pub invariant-loop-node : goal.invariant-loop-node
+invariant-loop-node l = (events : List Watched) → StandsFor l.self events → (n : ℕ) → n < l.node → is_unknown events l.known n l.now ≡ false

@@ -1,0 +1,3 @@
+pub mod History
+pub mod Stands
+pub mod Watch

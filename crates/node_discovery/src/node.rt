@@ -1,0 +1,121 @@
+ghost use Rattle.std.specs.Prelude.{◌≡◌, ◌∷◌, [], List};
+ghost use Rattle.node_discovery.specs.History.{is_within, has_passed};
+
+use crate::query::{Query, is_answered_by};
+use can_frame::Uid;
+
+/// What is kept of one node.
+#[derive(Clone, Copy)]
+pub struct Node {
+    /// When its last status was heard.
+    heard: Option<u64>,
+
+    /// The unique ID that it told in this spell.
+    uid: Option<Uid>,
+
+    /// The query of this spell that still waits for an answer, however old.
+    pending: Option<Query>,
+
+    /// When it was last asked, in whatever spell.
+    asked: Option<u64>,
+}
+
+impl Node {
+    ghost use Rattle.node_discovery.specs.History.{Event, Status, Asked, Taken, identity, is_nameless, is_online, may_be_asked, takes};
+    ghost use Rattle.node_discovery.specs.Stands.{Tells};
+
+    /// A node of which nothing is known.
+    pub fn new() -> Node
+        ensures { Tells result [] }
+    {
+        Node {
+            heard: None,
+            uid: None,
+            pending: None,
+            asked: None,
+        }
+    }
+
+    /// A status was heard; where the node was not online, a spell begins.
+    pub fn status(&mut self, now: u64)
+        ensures { (events : List Event) → Tells self.old events → Tells self.new (Status now ∷ events) }
+    {
+        if !self.is_online(now) {
+            self.uid = None;
+            self.pending = None;
+        }
+        self.heard = Some(now);
+    }
+
+    /// The node was asked for its unique ID.
+    pub fn ask(&mut self, transfer_id: u8, now: u64)
+        ensures { (events : List Event) → Tells self.old events → Tells self.new (Asked transfer_id now ∷ events) }
+    {
+        self.pending = Some(Query {
+            transfer_id,
+            moment: now,
+        });
+        self.asked = Some(now);
+    }
+
+    /// Whether an answer is taken: the last query of the spell waits for it.
+    pub fn takes(&self, transfer_id: u8, now: u64) -> bool
+        ensures { (events : List Event) → Tells self.now events → result ≡ takes events transfer_id now }
+    {
+        is_answered_by(self.pending, transfer_id, now)
+    }
+
+    /// The answer was taken.
+    pub fn take(&mut self, uid: &Uid, now: u64)
+        ensures { (events : List Event) → Tells self.old events → Tells self.new (Taken uid.now now ∷ events) }
+    {
+        self.uid = Some(*uid);
+        self.pending = None;
+    }
+
+    /// Whether the last status is at most 3,000 ms old.
+    pub fn is_online(&self, now: u64) -> bool
+        ensures { (events : List Event) → Tells self.now events → result ≡ is_online events now }
+    {
+        is_within(3000, now, self.heard)
+    }
+
+    /// Whether the node was never asked, or 1,000 ms or more have passed since.
+    pub fn may_be_asked(&self, now: u64) -> bool
+        ensures { (events : List Event) → Tells self.now events → result ≡ may_be_asked events now }
+    {
+        has_passed(1000, now, self.asked)
+    }
+
+    /// Whether the node is online and has not told its unique ID.
+    pub fn is_nameless(&self, now: u64) -> bool
+        ensures { (events : List Event) → Tells self.now events → result ≡ is_nameless events now }
+    {
+        self.is_online(now) && self.uid.is_none()
+    }
+
+    /// The unique ID that the node told, where it is online.
+    pub fn identity(&self, now: u64) -> Option<Uid>
+        ensures { (events : List Event) → Tells self.now events → result ≡ identity events now }
+    {
+        if self.is_online(now) { self.uid } else { None }
+    }
+}
+
+fn is_within(limit: u64, now: u64, moment: Option<u64>) -> bool
+    ensures { result ≡ is_within limit now moment }
+{
+    match moment {
+        Some(moment) => now.saturating_sub(moment) <= limit,
+        None => false,
+    }
+}
+
+fn has_passed(limit: u64, now: u64, moment: Option<u64>) -> bool
+    ensures { result ≡ has_passed limit now moment }
+{
+    match moment {
+        Some(moment) => now.saturating_sub(moment) >= limit,
+        None => true,
+    }
+}

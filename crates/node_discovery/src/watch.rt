@@ -1,0 +1,127 @@
+ghost use Rattle.std.specs.Prelude.{◌≡◌, ◌∷◌, ◌<◌, [], ℕ, List, true, false, slice_index_or};
+
+use crate::node::Node;
+use can_frame::{NodeId, Uid};
+
+/// The nodes of the bus: who is online, who is to be asked for its unique ID, and who told which.
+/// Moments are milliseconds, and may fall.
+#[derive(Drop)]
+pub struct Watch {
+    /// By node ID.
+    nodes: [Node; 128],
+}
+
+impl Watch {
+    ghost use Rattle.node_discovery.specs.History.{Asked, identity, is_online, takes};
+    ghost use Rattle.node_discovery.specs.Watch.{IsNextQuery, IsSomeUnknown, NoneIsUnknown, Watched, after_info, after_status, history, is_due, is_unknown, of_node};
+    ghost use Rattle.node_discovery.specs.Stands.{StandsFor};
+
+    /// The watch of a bus on which nothing has happened.
+    pub fn new() -> Watch
+        ensures { StandsFor result [] }
+    {
+        Watch {
+            nodes: [Node::new(); 128],
+        }
+    }
+
+    /// A status of the node `from` was heard. One from outside 1 to 125 is not taken.
+    pub fn status(&mut self, from: u8, now: u64)
+        ensures { (events : List Watched) → StandsFor self.old events → StandsFor self.new (after_status events from now) }
+    {
+        if from == 0 || from > 125 {
+            return;
+        }
+        self.nodes[from as usize].status(now);
+    }
+
+    /// The node was asked for its unique ID, by a request with this transfer ID.
+    pub fn asked(&mut self, node: NodeId, transfer_id: u8, now: u64)
+        ensures { (events : List Watched) → StandsFor self.old events → StandsFor self.new (of_node node (Asked transfer_id now) ∷ events) }
+    {
+        self.nodes[node.get() as usize].ask(transfer_id, now);
+    }
+
+    /// The node `from` told its unique ID. Whether it is taken: where the last query of the node's
+    /// spell has this transfer ID, is less than 1,000 ms old and had no answer yet.
+    pub fn info(&mut self, from: u8, transfer_id: u8, uid: &Uid, now: u64) -> bool
+        ensures taken { (events : List Watched) → StandsFor self.old events → result ≡ takes (history from events) transfer_id now }
+        ensures follows { (events : List Watched) → StandsFor self.old events → StandsFor self.new (after_info events from transfer_id uid.now now) }
+        ensures refused { result ≡ false → self.new ≡ self.old }
+    {
+        if from > 127 || !self.nodes[from as usize].takes(transfer_id, now) {
+            return false;
+        }
+        self.nodes[from as usize].take(uid, now);
+        true
+    }
+
+    /// Whether the last status of the node is at most 3,000 ms old.
+    pub fn online(&self, node: u8, now: u64) -> bool
+        ensures { (events : List Watched) → StandsFor self.now events → result ≡ is_online (history node events) now }
+    {
+        node < 128 && self.nodes[node as usize].is_online(now)
+    }
+
+    /// By node ID, who is online.
+    pub fn seen(&self, now: u64) -> [bool; 128]
+        ensures { (events : List Watched) → StandsFor self.now events →
+            (node : ℕ) → node < 128 → slice_index_or result node false ≡ is_online (history node events) now }
+    {
+        let mut seen = [false; 128];
+        for node in 0..128 {
+            seen[node] = self.nodes[node].is_online(now);
+        }
+        seen
+    }
+
+    /// The unique ID that the node told in its spell; `None` where it told none, or is offline.
+    pub fn identified(&self, node: u8, now: u64) -> Option<Uid>
+        ensures { (events : List Watched) → StandsFor self.now events → result ≡ identity (history node events) now }
+    {
+        if node > 127 {
+            return None;
+        }
+        self.nodes[node as usize].identity(now)
+    }
+
+    /// The least node that is to be asked for its unique ID: it is online, not known (`known` is by
+    /// node ID), has not told it, and was not asked in the last 1,000 ms. `None` where there is none.
+    pub fn next_query(&self, known: &[bool; 128], now: u64) -> Option<NodeId>
+        ensures { (events : List Watched) → StandsFor self.now events → IsNextQuery events known.now now result }
+    {
+        for node in 1..126 {
+            if self.is_due(known, node, now) {
+                return NodeId::new(node);
+            }
+        }
+        None
+    }
+
+    /// Whether some node is online that is not known and has not told its unique ID.
+    pub fn unknown(&self, known: &[bool; 128], now: u64) -> bool
+        ensures some { (events : List Watched) → StandsFor self.now events → result ≡ true → IsSomeUnknown events known.now now }
+        ensures none { (events : List Watched) → StandsFor self.now events → result ≡ false → NoneIsUnknown events known.now now }
+    {
+        for node in 1..126 {
+            if self.is_unknown(known, node, now) {
+                return true;
+            }
+        }
+        false
+    }
+
+    fn is_unknown(&self, known: &[bool; 128], node: u8, now: u64) -> bool
+        requires { node < 128 }
+        ensures { (events : List Watched) → StandsFor self.now events → result ≡ is_unknown events known.now node now }
+    {
+        self.nodes[node as usize].is_nameless(now) && !known[node as usize]
+    }
+
+    fn is_due(&self, known: &[bool; 128], node: u8, now: u64) -> bool
+        requires { node < 128 }
+        ensures { (events : List Watched) → StandsFor self.now events → result ≡ is_due events known.now node now }
+    {
+        self.is_unknown(known, node, now) && self.nodes[node as usize].may_be_asked(now)
+    }
+}
