@@ -1,0 +1,83 @@
+-- What a member heard and sent, newest first, and what follows from it
+-- (UAVCAN v0 specification, "Redundant allocators"; uavcan.protocol.dynamic_node_id.server.Discovery).
+use Rattle.std.specs.Prelude.{ℕ, ◌+◌, ◌-◌, ◌/◌, Bool, false, if◌then◌else◌, not, ◌&&◌, ◌||◌, nat_le, nat_lt, nat_eq, List, [], ◌∷◌, ◌++◌, length}
+use Rattle.std.specs.List.{list_any}
+use Rattle.dsdl_codec.specs.declared.discovery.Discovery.{Discovery}
+
+-- how the member began
+pub record Start : Type 0 where
+  -- its own node ID
+  pub me : ℕ
+  -- how many members the cluster is to have
+  pub size : ℕ
+  pub moment : ℕ
+
+pub data Event : Type 0 where
+  -- a Discovery was heard from a node
+  Heard : (from : ℕ) (message : Discovery) → Event
+  -- the member's own Discovery was sent, or found no room
+  Sent : (moment : ℕ) → Event
+
+-- ---- the member list
+
+abbrev pub lists : List ℕ → ℕ → Bool
+lists members node = list_any (λ member. nat_eq member node) members
+
+-- a node joins where it is 1 to 125, is new, and the list is shorter than the size
+abbrev pub may_join : ℕ → List ℕ → ℕ → Bool
+may_join size members node = (nat_le 1 node && nat_le node 125) && (nat_lt (length members) size && not (lists members node))
+
+-- at the end of the list
+abbrev pub joined : ℕ → List ℕ → ℕ → List ℕ
+joined size members node = if may_join size members node then members ++ node ∷ [] else members
+
+-- each in turn
+abbrev pub all_joined : ℕ → List ℕ → List ℕ → List ℕ
+all_joined size members [] = members
+all_joined size members (node ∷ nodes) = all_joined size (joined size members node) nodes
+
+-- a message of another cluster size, or from the member itself, does not count
+abbrev pub counts : Start → ℕ → Discovery → Bool
+counts start from message = nat_eq message.size start.size && not (nat_eq from start.me)
+
+-- the source, and then the nodes that it lists
+abbrev pub with_heard : Start → List ℕ → ℕ → Discovery → List ℕ
+with_heard start members from message =
+    if counts start from message then all_joined start.size members (from ∷ message.known.items) else members
+
+-- the members that are known; at first the member itself
+abbrev pub members : Start → List Event → List ℕ
+members start [] = start.me ∷ []
+members start (Heard from message ∷ events) = with_heard start (members start events) from message
+members start (Sent moment ∷ events) = members start events
+
+-- a message teaches a member
+abbrev pub learns : Start → List Event → ℕ → Discovery → Bool
+learns start events from message =
+    nat_lt (length (members start events)) (length (members start (Heard from message ∷ events)))
+
+abbrev pub is_complete : Start → List Event → Bool
+is_complete start events = nat_eq (length (members start events)) start.size
+
+-- more than half of the members
+abbrev pub quorum : Start → ℕ
+quorum start = start.size / 2 + 1
+
+-- ---- the member's own Discovery
+
+-- who told a list that is shorter than the size is owed a Discovery, until one is sent
+abbrev pub owes : Start → List Event → Bool
+owes start [] = false
+owes start (Heard from message ∷ events) =
+    (counts start from message && nat_lt (length message.known.items) start.size) || owes start events
+owes start (Sent moment ∷ events) = false
+
+-- the moment of the last Discovery, or of the start
+abbrev pub last_sent : Start → List Event → ℕ
+last_sent start [] = start.moment
+last_sent start (Heard from message ∷ events) = last_sent start events
+last_sent start (Sent moment ∷ events) = moment
+
+-- owed, or the list is not complete; and 1,000 ms have passed
+abbrev pub is_due : Start → List Event → ℕ → Bool
+is_due start events now = (owes start events || not (is_complete start events)) && nat_le 1000 (now - last_sent start events)

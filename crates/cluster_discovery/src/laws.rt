@@ -1,0 +1,34 @@
+//! What the definitions mean for a member, in laws, each the contract of a function that does nothing.
+
+ghost use Rattle.std.specs.Prelude.{◌≡◌, ◌∷◌, ◌<◌, ◌+◌, ℕ, List, true, false, length};
+ghost use Rattle.dsdl_codec.specs.declared.discovery.Discovery.{Discovery};
+ghost use Rattle.can_frame.specs.Log.{IsPrefix};
+ghost use Rattle.cluster_discovery.specs.Members.{Event, Heard, Sent, Start, counts, is_due, learns, members, owes};
+
+/// Who is known stays known, in its place.
+pub fn members_stay()
+    ensures { (start : Start) (events : List Event) (from : ℕ) (message : Discovery) →
+        IsPrefix (members start events) (members start (Heard from message ∷ events)) }
+{}
+
+/// A message of another cluster size, or from the member itself, teaches nothing and is owed nothing.
+pub fn what_does_not_count_changes_nothing()
+    ensures members { (start : Start) (events : List Event) (from : ℕ) (message : Discovery) → counts start from message ≡ false →
+        members start (Heard from message ∷ events) ≡ members start events }
+    ensures owes { (start : Start) (events : List Event) (from : ℕ) (message : Discovery) → counts start from message ≡ false →
+        owes start (Heard from message ∷ events) ≡ owes start events }
+    ensures learns { (start : Start) (events : List Event) (from : ℕ) (message : Discovery) → counts start from message ≡ false →
+        learns start events from message ≡ false }
+{}
+
+/// A list that is shorter than the size is owed a Discovery, also where nothing was learnt from it.
+pub fn a_shorter_list_is_owed_a_discovery()
+    ensures { (start : Start) (events : List Event) (from : ℕ) (message : Discovery) → counts start from message ≡ true →
+        length message.known.items < start.size → owes start (Heard from message ∷ events) ≡ true }
+{}
+
+/// A Discovery ends what is owed, and the next is not due for 1,000 ms.
+pub fn a_discovery_ends_what_is_owed()
+    ensures owes { (start : Start) (events : List Event) (moment : ℕ) → owes start (Sent moment ∷ events) ≡ false }
+    ensures waits { (start : Start) (events : List Event) (moment now : ℕ) → now < moment + 1000 → is_due start (Sent moment ∷ events) now ≡ false }
+{}
