@@ -6,8 +6,9 @@
 //! new one alone. After a put that failed a store answers the same fault for ever; whether that put is
 //! done, only an opening finds.
 //!
-//! [`Store::put`] and [`Store::open`] say besides which device calls were made, for who follows them
-//! call by call on a disk in memory.
+//! [`Store::put`] and [`Store::open`] say besides which device calls were made. On a disk in memory these
+//! can be followed call by call: `specs/Shelf.antt` is the disk by keys, and [`laws::the_disk_by_keys`]
+//! says that it is just what becomes of such a disk.
 #![tactic(auto)]
 
 mod fault;

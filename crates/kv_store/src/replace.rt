@@ -5,7 +5,7 @@ ghost use Rattle.disk_model.specs.Device.{Makes};
 ghost use Rattle.kv_store.specs.Image.{StandsFor, chosen_copy, key_count, put_in, put_calls, value_limit};
 ghost use Rattle.outside.specs.Faults.{HasCause};
 
-use crate::value::{Value, copy_of};
+use crate::value::{COPY_SIZE, KEY_SIZE, Value, copy_of};
 use disk_model::Disk;
 use outside::Failed;
 
@@ -32,9 +32,10 @@ pub fn replace<D: Disk>(disk: &mut D, key: usize, copy: u8, value: &Value) -> Re
         chosen_copy (D.contents disk.new).seen k ≡ chosen_copy (D.contents disk.old).seen k) }
     ensures settled { OnOk result (D.tells disk.old ≡ true → IsSettled (D.contents disk.new)) }
 {
-    disk.write(67 * key + 1 + 33 * copy as usize, &copy_of(value))?;
+    let at = KEY_SIZE * key + 1 + COPY_SIZE * copy as usize;
+    disk.write(at, &copy_of(value))?;
     disk.sync()?;
-    disk.write(67 * key, &[copy])?;
+    disk.write(KEY_SIZE * key, &[copy])?;
     disk.sync()?;
     Ok(())
 }

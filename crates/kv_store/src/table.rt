@@ -3,14 +3,14 @@ ghost use Rattle.arrayvec.specs.ArrayVec.{array_vec_len};
 ghost use Rattle.kv_store.specs.Image.{StandsFor, IsFirstDamaged, chosen_copy, key_count, put_in, turned, value_limit};
 ghost use Rattle.kv_store.specs.Table.{value_at};
 
-use crate::value::{KEYS, Value, read_value, value_of};
+use crate::value::{KEY_SIZE, KEYS, Value, read_value, value_of};
 use arrayvec::ArrayVec;
 use disk_model::IMAGE;
 
 /// The value of each key, and which of its copies its selector chooses.
 #[derive(Drop)]
 pub struct Table {
-    values: ArrayVec<Value, 132>,
+    values: ArrayVec<Value, KEYS>,
     copies: [u8; KEYS],
     ghost full: { array_vec_len values ≡ key_count },
     ghost short: { (key : ℕ) → length (value_at values.items key) ≤ value_limit },
@@ -26,14 +26,14 @@ impl Table {
         ensures copies { IfOk result (λ table. (key : ℕ) → key < key_count → chosen_copy image.now key ≡ table_copy table key) }
         ensures damaged { IfErr result (λ key. IsFirstDamaged image.now key) }
     {
-        let mut values: ArrayVec<Value, 132> = ArrayVec::new();
+        let mut values: ArrayVec<Value, KEYS> = ArrayVec::new();
         let mut copies = [0; KEYS];
         for key in 0..KEYS {
             match read_value(image, key) {
                 Some(value) => values.push(value),
                 None => return Err(key as u8),
             }
-            copies[key] = image[67 * key] % 2;
+            copies[key] = image[KEY_SIZE * key] % 2;
         }
         Ok(Table { values, copies })
     }

@@ -11,6 +11,12 @@ pub const KEYS: usize = 132;
 /// How many bytes a value has at most.
 pub const VALUE: usize = 32;
 
+/// How many bytes a copy of a value has on the disk: its length and `VALUE` bytes.
+pub const COPY_SIZE: usize = 33;
+
+/// How many bytes a key has on the disk: its selector and two copies.
+pub const KEY_SIZE: usize = 67;
+
 /// What a store keeps for a key: up to 32 bytes.
 pub type Value = ArrayVec<u8, 32>;
 
@@ -33,7 +39,7 @@ pub fn read_value(image: &[u8; IMAGE], key: usize) -> Option<Value>
     ensures short { IsSome result → length_byte image.now key ≤ value_limit }
     ensures long { IsNone result → value_limit < length_byte image.now key }
 {
-    let at = 67 * key + 1 + 33 * (image[67 * key] % 2) as usize;
+    let at = KEY_SIZE * key + 1 + COPY_SIZE * (image[KEY_SIZE * key] % 2) as usize;
     let length = image[at] as usize;
     if length > VALUE {
         return None;
@@ -42,11 +48,11 @@ pub fn read_value(image: &[u8; IMAGE], key: usize) -> Option<Value>
 }
 
 /// The bytes that a copy of a value has on the disk.
-pub fn copy_of(value: &Value) -> [u8; 33]
+pub fn copy_of(value: &Value) -> [u8; COPY_SIZE]
     requires { array_vec_len value.now ≤ value_limit }
     ensures { result ≡ copy_bytes value.now.items }
 {
-    let mut copy = [0; 33];
+    let mut copy = [0; COPY_SIZE];
     let (first, rest) = copy.split_at_mut(1);
     first[0] = value.len() as u8;
     rest[..value.len()].copy_from_slice(value);

@@ -1,5 +1,5 @@
 -- Puts that were made by two calls, one after the other.
-use Rattle.std.proofs.Common.{◌≡◌, inl, inr, ℕ, ◌-◌, ◌≤◌, List, [], ◌∷◌, ◌++◌, Bool, true, false, refl, sym, ap, subst, ◌∙◌, arith}
+use Rattle.std.proofs.Common.{◌≡◌, ◌⊎◌, inl, inr, ℕ, ◌-◌, ◌≤◌, List, [], ◌∷◌, ◌++◌, Bool, true, false, refl, sym, ap, subst, ◌∙◌, arith}
 use Rattle.std.specs.Prelude.{Option, None, Some, Result, Ok, Err, is_ok, OnOk, OnErr, IfErr, IfSome}
 use Rattle.disk_model.specs.declared.disk.Disk.{Ghosts}
 use Rattle.disk_model.specs.Device.{DeviceCall, Makes}
@@ -54,6 +54,16 @@ module _ {D : Type 0} (does : D → DeviceCall → Bool → D → Type 0) where
   calls_joined [] ys ok old between new none rest = subst (λ d. Makes does ys ok d new) none.1 rest
   calls_joined (x ∷ xs) ys ok old between new (inl failed) rest = absurd (cc (failed.0))
   calls_joined (x ∷ xs) ys ok old between new (inr first) rest = inr (first.0, first.1, calls_joined xs ys ok first.0 between new first.2 rest)
+
+  pub calls_parted : (xs ys : List DeviceCall) (ok : Bool) (old new : D) → Makes does (xs ++ ys) ok old new
+      → ((ok ≡ false) × Makes does xs false old new) ⊎ ((between : D) × Makes does xs true old between × Makes does ys ok between new)
+  calls_parted [] ys ok old new made = inr (old, (refl, refl), made)
+  calls_parted (x ∷ xs) ys ok old new (inl failed) = inl (failed.0, inl (refl, failed.1))
+  calls_parted (x ∷ xs) ys ok old new (inr first) = longer (calls_parted xs ys ok first.0 new first.2) where
+    longer : ((ok ≡ false) × Makes does xs false first.0 new) ⊎ ((between : D) × Makes does xs true first.0 between × Makes does ys ok between new)
+        → ((ok ≡ false) × Makes does (x ∷ xs) false old new) ⊎ ((between : D) × Makes does (x ∷ xs) true old between × Makes does ys ok between new)
+    longer (inl failed) = inl (failed.0, inr (first.0, first.1, failed.1))
+    longer (inr rest) = inr (rest.0, inr (first.0, first.1, rest.1), rest.2)
 
   calls_cut : (xs ys : List DeviceCall) (old new : D) → Makes does xs false old new → Makes does (xs ++ ys) false old new
   calls_cut [] ys old new none = absurd (cc (none.0))

@@ -1,7 +1,9 @@
+pub mod Allowed
 pub mod Calls
 pub mod DeviceCalls
 pub mod DurableViews
 pub mod MayFollow
 pub mod Rules
+pub mod Shelf
 pub mod StateViews
 pub mod Stored

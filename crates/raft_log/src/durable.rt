@@ -5,12 +5,14 @@ ghost use Rattle.disk_model.specs.Device.{Makes};
 ghost use Rattle.kv_store.specs.Image.{chosen_copy, key_count, open_calls};
 ghost use Rattle.kv_store.specs.StoreViews.{store_map};
 ghost use Rattle.outside.specs.Faults.{Rose};
+ghost use Rattle.raft_log.specs.Allowed.{AreAllowed, Fits};
 ghost use Rattle.raft_log.specs.DeviceCalls.{entry_bytes};
 ghost use Rattle.raft_log.specs.MayFollow.{IsStorable, MayFollow};
-ghost use Rattle.raft_log.specs.Rules.{AlwaysStandsForState, IsDamagedAt, StandsForState, Stores, entry_of};
+ghost use Rattle.raft_log.specs.Rules.{AlwaysStandsForState, IsDamagedAt, StandsForState, Stores};
 ghost use Rattle.raft_log.specs.StateViews.{stored_of};
 ghost use Rattle.raft_log.specs.Stored.Put.{PutTerm, PutVote, PutEntry, PutLast, PutCommit};
 
+use crate::keys::{COMMIT, FIRST_ENTRY, LAST, TERM, VOTE};
 use crate::state::State;
 use crate::values::{write_entry, write_term};
 use can_frame::Entry;
@@ -123,6 +125,7 @@ impl<D: Disk> Durable<D> {
     /// Takes a later term, with no vote in it. It puts the term, and then the vote 0.
     pub fn set_term(&mut self, term: u32) -> Result<(), Fault>
         requires { (durable_state self.old).term < term }
+        ensures allowed { AreAllowed (PutTerm term ∷ PutVote 0 ∷ []) (durable_state self.old) None }
         ensures puts { MakesPuts (PutTerm term ∷ PutVote 0 ∷ []) self.old self.new result }
         ensures fault { KeepsFault self.old self.new result }
     {
@@ -135,6 +138,7 @@ impl<D: Disk> Durable<D> {
         requires none { (durable_state self.old).vote ≡ 0 }
         requires least { 1 ≤ node }
         requires most { node ≤ 125 }
+        ensures allowed { AreAllowed (PutVote node ∷ []) (durable_state self.old) None }
         ensures puts { MakesPuts (PutVote node ∷ []) self.old self.new result }
         ensures fault { KeepsFault self.old self.new result }
     {
@@ -145,6 +149,7 @@ impl<D: Disk> Durable<D> {
     pub fn append(&mut self, entry: Entry) -> Result<(), Fault>
         requires room { length (durable_state self.old).log < log_limit }
         requires follows { MayFollow (durable_state self.old).log (durable_state self.old).term entry }
+        ensures allowed { AreAllowed (PutEntry entry ∷ PutLast ((durable_state self.old).log ++ entry ∷ []) ∷ []) (durable_state self.old) None }
         ensures puts { MakesPuts (PutEntry entry ∷ PutLast ((durable_state self.old).log ++ entry ∷ []) ∷ []) self.old self.new result }
         ensures fault { KeepsFault self.old self.new result }
     {
@@ -156,10 +161,11 @@ impl<D: Disk> Durable<D> {
     pub fn truncate(&mut self, place: u8) -> Result<(), Fault>
         requires kept { (durable_state self.old).commit ≤ place }
         requires shorter { place < length (durable_state self.old).log }
+        ensures allowed { AreAllowed (PutLast (take place (durable_state self.old).log) ∷ []) (durable_state self.old) None }
         ensures puts { MakesPuts (PutLast (take place (durable_state self.old).log) ∷ []) self.old self.new result }
         ensures fault { KeepsFault self.old self.new result }
     {
-        self.store.put(3, &value_of(&[place]))?;
+        self.store.put(LAST, &value_of(&[place]))?;
         self.state.truncate(place);
         Ok(())
     }
@@ -168,10 +174,11 @@ impl<D: Disk> Durable<D> {
     pub fn set_commit(&mut self, place: u8) -> Result<(), Fault>
         requires later { (durable_state self.old).commit < place }
         requires there { place ≤ length (durable_state self.old).log }
+        ensures allowed { AreAllowed (PutCommit place ∷ []) (durable_state self.old) None }
         ensures puts { MakesPuts (PutCommit place ∷ []) self.old self.new result }
         ensures fault { KeepsFault self.old self.new result }
     {
-        self.store.put(4, &value_of(&[place]))?;
+        self.store.put(COMMIT, &value_of(&[place]))?;
         self.state.commit = place;
         Ok(())
     }
@@ -188,7 +195,7 @@ impl<D: Disk> Durable<D> {
         ensures puts { MakesPuts (PutTerm term ∷ []) self.old self.new result }
         ensures fault { KeepsFault self.old self.new result }
     {
-        self.store.put(1, &value_of(&write_term(term)))?;
+        self.store.put(TERM, &value_of(&write_term(term)))?;
         self.state.term = term;
         Ok(())
     }
@@ -198,7 +205,7 @@ impl<D: Disk> Durable<D> {
         ensures puts { MakesPuts (PutVote node ∷ []) self.old self.new result }
         ensures fault { KeepsFault self.old self.new result }
     {
-        self.store.put(2, &value_of(&[node]))?;
+        self.store.put(VOTE, &value_of(&[node]))?;
         self.state.vote = node;
         Ok(())
     }
@@ -210,10 +217,11 @@ impl<D: Disk> Durable<D> {
         ensures puts { MakesPuts (PutEntry entry.now ∷ []) self.old self.new result }
         ensures fault { KeepsFault self.old self.new result }
         ensures there { OnOk result (store_map self.new.store (5 + length (durable_state self.old).log) ≡ entry_bytes entry.now) }
-        ensures spells { entry_of (entry_bytes entry.now) ≡ entry.now }
+        ensures fits { Fits entry.now }
     {
         let place = self.state.log.len() as u8;
-        self.store.put(5 + place, &value_of(&write_entry(entry)))?;
+        self.store
+            .put(FIRST_ENTRY + place, &value_of(&write_entry(entry)))?;
         Ok(())
     }
 
@@ -222,12 +230,12 @@ impl<D: Disk> Durable<D> {
         requires room { length (durable_state self.old).log < log_limit }
         requires follows { MayFollow (durable_state self.old).log (durable_state self.old).term entry }
         requires there { store_map self.old.store (5 + length (durable_state self.old).log) ≡ entry_bytes entry }
-        requires spells { entry_of (entry_bytes entry) ≡ entry }
+        requires fits { Fits entry }
         ensures puts { MakesPuts (PutLast ((durable_state self.old).log ++ entry ∷ []) ∷ []) self.old self.new result }
         ensures fault { KeepsFault self.old self.new result }
     {
         let place = self.state.log.len() as u8;
-        self.store.put(3, &value_of(&[place + 1]))?;
+        self.store.put(LAST, &value_of(&[place + 1]))?;
         self.state.append(entry);
         Ok(())
     }

@@ -1,13 +1,25 @@
 //! Laws of the definitions, each the contract of a function that does nothing.
 
-ghost use Rattle.std.specs.Prelude.{◌≡◌, ℕ, ◌++◌, [], List, true, None, Some, Result, Ok, Err, slice_index};
+ghost use Rattle.std.specs.Prelude.{◌≡◌, ℕ, ◌<◌, ◌++◌, [], Bool, List, true, None, Some, Result, Ok, Err, slice_index};
+ghost use Rattle.disk_model.specs.declared.calls.Calls.{Calls};
+ghost use Rattle.disk_model.specs.declared.memory.MemoryDisk.{MemoryDisk};
+ghost use Rattle.disk_model.specs.Contents.{IsSettled};
+ghost use Rattle.disk_model.specs.Device.{Makes};
+ghost use Rattle.disk_model.specs.Memory.{DoesInMemory, Restarts, memory_calls, memory_contents};
+ghost use Rattle.disk_model.specs.Pattern.{IsUsable};
+ghost use Rattle.kv_store.specs.Image.{chosen_copy, key_count, open_calls};
+ghost use Rattle.kv_store.specs.Shelf.{Shelf, is_opened, opened_on, restarted_on};
+ghost use Rattle.outside.specs.declared.pattern.Pattern.{Pattern};
+ghost use Rattle.raft_log.specs.DeviceCalls.{copies_after, device_calls};
+ghost use Rattle.raft_log.specs.Shelf.{IsOn, IsReady, are_put, puts_on};
 ghost use Rattle.kv_store.specs.declared.fault.Fault.{Fault};
+ghost use Rattle.raft_log.specs.Allowed.{AreAllowed};
 ghost use Rattle.raft_log.specs.Calls.{MakesPuts, KeepsFault};
 ghost use Rattle.raft_log.specs.declared.durable.Durable.{Durable};
 ghost use Rattle.raft_log.specs.DurableViews.{durable_disk, durable_fault, durable_state};
 ghost use Rattle.raft_log.specs.MayFollow.{IsStorable};
 ghost use Rattle.raft_log.specs.Rules.{AlwaysStandsForState, IsDamagedAt, StandsForState};
-ghost use Rattle.raft_log.specs.Stored.{Put, Stored};
+ghost use Rattle.raft_log.specs.Stored.{Put, Stored, after_puts};
 
 use disk_model::Disk;
 
@@ -25,7 +37,8 @@ pub fn a_stored_state_is_storable()
 
 /// An image of zeros stands for the state that a run begins with.
 pub fn zeros_are_the_first_state()
-    ensures { (image : List ℕ) → ((i : ℕ) → slice_index image i ≡ 0) → StandsForState image (record { term = 0; vote = 0; log = []; commit = 0 }) }
+    ensures { (image : List ℕ) → ((i : ℕ) → slice_index image i ≡ 0) →
+        StandsForState image (record { term = 0; vote = 0; log = []; commit = 0 }) }
 {}
 
 /// Whatever a stop leaves of the disk stands for the state, while no put has failed.
@@ -42,10 +55,41 @@ pub fn puts_in_turn<D: Disk, T, U>()
     ensures nothing { (durable : Durable D D.Disk) (value : T) → durable_fault durable ≡ None →
         MakesPuts [] durable durable (Ok value) × KeepsFault durable durable (Ok value) }
     ensures joined { (xs ys : List Put) (old mid new : Durable D D.Disk) (value : T) (result : Result U Fault) →
-        MakesPuts xs old mid (Ok value) → KeepsFault old mid (Ok value) → MakesPuts ys mid new result → KeepsFault mid new result →
+        MakesPuts xs old mid (Ok value) → KeepsFault old mid (Ok value) →
+        MakesPuts ys mid new result → KeepsFault mid new result →
         MakesPuts (xs ++ ys) old new result × KeepsFault old new result }
-    ensures cut_off { (xs ys : List Put) (old new : Durable D D.Disk) (result : Result T Fault) (fault : Fault) → result ≡ Err fault →
-        MakesPuts xs old new result → MakesPuts (xs ++ ys) old new result }
+    ensures allowed { (xs ys : List Put) (state : Stored) →
+        AreAllowed xs state None → AreAllowed ys (after_puts xs state) None → AreAllowed (xs ++ ys) state None }
+    ensures cut_off { (xs ys : List Put) (old new : Durable D D.Disk) (result : Result T Fault) (fault : Fault) →
+        result ≡ Err fault → MakesPuts xs old new result → MakesPuts (xs ++ ys) old new result }
 {
     a_state_is_durable::<D>();
+}
+
+/// The disk by keys with stored states: where a disk in memory is the one that a shelf tells of, it still
+/// is after puts, an opening, a restart and a change of its settings, and these device calls succeed
+/// exactly where the shelf says. An opening finds the state of the shelf.
+pub fn the_disk_by_states()
+    ensures found { (disk : MemoryDisk) (shelf : Shelf Stored) → IsOn disk shelf →
+        StandsForState (memory_contents disk).seen shelf.store ×
+        ((key : ℕ) → key < key_count → chosen_copy (memory_contents disk).seen key ≡ shelf.copies key) }
+    ensures puts { (old new : MemoryDisk) (shelf : Shelf Stored) (copies : ℕ → ℕ) (puts : List Put) (ok : Bool) →
+        IsReady old shelf → ((key : ℕ) → key < key_count → copies key ≡ shelf.copies key) → AreAllowed puts shelf.store None →
+        Makes DoesInMemory (device_calls puts shelf.store copies) ok old new →
+        IsOn new (puts_on puts shelf) × (ok ≡ are_put puts shelf.calls) × (ok ≡ true → IsReady new (puts_on puts shelf)) }
+    ensures done { (shelf : Shelf Stored) (puts : List Put) → are_put puts shelf.calls ≡ true →
+        ((puts_on puts shelf).store ≡ after_puts puts shelf.store) ×
+        ((puts_on puts shelf).copies ≡ copies_after puts shelf.store shelf.copies) }
+    ensures opened { (old new : MemoryDisk) (shelf : Shelf Stored) (ok : Bool) → IsOn old shelf →
+        Makes DoesInMemory open_calls ok old new →
+        IsOn new (opened_on shelf) × (ok ≡ is_opened shelf.calls) × (ok ≡ true → IsReady new (opened_on shelf)) }
+    ensures restarted { (old new : MemoryDisk) (shelf : Shelf Stored) (pattern : Pattern) → IsOn old shelf → IsUsable pattern →
+        Restarts pattern old new → IsReady new (restarted_on pattern shelf) }
+    ensures set { (old new : MemoryDisk) (shelf : Shelf Stored) (calls : Calls) → IsOn old shelf →
+        memory_contents new ≡ memory_contents old → memory_calls new ≡ calls → IsOn new (record shelf { calls = calls }) }
+    ensures begun { (disk : MemoryDisk) (state : Stored) →
+        StandsForState (memory_contents disk).seen state → IsSettled (memory_contents disk) →
+        IsReady disk (record { store = state; copies = λ key. chosen_copy (memory_contents disk).seen key; loose = None; calls = memory_calls disk }) }
+{
+    kv_store::laws::the_disk_by_keys();
 }

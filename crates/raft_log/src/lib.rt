@@ -6,12 +6,17 @@
 //! (`specs/Stored.antt`): a stop at any moment of the call leaves the state after some of the first of
 //! them. So a term is stored before its vote, and an entry before last counts it.
 //!
+//! Each call says besides which device calls it made; [`laws::puts_in_turn`] joins what several calls say,
+//! and [`laws::the_disk_by_states`] follows them on a disk in memory, with the stored state in place of
+//! bytes (`specs/Shelf.antt`).
+//!
 //! The state is that of the Raft paper (term, vote, log) and the commit index, which the paper keeps in
 //! memory; the keys are those of libuavcan's distributed server in a form of our own.
 #![tactic(auto)]
 
 mod durable;
 mod follow;
+mod keys;
 pub mod laws;
 mod state;
 #[cfg(test)]

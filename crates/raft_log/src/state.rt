@@ -5,6 +5,7 @@ ghost use Rattle.kv_store.specs.StoreViews.{store_map};
 ghost use Rattle.raft_log.specs.MayFollow.{MayFollow};
 ghost use Rattle.raft_log.specs.Rules.{Stores, IsFirstBroken, entry_of};
 
+use crate::keys::{COMMIT, FIRST_ENTRY, LAST, TERM, VERSION, VOTE};
 use crate::may_follow;
 use crate::values::{is_version, read_byte, read_entry, read_term};
 use arrayvec::ArrayVec;
@@ -33,26 +34,26 @@ impl State {
         ensures state { IfOk result (λ state. Stores (store_map store.now) (stored_of state)) }
         ensures broken { IfErr result (λ key. IsFirstBroken (store_map store.now) key) }
     {
-        if !is_version(store.get(0)) {
-            return Err(0);
+        if !is_version(store.get(VERSION)) {
+            return Err(VERSION);
         }
-        let Some(term) = read_term(store.get(1)) else {
-            return Err(1);
+        let Some(term) = read_term(store.get(TERM)) else {
+            return Err(TERM);
         };
-        let Some(vote) = read_byte(store.get(2), 125) else {
-            return Err(2);
+        let Some(vote) = read_byte(store.get(VOTE), 125) else {
+            return Err(VOTE);
         };
-        let Some(last) = read_byte(store.get(3), PLACES) else {
-            return Err(3);
+        let Some(last) = read_byte(store.get(LAST), PLACES) else {
+            return Err(LAST);
         };
-        let Some(commit) = read_byte(store.get(4), last) else {
-            return Err(4);
+        let Some(commit) = read_byte(store.get(COMMIT), last) else {
+            return Err(COMMIT);
         };
         let mut log = ArrayVec::new();
         for place in 0..last {
-            match read_next(&log, term, store.get(5 + place)) {
+            match read_next(&log, term, store.get(FIRST_ENTRY + place)) {
                 Some(entry) => log.push(entry),
-                None => return Err(5 + place),
+                None => return Err(FIRST_ENTRY + place),
             }
         }
         Ok(State {

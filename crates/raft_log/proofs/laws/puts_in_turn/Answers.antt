@@ -1,5 +1,6 @@
 use Rattle.std.proofs.Common.{subst}
 use Rattle.raft_log.specs.Calls.{MakesPuts}
+use Rattle.raft_log.proofs.AllowedPuts.{allowed_both}
 use Rattle.raft_log.proofs.InTurn.{cut_short, fault_after, puts_after, unchanged, without_puts}
 use Rattle.raft_log.proofs.laws.puts_in_turn.Goals as goal
 
@@ -14,3 +15,6 @@ returns-clause-joined g c = λ xs ys old mid new value result first keeps rest s
 pub returns-clause-cut_off : goal.returns-clause-cut_off
 returns-clause-cut_off g c = λ xs ys old new result fault is first.
     cut_short xs ys old new fault result is (subst (λ r. MakesPuts xs old new r) is first)
+
+pub returns-clause-allowed : goal.returns-clause-allowed
+returns-clause-allowed g c = λ xs ys state first rest. allowed_both xs ys state _ first rest

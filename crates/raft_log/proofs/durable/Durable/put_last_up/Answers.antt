@@ -21,7 +21,7 @@ returns-in_err-put-clause-puts g c =
     let there : map (5 + place) ≡ entry_bytes c.args.entry = ap (λ n. map (5 + n)) c.len-place.ensures.value ∙ c.requires.there in
     let bytes = c.value_of.result.items in
     let count : length (s.log ++ c.args.entry ∷ []) ≡ place + 1 = grind (arith, common_steps) in
-    let after = put_last_up map (put_in map 3 bytes) s old.stored place c.args.entry past (omega arith) (ap length there ∙ (grind (arith, common_steps))) (ap entry_of there ∙ c.requires.spells) c.requires.follows (put_changes map 3 bytes _ c.value_of.ensures) in
+    let after = put_last_up map (put_in map 3 bytes) s old.stored place c.args.entry past (omega arith) (ap length there ∙ c.requires.fits.size) (ap entry_of there ∙ c.requires.fits.again) c.requires.follows (put_changes map 3 bytes _ c.value_of.ensures) in
     put_failed (PutLast (s.log ++ c.args.entry ∷ [])) old _ 3 bytes refl (c.value_of.ensures ∙ ap (λ (n : ℕ). n ∷ []) (sym count)) c.put.ensures.tells _ c.in_err-put.field-0.0 (search rules) refl after c.put.ensures.stop c.in_err-put.ensures.made
 
 pub invariant_of-self-2 : goal.invariant_of-self-2
@@ -33,7 +33,7 @@ invariant_of-self-2 g c =
     let place = c.len-place.result in
     let past : last_of map ≡ place = sym (log_length map s old.stored) ∙ sym c.len-place.ensures.value in
     let there : map (5 + place) ≡ entry_bytes c.args.entry = ap (λ n. map (5 + n)) c.len-place.ensures.value ∙ c.requires.there in
-    let has = put_last_up map new s old.stored place c.args.entry past (omega arith) (ap length there ∙ (grind (arith, common_steps))) (ap entry_of there ∙ c.requires.spells) c.requires.follows (now_changes map new 3 c.value_of.result.items _ c.value_of.ensures c.in_ok-put.ensures.put) in
+    let has = put_last_up map new s old.stored place c.args.entry past (omega arith) (ap length there ∙ c.requires.fits.size) (ap entry_of there ∙ c.requires.fits.again) c.requires.follows (now_changes map new 3 c.value_of.result.items _ c.value_of.ensures c.in_ok-put.ensures.put) in
     let stored = subst (λ x. Stores new x) (sym c.append.ensures) has in
     record { stored = stored; storable = is_storable new (stored_of c.append.new.self) stored }
 

@@ -1,0 +1,268 @@
+-- The disk by keys with stored states, step by step.
+use Rattle.std.proofs.Common.{◌≡◌, ◌⊎◌, inl, inr, ℕ, ◌-◌, ◌<◌, ◌≤◌, ◌&&◌, Bool, true, false, not, List, [], ◌∷◌, ◌++◌, length, refl, sym, ap, subst, ◌∙◌, arith}
+use Rattle.std.specs.Prelude.{Option, None, Some, if◌then◌else◌}
+use Rattle.std.proofs.lemmas.Bool.Decides.{eqb_tells}
+use Rattle.can_frame.specs.declared.entry.Entry.{Entry}
+use Rattle.disk_model.specs.declared.calls.Calls.{Calls}
+use Rattle.disk_model.specs.declared.memory.MemoryDisk.{MemoryDisk}
+use Rattle.disk_model.specs.Calls.{acts, after_call}
+use Rattle.disk_model.specs.Device.{DeviceCall, Makes}
+use Rattle.disk_model.specs.Memory.{DoesInMemory, memory_contents, nothing_set}
+use Rattle.kv_store.specs.Image.{chosen_copy, key_count, put_calls, put_in, turned, value_in, value_limit}
+use Rattle.kv_store.specs.Shelf.{IsOn as IsOnKeys, IsReady as IsReadyKeys, Loose, Shelf, Shows, after_three, after_two, is_put, keeps, opened_on, put_on, restarted_on, turned_to}
+use Rattle.outside.specs.declared.pattern.Pattern.{Pattern}
+use Rattle.raft_log.specs.Allowed.{AreAllowed, next_after}
+use Rattle.raft_log.specs.DeviceCalls.{bytes_of, copies_after, device_calls, key_of}
+use Rattle.raft_log.specs.Rules.{StandsForState, Stores}
+use Rattle.raft_log.specs.Shelf.{IsOn, IsReady, SameLoose, are_put, put_state_on, puts_on}
+use Rattle.raft_log.specs.Stored.{Put, Stored, after_put, after_puts}
+use Rattle.raft_log.proofs.AllowedPuts.{NextAt, NextFits, key_exists, next_fits, step, value_short}
+use Rattle.raft_log.proofs.InTurn.{calls_parted}
+use Rattle.raft_log.proofs.States.{image_stands}
+
+abbrev pub Map : Type 0
+Map = ℕ → List ℕ
+
+-- the one shelf has maps of the states of the other
+pub record Fit (maps : Shelf Map) (shelf : Shelf Stored) : Type 0 where
+  pub store : Stores maps.store shelf.store
+  pub loose : SameLoose maps.loose shelf.loose
+  pub copies : maps.copies ≡ shelf.copies
+  pub calls : maps.calls ≡ shelf.calls
+
+same_none : (map : Option (Loose Map)) (state : Option (Loose Stored)) → SameLoose map state → map ≡ None → state ≡ None
+same_none None None same is = refl
+same_none None (Some s) same is = elim same [ ]
+same_none (Some m) None same is = refl
+same_none (Some m) (Some s) same is = absurd (cc (is))
+
+none_same : (map : Option (Loose Map)) (state : Option (Loose Stored)) → SameLoose map state → state ≡ None → map ≡ None
+none_same None None same is = refl
+none_same None (Some s) same is = elim same [ ]
+none_same (Some m) None same is = elim same [ ]
+none_same (Some m) (Some s) same is = absurd (cc (is))
+
+pub by_keys : (disk : MemoryDisk) (maps : Shelf Map) (shelf : Shelf Stored) → Fit maps shelf → IsOnKeys disk maps → IsOn disk shelf
+by_keys disk maps shelf fit on = record {
+  map = maps.store;
+  before = maps.loose;
+  on = subst (λ (copies : ℕ → ℕ). IsOnKeys disk (record { store = maps.store; copies = copies; loose = maps.loose; calls = shelf.calls })) fit.copies
+      (subst (λ (calls : Calls). IsOnKeys disk (record { store = maps.store; copies = maps.copies; loose = maps.loose; calls = calls })) fit.calls on);
+  stores = fit.store;
+  loose = fit.loose;
+}
+
+pub ready_by_keys : (disk : MemoryDisk) (maps : Shelf Map) (shelf : Shelf Stored) → Fit maps shelf → IsReadyKeys disk maps → IsReady disk shelf
+ready_by_keys disk maps shelf fit ready = record {
+  on = by_keys disk maps shelf fit ready.on;
+  settled = ready.settled;
+  firm = same_none maps.loose shelf.loose fit.loose ready.firm;
+}
+
+-- the maps of a shelf
+abbrev pub maps_of : (disk : MemoryDisk) (shelf : Shelf Stored) → IsOn disk shelf → Shelf Map
+maps_of disk shelf on = record { store = on.map; copies = shelf.copies; loose = on.before; calls = shelf.calls }
+
+-- what an opening finds
+pub found : (disk : MemoryDisk) (shelf : Shelf Stored) → IsOn disk shelf
+    → StandsForState (memory_contents disk).seen shelf.store × ((key : ℕ) → key < key_count → chosen_copy (memory_contents disk).seen key ≡ shelf.copies key)
+found disk shelf on = (image_stands (memory_contents disk).seen on.map shelf.store on.on.seen.shown on.stores, on.on.seen.chosen)
+
+-- the image as it is
+pub shows_itself : (image : List ℕ) (s : Stored) → StandsForState image s → Shows image (value_in image) (λ key. chosen_copy image key)
+shows_itself image s stands = record { shown = record { whole = stands.whole; values = λ key h. refl }; chosen = λ key h. refl }
+
+pub bits_of : (image : List ℕ) (key : ℕ) → chosen_copy image key < 2
+bits_of image key = omega arith
+
+-- a put by the tests of its device calls
+abbrev put_by : {S : Type 0} → Bool → Bool → Bool → Bool → ℕ → S → Shelf S → Shelf S
+put_by b0 b1 b2 b3 key after shelf =
+    if not b0 then record shelf { calls = after_call shelf.calls }
+    else if not b1 then record shelf { calls = after_two shelf.calls }
+    else if not b2 then record shelf { calls = after_three shelf.calls }
+    else turned_to key after shelf (if b3 then None else Some (record { key = key; before = shelf.store })) (after_call (after_three shelf.calls))
+
+module _ (m m' : Map) (s s' : Stored) (copies : ℕ → ℕ) (before : Option (Loose Map)) (loose : Option (Loose Stored)) (calls : Calls) (has : Stores m s) (same : SameLoose before loose) where
+  abbrev of_maps : Shelf Map
+  of_maps = record { store = m; copies = copies; loose = before; calls = calls }
+
+  abbrev of_states : Shelf Stored
+  of_states = record { store = s; copies = copies; loose = loose; calls = calls }
+
+  module _ (key : ℕ) (has' : Stores m' s') where
+    put_fits_by : (b0 b1 b2 b3 : Bool) → Fit (put_by b0 b1 b2 b3 key m' of_maps) (put_by b0 b1 b2 b3 key s' of_states)
+    put_fits_by false b1 b2 b3 = record { store = has; loose = same; copies = refl; calls = refl }
+    put_fits_by true false b2 b3 = record { store = has; loose = same; copies = refl; calls = refl }
+    put_fits_by true true false b3 = record { store = has; loose = same; copies = refl; calls = refl }
+    put_fits_by true true true false = record { store = has'; loose = (refl, has); copies = refl; calls = refl }
+    put_fits_by true true true true = record { store = has'; loose = tt; copies = refl; calls = refl }
+
+    put_fits : Fit (put_on key m' of_maps) (put_on key s' of_states)
+    put_fits = put_fits_by (acts calls) (acts (after_call calls)) (acts (after_two calls)) (acts (after_three calls))
+
+  opened_fits_by : (b : Bool) → Fit (if b then record of_maps { loose = None; calls = after_two calls } else record of_maps { calls = after_call calls }) (if b then record of_states { loose = None; calls = after_two calls } else record of_states { calls = after_call calls })
+  opened_fits_by true = record { store = has; loose = tt; copies = refl; calls = refl }
+  opened_fits_by false = record { store = has; loose = same; copies = refl; calls = refl }
+
+  pub opened_fits : Fit (opened_on of_maps) (opened_on of_states)
+  opened_fits = opened_fits_by (acts calls)
+
+  pub set_fits : (now : Calls) → Fit (record of_maps { calls = now }) (record of_states { calls = now })
+  set_fits now = record { store = has; loose = same; copies = refl; calls = refl }
+
+-- after a restart
+module _ (m b : Map) (s before : Stored) (copies : ℕ → ℕ) (key : ℕ) (calls : Calls) (has : Stores m s) (had : Stores b before) where
+  abbrev loose_maps : ℕ → Shelf Map
+  loose_maps k = record { store = m; copies = copies; loose = Some (record { key = k; before = b }); calls = calls }
+
+  abbrev loose_shelf : Shelf Stored
+  loose_shelf = record { store = s; copies = copies; loose = Some (record { key = key; before = before }); calls = calls }
+
+  kept_fits_by : (kept : Bool) → Fit
+      (record (if kept then record (loose_maps key) { loose = None } else turned_to key b (loose_maps key) None calls) { calls = nothing_set calls.faults })
+      (record (if kept then record loose_shelf { loose = None } else turned_to key before loose_shelf None calls) { calls = nothing_set calls.faults })
+  kept_fits_by true = record { store = has; loose = tt; copies = refl; calls = refl }
+  kept_fits_by false = record { store = had; loose = tt; copies = refl; calls = refl }
+
+  kept_fits : (pattern : Pattern) (k : ℕ) → k ≡ key → Fit (restarted_on pattern (loose_maps k)) (restarted_on pattern loose_shelf)
+  kept_fits pattern k is = subst (λ k. Fit (restarted_on pattern (loose_maps k)) (restarted_on pattern loose_shelf)) (sym is) (kept_fits_by (keeps pattern (copies key)))
+
+pub restarted_fits : (m : Map) (s : Stored) (copies : ℕ → ℕ) (before : Option (Loose Map)) (loose : Option (Loose Stored)) (calls : Calls) (pattern : Pattern) → Stores m s → SameLoose before loose
+    → Fit (restarted_on pattern (record { store = m; copies = copies; loose = before; calls = calls })) (restarted_on pattern (record { store = s; copies = copies; loose = loose; calls = calls }))
+restarted_fits m s copies None None calls pattern has same = record { store = has; loose = tt; copies = refl; calls = refl }
+restarted_fits m s copies None (Some l) calls pattern has same = elim same [ ]
+restarted_fits m s copies (Some b) None calls pattern has same = elim same [ ]
+restarted_fits m s copies (Some b) (Some l) calls pattern has same = kept_fits m b.before s l.before copies l.key calls has same.1 pattern b.key same.0
+
+-- all device calls of a put act
+both_true : (a b : Bool) → (a && b) ≡ true → (a ≡ true) × (b ≡ true)
+both_true true b e = (refl, e)
+both_true false b e = absurd (cc (e))
+
+put_done : {S : Type 0} (key : ℕ) (after : S) (shelf : Shelf S) → is_put shelf.calls ≡ true → put_on key after shelf ≡ turned_to key after shelf None (after_call (after_three shelf.calls))
+put_done {S} key after shelf e =
+    let first = both_true (acts shelf.calls) (acts (after_call shelf.calls) && (acts (after_two shelf.calls) && acts (after_three shelf.calls))) e in
+    let second = both_true (acts (after_call shelf.calls)) (acts (after_two shelf.calls) && acts (after_three shelf.calls)) first.1 in
+    let third = both_true (acts (after_two shelf.calls)) (acts (after_three shelf.calls)) second.1 in
+    rw (first.0, second.0, third.0, third.1) refl
+
+chosen_true : {S : Type 0} (b : Bool) (x y : S) → b ≡ true → (if b then x else y) ≡ x
+chosen_true b x y e = rw e refl
+
+chosen_false : {S : Type 0} (b : Bool) (x y : S) → b ≡ false → (if b then x else y) ≡ y
+chosen_false b x y e = rw e refl
+
+and_true : (a b : Bool) → a ≡ true → (a && b) ≡ b
+and_true a b e = rw e refl
+
+and_false : (a b : Bool) → a ≡ false → (a && b) ≡ false
+and_false a b e = rw e refl
+
+not_both : (ok : Bool) (P : Type 0) → ok ≡ false → ok ≡ true → P
+not_both ok P bad good = absurd (cc (bad, good))
+
+-- copies that agree on all keys give the same device calls
+same_calls : (puts : List Put) (s : Stored) (next : Option Entry) (c d : ℕ → ℕ) → ((key : ℕ) → key < 132 → c key ≡ d key) → AreAllowed puts s next → device_calls puts s c ≡ device_calls puts s d
+same_calls [] s next c d agree allowed = refl
+same_calls (put ∷ puts) s next c d agree allowed =
+    let key = key_of put s in
+    let later : (k : ℕ) → k < 132 → turned key c k ≡ turned key d k = λ k h. elim (eqb_tells k key) as (λ _. turned key c k ≡ turned key d k) [
+      | inl t ↦ rw t.0 (ap (λ n. 1 - n) (agree k h))
+      | inr t ↦ rw t.0 (agree k h)
+    ] in
+    ap (λ n. put_calls key (1 - n) (bytes_of put) ++ device_calls puts (after_put put s) (turned key c)) (agree key (key_exists s next put allowed.0))
+    ∙ ap (λ (calls : List DeviceCall). put_calls key (1 - d key) (bytes_of put) ++ calls) (same_calls puts (after_put put s) (next_after put next) (turned key c) (turned key d) later allowed.1)
+
+-- puts that are all done
+pub puts_done : (puts : List Put) (shelf : Shelf Stored) → are_put puts shelf.calls ≡ true
+    → ((puts_on puts shelf).store ≡ after_puts puts shelf.store) × ((puts_on puts shelf).copies ≡ copies_after puts shelf.store shelf.copies)
+puts_done [] shelf e = (refl, refl)
+puts_done (put ∷ puts) shelf e =
+    let tests = both_true (is_put shelf.calls) (are_put puts (after_call (after_three shelf.calls))) e in
+    let next : Shelf Stored = turned_to (key_of put shelf.store) (after_put put shelf.store) shelf None (after_call (after_three shelf.calls)) in
+    let is : puts_on (put ∷ puts) shelf ≡ puts_on puts next =
+    chosen_true (is_put shelf.calls) (puts_on puts (put_state_on put shelf)) (put_state_on put shelf) tests.0 ∙ ap (λ x. puts_on puts x) (put_done (key_of put shelf.store) (after_put put shelf.store) shelf tests.0) in
+    let rest = puts_done puts next tests.1 in
+    (ap (λ (x : Shelf Stored). x.store) is ∙ rest.0, ap (λ (x : Shelf Stored). x.copies) is ∙ rest.1)
+
+module _ (keys_put : (old new : MemoryDisk) (shelf : Shelf Map) (key : ℕ) (value : List ℕ) (ok : Bool) → IsReadyKeys old shelf → key < key_count → length value ≤ value_limit
+    → Makes DoesInMemory (put_calls key (1 - shelf.copies key) value) ok old new
+    → IsOnKeys new (put_on key (put_in shelf.store key value) shelf) × (ok ≡ is_put shelf.calls) × (ok ≡ true → IsReadyKeys new (put_on key (put_in shelf.store key value) shelf))) where
+  abbrev Made : List Put → MemoryDisk → Stored → (ℕ → ℕ) → Calls → Bool → Type 0
+  Made puts new s copies calls ok = IsOn new (puts_on puts (record { store = s; copies = copies; loose = None; calls = calls })) × (ok ≡ are_put puts calls)
+      × (ok ≡ true → IsReady new (puts_on puts (record { store = s; copies = copies; loose = None; calls = calls })))
+
+  module _ (put : Put) (puts : List Put) (old new : MemoryDisk) (m : Map) (s : Stored) (next : Option Entry) (copies : ℕ → ℕ) (calls : Calls) (ok : Bool) where
+    abbrev keys : Shelf Map
+    keys = record { store = m; copies = copies; loose = None; calls = calls }
+
+    abbrev states : Shelf Stored
+    states = record { store = s; copies = copies; loose = None; calls = calls }
+
+    abbrev first_calls : List DeviceCall
+    first_calls = put_calls (key_of put s) (1 - copies (key_of put s)) (bytes_of put)
+
+    abbrev later_calls : List DeviceCall
+    later_calls = device_calls puts (after_put put s) (turned (key_of put s) copies)
+
+    abbrev after_keys : Shelf Map
+    after_keys = put_on (key_of put s) (put_in m (key_of put s) (bytes_of put)) keys
+
+    abbrev done_keys : Shelf Map
+    done_keys = turned_to (key_of put s) (put_in m (key_of put s) (bytes_of put)) keys None (after_call (after_three calls))
+
+    module _ (ready : IsReadyKeys old keys) (has : Stores m s) (stepped : Stores (put_in m (key_of put s) (bytes_of put)) (after_put put s)) (exists : key_of put s < 132) (short : length (bytes_of put) ≤ 32)
+        (later : (between : MemoryDisk) → IsReadyKeys between done_keys → Makes DoesInMemory later_calls ok between new → Made puts new (after_put put s) (turned (key_of put s) copies) (after_call (after_three calls)) ok) where
+      fit : Fit after_keys (put_state_on put states)
+      fit = put_fits m (put_in m (key_of put s) (bytes_of put)) s (after_put put s) copies None None calls has tt (key_of put s) stepped
+
+      by_part : ((ok ≡ false) × Makes DoesInMemory first_calls false old new) ⊎ ((between : MemoryDisk) × Makes DoesInMemory first_calls true old between × Makes DoesInMemory later_calls ok between new)
+          → Made (put ∷ puts) new s copies calls ok
+      by_part (inl failed) =
+          let k = keys_put old new keys (key_of put s) (bytes_of put) false ready exists short failed.1 in
+          let not : is_put calls ≡ false = sym k.1 in
+          let is : puts_on (put ∷ puts) states ≡ put_state_on put states = chosen_false (is_put calls) (puts_on puts (put_state_on put states)) (put_state_on put states) not in (
+            subst (λ x. IsOn new x) (sym is) (by_keys new after_keys (put_state_on put states) fit k.0),
+            failed.0 ∙ sym (and_false (is_put calls) (are_put puts (after_call (after_three calls))) not),
+            not_both ok (IsReady new (puts_on (put ∷ puts) states)) failed.0,
+          )
+      by_part (inr more) =
+          let k = keys_put old more.0 keys (key_of put s) (bytes_of put) true ready exists short more.1 in
+          let done : is_put calls ≡ true = sym k.1 in
+          let then_ready : IsReadyKeys more.0 done_keys = subst (λ (x : Shelf Map). IsReadyKeys more.0 x) (put_done (key_of put s) (put_in m (key_of put s) (bytes_of put)) keys done) (k.2 refl) in
+          let rest = later more.0 then_ready more.2 in
+          let is : puts_on (put ∷ puts) states ≡ puts_on puts (turned_to (key_of put s) (after_put put s) states None (after_call (after_three calls))) =
+          chosen_true (is_put calls) (puts_on puts (put_state_on put states)) (put_state_on put states) done ∙ ap (λ x. puts_on puts x) (put_done (key_of put s) (after_put put s) states done) in (
+            subst (λ x. IsOn new x) (sym is) rest.0,
+            rest.1 ∙ sym (and_true (is_put calls) (are_put puts (after_call (after_three calls))) done),
+            λ good. subst (λ x. IsReady new x) (sym is) (rest.2 good),
+          )
+
+  pub puts_made : (puts : List Put) (old new : MemoryDisk) (m : Map) (s : Stored) (next : Option Entry) (copies : ℕ → ℕ) (calls : Calls) (ok : Bool)
+      → IsReadyKeys old (record { store = m; copies = copies; loose = None; calls = calls }) → Stores m s → NextAt m s next → NextFits next → AreAllowed puts s next
+      → Makes DoesInMemory (device_calls puts s copies) ok old new → Made puts new s copies calls ok
+  puts_made [] old new m s next copies calls ok ready has at fits allowed made =
+      let same : Fit (record { store = m; copies = copies; loose = None; calls = calls }) (record { store = s; copies = copies; loose = None; calls = calls }) = record { store = has; loose = tt; copies = refl; calls = refl } in
+      let here = subst (λ disk. IsReady disk (record { store = s; copies = copies; loose = None; calls = calls })) (sym made.1) (ready_by_keys old (record { store = m; copies = copies; loose = None; calls = calls }) (record { store = s; copies = copies; loose = None; calls = calls }) same ready) in
+      (here.on, made.0, λ good. here)
+  puts_made (put ∷ puts) old new m s next copies calls ok ready has at fits allowed made =
+      let stepped = step m s next put has at fits allowed.0 in
+      by_part put puts old new m s next copies calls ok ready has stepped.0 (key_exists s next put allowed.0) (value_short s next put allowed.0)
+      (λ between then_ready rest. puts_made puts between new (put_in m (key_of put s) (bytes_of put)) (after_put put s) (next_after put next) (turned (key_of put s) copies) (after_call (after_three calls)) ok then_ready stepped.0 stepped.1
+      (next_fits s next put fits allowed.0) allowed.1 rest)
+      (calls_parted DoesInMemory (put_calls (key_of put s) (1 - copies (key_of put s)) (bytes_of put)) (device_calls puts (after_put put s) (turned (key_of put s) copies)) ok old new made)
+
+  pub puts_on_shelf : (old new : MemoryDisk) (shelf : Shelf Stored) (copies : ℕ → ℕ) (puts : List Put) (ok : Bool) → IsReady old shelf → ((key : ℕ) → key < 132 → copies key ≡ shelf.copies key) → AreAllowed puts shelf.store None
+      → Makes DoesInMemory (device_calls puts shelf.store copies) ok old new → IsOn new (puts_on puts shelf) × (ok ≡ are_put puts shelf.calls) × (ok ≡ true → IsReady new (puts_on puts shelf))
+  puts_on_shelf old new shelf copies puts ok ready agree allowed made =
+      let none : ready.on.before ≡ None = none_same ready.on.before shelf.loose ready.on.loose ready.firm in
+      let keys : IsReadyKeys old (record { store = ready.on.map; copies = shelf.copies; loose = None; calls = shelf.calls }) = record {
+        on = subst (λ (loose : Option (Loose Map)). IsOnKeys old (record { store = ready.on.map; copies = shelf.copies; loose = loose; calls = shelf.calls })) none ready.on.on;
+        settled = ready.settled;
+        firm = refl;
+      } in
+      subst (λ (loose : Option (Loose Stored)). IsOn new (puts_on puts (record { store = shelf.store; copies = shelf.copies; loose = loose; calls = shelf.calls })) × (ok ≡ are_put puts shelf.calls)
+      × (ok ≡ true → IsReady new (puts_on puts (record { store = shelf.store; copies = shelf.copies; loose = loose; calls = shelf.calls })))) (sym ready.firm)
+      (puts_made puts old new ready.on.map shelf.store None shelf.copies shelf.calls ok keys ready.on.stores tt tt allowed
+      (subst (λ (calls : List DeviceCall). Makes DoesInMemory calls ok old new) (same_calls puts shelf.store None copies shelf.copies agree allowed) made))

@@ -1,0 +1,40 @@
+use Rattle.std.proofs.Common.{refl}
+use Rattle.disk_model.specs.Memory.{memory_contents}
+use Rattle.kv_store.specs.Image.{chosen_copy, value_in}
+use Rattle.kv_store.specs.Shelf.{opened_on, restarted_on}
+use Rattle.raft_log.proofs.StatesOnShelf.{bits_of, by_keys, found, maps_of, opened_fits, puts_done, puts_on_shelf, ready_by_keys, restarted_fits, set_fits, shows_itself}
+use Rattle.raft_log.proofs.laws.the_disk_by_states.Goals as goal
+
+pub returns-clause-found : goal.returns-clause-found
+returns-clause-found c = found
+
+pub returns-clause-puts : goal.returns-clause-puts
+returns-clause-puts c = puts_on_shelf c.the_disk_by_keys.ensures.put
+
+pub returns-clause-done : goal.returns-clause-done
+returns-clause-done c = λ shelf puts. puts_done puts shelf
+
+pub returns-clause-opened : goal.returns-clause-opened
+returns-clause-opened c = λ old new shelf ok on made.
+    let keys = maps_of old shelf on in
+    let k = c.the_disk_by_keys.ensures.opened old new keys ok on.on made in
+    let fit = opened_fits on.map on.map shelf.store shelf.store shelf.copies on.before shelf.loose shelf.calls on.stores on.loose in
+    (by_keys new (opened_on keys) (opened_on shelf) fit k.0, k.1, λ good. ready_by_keys new (opened_on keys) (opened_on shelf) fit (k.2 good))
+
+pub returns-clause-restarted : goal.returns-clause-restarted
+returns-clause-restarted c = λ old new shelf pattern on usable restarts.
+    let keys = maps_of old shelf on in
+    ready_by_keys new (restarted_on pattern keys) (restarted_on pattern shelf) (restarted_fits on.map shelf.store shelf.copies on.before shelf.loose shelf.calls pattern on.stores on.loose)
+    (c.the_disk_by_keys.ensures.restarted old new keys pattern on.on usable restarts)
+
+pub returns-clause-set : goal.returns-clause-set
+returns-clause-set c = λ old new shelf calls on same now.
+    let keys = maps_of old shelf on in
+    by_keys new (record keys { calls = calls }) (record shelf { calls = calls }) (set_fits on.map on.map shelf.store shelf.store shelf.copies on.before shelf.loose shelf.calls on.stores on.loose calls)
+    (c.the_disk_by_keys.ensures.set old new keys calls on.on same now)
+
+pub returns-clause-begun : goal.returns-clause-begun
+returns-clause-begun c = λ disk state stands settled.
+    let image = (memory_contents disk).seen in
+    ready_by_keys disk _ _ (record { store = stands.stores; loose = tt; copies = refl; calls = refl })
+    (c.the_disk_by_keys.ensures.begun disk (value_in image) (λ key. chosen_copy image key) (shows_itself image state stands) (bits_of image) settled)
