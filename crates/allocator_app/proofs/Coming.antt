@@ -1,5 +1,5 @@
 -- Rows that are taken one after the other.
-use Rattle.std.proofs.Common.{◌≡◌, ℕ, ◌+◌, List, [], ◌∷◌, ◌++◌, refl, sym, ap, ◌∙◌, subst, arith, append_assoc, append-nil}
+use Rattle.std.proofs.Common.{◌≡◌, ◌<◌, ℕ, ◌+◌, List, [], ◌∷◌, ◌++◌, refl, sym, ap, ◌∙◌, subst, arith, append_assoc, append-nil}
 use Rattle.replay_text.specs.declared.row.Row.{Row}
 use Rattle.replay_text.specs.declared.row.Row.TheVariants.{Open, Tick, Rx, Send, Ext, Crash, Fault}
 use Rattle.replay_text.specs.declared.told.Told.{Told}
@@ -8,14 +8,15 @@ use Rattle.replay_text.specs.Lines.{BeginsWith, BeginsWithNoRow, ReadsRows}
 use Rattle.allocator_app.specs.Input.{FindsRow}
 use Rattle.allocator_app.specs.World.{WorldState, Takes, Tells, after}
 use Rattle.allocator_app.specs.Report.{Comes, GoesOn, IsRefused}
+use Rattle.allocator_app.specs.Promise.{AreTaken}
 use Rattle.allocator_app.proofs.Lines.{some_left}
 
 pub rows-after : (w : WorldState) (row : Row) → Takes w row → (after w row).rows ≡ w.rows + 1
 rows-after w (Open n ms word) h = refl
 rows-after w (Tick n ms word) h = refl
 rows-after w (Send n) h = refl
-rows-after w (Rx n k ms) h = absurd h
-rows-after w (Ext frame) h = absurd h
+rows-after w (Rx n k ms) h = refl
+rows-after w (Ext frame) h = refl
 rows-after w (Crash n calls pattern) h = absurd h
 rows-after w (Fault n call) h = absurd h
 
@@ -58,17 +59,16 @@ comes-join u v w x y z l m p q = record {
 }
 
 -- one row more is taken
-pub comes-more : (first w now : WorldState) (row : Row) (told : Told) (waiting before behind lines line : List ℕ) (n : ℕ) →
+pub comes-more : (first w : WorldState) (row : Row) (told : Told) (waiting before behind lines line : List ℕ) (n : ℕ) →
     ((more : List ℕ) → Comes first (waiting ++ more) lines w (before ++ more)) → FindsRow row before behind →
-    Takes w row → Tells w row told → now ≡ after w row → n ≡ now.rows → line ≡ told_line n told →
-    (more : List ℕ) → Comes first (waiting ++ more) (lines ++ line) now (behind ++ more)
-comes-more first w now row told waiting before behind lines line n came found takes tells is_after count is_line more =
-    let number : n ≡ w.rows + 1 = count ∙ ap (λ (s : WorldState). s.rows) is_after ∙ rows-after w row takes in
+    Takes w row → Tells w row told → n ≡ (after w row).rows → line ≡ told_line n told →
+    (more : List ℕ) → Comes first (waiting ++ more) (lines ++ line) (after w row) (behind ++ more)
+comes-more first w row told waiting before behind lines line n came found takes tells count is_line more =
+    let number : n ≡ w.rows + 1 = count ∙ rows-after w row takes in
     let one = comes-one w row told (before ++ more) (behind ++ more) (found.begins more) takes tells in
     let told_so = is_line ∙ ap (λ k. told_line k told) number in
-    comes-join first w now (waiting ++ more) (before ++ more) (behind ++ more) lines line (came more)
-    (subst (λ s. Comes w (before ++ more) line s (behind ++ more)) (sym is_after)
-    (subst (λ l. Comes w (before ++ more) l (after w row) (behind ++ more)) (sym told_so) one))
+    comes-join first w (after w row) (waiting ++ more) (before ++ more) (behind ++ more) lines line (came more)
+    (subst (λ l. Comes w (before ++ more) l (after w row) (behind ++ more)) (sym told_so) one)
 
 -- ---- rows that are refused
 
@@ -81,3 +81,15 @@ refused-row limit w row before behind more found refused = record {
   left = let low = found.shorter in some_left before more (omega arith);
   refused = λ other rest begins within takes. refused (subst (Takes w) (sym (found.only more rest other begins)) takes);
 }
+
+pub refused-full : (limit : ℕ) (w : WorldState) (row : Row) (before behind more : List ℕ) → FindsRow row before behind → (w.rows < limit → ⊥) →
+    IsRefused limit w (before ++ more)
+refused-full limit w row before behind more found full = record {
+  left = let low = found.shorter in some_left before more (omega arith);
+  refused = λ other rest begins within takes. full within;
+}
+
+-- rows that go on are taken
+pub taken-rows : (w end : WorldState) (rows : List Row) (lines : List ℕ) → GoesOn w rows lines end → AreTaken w rows
+taken-rows w end [] lines goes = tt
+taken-rows w end (row ∷ rows) lines goes = (goes.2.takes, taken-rows (after w row) end rows goes.1 goes.4)

@@ -1,5 +1,15 @@
 pub mod Bytes
 pub mod Coming
+pub mod Entries
+pub mod Growing
+pub mod Kept
 pub mod Lines
+pub mod Offers
+pub mod Proposing
 pub mod Queue
 pub mod Reading
+pub mod Receiving
+pub mod Rest
+pub mod Sound
+pub mod Uids
+pub mod Worlds

@@ -6,7 +6,7 @@ use Rattle.std.proofs.KnownBytes.{Appends-trans}
 use Rattle.replay_text.specs.Lines.{after_line}
 use Rattle.allocator_app.specs.Input.{ReadsMore}
 use Rattle.allocator_app.specs.World.{WorldState}
-use Rattle.allocator_app.specs.Report.{Comes, IsReplayed, end_lines, not_built_line}
+use Rattle.allocator_app.specs.Report.{Comes, IsRefused, IsReplayed, end_lines, not_built_line}
 use Rattle.allocator_app.specs.Words.{IsPlan, IsReplay, IsSound}
 use Rattle.allocator_app.specs.declared.plans.Plan.{Plan}
 use Rattle.allocator_app.specs.declared.plans.Plan.TheVariants.{Replay}
@@ -81,18 +81,18 @@ read_on limit first w now bytes waiting filled behind left left_now sink sink_be
       ahead = went.0;
       left_is = went.1;
       lines = went.2.0;
-      comes = subst (λ rest. Comes first bytes went.2.0 now (rest ++ went.0)) took.stops.0 went.2.2;
+      comes = subst (λ rest. Comes first bytes went.2.0 now (rest ++ went.0)) took.stops went.2.2;
       written = flushed sink sink_now sink_then output_now went.2.0 went.2.3 wrote;
     }
 
 -- a row of the read is refused
-pub read_refused : (limit : ℕ) (first w now : WorldState) (bytes waiting filled behind : List ℕ) (left left_now sink sink_before sink_now : Option (List ℕ))
+pub read_refused : (limit asked : ℕ) → limit ≡ asked → (first w now : WorldState) (bytes waiting filled behind : List ℕ) (left left_now sink sink_before sink_now : Option (List ℕ))
     (output output_now : List ℕ) → HasRead first w bytes waiting left sink sink_before → ReadsMore left left_now waiting filled true → output ≡ [] →
-    TakesRows limit w now filled behind sink_before output sink_now output_now Refused → ReadsRows limit first now bytes sink sink_now output_now Refused
+    TakesRows limit w now filled behind sink_before output sink_now output_now Refused → ReadsRows asked first now bytes sink sink_now output_now Refused
 unfolding on
-read_refused limit first w now bytes waiting filled behind left left_now sink sink_before sink_now output output_now read more none took =
+read_refused limit asked same first w now bytes waiting filled behind left left_now sink sink_before sink_now output output_now read more none took =
     let went = on limit first w now bytes waiting filled behind left left_now sink sink_before sink_now output output_now read more none Refused took in
-    record { lines = went.2.0; rest = went.2.1 ++ went.0; comes = went.2.2; ends = took.stops went.0; written = went.2.3 }
+    record { lines = went.2.0; rest = went.2.1 ++ went.0; comes = went.2.2; ends = subst (λ n. IsRefused n now (went.2.1 ++ went.0)) same (took.stops went.0); written = went.2.3 }
 
 -- ---- the end of the input
 
@@ -162,31 +162,31 @@ cons_head e = cc
 
 -- ---- the end of the report
 
-pub told_done : (limit : ℕ) (first begin end : WorldState) (bytes output : List ℕ) (sink sink_now sink_then : Option (List ℕ)) → begin ≡ first → end.rows ≤ limit →
-    ReadsRows limit begin end bytes sink sink_now output Taken → Appends (append_known sink_now output) sink_then (end_lines end) →
-    IsToldOf limit first bytes sink sink_then Done
-told_done limit first begin end bytes output sink sink_now sink_then same within read wrote = record {
+pub told_done : (limit asked : ℕ) → limit ≡ asked → (first end : WorldState) (bytes output : List ℕ) (sink sink_now sink_then : Option (List ℕ)) → end.rows ≤ limit →
+    ReadsRows limit first end bytes sink sink_now output Taken → Appends (append_known sink_now output) sink_then (end_lines end) →
+    IsToldOf asked first bytes sink sink_then Done
+told_done limit asked same first end bytes output sink sink_now sink_then within read wrote = record {
   end = end;
   lines = read.lines;
   rest = read.rest;
   last = end_lines end;
-  comes = subst (λ w. Comes w bytes read.lines end read.rest) same read.comes;
-  within = within;
+  comes = read.comes;
+  within = omega (arith, within, same);
   says = (read.ends, refl);
   written = Appends-trans sink (append_known sink_now output) sink_then read.lines (end_lines end) read.written wrote;
 }
 
-pub told_not_built : (limit : ℕ) (first begin end : WorldState) (bytes output : List ℕ) (sink sink_now sink_then : Option (List ℕ)) (row : ℕ) → begin ≡ first →
-    end.rows ≤ limit → row ≡ end.rows + 1 → ReadsRows limit begin end bytes sink sink_now output Refused →
-    Appends (append_known sink_now output) sink_then (not_built_line end) → IsToldOf limit first bytes sink sink_then (NotBuilt row)
-told_not_built limit first begin end bytes output sink sink_now sink_then row same within number read wrote = record {
+pub told_not_built : (limit asked : ℕ) → limit ≡ asked → (first end : WorldState) (bytes output : List ℕ) (sink sink_now sink_then : Option (List ℕ)) (row : ℕ) →
+    end.rows ≤ limit → row ≡ end.rows + 1 → ReadsRows limit first end bytes sink sink_now output Refused →
+    Appends (append_known sink_now output) sink_then (not_built_line end) → IsToldOf asked first bytes sink sink_then (NotBuilt row)
+told_not_built limit asked same first end bytes output sink sink_now sink_then row within number read wrote = record {
   end = end;
   lines = read.lines;
   rest = read.rest;
   last = not_built_line end;
-  comes = subst (λ w. Comes w bytes read.lines end read.rest) same read.comes;
-  within = within;
-  says = (read.ends, number, refl);
+  comes = read.comes;
+  within = omega (arith, within, same);
+  says = (subst (λ n. IsRefused n end read.rest) same read.ends, number, refl);
   written = Appends-trans sink (append_known sink_now output) sink_then read.lines (not_built_line end) read.written wrote;
 }
 

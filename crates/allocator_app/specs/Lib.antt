@@ -1,8 +1,12 @@
 pub mod Allocator
+pub mod Bytes
 pub mod Codes
 pub mod Input
+pub mod Member
 pub mod Output
+pub mod Promise
 pub mod Report
 pub mod Rows
+pub mod Stands
 pub mod Words
 pub mod World

@@ -1,13 +1,15 @@
 -- The report of a schedule.
-use Rattle.std.specs.Prelude.{◌≡◌, ◌≢◌, ◌≤◌, ◌<◌, ℕ, ◌+◌, List, [], ◌∷◌, ◌++◌, codes, decimal, Option, Some, None}
+use Rattle.std.specs.Prelude.{◌≡◌, ◌≢◌, ◌≤◌, ◌<◌, ℕ, ◌+◌, List, [], ◌∷◌, ◌++◌, take, codes, decimal, Option, Some, None}
 use Rattle.replay_text.specs.declared.row.Row.{Row}
 use Rattle.replay_text.specs.declared.told.Told.{Told}
 use Rattle.replay_text.specs.Report.{told_line}
 use Rattle.replay_text.specs.Lines.{BeginsWith, ReadsRows}
-use Rattle.allocator_app.specs.Allocator.{AllocatorState}
+use Rattle.can_frame.specs.declared.entry.Entry.{Entry}
+use Rattle.hex.specs.Hex.{encode_lower}
+use Rattle.allocator_app.specs.Member.{MemberState}
 use Rattle.allocator_app.specs.Words.{IsReplay}
 use Rattle.allocator_app.specs.declared.status.Status.{Status}
-use Rattle.allocator_app.specs.declared.status.Status.TheVariants.{Done, Usage, Memory, NotBuilt}
+use Rattle.allocator_app.specs.declared.status.Status.TheVariants.{Done, Usage, NotBuilt}
 use Rattle.allocator_app.specs.World.{WorldState, Takes, Tells, after, empty_world}
 
 -- the world takes the row and tells this line of it
@@ -33,14 +35,31 @@ pub record IsRefused (limit : ℕ) (w : WorldState) (bytes : List ℕ) : Type 0 
   pub left : bytes ≢ []
   pub refused : (row : Row) (rest : List ℕ) → BeginsWith row bytes rest → w.rows < limit → Takes w row → ⊥
 
--- a running member tells of its log, which is empty so far
-abbrev pub log_line : ℕ → Option AllocatorState → List ℕ
-log_line id None = []
-log_line id (Some a) = codes "log " ++ decimal id ++ codes " 0\n"
+-- an entry at its place, counted from 1
+abbrev pub entry_line : ℕ → Entry → List ℕ
+entry_line place entry = decimal place ++ codes " " ++ decimal entry.node ++ codes " " ++ encode_lower entry.uid ++ codes "\n"
+
+-- entries from a place on
+abbrev pub entry_lines : ℕ → List Entry → List ℕ
+entry_lines place [] = []
+entry_lines place (entry ∷ log) = entry_line place entry ++ entry_lines (place + 1) log
+
+-- the commit index of a running member
+abbrev pub log_line : ℕ → ℕ → List ℕ
+log_line id commit = codes "log " ++ decimal id ++ codes " " ++ decimal commit ++ codes "\n"
+
+-- a running member tells of its commit index and of each committed entry
+abbrev pub log_lines : ℕ → Option MemberState → List ℕ
+log_lines id None = []
+log_lines id (Some m) = log_line id m.allocator.commit ++ entry_lines 1 (take m.allocator.commit m.allocator.log)
+
+-- the number of rows that were taken
+abbrev pub end_line : ℕ → List ℕ
+end_line rows = codes "end " ++ decimal rows ++ codes "\n"
 
 -- the last lines of a report
 abbrev pub end_lines : WorldState → List ℕ
-end_lines w = log_line w.id w.member ++ codes "end " ++ decimal w.rows ++ codes "\n"
+end_lines w = log_lines w.id w.member ++ end_line w.rows
 
 -- the last line where the next row is not built
 abbrev pub not_built_line : WorldState → List ℕ
@@ -56,7 +75,6 @@ Says limit w rest last _ = ⊥
 -- the status of a run whose words were read
 abbrev pub IsBegun : Status → Type 0
 IsBegun Usage = ⊥
-IsBegun Memory = ⊥
 IsBegun _ = Unit {0}
 
 -- the status of a run that no fault ended, and that had words to begin with

@@ -15,7 +15,7 @@ use Rattle.allocator_app.specs.declared.status.Status.{Status}
 
 -- where the rows that wait end: all were taken but the beginning of a line; or one is refused, whatever comes behind
 abbrev pub StopsAt : ℕ → WorldState → List ℕ → List ℕ → Rows → Type 0
-StopsAt limit w rest waiting Taken = (rest ≡ waiting) × (length waiting ≤ 120) × (after_line waiting ≡ None)
+StopsAt limit w rest waiting Taken = rest ≡ waiting
 StopsAt limit w rest waiting Refused = (more : List ℕ) → IsRefused limit w (rest ++ more)
 
 -- rows were taken of those that wait, and what they tell was written or waits to be
@@ -24,11 +24,13 @@ pub record TakesRows (limit : ℕ) (before now : WorldState) (waiting left : Lis
   pub lines : List ℕ
   pub rest : List ℕ
   pub comes : (more : List ℕ) → Comes before (waiting ++ more) lines now (rest ++ more)
-  pub within : now.rows ≤ limit
-  pub grows : before.rows ≤ now.rows
-  pub some : (before.rows < now.rows) ⊎ (rest ≡ waiting)
   pub stops : StopsAt limit now rest left rows
   pub written : Appends (append_known sink_before output_before) (append_known sink_now output_now) lines
+
+-- where all rows were taken, less than a line waits; there was a row, or the same waits as before
+abbrev pub Waits : ℕ → ℕ → List ℕ → List ℕ → Rows → Type 0
+Waits rows_before rows_now before now Taken = (length now ≤ 120) × (after_line now ≡ None) × ((rows_before < rows_now) ⊎ (now ≡ before))
+Waits rows_before rows_now before now Refused = Unit {0}
 
 -- where a schedule ends
 abbrev pub EndsAt : ℕ → WorldState → List ℕ → Rows → Type 0

@@ -1,10 +1,13 @@
 ghost use Rattle.std.specs.Prelude.{◌≡◌, ◌↔◌, ℕ, List, Some, map, string_bytes};
 ghost use Rattle.std.specs.Io.KnownBytes.{Appends};
 ghost use Rattle.outside.specs.Faults.{Rose};
+ghost use Rattle.allocator_app.specs.World.{empty_world};
+ghost use Rattle.allocator_app.specs.Promise.{KeepsItsWord};
 ghost use Rattle.allocator_app.specs.Report.{IsBegun, IsReplayed, IsToTheEnd};
 ghost use Rattle.allocator_app.specs.Rows.{IsFollowed};
 ghost use Rattle.allocator_app.specs.Words.{IsReplay, IsSound};
 
+use crate::laws::every_allocation_is_kept;
 use crate::plans::Plan;
 use crate::replay::replay;
 use crate::status::Status;
@@ -18,9 +21,14 @@ use std::alloc::Global;
 /// The words are `replay <rows> <id>`; with other words the status is `Usage`, and nothing is read or
 /// written. `ReadFault` and `WriteFault` come only where the source or the sink failed. Else the report
 /// is exactly that of the schedule, and so is the status: `Done`, or `NotBuilt` with the number of the
-/// first row that is not of a form that is built.
+/// first row that is not of a form that is built; or there is not enough memory to begin with, and the
+/// status is `Memory`.
+///
+/// Along the rows of the report, the log never gives one node ID to two devices, or two to one, what is
+/// committed stays, and whatever pair a step offers to the bus is committed when that step is done
+/// (`specs/Promise.antt`).
 pub fn run<S: Source, K: Sink>(
-    _alloc: Global,
+    alloc: Global,
     words: &[String],
     source: &mut S,
     sink: &mut K,
@@ -28,16 +36,20 @@ pub fn run<S: Source, K: Sink>(
     ensures usage { (result ≡ Status.Usage) ↔ ((rows id : ℕ) → IsReplay rows id (map string_bytes words.now) → ⊥) }
     ensures report { (bytes : List ℕ) → S.left source.old ≡ Some bytes → IsToTheEnd result →
         (report : List ℕ) × IsReplayed (map string_bytes words.now) bytes report result × Appends (K.written sink.old) (K.written sink.new) report }
+    ensures kept { (bytes report : List ℕ) → (replayed : IsReplayed (map string_bytes words.now) bytes report result) →
+        KeepsItsWord (empty_world replayed.id) replayed.comes.rows }
     ensures read_fault { result ≡ Status.ReadFault → Rose (S.faults source.old) (S.faults source.new) }
     ensures write_fault { result ≡ Status.WriteFault → Rose (K.faults sink.old) (K.faults sink.new) }
 {
+    // The law behind the clause `kept`.
+    every_allocation_is_kept();
     match plan(words) {
-        Some(plan) => follow(plan, source, sink),
+        Some(plan) => follow(alloc, plan, source, sink),
         None => Status::Usage,
     }
 }
 
-fn follow<S: Source, K: Sink>(plan: Plan, source: &mut S, sink: &mut K) -> Status
+fn follow<S: Source, K: Sink>(alloc: Global, plan: Plan, source: &mut S, sink: &mut K) -> Status
     requires { IsSound plan }
     ensures told { (bytes : List ℕ) → S.left source.old ≡ Some bytes → IsToTheEnd result →
         IsFollowed plan bytes (K.written sink.old) (K.written sink.new) result }
@@ -51,7 +63,7 @@ fn follow<S: Source, K: Sink>(plan: Plan, source: &mut S, sink: &mut K) -> Statu
                 unreachable!();
             };
             match NodeId::new(*id) {
-                Some(id) => replay(rows, id, source, sink),
+                Some(id) => replay(alloc, rows, id, source, sink),
                 None => unreachable!(),
             }
         }

@@ -1,5 +1,7 @@
 use Rattle.std.proofs.Common.{subst}
+use Rattle.allocator_app.specs.World.{empty_world}
 use Rattle.allocator_app.specs.Report.{IsBegun}
+use Rattle.allocator_app.proofs.Coming.{taken-rows}
 use Rattle.allocator_app.proofs.Reading.{replayed, sound, unplanned}
 use Rattle.allocator_app.proofs.program.run.Goals as goal
 
@@ -15,3 +17,11 @@ returns-in-Some-clause-usage g c = (
   λ usage. absurd (subst IsBegun usage c.follow.ensures.begun),
   λ none. absurd (unplanned _ _ none c.in-Some.ensures.some),
 )
+
+pub returns-in-Some-clause-kept : goal.returns-in-Some-clause-kept
+returns-in-Some-clause-kept g c = λ bytes report said.
+    c.every_allocation_is_kept.ensures said.id said.comes.rows (taken-rows (empty_world said.id) said.end said.comes.rows said.lines said.comes.goes)
+
+pub returns-in-None-clause-kept : goal.returns-in-None-clause-kept
+returns-in-None-clause-kept g c = λ bytes report said.
+    c.every_allocation_is_kept.ensures said.id said.comes.rows (taken-rows (empty_world said.id) said.end said.comes.rows said.lines said.comes.goes)

@@ -1,5 +1,6 @@
 use Rattle.std.proofs.Common.{◌≡◌, ◌≤◌, ◌+◌, ◌-◌, ◌*◌, List, ℕ, [], Some, None, length}
 use Rattle.replay_text.specs.Lines.{after_line}
+use Rattle.allocator_app.specs.Stands.{Reaches}
 use Rattle.allocator_app.specs.Rows.{HasRead}
 use Rattle.allocator_app.proofs.replay.read_rows.Given as goal
 
@@ -9,16 +10,17 @@ invariant-reading g l =
     let left = g.S.Source.left in
     let written = g.K.Sink.written in
     record {
-      within : l.world.rows ≤ l.limit;
+      within : l.world.rows ≤ l.world.limit;
+      limit : l.world.limit ≡ l.fn.world.limit;
       flushed : l.output ≡ [];
       short : length l.input ≤ 120;
       unended : after_line l.input ≡ None;
       source_later : g.S.Source.faults l.fn.source ≤ g.S.Source.faults l.source;
       sink_later : g.K.Sink.faults l.fn.sink ≤ g.K.Sink.faults l.sink;
-      told : (bytes : List ℕ) → left l.fn.source ≡ Some bytes →
-          HasRead l.fn.world l.world bytes l.input (left l.source) (written l.fn.sink) (written l.sink);
+      told : (bytes : List ℕ) → left l.fn.source ≡ Some bytes → Reaches l.fn.world l.world (λ first now.
+          HasRead first now bytes l.input (left l.source) (written l.fn.sink) (written l.sink));
     }
 
 -- each row has at most 121 bytes with its line feed, and each read brings one byte at least
 abbrev pub decreases-reading : goal.decreases-reading
-decreases-reading g l = (l.limit - l.world.rows) * 122 + (121 - length l.input)
+decreases-reading g l = (l.fn.world.limit - l.world.rows) * 122 + (121 - length l.input)

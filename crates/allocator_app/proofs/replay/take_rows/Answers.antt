@@ -1,57 +1,57 @@
-use Rattle.std.proofs.Common.{◌≡◌, ◌<◌, ◌++◌, sym, ap, ◌∙◌, subst, refl, arith, inl, inr}
+use Rattle.std.proofs.Common.{◌++◌, sym, ◌∙◌, refl, arith, inl}
 use Rattle.std.proofs.KnownBytes.{Appends-trans}
-use Rattle.allocator_app.specs.World.{WorldState}
-use Rattle.allocator_app.specs.Report.{Comes, IsRefused}
-use Rattle.allocator_app.proofs.Coming.{comes-more, refused-no_row, refused-row, rows-after}
+use Rattle.allocator_app.specs.World.{after}
+use Rattle.allocator_app.proofs.Coming.{comes-more, refused-full, refused-no_row, refused-row}
+use Rattle.allocator_app.proofs.Rest.{rows_taken}
 use Rattle.allocator_app.proofs.replay.take_rows.Goals as goal
 
 pub returns-in-NoRow-clause-rows : goal.returns-in-NoRow-clause-rows
 returns-in-NoRow-clause-rows g c =
-    let so_far = c.rows.invariant in
-    record {
-      lines = so_far.came.0;
-      rest = c.rows.input;
-      comes = so_far.came.1;
-      within = so_far.within;
-      grows = so_far.grows;
-      some = so_far.some;
-      stops = λ more. refused-no_row c.args.limit c.rows.world _ (c.in-NoRow.ensures.found.1 more);
-      written = so_far.came.2;
-    }
+    rows_taken c.args.world.now c.rows.world c.rows.world c.args.input.now c.rows.input _ _ _ _ _ _ refl c.rows.invariant.came
+    (λ w is more. refused-no_row c.args.world.now.limit w _ (c.in-NoRow.ensures.found.1 more))
+
+pub returns-in-Incomplete-clause-rows : goal.returns-in-Incomplete-clause-rows
+returns-in-Incomplete-clause-rows g c =
+    rows_taken c.args.world.now c.rows.world c.rows.world c.args.input.now c.rows.input _ _ _ _ _ _ refl c.rows.invariant.came
+    (λ w is. sym c.in-Incomplete.ensures.found.0)
+
+pub returns-then-is_full-clause-rows : goal.returns-then-is_full-clause-rows
+returns-then-is_full-clause-rows g c =
+    let full = c.is_full.ensures.full c.if-is_full.true in
+    let limit = c.rows.invariant.limit in
+    rows_taken c.args.world.now c.rows.world c.rows.world c.args.input.now c.rows.input _ _ _ _ _ _ refl c.rows.invariant.came
+    (λ w is more. refused-full c.args.world.now.limit w c.in-Row.row c.rows.input _ more c.in-Row.ensures.found
+    (λ low. let rows = is.rows in omega (arith, low, rows, full, limit)))
 
 pub returns-in-None-clause-rows : goal.returns-in-None-clause-rows
 returns-in-None-clause-rows g c =
-    let so_far = c.rows.invariant in
-    let same : c.row.new.self ≡ c.rows.world = c.in-None.ensures.unchanged refl in
-    let count = ap (λ (w : WorldState). w.rows) same in
-    record {
-      lines = so_far.came.0;
-      rest = c.rows.input;
-      comes = λ more. subst (λ w. Comes c.args.world.now (c.args.input.now ++ more) so_far.came.0 w (c.rows.input ++ more)) (sym same) (so_far.came.1 more);
-      within = omega (arith, so_far.within, count);
-      grows = omega (arith, so_far.grows, count);
-      some = elim so_far.some [ inl more ↦ inl (omega (arith, more, count)) | inr none ↦ inr none ];
-      stops = λ more. subst (λ w. IsRefused c.args.limit w (c.rows.input ++ more)) (sym same)
-          (refused-row c.args.limit c.rows.world c.in-Row.row c.rows.input _ more c.in-Row.ensures.found (c.in-None.ensures.refused refl));
-      written = so_far.came.2;
-    }
+    rows_taken c.args.world.now c.rows.world c.row.new.self c.args.input.now c.rows.input _ _ _ _ _ _ (c.in-None.ensures.unchanged refl)
+    c.rows.invariant.came
+    (λ w is more. refused-row c.args.world.now.limit w c.in-Row.row c.rows.input _ more c.in-Row.ensures.found (c.in-None.ensures.refused w is refl))
 
 pub rows-preserved : goal.rows-preserved
 rows-preserved g c =
     let so_far = c.rows.invariant in
-    let taken = c.in-Some.ensures.taken in
-    let count = ap (λ (w : WorldState). w.rows) taken.2 ∙ rows-after c.rows.world c.in-Row.row taken.0 in
-    let here : c.rows.world.rows < c.args.limit = omega (arith, so_far.within, c.if-rows-limit.false, c.rows-in-rows.ensures) in
+    let count = c.in-Some.ensures.count refl in
+    let same = c.in-Some.ensures.limit in
+    let room = c.is_full.ensures.room c.if-is_full.false in
     let line = c.deref.ensures.0 ∙ c.write_told.ensures.line in
     record {
-      within = omega (arith, here, count);
+      within = omega (arith, room, count, same);
+      limit = same ∙ so_far.limit;
       later = omega (arith, so_far.later, c.in_ok-line.ensures.cause.later);
       grows = omega (arith, so_far.grows, count);
       some = inl (omega (arith, so_far.grows, count));
-      came = (
-        so_far.came.0 ++ c.deref.result.now,
-        comes-more c.args.world.now c.rows.world c.row.new.self c.in-Row.row c.in-Some.told c.args.input.now c.rows.input _ so_far.came.0 c.deref.result.now _
-            so_far.came.1 c.in-Row.ensures.found taken.0 taken.1 taken.2 c.rows-in-rows-2.ensures line,
-        Appends-trans _ _ _ so_far.came.0 c.deref.result.now so_far.came.2 c.in_ok-line.ensures.ok,
-      );
+      came = λ first is.
+          let far = so_far.came first is in
+          let taken = c.in-Some.ensures.taken far.0 far.1 in (
+            after far.0 c.in-Row.row,
+            taken.2,
+            (
+              far.2.0 ++ c.deref.result.now,
+              comes-more first far.0 c.in-Row.row c.in-Some.told c.args.input.now c.rows.input _ far.2.0 c.deref.result.now _
+                  far.2.1 c.in-Row.ensures.found taken.0 taken.1 (c.rows-in-rows.ensures.rows ∙ taken.2.rows) line,
+              Appends-trans _ _ _ far.2.0 c.deref.result.now far.2.2 c.in_ok-line.ensures.ok,
+            ),
+          );
     }

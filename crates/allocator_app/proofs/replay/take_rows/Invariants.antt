@@ -1,6 +1,6 @@
-use Rattle.std.proofs.Common.{◌≡◌, ◌≤◌, ◌<◌, ◌⊎◌, ◌++◌, List, ℕ, length}
-use Rattle.std.specs.Io.KnownBytes.{Appends, append_known}
-use Rattle.allocator_app.specs.Report.{Comes}
+use Rattle.std.proofs.Common.{◌≡◌, ◌≤◌, ◌<◌, ◌⊎◌, length}
+use Rattle.allocator_app.specs.Stands.{Reaches}
+use Rattle.allocator_app.proofs.Rest.{TakesSome}
 use Rattle.allocator_app.proofs.replay.take_rows.Given as goal
 
 -- some rows were taken, and what they tell was written or waits to be
@@ -9,12 +9,13 @@ invariant-rows g l =
     let written = g.K.Sink.written in
     let faults = g.K.Sink.faults in
     record {
-      within : l.world.rows ≤ l.limit;
+      within : l.world.rows ≤ l.world.limit;
+      limit : l.world.limit ≡ l.fn.world.limit;
       later : faults l.fn.sink ≤ faults l.sink;
       grows : l.fn.world.rows ≤ l.world.rows;
       some : (l.fn.world.rows < l.world.rows) ⊎ (l.input ≡ l.fn.input);
-      came : (lines : List ℕ) × ((more : List ℕ) → Comes l.fn.world (l.fn.input ++ more) lines l.world (l.input ++ more))
-          × Appends (append_known (written l.fn.sink) l.fn.output) (append_known (written l.sink) l.output) lines;
+      came : Reaches l.fn.world l.world (λ first now.
+          TakesSome first now l.fn.input l.input (written l.fn.sink) l.fn.output (written l.sink) l.output);
     }
 
 abbrev pub decreases-rows : goal.decreases-rows
