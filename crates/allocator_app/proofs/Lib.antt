@@ -1,10 +1,12 @@
 pub mod Bytes
 pub mod Coming
+pub mod Ending
 pub mod Entries
 pub mod Growing
 pub mod Kept
 pub mod Lines
 pub mod Offers
+pub mod OneReport
 pub mod Proposing
 pub mod Queue
 pub mod Reading
@@ -13,3 +15,4 @@ pub mod Rest
 pub mod Sound
 pub mod Uids
 pub mod Worlds
+pub mod Written

@@ -1,20 +1,19 @@
 -- A schedule that is read piece by piece.
 use Rattle.std.proofs.Common.{◌≡◌, ℕ, ◌+◌, ◌-◌, ◌*◌, ◌≤◌, ◌<◌, ◌⊎◌, inl, inr, true, false, List, [], ◌∷◌, ◌++◌, length, Some, None, refl, sym, ap, ◌∙◌, subst, arith, append_assoc, append-nil}
 use Rattle.std.specs.declared.option.Option.{Option}
-use Rattle.std.specs.Io.KnownBytes.{Appends, Consumes, IsAtEnd, append_known}
-use Rattle.std.proofs.KnownBytes.{Appends-trans}
+use Rattle.std.specs.Io.KnownBytes.{Appends, Consumes, IsAtEnd, Keeps, append_known}
 use Rattle.replay_text.specs.Lines.{after_line}
+use Rattle.allocator_app.specs.InPart.{HasRead, IsReadInPart, IsWrittenInPart}
+use Rattle.allocator_app.specs.InPart.IsWrittenInPart.{InRows}
 use Rattle.allocator_app.specs.Input.{ReadsMore}
+use Rattle.allocator_app.specs.Output.{Grows, WritesFront}
 use Rattle.allocator_app.specs.World.{WorldState}
-use Rattle.allocator_app.specs.Report.{Comes, IsRefused, IsReplayed, end_lines, not_built_line}
-use Rattle.allocator_app.specs.Words.{IsPlan, IsReplay, IsSound}
-use Rattle.allocator_app.specs.declared.plans.Plan.{Plan}
-use Rattle.allocator_app.specs.declared.plans.Plan.TheVariants.{Replay}
-use Rattle.allocator_app.specs.Rows.{HasRead, IsFollowed, IsToldOf, ReadsRows, TakesRows}
+use Rattle.allocator_app.specs.Report.{Comes, IsRefused, IsReport, end_lines, not_built_line}
+use Rattle.allocator_app.specs.Rows.{BreaksOff, ReadsRows, TakesRows}
 use Rattle.allocator_app.specs.declared.rows.Rows.TheVariants.{Taken, Refused}
-use Rattle.allocator_app.specs.declared.status.Status.{Status}
 use Rattle.allocator_app.specs.declared.status.Status.TheVariants.{Done, NotBuilt}
 use Rattle.allocator_app.proofs.Coming.{comes-join, comes-nil}
+use Rattle.allocator_app.proofs.Written.{flushed, front-behind}
 
 consumed : (ahead came : List ℕ) (left : Option (List ℕ)) → Consumes (Some ahead) left came →
     (rest : List ℕ) × (left ≡ Some rest) × (ahead ≡ came ++ rest)
@@ -30,12 +29,10 @@ written_on (Some x) (Some y) None waiting l m none p now q = absurd q
 written_on (Some x) (Some y) (Some z) waiting l m none p now q =
     q ∙ ap (λ w. (y ++ w) ++ m) none ∙ ap (λ v. v ++ m) (append-nil y ∙ p) ∙ append_assoc x l m
 
--- what waited was written
-pub flushed : (a b c : Option (List ℕ)) (waiting l : List ℕ) → Appends a (append_known b waiting) l → Appends b c waiting → Appends a c l
-flushed None b c waiting l p q = tt
-flushed (Some x) None c waiting l p q = absurd p
-flushed (Some x) (Some y) None waiting l p q = absurd q
-flushed (Some x) (Some y) (Some z) waiting l p q = q ∙ p
+appends_waiting : (a b : Option (List ℕ)) (waiting l : List ℕ) → waiting ≡ [] → Appends a b l → Appends a (append_known b waiting) l
+appends_waiting None b waiting l none p = tt
+appends_waiting (Some x) None waiting l none p = absurd p
+appends_waiting (Some x) (Some y) waiting l none p = ap (λ w. y ++ w) none ∙ append-nil y ∙ p
 
 pub start : (w : WorldState) (bytes : List ℕ) (left sink : Option (List ℕ)) → left ≡ Some bytes → (waiting : List ℕ) → waiting ≡ [] →
     Appends sink sink [] → HasRead w w bytes waiting left sink sink
@@ -48,25 +45,18 @@ start w bytes left sink known waiting none same = record {
 }
 
 -- a read and the rows that it brought
-module _ (limit : ℕ) (first w now : WorldState) (bytes waiting filled behind : List ℕ) (left left_now sink sink_before sink_now : Option (List ℕ))
-    (output output_now : List ℕ) (read : HasRead first w bytes waiting left sink sink_before) (more : ReadsMore left left_now waiting filled true)
-    (none : output ≡ []) where
-  on : (rows : _) → TakesRows limit w now filled behind sink_before output sink_now output_now rows →
-      (ahead : List ℕ) × (left_now ≡ Some ahead)
-      × ((lines rest : List ℕ) × Comes first bytes lines now (rest ++ ahead) × Appends sink (append_known sink_now output_now) lines)
-  on rows took =
+module _ (first w now : WorldState) (bytes waiting filled : List ℕ) (left left_now sink sink_before : Option (List ℕ))
+    (read : HasRead first w bytes waiting left sink sink_before) (more : ReadsMore left left_now waiting filled true) where
+  on : (lines rest : List ℕ) → ((more : List ℕ) → Comes w (filled ++ more) lines now (rest ++ more)) →
+      (ahead : List ℕ) × (left_now ≡ Some ahead) × Comes first bytes (read.lines ++ lines) now (rest ++ ahead)
+  on lines rest comes =
       let front = consumed read.ahead more.came left_now (subst (λ l. Consumes l left_now more.came) read.left_is more.taken) in
       let ahead = front.0 in
       let here : waiting ++ read.ahead ≡ filled ++ ahead =
       ap (λ v. waiting ++ v) front.2 ∙ sym (append_assoc waiting more.came ahead) ∙ ap (λ v. v ++ ahead) (sym more.behind) in (
         ahead,
         front.1,
-        (
-          read.lines ++ took.lines,
-          took.rest,
-          comes-join first w now bytes (filled ++ ahead) (took.rest ++ ahead) read.lines took.lines (subst (Comes first bytes read.lines w) here read.comes) (took.comes ahead),
-          written_on sink sink_before sink_now output read.lines took.lines none read.written output_now took.written,
-        ),
+        comes-join first w now bytes (filled ++ ahead) (rest ++ ahead) read.lines lines (subst (Comes first bytes read.lines w) here read.comes) (comes ahead),
       )
 
 -- all the rows of the read were taken, and what waited was written
@@ -76,13 +66,15 @@ pub read_on : (limit : ℕ) (first w now : WorldState) (bytes waiting filled beh
     HasRead first now bytes behind left_now sink sink_then
 unfolding on
 read_on limit first w now bytes waiting filled behind left left_now sink sink_before sink_now sink_then output output_now read more none took wrote =
-    let went = on limit first w now bytes waiting filled behind left left_now sink sink_before sink_now output output_now read more none Taken took in
+    let went = on first w now bytes waiting filled left left_now sink sink_before read more took.lines took.rest took.comes in
+    let lines = read.lines ++ took.lines in
     record {
       ahead = went.0;
       left_is = went.1;
-      lines = went.2.0;
-      comes = subst (λ rest. Comes first bytes went.2.0 now (rest ++ went.0)) took.stops went.2.2;
-      written = flushed sink sink_now sink_then output_now went.2.0 went.2.3 wrote;
+      lines = lines;
+      comes = subst (λ rest. Comes first bytes lines now (rest ++ went.0)) took.stops went.2;
+      written = flushed sink sink_now sink_then output_now lines
+          (written_on sink sink_before sink_now output read.lines took.lines none read.written output_now took.written) wrote;
     }
 
 -- a row of the read is refused
@@ -91,8 +83,56 @@ pub read_refused : (limit asked : ℕ) → limit ≡ asked → (first w now : Wo
     TakesRows limit w now filled behind sink_before output sink_now output_now Refused → ReadsRows asked first now bytes sink sink_now output_now Refused
 unfolding on
 read_refused limit asked same first w now bytes waiting filled behind left left_now sink sink_before sink_now output output_now read more none took =
-    let went = on limit first w now bytes waiting filled behind left left_now sink sink_before sink_now output output_now read more none Refused took in
-    record { lines = went.2.0; rest = went.2.1 ++ went.0; comes = went.2.2; ends = subst (λ n. IsRefused n now (went.2.1 ++ went.0)) same (took.stops went.0); written = went.2.3 }
+    let went = on first w now bytes waiting filled left left_now sink sink_before read more took.lines took.rest took.comes in
+    record {
+      lines = read.lines ++ took.lines;
+      rest = took.rest ++ went.0;
+      comes = went.2;
+      ends = subst (λ n. IsRefused n now (took.rest ++ went.0)) same (took.stops went.0);
+      written = written_on sink sink_before sink_now output read.lines took.lines none read.written output_now took.written;
+    }
+
+-- the sink fails while the rows of the read are taken
+pub rows_in_part : (limit asked : ℕ) → limit ≡ asked → (first w now : WorldState) (bytes waiting filled : List ℕ) (left left_now sink sink_before sink_now : Option (List ℕ))
+    (output : List ℕ) → HasRead first w bytes waiting left sink sink_before → ReadsMore left left_now waiting filled true → output ≡ [] →
+    Grows sink sink_before → now.rows ≤ limit → BreaksOff w now filled sink_before output sink_now → IsWrittenInPart asked first bytes sink sink_now
+unfolding on
+rows_in_part limit asked same first w now bytes waiting filled left left_now sink sink_before sink_now output read more none grew within broke =
+    let went = on first w now bytes waiting filled left left_now sink sink_before read more broke.lines broke.rest broke.comes in
+    InRows now (read.lines ++ broke.lines) (broke.rest ++ went.0) went.2 (omega (arith, within, same))
+    (front-behind sink sink_before sink_now [] read.lines broke.lines grew (appends_waiting sink sink_before [] read.lines refl read.written)
+    (subst (λ o. WritesFront sink_before sink_now (o ++ broke.lines)) none broke.written))
+
+-- the sink fails when what the rows of the read tell is handed to it
+pub flush_in_part : (limit asked : ℕ) → limit ≡ asked → (first w now : WorldState) (bytes waiting filled behind : List ℕ) (left left_now sink sink_before sink_now sink_then : Option (List ℕ))
+    (output output_now : List ℕ) → HasRead first w bytes waiting left sink sink_before → ReadsMore left left_now waiting filled true → output ≡ [] →
+    Grows sink sink_now → now.rows ≤ limit → TakesRows limit w now filled behind sink_before output sink_now output_now Taken →
+    WritesFront sink_now sink_then output_now → IsWrittenInPart asked first bytes sink sink_then
+unfolding on
+flush_in_part limit asked same first w now bytes waiting filled behind left left_now sink sink_before sink_now sink_then output output_now read more none grew within took front =
+    let went = on first w now bytes waiting filled left left_now sink sink_before read more took.lines took.rest took.comes in
+    let lines = read.lines ++ took.lines in
+    InRows now lines (took.rest ++ went.0) went.2 (omega (arith, within, same))
+    (subst (WritesFront sink sink_then) (append-nil lines) (front-behind sink sink_now sink_then output_now lines [] grew
+    (written_on sink sink_before sink_now output read.lines took.lines none read.written output_now took.written)
+    (subst (WritesFront sink_now sink_then) (sym (append-nil output_now)) front)))
+
+-- the source fails: it keeps what it has
+kept : (left left_now : Option (List ℕ)) (ahead : List ℕ) → left ≡ Some ahead → Keeps left left_now → left_now ≡ Some ahead
+kept None left_now ahead e h = cc
+kept (Some x) None ahead e h = absurd h
+kept (Some x) (Some y) ahead e h = ap Some h ∙ e
+
+pub read_in_part : (limit asked : ℕ) → limit ≡ asked → (first w : WorldState) (bytes waiting : List ℕ) (left left_now sink sink_now : Option (List ℕ)) →
+    HasRead first w bytes waiting left sink sink_now → Keeps left left_now → after_line waiting ≡ None → w.rows ≤ limit →
+    IsReadInPart asked first bytes left_now sink sink_now
+read_in_part limit asked same first w bytes waiting left left_now sink sink_now read keeps unended within = record {
+  now = w;
+  waiting = waiting;
+  read = record { ahead = read.ahead; left_is = kept left left_now read.ahead read.left_is keeps; lines = read.lines; comes = read.comes; written = read.written };
+  unended = unended;
+  within = omega (arith, within, same);
+}
 
 -- ---- the end of the input
 
@@ -109,11 +149,6 @@ waits_only left left_now ahead waiting filled known more =
       front.2 ∙ ap (λ v. v ++ front.0) nothing ∙ rest_nothing,
       more.behind ∙ ap (λ v. waiting ++ v) nothing ∙ append-nil waiting,
     )
-
-appends_waiting : (a b : Option (List ℕ)) (waiting l : List ℕ) → waiting ≡ [] → Appends a b l → Appends a (append_known b waiting) l
-appends_waiting None b waiting l none p = tt
-appends_waiting (Some x) None waiting l none p = absurd p
-appends_waiting (Some x) (Some y) waiting l none p = ap (λ w. y ++ w) none ∙ append-nil y ∙ p
 
 pub ended_taken : (limit : ℕ) (first w : WorldState) (bytes waiting filled : List ℕ) (left left_now sink sink_now : Option (List ℕ)) (output : List ℕ) →
     HasRead first w bytes waiting left sink sink_now → ReadsMore left left_now waiting filled false → output ≡ [] → filled ≡ [] →
@@ -157,68 +192,31 @@ pub some_length : (xs : List ℕ) → (xs ≡ [] → ⊥) → 0 < length xs
 some_length [] h = absurd (h refl)
 some_length (x ∷ xs) h = omega arith
 
-cons_head : {x y : ℕ} → x ∷ [] ≡ y ∷ [] → x ≡ y
-cons_head e = cc
-
 -- ---- the end of the report
 
-pub told_done : (limit asked : ℕ) → limit ≡ asked → (first end : WorldState) (bytes output : List ℕ) (sink sink_now sink_then : Option (List ℕ)) → end.rows ≤ limit →
-    ReadsRows limit first end bytes sink sink_now output Taken → Appends (append_known sink_now output) sink_then (end_lines end) →
-    IsToldOf asked first bytes sink sink_then Done
-told_done limit asked same first end bytes output sink sink_now sink_then within read wrote = record {
+pub report_done : (limit asked : ℕ) → limit ≡ asked → (first end : WorldState) (bytes output : List ℕ) (sink sink_now : Option (List ℕ)) → end.rows ≤ limit →
+    (read : ReadsRows limit first end bytes sink sink_now output Taken) → IsReport asked first bytes (read.lines ++ end_lines end) Done
+report_done limit asked same first end bytes output sink sink_now within read = record {
   end = end;
-  lines = read.lines;
   rest = read.rest;
+  lines = read.lines;
   last = end_lines end;
   comes = read.comes;
   within = omega (arith, within, same);
   says = (read.ends, refl);
-  written = Appends-trans sink (append_known sink_now output) sink_then read.lines (end_lines end) read.written wrote;
+  written = refl;
 }
 
-pub told_not_built : (limit asked : ℕ) → limit ≡ asked → (first end : WorldState) (bytes output : List ℕ) (sink sink_now sink_then : Option (List ℕ)) (row : ℕ) →
-    end.rows ≤ limit → row ≡ end.rows + 1 → ReadsRows limit first end bytes sink sink_now output Refused →
-    Appends (append_known sink_now output) sink_then (not_built_line end) → IsToldOf asked first bytes sink sink_then (NotBuilt row)
-told_not_built limit asked same first end bytes output sink sink_now sink_then row within number read wrote = record {
+pub report_not_built : (limit asked : ℕ) → limit ≡ asked → (first end : WorldState) (bytes output : List ℕ) (sink sink_now : Option (List ℕ)) (row : ℕ) →
+    end.rows ≤ limit → row ≡ end.rows + 1 → (read : ReadsRows limit first end bytes sink sink_now output Refused) →
+    IsReport asked first bytes (read.lines ++ not_built_line end) (NotBuilt row)
+report_not_built limit asked same first end bytes output sink sink_now row within number read = record {
   end = end;
-  lines = read.lines;
   rest = read.rest;
+  lines = read.lines;
   last = not_built_line end;
   comes = read.comes;
   within = omega (arith, within, same);
   says = (subst (λ n. IsRefused n end read.rest) same read.ends, number, refl);
-  written = Appends-trans sink (append_known sink_now output) sink_then read.lines (not_built_line end) read.written wrote;
+  written = refl;
 }
-
--- ---- the words
-
-pub sound : (plan : Plan) (words : List (List ℕ)) → IsPlan plan words → IsSound plan
-sound (Replay rows ids) words h = (h.2.rows_most, h.0, h.1, h.2.id_least, h.2.id_most)
-
--- words that ask for nothing have no plan
-pub unplanned : (plan : Plan) (words : List (List ℕ)) → ((rows id : ℕ) → IsReplay rows id words → ⊥) → IsPlan plan words → ⊥
-unplanned (Replay rows ids) words none h = none rows h.0 h.2
-
--- what was told is the report of what the words ask for
-pub replayed : (plan : Plan) (words : List (List ℕ)) (bytes : List ℕ) (sink sink_now : Option (List ℕ)) (status : Status) →
-    IsPlan plan words → IsFollowed plan bytes sink sink_now status →
-    (report : List ℕ) × IsReplayed words bytes report status × Appends sink sink_now report
-replayed (Replay rows ids) words bytes sink sink_now status planned followed =
-    let told = followed.2 in
-    let e : planned.0 ∷ [] ≡ followed.0 ∷ [] = sym planned.1 ∙ followed.1 in (
-      told.lines ++ told.last,
-      record {
-        limit = rows;
-        id = followed.0;
-        words_read = subst (λ i. IsReplay rows i words) (cons_head e) planned.2;
-        end = told.end;
-        rest = told.rest;
-        lines = told.lines;
-        last = told.last;
-        comes = told.comes;
-        within = told.within;
-        says = told.says;
-        written = refl;
-      },
-      told.written,
-    )

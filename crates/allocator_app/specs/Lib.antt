@@ -1,6 +1,7 @@
 pub mod Allocator
 pub mod Bytes
 pub mod Codes
+pub mod InPart
 pub mod Input
 pub mod Member
 pub mod Output

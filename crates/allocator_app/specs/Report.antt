@@ -83,16 +83,20 @@ IsToTheEnd Done = Unit {0}
 IsToTheEnd (NotBuilt row) = Unit {0}
 IsToTheEnd _ = ⊥
 
--- the report of a schedule, and the status that it comes with
-pub record IsReplayed (words : List (List ℕ)) (bytes report : List ℕ) (status : Status) : Type 0 where
-  pub limit : ℕ
-  pub id : ℕ
-  pub words_read : IsReplay limit id words
+-- the report of a schedule of at most so many rows, from a world on, and the status that it comes with
+pub record IsReport (limit : ℕ) (first : WorldState) (bytes report : List ℕ) (status : Status) : Type 0 where
   pub end : WorldState
   pub rest : List ℕ
   pub lines : List ℕ
   pub last : List ℕ
-  pub comes : Comes (empty_world id) bytes lines end rest
+  pub comes : Comes first bytes lines end rest
   pub within : end.rows ≤ limit
   pub says : Says limit end rest last status
   pub written : report ≡ lines ++ last
+
+-- the report that the words ask for
+pub record IsReplayed (words : List (List ℕ)) (bytes report : List ℕ) (status : Status) : Type 0 where
+  pub limit : ℕ
+  pub id : ℕ
+  pub words_read : IsReplay limit id words
+  pub told : IsReport limit (empty_world id) bytes report status

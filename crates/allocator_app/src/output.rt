@@ -1,8 +1,8 @@
 ghost use Rattle.std.specs.Prelude.{◌≡◌, ◌≤◌, ◌<◌, ◌+◌, [], List, ℕ, length, OnOk, OnErr};
-ghost use Rattle.std.specs.Io.KnownBytes.{Appends, append_known};
+ghost use Rattle.std.specs.Io.KnownBytes.{Appends};
 ghost use Rattle.arrayvec.specs.ArrayVec.{array_vec_len};
 ghost use Rattle.outside.specs.Faults.{HasCause};
-ghost use Rattle.allocator_app.specs.Output.{WritesFront};
+ghost use Rattle.allocator_app.specs.Output.{Writes, WritesFront};
 
 use arrayvec::ArrayVec;
 use outside::{Failed, Sink};
@@ -33,12 +33,10 @@ impl Output {
         }
     }
 
-    /// Writes a line of at most 400 bytes behind what waits. Where the sink failed, it has a front of
-    /// what was to be written before the line.
+    /// Writes a line of at most 400 bytes behind what waits.
     pub fn line<K: Sink>(&mut self, sink: &mut K, line: &[u8]) -> Result<(), Failed>
         requires { length line.now ≤ 400 }
-        ensures ok { OnOk result (Appends (append_known (K.written sink.old) self.old) (append_known (K.written sink.new) self.new) line.now) }
-        ensures err { OnErr result (WritesFront (K.written sink.old) (K.written sink.new) self.old) }
+        ensures told { Writes (K.written sink.old) self.old (K.written sink.new) self.new line.now result }
         ensures cause { HasCause (K.faults sink.old) (K.faults sink.new) result }
     {
         if line.len() > self.bytes.remaining_capacity() {

@@ -1,7 +1,8 @@
-ghost use Rattle.std.specs.Prelude.{◌≡◌, ◌↔◌, ℕ, List, Some, map, string_bytes};
+ghost use Rattle.std.specs.Prelude.{◌≡◌, ◌↔◌, ◌⊎◌, ℕ, List, Some, map, string_bytes};
 ghost use Rattle.std.specs.Io.KnownBytes.{Appends};
 ghost use Rattle.outside.specs.Faults.{Rose};
 ghost use Rattle.allocator_app.specs.World.{empty_world};
+ghost use Rattle.allocator_app.specs.InPart.{IsReadInPart, IsWrittenInPart};
 ghost use Rattle.allocator_app.specs.Promise.{KeepsItsWord};
 ghost use Rattle.allocator_app.specs.Report.{IsBegun, IsReplayed, IsToTheEnd};
 ghost use Rattle.allocator_app.specs.Rows.{IsFollowed};
@@ -13,6 +14,7 @@ use crate::replay::replay;
 use crate::status::Status;
 use crate::words::plan;
 use can_frame::NodeId;
+use replay_text::laws::a_line_has_one_row;
 use outside::{Sink, Source};
 use std::alloc::Global;
 
@@ -34,15 +36,25 @@ pub fn run<S: Source, K: Sink>(
     sink: &mut K,
 ) -> Status
     ensures usage { (result ≡ Status.Usage) ↔ ((rows id : ℕ) → IsReplay rows id (map string_bytes words.now) → ⊥) }
+    ensures untouched { (result ≡ Status.Usage) ⊎ (result ≡ Status.Memory) → (source.new ≡ source.old) × (sink.new ≡ sink.old) }
     ensures report { (bytes : List ℕ) → S.left source.old ≡ Some bytes → IsToTheEnd result →
         (report : List ℕ) × IsReplayed (map string_bytes words.now) bytes report result × Appends (K.written sink.old) (K.written sink.new) report }
     ensures kept { (bytes report : List ℕ) → (replayed : IsReplayed (map string_bytes words.now) bytes report result) →
-        KeepsItsWord (empty_world replayed.id) replayed.comes.rows }
+        KeepsItsWord (empty_world replayed.id) replayed.told.comes.rows }
+    // A schedule has one report; unless something fails or memory is missing, the run comes to it.
+    ensures complete { (bytes report : List ℕ) (status : Status) → S.left source.old ≡ Some bytes →
+        IsReplayed (map string_bytes words.now) bytes report status → (Rose (S.faults source.old) (S.faults source.new) → ⊥)
+        → (Rose (K.faults sink.old) (K.faults sink.new) → ⊥) → (result ≡ status) ⊎ (result ≡ Status.Memory) }
     ensures read_fault { result ≡ Status.ReadFault → Rose (S.faults source.old) (S.faults source.new) }
     ensures write_fault { result ≡ Status.WriteFault → Rose (K.faults sink.old) (K.faults sink.new) }
+    ensures read_in_part { (bytes : List ℕ) → S.left source.old ≡ Some bytes → result ≡ Status.ReadFault → (rows id : ℕ)
+        × IsReplay rows id (map string_bytes words.now) × IsReadInPart rows (empty_world id) bytes (S.left source.new) (K.written sink.old) (K.written sink.new) }
+    ensures written_in_part { (bytes : List ℕ) → S.left source.old ≡ Some bytes → result ≡ Status.WriteFault → (rows id : ℕ)
+        × IsReplay rows id (map string_bytes words.now) × IsWrittenInPart rows (empty_world id) bytes (K.written sink.old) (K.written sink.new) }
 {
-    // The law behind the clause `kept`.
+    // The laws behind the clauses `kept` and `complete`.
     every_allocation_is_kept();
+    a_line_has_one_row();
     match plan(words) {
         Some(plan) => follow(alloc, plan, source, sink),
         None => Status::Usage,
@@ -51,8 +63,9 @@ pub fn run<S: Source, K: Sink>(
 
 fn follow<S: Source, K: Sink>(alloc: Global, plan: Plan, source: &mut S, sink: &mut K) -> Status
     requires { IsSound plan }
-    ensures told { (bytes : List ℕ) → S.left source.old ≡ Some bytes → IsToTheEnd result →
-        IsFollowed plan bytes (K.written sink.old) (K.written sink.new) result }
+    ensures followed { (bytes : List ℕ) → S.left source.old ≡ Some bytes →
+        IsFollowed plan bytes (S.left source.new) (K.written sink.old) (K.written sink.new) result }
+    ensures untouched { result ≡ Status.Memory → (source.new ≡ source.old) × (sink.new ≡ sink.old) }
     ensures read { result ≡ Status.ReadFault → Rose (S.faults source.old) (S.faults source.new) }
     ensures write { result ≡ Status.WriteFault → Rose (K.faults sink.old) (K.faults sink.new) }
     ensures begun { IsBegun result }

@@ -1,10 +1,10 @@
-ghost use Rattle.std.specs.Prelude.{◌≡◌, ◌≤◌, ◌<◌, ◌+◌, ◌++◌, ℕ, List, [], Some, length, IfOk, IfErr, OnOk};
-ghost use Rattle.std.specs.Io.KnownBytes.{Appends, append_known};
+ghost use Rattle.std.specs.Prelude.{◌≡◌, ◌≤◌, ◌<◌, ◌+◌, ◌++◌, ℕ, List, [], Some, length, IfOk, IfErr, OnErr};
 ghost use Rattle.outside.specs.Faults.{HasCause, Rose};
 ghost use Rattle.allocator_app.specs.World.{WorldState, empty_world};
 ghost use Rattle.allocator_app.specs.Stands.{Reaches, StandsFor};
-ghost use Rattle.allocator_app.specs.Report.{IsBegun, IsToTheEnd, end_line, end_lines, entry_line, entry_lines, log_line, log_lines, not_built_line};
-ghost use Rattle.allocator_app.specs.Rows.{IsCausedBy, IsToldOf, ReadsRows, TakesRows, Waits};
+ghost use Rattle.allocator_app.specs.Output.{Grows, Writes, WritesLast};
+ghost use Rattle.allocator_app.specs.Report.{IsBegun, end_line, end_lines, entry_line, entry_lines, log_line, log_lines, not_built_line};
+ghost use Rattle.allocator_app.specs.Rows.{BreaksOff, Ends, IsCausedBy, IsInPart, ReadsRows, TakesRows, Waits};
 
 use crate::input::{Input, Next};
 use crate::output::Output;
@@ -25,8 +25,9 @@ pub(crate) fn replay<S: Source, K: Sink>(
     sink: &mut K,
 ) -> Status
     requires { limit ≤ 1000000 }
-    ensures told { (bytes : List ℕ) → S.left source.old ≡ Some bytes → IsToTheEnd result →
-        IsToldOf limit (empty_world id) bytes (K.written sink.old) (K.written sink.new) result }
+    ensures ends { (bytes : List ℕ) → S.left source.old ≡ Some bytes →
+        Ends result limit (empty_world id) bytes (S.left source.new) (K.written sink.old) (K.written sink.new) }
+    ensures untouched { result ≡ Status.Memory → (source.new ≡ source.old) × (sink.new ≡ sink.old) }
     ensures read { result ≡ Status.ReadFault → Rose (S.faults source.old) (S.faults source.new) }
     ensures write { result ≡ Status.WriteFault → Rose (K.faults sink.old) (K.faults sink.new) }
     ensures begun { IsBegun result }
@@ -63,6 +64,9 @@ fn read_rows<S: Source, K: Sink>(
         ReadsRows world.old.limit first now bytes (K.written sink.old) (K.written sink.new) output.new rows)) }
     ensures within { world.new.rows ≤ world.new.limit }
     ensures limit { world.new.limit ≡ world.old.limit }
+    ensures cut { IfErr result (λ fault. (bytes : List ℕ) → S.left source.old ≡ Some bytes → (first : WorldState) → StandsFor world.old first →
+        IsInPart fault world.old.limit first bytes (S.left source.new) (K.written sink.old) (K.written sink.new)) }
+    ensures grew { Grows (K.written sink.old) (K.written sink.new) }
     ensures cause { IfErr result (IsCausedBy (S.faults source.old) (S.faults source.new) (K.faults sink.old) (K.faults sink.new)) }
     ensures later { K.faults sink.old ≤ K.faults sink.new }
 {
@@ -100,6 +104,9 @@ fn take_rows<K: Sink>(
     requires { world.old.rows ≤ world.old.limit }
     ensures rows { IfOk result (λ rows. Reaches world.old world.new (λ first now.
         TakesRows world.old.limit first now input.old input.new (K.written sink.old) output.old (K.written sink.new) output.new rows)) }
+    ensures cut { OnErr result (Reaches world.old world.new (λ first now.
+        BreaksOff first now input.old (K.written sink.old) output.old (K.written sink.new))) }
+    ensures grew { Grows (K.written sink.old) (K.written sink.new) }
     ensures waits { IfOk result (Waits world.old.rows world.new.rows input.old input.new) }
     ensures grows { world.old.rows ≤ world.new.rows }
     ensures within { world.new.rows ≤ world.new.limit }
@@ -125,8 +132,7 @@ fn take_rows<K: Sink>(
 
 /// Ends the report: the log of a running member, and the number of rows.
 fn finish<K: Sink>(world: &World, output: &mut Output, sink: &mut K) -> Result<(), Failed>
-    ensures told { OnOk result ((w : WorldState) → StandsFor world.now w →
-        Appends (append_known (K.written sink.old) output.old) (K.written sink.new) (end_lines w)) }
+    ensures told { (w : WorldState) → StandsFor world.now w → WritesLast (K.written sink.old) output.old (K.written sink.new) (end_lines w) result }
     ensures cause { HasCause (K.faults sink.old) (K.faults sink.new) result }
 {
     write_log(world, output, sink)?;
@@ -146,8 +152,7 @@ fn end_line(rows: u64) -> Line
 
 /// The log of a running member: its commit index, and a line for each committed entry.
 fn write_log<K: Sink>(world: &World, output: &mut Output, sink: &mut K) -> Result<(), Failed>
-    ensures told { OnOk result ((w : WorldState) → StandsFor world.now w →
-        Appends (append_known (K.written sink.old) output.old) (append_known (K.written sink.new) output.new) (log_lines w.id w.member)) }
+    ensures told { (w : WorldState) → StandsFor world.now w → Writes (K.written sink.old) output.old (K.written sink.new) output.new (log_lines w.id w.member) result }
     ensures cause { HasCause (K.faults sink.old) (K.faults sink.new) result }
 {
     let Some(allocator) = world.running() else {
@@ -176,7 +181,7 @@ fn write_entries<K: Sink>(
     output: &mut Output,
     sink: &mut K,
 ) -> Result<(), Failed>
-    ensures told { OnOk result (Appends (append_known (K.written sink.old) output.old) (append_known (K.written sink.new) output.new) (entry_lines 1 entries.now)) }
+    ensures told { Writes (K.written sink.old) output.old (K.written sink.new) output.new (entry_lines 1 entries.now) result }
     ensures cause { HasCause (K.faults sink.old) (K.faults sink.new) result }
 {
     let mut place = 0;
@@ -205,8 +210,7 @@ fn entry_line(place: u64, entry: &Entry) -> Line
 
 /// Ends the report with the number of the row that is not of a form that is built.
 fn refuse<K: Sink>(world: &World, output: &mut Output, sink: &mut K) -> Result<(), Failed>
-    ensures told { OnOk result ((w : WorldState) → StandsFor world.now w →
-        Appends (append_known (K.written sink.old) output.old) (K.written sink.new) (not_built_line w)) }
+    ensures told { (w : WorldState) → StandsFor world.now w → WritesLast (K.written sink.old) output.old (K.written sink.new) (not_built_line w) result }
     ensures cause { HasCause (K.faults sink.old) (K.faults sink.new) result }
 {
     let mut line = Line::new();
@@ -219,7 +223,7 @@ fn refuse<K: Sink>(world: &World, output: &mut Output, sink: &mut K) -> Result<(
 /// Writes the last line, and all that waits before it.
 fn write_last<K: Sink>(line: &Line, output: &mut Output, sink: &mut K) -> Result<(), Failed>
     requires { length line.now ≤ 400 }
-    ensures told { OnOk result (Appends (append_known (K.written sink.old) output.old) (K.written sink.new) line.now) }
+    ensures told { WritesLast (K.written sink.old) output.old (K.written sink.new) line.now result }
     ensures cause { HasCause (K.faults sink.old) (K.faults sink.new) result }
 {
     output.line(sink, line.as_bytes())?;

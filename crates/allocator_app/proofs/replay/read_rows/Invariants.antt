@@ -1,7 +1,8 @@
 use Rattle.std.proofs.Common.{◌≡◌, ◌≤◌, ◌+◌, ◌-◌, ◌*◌, List, ℕ, [], Some, None, length}
 use Rattle.replay_text.specs.Lines.{after_line}
+use Rattle.allocator_app.specs.InPart.{HasRead}
+use Rattle.allocator_app.specs.Output.{Grows}
 use Rattle.allocator_app.specs.Stands.{Reaches}
-use Rattle.allocator_app.specs.Rows.{HasRead}
 use Rattle.allocator_app.proofs.replay.read_rows.Given as goal
 
 -- all that the rows so far tell was written, and the beginning of a line waits
@@ -17,6 +18,7 @@ invariant-reading g l =
       unended : after_line l.input ≡ None;
       source_later : g.S.Source.faults l.fn.source ≤ g.S.Source.faults l.source;
       sink_later : g.K.Sink.faults l.fn.sink ≤ g.K.Sink.faults l.sink;
+      grew : Grows (written l.fn.sink) (written l.sink);
       told : (bytes : List ℕ) → left l.fn.source ≡ Some bytes → Reaches l.fn.world l.world (λ first now.
           HasRead first now bytes l.input (left l.source) (written l.fn.sink) (written l.sink));
     }

@@ -3,6 +3,7 @@ use Rattle.std.proofs.KnownBytes.{Appends-trans}
 use Rattle.allocator_app.specs.World.{after}
 use Rattle.allocator_app.proofs.Coming.{comes-more, refused-full, refused-no_row, refused-row}
 use Rattle.allocator_app.proofs.Rest.{rows_taken}
+use Rattle.allocator_app.proofs.Written.{front-on, grows-trans, on_err}
 use Rattle.allocator_app.proofs.replay.take_rows.Goals as goal
 
 pub returns-in-NoRow-clause-rows : goal.returns-in-NoRow-clause-rows
@@ -41,6 +42,7 @@ rows-preserved g c =
       limit = same ∙ so_far.limit;
       later = omega (arith, so_far.later, c.in_ok-line.ensures.cause.later);
       grows = omega (arith, so_far.grows, count);
+      grew = grows-trans _ _ _ so_far.grew c.in_ok-line.ensures.told.grew;
       some = inl (omega (arith, so_far.grows, count));
       came = λ first is.
           let far = so_far.came first is in
@@ -51,7 +53,44 @@ rows-preserved g c =
               far.2.0 ++ c.deref.result.now,
               comes-more first far.0 c.in-Row.row c.in-Some.told c.args.input.now c.rows.input _ far.2.0 c.deref.result.now _
                   far.2.1 c.in-Row.ensures.found taken.0 taken.1 (c.rows-in-rows.ensures.rows ∙ taken.2.rows) line,
-              Appends-trans _ _ _ far.2.0 c.deref.result.now far.2.2 c.in_ok-line.ensures.ok,
+              Appends-trans _ _ _ far.2.0 c.deref.result.now far.2.2 c.in_ok-line.ensures.told.ok,
             ),
           );
     }
+
+-- what was written by then
+
+pub returns-in-NoRow-clause-grew : goal.returns-in-NoRow-clause-grew
+returns-in-NoRow-clause-grew g c = c.rows.invariant.grew
+
+pub returns-in-Incomplete-clause-grew : goal.returns-in-Incomplete-clause-grew
+returns-in-Incomplete-clause-grew g c = c.rows.invariant.grew
+
+pub returns-then-is_full-clause-grew : goal.returns-then-is_full-clause-grew
+returns-then-is_full-clause-grew g c = c.rows.invariant.grew
+
+pub returns-in-None-clause-grew : goal.returns-in-None-clause-grew
+returns-in-None-clause-grew g c = c.rows.invariant.grew
+
+pub returns-in_err-line-clause-grew : goal.returns-in_err-line-clause-grew
+returns-in_err-line-clause-grew g c = grows-trans _ _ _ c.rows.invariant.grew c.in_err-line.ensures.told.grew
+
+pub returns-in_err-line-clause-cut : goal.returns-in_err-line-clause-cut
+returns-in_err-line-clause-cut g c =
+    let so_far = c.rows.invariant in
+    let line = c.deref.ensures.0 ∙ c.write_told.ensures.line in
+    let written = g.K.Sink.written in
+    on_err c.from_residual.result (λ first is.
+    let far = so_far.came first is in
+    let taken = c.in-Some.ensures.taken far.0 far.1 in (
+      after far.0 c.in-Row.row,
+      taken.2,
+      record {
+        lines = far.2.0 ++ c.deref.result.now;
+        rest = c.next_row.new.self;
+        comes = comes-more first far.0 c.in-Row.row c.in-Some.told c.args.input.now c.rows.input c.next_row.new.self far.2.0 c.deref.result.now _
+            far.2.1 c.in-Row.ensures.found taken.0 taken.1 (c.rows-in-rows.ensures.rows ∙ taken.2.rows) line;
+        written = front-on (written c.args.sink.now) (written c.rows.sink) (written c.line.new.sink) c.args.output.now c.rows.output far.2.0 c.deref.result.now
+            so_far.grew far.2.2 c.in_err-line.ensures.told.err;
+      },
+    ))

@@ -1,4 +1,5 @@
 use Rattle.std.proofs.Common.{◌≡◌, ◌≤◌, ◌<◌, ◌⊎◌, length}
+use Rattle.allocator_app.specs.Output.{Grows}
 use Rattle.allocator_app.specs.Stands.{Reaches}
 use Rattle.allocator_app.proofs.Rest.{TakesSome}
 use Rattle.allocator_app.proofs.replay.take_rows.Given as goal
@@ -14,6 +15,7 @@ invariant-rows g l =
       later : faults l.fn.sink ≤ faults l.sink;
       grows : l.fn.world.rows ≤ l.world.rows;
       some : (l.fn.world.rows < l.world.rows) ⊎ (l.input ≡ l.fn.input);
+      grew : Grows (written l.fn.sink) (written l.sink);
       came : Reaches l.fn.world l.world (λ first now.
           TakesSome first now l.fn.input l.input (written l.fn.sink) l.fn.output (written l.sink) l.output);
     }
