@@ -43,7 +43,7 @@ entry_lines-front none place log line waited low e =
     let rest = entry_lines-split 1 (place + 1) log in (
       rest.0,
       append_assoc waited (entry_lines 1 (take place log) ++ line) rest.0
-      ∙ ap (λ l. waited ++ l) (ap (λ l. l ++ rest.0) (entry_lines-next none place log line low e) ∙ sym rest.1),
+          ∙ ap (λ l. waited ++ l) (ap (λ l. l ++ rest.0) (entry_lines-next none place log line low e) ∙ sym rest.1),
     )
 
 -- a member that does not run has no log

@@ -1,11 +1,11 @@
-ghost use Rattle.std.specs.Prelude.{ℕ, false, slice_index_or, ◌≡◌, ◌≤◌, ◌<◌, ◌↔◌, ◌++◌, [], ◌∷◌, length, map, take, Some, None, IfSome, IsNone, IsSome, IsTrue, option_map};
+ghost use Rattle.std.specs.Prelude.{ℕ, false, slice_index_or, ◌≡◌, ◌≤◌, ◌<◌, ◌↔◌, ◌++◌, [], length, map, take, Some, None, IfSome, IsNone, option_map};
 ghost use Rattle.arrayvec.specs.ArrayVec.{array_vec_len};
 ghost use Rattle.can_frame.specs.Log.{blank};
 ghost use Rattle.allocator_app.specs.Bytes.{is_zero};
 ghost use Rattle.dsdl_codec.specs.NodeStatus.{node_status_bytes};
 ghost use Rattle.transfer_tx.specs.Queue.{left_behind, next_out};
 ghost use Rattle.transfer_tx.specs.Views.{queued_of};
-ghost use Rattle.allocator_app.specs.Allocator.{AllocatorState, allocation_offer, allocation_payload, at_moment, committed, elected, end_offers, ended, fits, is_recorded, is_taken, may_follow, message_ident, opened, pair_told, proposed, recorded_at, status_offered, status_offers, status_of, taken, tell_offers, tick_offers, ticked, told_on, whole_heard, whole_offers, with_allocation, with_status};
+ghost use Rattle.allocator_app.specs.Allocator.{AllocatorState, allocation_offer, at_moment, committed, elected, end_offers, ended, fits, is_recorded, is_taken, may_follow, message_ident, opened, pair_told, proposed, recorded_at, status_offered, status_offers, status_of, taken, tell_offers, tick_offers, ticked, told_on, whole_heard, whole_offers, with_allocation, with_status};
 
 use arrayvec::ArrayVec;
 use can_frame::{Entry, Ident, Kind, NodeId, Role, Sent, Uid, What, is_zero};

@@ -1,10 +1,9 @@
-ghost use Rattle.std.specs.Prelude.{◌≡◌, ◌≤◌, ◌<◌, ◌++◌, ℕ, List, [], length, map, Some, None, true, false, nat_eq};
+ghost use Rattle.std.specs.Prelude.{◌≡◌, ◌<◌, ℕ, List, [], map, Some, None};
 ghost use Rattle.arrayvec.specs.ArrayVec.{array_vec_len};
-ghost use Rattle.can_frame.specs.Piece.{piece_of};
 ghost use Rattle.dsdl_codec.specs.Allocation.{allocation_of};
 ghost use Rattle.alloc_exchange.specs.Exchange.{Accepted, HasItsSize, after};
 ghost use Rattle.alloc_exchange.specs.Stands.{StandsFor};
-ghost use Rattle.allocator_app.specs.Allocator.{AllocatorState, may_follow, opened};
+ghost use Rattle.allocator_app.specs.Allocator.{may_follow, opened};
 ghost use Rattle.allocator_app.specs.Member.{BusFrame, MemberState, cause_alone, drop_cause, heard_answer, heard_of, heard_offers, is_wanted, message_offers, message_seen, message_taken, receive_offers, received, seen_in, frame_offers, frame_taken, piece_in};
 
 use crate::allocator::{Allocator, Offered};

@@ -14,17 +14,20 @@ use crate::replay::replay;
 use crate::status::Status;
 use crate::words::plan;
 use can_frame::NodeId;
-use replay_text::laws::a_line_has_one_row;
 use outside::{Sink, Source};
+use replay_text::laws::a_line_has_one_row;
 use std::alloc::Global;
 
 /// Does what the words ask for: reads a schedule from the source and writes its report to the sink.
 ///
-/// The words are `replay <rows> <id>`; with other words the status is `Usage`, and nothing is read or
-/// written. `ReadFault` and `WriteFault` come only where the source or the sink failed. Else the report
-/// is exactly that of the schedule, and so is the status: `Done`, or `NotBuilt` with the number of the
-/// first row that is not of a form that is built; or there is not enough memory to begin with, and the
-/// status is `Memory`.
+/// The words are `replay <rows> <id>`; with other words the status is `Usage`. A schedule has one report,
+/// and one status that it comes with (`specs/Report.antt`): `Done`, or `NotBuilt` with the number of the
+/// first row that is not of a form that is built. The run comes to them unless something fails, or there
+/// is not enough memory to begin with.
+///
+/// `ReadFault` and `WriteFault` come only where the source or the sink failed. Where the source failed,
+/// the lines of exactly the rows whose line feeds were read are written; where the sink failed, it has a
+/// front of the report (`specs/InPart.antt`). With `Usage` and `Memory` nothing is read or written.
 ///
 /// Along the rows of the report, the log never gives one node ID to two devices, or two to one, what is
 /// committed stays, and whatever pair a step offers to the bus is committed when that step is done

@@ -1,4 +1,4 @@
-ghost use Rattle.std.specs.Prelude.{◌≡◌, ◌≤◌, ◌<◌, ◌+◌, ◌++◌, ℕ, List, [], Some, length, IfOk, IfErr, OnErr};
+ghost use Rattle.std.specs.Prelude.{◌≡◌, ◌≤◌, ◌<◌, ◌+◌, ℕ, List, [], Some, length, IfOk, IfErr, OnErr};
 ghost use Rattle.outside.specs.Faults.{HasCause, Rose};
 ghost use Rattle.allocator_app.specs.World.{WorldState, empty_world};
 ghost use Rattle.allocator_app.specs.Stands.{Reaches, StandsFor};

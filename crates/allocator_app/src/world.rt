@@ -1,4 +1,4 @@
-ghost use Rattle.std.specs.Prelude.{◌≡◌, ◌≢◌, ◌≤◌, ◌<◌, ◌↔◌, ◌+◌, ◌++◌, ℕ, [], ◌∷◌, length, map, true, false, vec_len, vec_capacity, Some, None, IsTrue, IsSome, IsNone, IfSome, IsSomeAnd, MatchOption, IfOk, ⊤, option_map};
+ghost use Rattle.std.specs.Prelude.{◌≡◌, ◌≢◌, ◌≤◌, ◌<◌, ◌↔◌, ◌+◌, ◌++◌, [], ◌∷◌, length, map, true, false, vec_len, vec_capacity, Some, None, IsTrue, IsSome, IsNone, IfSome, IsSomeAnd, MatchOption, IfOk, ⊤, option_map};
 ghost use Rattle.can_frame.specs.Identifier.{identifier_of};
 ghost use Rattle.can_frame.specs.declared.step.Seen.TheVariants.{Ticked};
 ghost use Rattle.transfer_tx.specs.Queue.{left_behind, next_out};

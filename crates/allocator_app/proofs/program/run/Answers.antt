@@ -20,7 +20,7 @@ returns-in-Some-clause-usage g c = (
 
 pub returns-in-Some-clause-untouched : goal.returns-in-Some-clause-untouched
 returns-in-Some-clause-untouched g c = λ before. elim before [
-  inl usage ↦ absurd (subst IsBegun usage c.follow.ensures.begun)
+  | inl usage ↦ absurd (subst IsBegun usage c.follow.ensures.begun)
   | inr memory ↦ c.follow.ensures.untouched memory
 ]
 
