@@ -1,0 +1,83 @@
+// Laws of the message machine: no function here has a body; its contract is the law.
+// Each holds over every lawful list of events from empty stores: openings, whole steps, and stops between any two puts.
+
+ghost use Rattle.std.specs.Prelude.{ℕ, Bool, List, [], ◌++◌, ◌∷◌, ◌≡◌, ◌⊎◌, length};
+ghost use Rattle.raft_model.specs.Lists.{In};
+ghost use Rattle.raft_model.specs.Messages.{Message, Request, Pair};
+ghost use Rattle.raft_model.specs.Messages.Message.{Pairs};
+ghost use Rattle.raft_model.specs.Server.{Store, Plain, put_all};
+ghost use Rattle.raft_model.specs.Moves.{Move, Verdict, IsGranted, IsJudged, CanCommit, IsCommitIndex};
+ghost use Rattle.raft_model.specs.Stops.{Site, all_moved};
+ghost use Rattle.raft_model.specs.Handlers.{plain_after_all, puts_of_all};
+ghost use Rattle.raft_model.specs.Runs.{World, Event, beginning, after, run, Lawful, MayCome};
+ghost use Rattle.raft_model.specs.Runs.Event.{Steps, StopsWithin};
+ghost use Rattle.raft_model.specs.Invariants.{StoresSound, VotesBound, LeadersElected, LogsMatch, AcknowledgedKept, AcknowledgedVoted, LeadersComplete, CommitsSettled, CallsSound, Invariants};
+ghost use Rattle.raft_model.specs.Safety.{IsSafe, Lasts};
+
+/// What is stored is sound, and a vote binds its voter.
+pub fn law_stored()
+    ensures stores { (members : List ℕ) (events : List Event) → Lawful (beginning members) events → StoresSound (run (beginning members) events) }
+    ensures votes { (members : List ℕ) (events : List Event) → Lawful (beginning members) events → VotesBound (run (beginning members) events) }
+{}
+
+/// A leader was elected by a quorum, and calls and answers are what they say.
+pub fn law_votes()
+    ensures leaders { (members : List ℕ) (events : List Event) → Lawful (beginning members) events → LeadersElected (run (beginning members) events) }
+    ensures calls { (members : List ℕ) (events : List Event) → Lawful (beginning members) events → CallsSound (run (beginning members) events) }
+{}
+
+/// Logs with an entry of one term at one place agree up to there.
+pub fn law_matching()
+    ensures logs { (members : List ℕ) (events : List Event) → Lawful (beginning members) events → LogsMatch (run (beginning members) events) }
+{}
+
+/// What a member acknowledged it keeps, and takes into its later votes, unless a later leader diverges.
+pub fn law_acknowledged()
+    ensures kept { (members : List ℕ) (events : List Event) → Lawful (beginning members) events → AcknowledgedKept (run (beginning members) events) }
+    ensures voted { (members : List ℕ) (events : List Event) → Lawful (beginning members) events → AcknowledgedVoted (run (beginning members) events) }
+{}
+
+/// What a quorum acknowledged stands in the list of every later leader, and only that is committed.
+pub fn law_commit()
+    ensures complete { (members : List ℕ) (events : List Event) → Lawful (beginning members) events → LeadersComplete (run (beginning members) events) }
+    ensures commits { (members : List ℕ) (events : List Event) → Lawful (beginning members) events → CommitsSettled (run (beginning members) events) }
+    ensures safe { (members : List ℕ) (events : List Event) → Lawful (beginning members) events → IsSafe (run (beginning members) events) }
+{}
+
+/// A step that may come may also be stopped: after any of its moves, and after any number of the puts of the next one.
+pub fn law_stops()
+    ensures { (w : World) (m n : ℕ) (moves : List Move) (next : Move) (rest : List Move) (fitted : List Message) (k : ℕ) → MayCome w (Steps m n (moves ++ (next ∷ rest)) fitted) → MayCome w (StopsWithin m n moves next k) }
+{}
+
+/// A run grows by one event at its end.
+pub fn law_one_more()
+    ensures run { (w : World) (events : List Event) (e : Event) → run w (events ++ (e ∷ [])) ≡ after (run w events) e }
+    ensures lawful { (w : World) (events : List Event) (e : Event) → Lawful w events → MayCome (run w events) e → Lawful w (events ++ (e ∷ [])) }
+{}
+
+/// Every run keeps the invariants and is safe: at each moment, and from each moment to every later one.
+pub fn law_every_run()
+    ensures invariants { (members : List ℕ) (events : List Event) → Lawful (beginning members) events → Invariants (run (beginning members) events) }
+    ensures safe { (members : List ℕ) (events : List Event) → Lawful (beginning members) events → IsSafe (run (beginning members) events) }
+    ensures lasts { (members : List ℕ) (early late : List Event) → Lawful (beginning members) early → Lawful (run (beginning members) early) late → Lasts (run (beginning members) early) (run (run (beginning members) early) late) }
+{}
+
+/// Every request has exactly one answer.
+pub fn law_answers()
+    ensures granted { (s : Store) (r : Request) → (granted : Bool) × IsGranted s r granted }
+    ensures one_grant { (s : Store) (r : Request) (a b : Bool) → IsGranted s r a → IsGranted s r b → a ≡ b }
+    ensures judged { (p : Plain) (r : Request) → (v : Verdict) × IsJudged p r v }
+    ensures one_verdict { (p : Plain) (r : Request) (u v : Verdict) → IsJudged p r u → IsJudged p r v → u ≡ v }
+    ensures commits { (members : List ℕ) (m : ℕ) (p : Plain) → ((k : ℕ) × IsCommitIndex members m p k) ⊎ ((k : ℕ) → CanCommit members m p k → ⊥) }
+{}
+
+/// The machine does something: three members come to a leader that has committed an entry and told its pair.
+pub fn law_example()
+    ensures { (events : List Event) × Lawful (beginning (1 ∷ 2 ∷ 3 ∷ [])) events × (length (run (beginning (1 ∷ 2 ∷ 3 ∷ [])) events).ledger.entries ≡ 1) × ((p : Pair) × In (Pairs p) (run (beginning (1 ∷ 2 ∷ 3 ∷ [])) events).bag) }
+{}
+
+/// The moves of a handler, told of the plain server alone, are those of its step, and what is stored after them is what their puts give.
+pub fn law_handlers()
+    ensures plain { (members : List ℕ) (m n : ℕ) (moves : List Move) (x : Site) → (all_moved members m n x moves).plain ≡ plain_after_all members m n x.plain moves }
+    ensures store { (members : List ℕ) (m n : ℕ) (moves : List Move) (p : Plain) → (plain_after_all members m n p moves).store ≡ put_all p.store (puts_of_all members m n p moves) }
+{}
