@@ -237,12 +237,16 @@ pub record MayPropose (server : Plain) (entry : Entry) : Type 0 where
   pub not_blank : IsBlank entry → ⊥
   pub injective : IsInjective (server.store.log ++ (entry ∷ []))
 
+-- the leader itself, and each peer whose matched index is as high
+abbrev pub has_matched : ℕ → Plain → ℕ → ℕ → Bool
+has_matched member server index peer = if peer == member then true else nat_le index (server.memory.matched peer)
+
 -- an entry of its own term above commit, which a quorum has matched, the leader included
 pub record CanCommit (members : List ℕ) (member : ℕ) (server : Plain) (index : ℕ) : Type 0 where
   pub above : server.store.commit < index
   pub inside : index ≤ length server.store.log
   pub own_term : term_at server.store.log index ≡ server.store.term
-  pub held : quorum members ≤ how_many (λ peer. if peer == member then true else nat_le index (server.memory.matched peer)) members
+  pub held : quorum members ≤ how_many (has_matched member server index) members
 
 -- the greatest index that can be committed
 pub record IsCommitIndex (members : List ℕ) (member : ℕ) (server : Plain) (index : ℕ) : Type 0 where

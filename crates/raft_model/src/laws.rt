@@ -1,13 +1,14 @@
 // Laws of the message machine: no function here has a body; its contract is the law.
 // Each holds over every lawful list of events from empty stores: openings, whole steps, and stops between any two puts.
 
-ghost use Rattle.std.specs.Prelude.{ℕ, Bool, List, [], ◌++◌, ◌∷◌, ◌≡◌, ◌⊎◌, length};
+ghost use Rattle.std.specs.Prelude.{ℕ, Bool, List, [], ◌++◌, ◌∷◌, ◌≡◌, ◌⊎◌, length, Some, None};
 ghost use Rattle.raft_model.specs.Lists.{In};
 ghost use Rattle.raft_model.specs.Messages.{Message, Request, Pair};
 ghost use Rattle.raft_model.specs.Messages.Message.{Pairs};
 ghost use Rattle.raft_model.specs.Server.{Store, Plain, put_all};
 ghost use Rattle.raft_model.specs.Moves.{Move, Verdict, IsGranted, IsJudged, CanCommit, IsCommitIndex};
 ghost use Rattle.raft_model.specs.Stops.{Site, all_moved};
+ghost use Rattle.raft_model.specs.Decisions.{grants, judges, commit_index};
 ghost use Rattle.raft_model.specs.Handlers.{plain_after_all, puts_of_all};
 ghost use Rattle.raft_model.specs.Runs.{World, Event, beginning, after, run, Lawful, MayCome};
 ghost use Rattle.raft_model.specs.Runs.Event.{Steps, StopsWithin};
@@ -62,13 +63,15 @@ pub fn law_every_run()
     ensures lasts { (members : List ℕ) (early late : List Event) → Lawful (beginning members) early → Lawful (run (beginning members) early) late → Lasts (run (beginning members) early) (run (run (beginning members) early) late) }
 {}
 
-/// Every request has exactly one answer.
-pub fn law_answers()
-    ensures granted { (s : Store) (r : Request) → (granted : Bool) × IsGranted s r granted }
-    ensures one_grant { (s : Store) (r : Request) (a b : Bool) → IsGranted s r a → IsGranted s r b → a ≡ b }
-    ensures judged { (p : Plain) (r : Request) → (v : Verdict) × IsJudged p r v }
-    ensures one_verdict { (p : Plain) (r : Request) (u v : Verdict) → IsJudged p r u → IsJudged p r v → u ≡ v }
-    ensures commits { (members : List ℕ) (m : ℕ) (p : Plain) → ((k : ℕ) × IsCommitIndex members m p k) ⊎ ((k : ℕ) → CanCommit members m p k → ⊥) }
+/// What a server decides is what the moves ask for, and they ask for nothing else: whether a vote is granted, what becomes of an append request, and the index to which a leader commits.
+pub fn law_decisions()
+    ensures granted { (store : Store) (request : Request) → IsGranted store request (grants store request) }
+    ensures one_grant { (store : Store) (request : Request) (granted : Bool) → IsGranted store request granted → granted ≡ grants store request }
+    ensures judged { (server : Plain) (request : Request) → IsJudged server request (judges server request) }
+    ensures one_verdict { (server : Plain) (request : Request) (verdict : Verdict) → IsJudged server request verdict → verdict ≡ judges server request }
+    ensures commit { (members : List ℕ) (member : ℕ) (server : Plain) (index : ℕ) → commit_index members member server ≡ Some index → IsCommitIndex members member server index }
+    ensures one_commit { (members : List ℕ) (member : ℕ) (server : Plain) (index : ℕ) → IsCommitIndex members member server index → commit_index members member server ≡ Some index }
+    ensures no_commit { (members : List ℕ) (member : ℕ) (server : Plain) → commit_index members member server ≡ None → (index : ℕ) → CanCommit members member server index → ⊥ }
 {}
 
 /// The machine does something: three members come to a leader that has committed an entry and told its pair.
