@@ -1,14 +1,15 @@
 // Laws of the message machine: no function here has a body; its contract is the law.
 // Each holds over every lawful list of events from empty stores: openings, whole steps, and stops between any two puts.
 
-ghost use Rattle.std.specs.Prelude.{ℕ, Bool, List, [], ◌++◌, ◌∷◌, ◌≡◌, ◌⊎◌, length, Some, None};
-ghost use Rattle.raft_model.specs.Lists.{In};
+ghost use Rattle.std.specs.Prelude.{ℕ, Bool, true, List, [], ◌++◌, ◌∷◌, ◌≡◌, ◌⊎◌, length, Some, None};
+ghost use Rattle.raft_model.specs.Lists.{In, how_many};
 ghost use Rattle.raft_model.specs.Messages.{Message, Request, Pair};
 ghost use Rattle.raft_model.specs.Messages.Message.{Pairs};
 ghost use Rattle.raft_model.specs.Server.{Store, Plain, put_all};
-ghost use Rattle.raft_model.specs.Moves.{Move, Verdict, IsGranted, IsJudged, CanCommit, IsCommitIndex};
+ghost use Rattle.raft_model.specs.Moves.{Move, Verdict, puts, memory_after, IsGranted, IsJudged, CanCommit, IsCommitIndex};
 ghost use Rattle.raft_model.specs.Stops.{Site, all_moved};
 ghost use Rattle.raft_model.specs.Decisions.{grants, judges, commit_index};
+ghost use Rattle.raft_model.specs.Members.{IsAll, counts_votes};
 ghost use Rattle.raft_model.specs.Handlers.{plain_after_all, puts_of_all};
 ghost use Rattle.raft_model.specs.Runs.{World, Event, beginning, after, run, Lawful, MayCome};
 ghost use Rattle.raft_model.specs.Runs.Event.{Steps, StopsWithin};
@@ -72,6 +73,14 @@ pub fn law_decisions()
     ensures commit { (members : List ℕ) (member : ℕ) (server : Plain) (index : ℕ) → commit_index members member server ≡ Some index → IsCommitIndex members member server index }
     ensures one_commit { (members : List ℕ) (member : ℕ) (server : Plain) (index : ℕ) → IsCommitIndex members member server index → commit_index members member server ≡ Some index }
     ensures no_commit { (members : List ℕ) (member : ℕ) (server : Plain) → commit_index members member server ≡ None → (index : ℕ) → CanCommit members member server index → ⊥ }
+{}
+
+/// A server that knows all members counts over its own list what the machine counts over all of them; a move that counts no votes needs no list.
+pub fn law_members()
+    ensures count { (list members : List ℕ) (test : ℕ → Bool) → IsAll list members → how_many test list ≡ how_many test members }
+    ensures puts { (list members : List ℕ) (member : ℕ) (server : Plain) (move : Move) → (counts_votes server move ≡ true → IsAll list members) → puts list member server move ≡ puts members member server move }
+    ensures memory { (list members : List ℕ) (member step : ℕ) (server : Plain) (move : Move) → (counts_votes server move ≡ true → IsAll list members) → memory_after list member step server move ≡ memory_after members member step server move }
+    ensures commit { (list members : List ℕ) (member : ℕ) (server : Plain) → IsAll list members → commit_index list member server ≡ commit_index members member server }
 {}
 
 /// The machine does something: three members come to a leader that has committed an entry and told its pair.
