@@ -1,20 +1,20 @@
 -- The decisions are what the relations of the moves say.
 use Rattle.std.proofs.Common.{◌≡◌, ◌≢◌, ℕ, zero, suc, ◌+◌, ◌<◌, ◌≤◌, Bool, true, false, List, [], ◌∷◌, ◌++◌, length, refl, arith, sym, ◌∙◌, ap, subst, inl, inr, ◌⊎◌, Option, Some, None, take, get_or, Decides, ◌&&◌, ◌||◌, not}
-use Rattle.std.specs.Prelude.{if◌then◌else◌, ◌==◌, nat_le, nat_lt}
+use Rattle.std.specs.Prelude.{◌==◌, nat_le, nat_lt}
 use Rattle.std.specs.Str.{bytes_eq}
 use Rattle.std.proofs.lemmas.Bool.Decides.{eqb_tells}
 use Rattle.std.proofs.lemmas.Slice.Eq.{bytes_eq-Decides}
 use Rattle.can_frame.specs.declared.entry.Entry.{Entry}
-use Rattle.can_frame.specs.Log.{AreDistinct, IsBlank, IsInjective, IsPair, IsWellFormed, blank, last_term, log_limit}
+use Rattle.can_frame.specs.Log.{AreDistinct, IsBlank, IsInjective, IsWellFormed, blank, last_term, log_limit}
 use Rattle.can_frame.specs.Zeros.{zeros}
 use Rattle.raft_model.specs.Lists.{how_many}
-use Rattle.raft_model.specs.Log.{NotAbove, term_at}
+use Rattle.raft_model.specs.Log.{term_at}
 use Rattle.raft_model.specs.Messages.{Request}
 use Rattle.raft_model.specs.Server.{Role, Store, Plain, quorum}
 use Rattle.raft_model.specs.Server.Role.{Follower, Candidate, Leader}
-use Rattle.raft_model.specs.Moves.{Verdict, MayGrant, IsGranted, HasPrevious, Holds, Adds, IsThere, IsBadEntry, IsRefused, IsRuled, IsCurrent, IsOutdated, IsJudged, with_term, CanCommit, IsCommitIndex, has_matched, is_leader}
+use Rattle.raft_model.specs.Moves.{Verdict, MayGrant, IsGranted, HasPrevious, Adds, IsThere, IsRuled, IsCurrent, IsOutdated, IsJudged, with_term, CanCommit, IsCommitIndex, has_matched, is_leader}
 use Rattle.raft_model.specs.Moves.Verdict.{Outdated, Refused, Held, Added}
-use Rattle.raft_model.specs.Decisions.{is_blank, is_well_formed, are_distinct, is_distinct_from_all, is_injective, is_free, is_not_above, grants, has_previous, is_there, may_add, rule_on_entry, is_current, judges, can_commit, greatest_to, commit_index}
+use Rattle.raft_model.specs.Decisions.{is_blank, is_well_formed, are_distinct, is_distinct_from_all, is_injective, is_free, grants, has_previous, is_there, may_add, rule_on_entry, is_current, judges, can_commit, greatest_to, commit_index}
 use Rattle.raft_model.proofs.Quorum.{tell}
 use Rattle.raft_model.proofs.Whole.{lt_tells, le_tells}
 
@@ -44,7 +44,7 @@ unless {a = false} x y = (λ e n. y.0 e, λ h. y.1 (h (λ p. cross (x.1 p))))
 told : {a : Bool} {P Q : Type 0} → (P → Q) → (Q → P) → Decides a P → Decides a Q
 told f g x = (λ e. f (x.0 e), λ h. x.1 (g h))
 
-refuted : {a : Bool} {P : Type 0} → Decides a P → a ≡ false → P → ⊥
+pub refuted : {a : Bool} {P : Type 0} → Decides a P → a ≡ false → P → ⊥
 refuted {a = true} x e p = absurd (cc)
 refuted {a = false} x e p = cross (x.1 p)
 

@@ -1,11 +1,11 @@
 -- Counts over two lists of the same members.
-use Rattle.std.proofs.Common.{◌≡◌, ◌≢◌, ℕ, zero, suc, ◌+◌, Bool, true, false, List, [], ◌∷◌, length, refl, arith, sym, ◌∙◌, ap, subst, inl, inr, Option, Some}
+use Rattle.std.proofs.Common.{◌≡◌, ◌≢◌, ℕ, zero, suc, ◌+◌, Bool, true, List, [], ◌∷◌, length, refl, arith, sym, ◌∙◌, ap, subst, inl, inr, Option, Some}
 use Rattle.std.specs.Prelude.{if◌then◌else◌, nat_le, ◌/◌}
 use Rattle.raft_model.specs.Lists.{In, how_many}
 use Rattle.raft_model.specs.Server.{Plain, quorum}
 use Rattle.raft_model.specs.Moves.{Move, puts, memory_after, counts, counted, has_matched, has_quorum, own_vote}
-use Rattle.raft_model.specs.Moves.Move.{TimeOut, TakeVoteRequest, TakeVoteAnswer, TakeAppendRequest, TakeAppendAnswer, ProposeEntry, CommitTo, TellPair, TellNothing, CallForVote, CallToAppend, AnswerAgain, GiveUp}
-use Rattle.raft_model.specs.Members.{HasNoneTwice, IsAll, counts_votes}
+use Rattle.raft_model.specs.Moves.Move.{TimeOut, TakeVoteAnswer}
+use Rattle.raft_model.specs.Members.{IsAll, counts_votes}
 use Rattle.raft_model.specs.Decisions.{can_commit, greatest_to, commit_index}
 use Rattle.raft_model.proofs.Quorum.{tell}
 

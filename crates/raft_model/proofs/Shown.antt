@@ -1,5 +1,5 @@
 -- The facts of the proof, told of the world that a state shows.
-use Rattle.std.proofs.Common.{◌≢◌, ◌≡◌, ℕ, ◌<◌, ◌≤◌, true, List, length, arith, sym, ◌∙◌, subst, inl, inr, take, get_or, length-take}
+use Rattle.std.proofs.Common.{◌≢◌, ◌≡◌, ℕ, ◌+◌, ◌<◌, ◌≤◌, true, List, length, arith, sym, ◌∙◌, subst, inl, inr, take, get_or, length-take}
 use Rattle.std.proofs.lemmas.List.{take-take, take_all}
 use Rattle.raft_model.specs.Lists.{In}
 use Rattle.can_frame.specs.declared.entry.Entry.{Entry}
@@ -11,7 +11,6 @@ use Rattle.raft_model.specs.Invariants.{Invariants, StoresSound, VotesBound, Lea
 use Rattle.raft_model.specs.Safety.{IsSafe, Lasts}
 use Rattle.raft_model.proofs.Micro.{State}
 use Rattle.raft_model.proofs.Facts.{Facts, Firm, IsSettled as SettledState, Acked, Safe, Later}
-use Rattle.raft_model.proofs.Lists.{same_length}
 use Rattle.raft_model.proofs.Safe.{safe}
 use Rattle.raft_model.proofs.Firm.{settled_later}
 use Rattle.raft_model.proofs.Bridge.{world_of}
@@ -82,6 +81,7 @@ complete_shown z n f l t u h b led =
 
 pub commits_shown : (z : State) (n : ℕ) → Facts z → CommitsSettled (world_of z n)
 commits_shown z n f = record {
+  ledger = λ i b. settled_shown z n (take (i + 1) z.ledger) (get_or z.stamps i 0) (f.committed.place i b);
   servers = λ m. elim (f.committed.server m) [ inl e ↦ inl e | inr s ↦ inr (s.0, s.1, settled_shown z n (take (z.commit m) (z.log m)) s.0 s.2) ];
   requests = λ r i k. let x = f.committed.request r (f.posted.request r i) k in
       (x.0, elim x.2 [ inl e ↦ inl e | inr s ↦ inr (s.0, s.1, settled_shown z n (take r.commit (z.list r.term)) s.0 s.2) ]);

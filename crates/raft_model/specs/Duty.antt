@@ -1,33 +1,52 @@
--- What a server that finishes its step owes, told of the server before and after.
-use Rattle.std.specs.Prelude.{◌≡◌, ◌≢◌, ℕ, ◌+◌, ◌<◌, ◌≤◌, false, List, [], length, get_or, ◌⊎◌, nat_le}
-use Rattle.raft_model.specs.Lists.{In, how_many}
-use Rattle.can_frame.specs.Log.{blank, log_limit}
+-- What a server owes that finishes its step: the phases of a step as moves, and what they leave.
+use Rattle.std.specs.Prelude.{◌≡◌, ◌≢◌, ℕ, ◌+◌, ◌<◌, ◌≤◌, ◌&&◌, Bool, true, false, not, List, [], ◌∷◌, ◌⊎◌, get_or, if◌then◌else◌, Option, Some, None, nat_lt}
+use Rattle.std.specs.Str.{bytes_eq}
+use Rattle.can_frame.specs.Log.{blank}
 use Rattle.can_frame.specs.Zeros.{zeros}
 use Rattle.raft_model.specs.Messages.{Message}
 use Rattle.raft_model.specs.Messages.Message.{Pairs}
-use Rattle.raft_model.specs.Server.{Plain, quorum}
-use Rattle.raft_model.specs.Server.Role.{Follower, Candidate, Leader}
-use Rattle.raft_model.specs.Moves.{CanCommit, term_limit, pair_at}
+use Rattle.raft_model.specs.Server.{Plain}
+use Rattle.raft_model.specs.Server.Role.{Follower, Candidate}
+use Rattle.raft_model.specs.Moves.{Move, CanCommit, has_quorum, is_leader, term_limit, pair_at}
+use Rattle.raft_model.specs.Moves.Move.{TimeOut, CommitTo, TellPair, TellNothing}
+use Rattle.raft_model.specs.Decisions.{commit_index}
 
--- after the commit phase a leader's commit is the greatest index above the former one that can be committed; where there is none it is unchanged
+-- a tick: who is no Leader and has waited stands for election, where there is a next term
+abbrev pub tick_phase : Bool → Plain → List Move
+tick_phase waited server = if waited && (not (is_leader server.memory.role) && nat_lt server.store.term term_limit) then TimeOut ∷ [] else []
+
+abbrev pub commit_moves : Option ℕ → List Move
+commit_moves None = []
+commit_moves (Some index) = CommitTo index ∷ []
+
+-- a Leader commits as far as it can
+abbrev pub commit_phase : List ℕ → ℕ → Plain → List Move
+commit_phase members member server = if is_leader server.memory.role then commit_moves (commit_index members member server) else []
+
+-- a Leader whose told is below commit tells the next place, if there is room for its frames and anything to tell
+abbrev pub tell_phase : Bool → Plain → List Move
+tell_phase room server = if is_leader server.memory.role && nat_lt server.memory.told server.store.commit
+    then (if bytes_eq (get_or server.store.log server.memory.told (blank 0)).uid zeros then TellNothing ∷ [] else (if room then TellPair ∷ [] else []))
+    else []
+
+-- the tick made a Candidate or Leader of the next term
+pub record TickDuty (before after : Plain) : Type 0 where
+  pub stands : after.memory.role ≢ Follower
+  pub next : after.store.term ≡ before.store.term + 1
+
+-- commit is the greatest index above the former one that can be committed; where there is none it is unchanged
 pub record CommitDuty (members : List ℕ) (member : ℕ) (before after : Plain) : Type 0 where
   pub greatest : (index : ℕ) → CanCommit members member before index → index ≤ after.store.commit
   pub only : (after.store.commit ≡ before.store.commit) ⊎ CanCommit members member before after.store.commit
 
--- where told is below commit: a place with a unique ID of zeros is passed over; another is offered exactly where there is room for its frames, and told grows only then
-pub record TellDuty (member step : ℕ) (room : Type 0) (before after : Plain) (offered : List Message) : Type 0 where
+-- a place with a unique ID of zeros is passed over, another is told where there is room; told goes on by one exactly then
+pub record TellDuty (member step : ℕ) (room : Bool) (before after : Plain) (offered : List Message) : Type 0 where
   pub passed : before.memory.told < before.store.commit → (get_or before.store.log before.memory.told (blank 0)).uid ≡ zeros → (after.memory.told ≡ before.memory.told + 1) × (offered ≡ [])
-  pub offers : before.memory.told < before.store.commit → (get_or before.store.log before.memory.told (blank 0)).uid ≢ zeros → room → (after.memory.told ≡ before.memory.told + 1) × In (Pairs (pair_at member step before.store before.memory.told)) offered
-  pub no_room : before.memory.told < before.store.commit → (get_or before.store.log before.memory.told (blank 0)).uid ≢ zeros → (room → ⊥) → (after.memory.told ≡ before.memory.told) × (offered ≡ [])
+  pub told : before.memory.told < before.store.commit → (get_or before.store.log before.memory.told (blank 0)).uid ≢ zeros → room ≡ true
+      → (after.memory.told ≡ before.memory.told + 1) × (offered ≡ Pairs (pair_at member step before.store before.memory.told) ∷ [])
+  pub no_room : before.memory.told < before.store.commit → (get_or before.store.log before.memory.told (blank 0)).uid ≢ zeros → room ≡ false → (after ≡ before) × (offered ≡ [])
+  pub nothing : before.store.commit ≤ before.memory.told → (after ≡ before) × (offered ≡ [])
 
--- a proposal on a full log changes nothing
-abbrev pub ProposeDuty : Plain → Plain → Type 0
-ProposeDuty before after = length before.store.log ≡ log_limit → after ≡ before
-
--- a tick of one that is no Leader, whose wait has passed and whose term is not the highest, makes it Candidate or Leader of the next term
-abbrev pub TickDuty : Type 0 → Plain → Plain → Type 0
-TickDuty waited before after = before.memory.role ≢ Leader → waited → before.store.term < term_limit → (after.memory.role ≢ Follower) × (after.store.term ≡ before.store.term + 1)
-
--- a Candidate that counts a quorum is Leader at the end of its step
+-- a Candidate that counts a quorum has become Leader
 abbrev pub WinDuty : List ℕ → Plain → Type 0
-WinDuty members after = after.memory.role ≡ Candidate → nat_le (quorum members) (how_many after.memory.votes members) ≡ false
+WinDuty members server = server.memory.role ≡ Candidate → has_quorum members server.memory.votes ≡ false

@@ -129,6 +129,8 @@ abbrev pub LeadersComplete : World → Type 0
 LeadersComplete world = (log : List Entry) (term later : ℕ) → IsSettled world log term → term < later → world.history.led later ≡ true → IsPrefix log (world.history.list later)
 
 pub record CommitsSettled (world : World) : Type 0 where
+  -- each place of the ledger is settled by the term that is its stamp
+  pub ledger : (place : ℕ) → place < length world.ledger.entries → IsSettled world (take (place + 1) world.ledger.entries) (get_or world.ledger.stamps place 0)
   pub servers : (member : ℕ) → ((world.server member).store.commit ≡ 0) ⊎ ((term : ℕ) × (term ≤ (world.server member).store.term) × IsSettled world (committed (world.server member).store) term)
   pub requests : (request : Request) → In (Requests request) world.bag → request.append ≡ true → (request.commit ≤ length world.ledger.entries) × ((request.commit ≡ 0) ⊎ ((term : ℕ) × (term ≤ request.term) × IsSettled world (take request.commit (world.history.list request.term)) term))
 
