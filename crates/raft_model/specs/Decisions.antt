@@ -40,36 +40,52 @@ is_not_above term index other_term other_index = nat_lt term other_term || ((ter
 
 -- whether a vote is granted
 abbrev pub grants : Store → Request → Bool
-grants store request = (request.term == store.term) && (is_free store.vote request.from && is_not_above (last_term store.log) (length store.log) request.previous_term request.previous)
+grants store request = (request.term == store.term)
+    && (is_free store.vote request.from
+    && is_not_above (last_term store.log) (length store.log) request.previous_term request.previous)
 
 -- Append requests.
 
 abbrev pub has_previous : Store → Request → Bool
-has_previous store request = nat_le request.previous (length store.log) && (term_at store.log request.previous == request.previous_term)
+has_previous store request = nat_le request.previous (length store.log)
+    && (term_at store.log request.previous == request.previous_term)
 
 abbrev pub is_there : Store → Request → Entry → Bool
-is_there store request entry = nat_lt request.previous (length store.log) && (term_at store.log (request.previous + 1) == entry.term)
+is_there store request entry = nat_lt request.previous (length store.log)
+    && (term_at store.log (request.previous + 1) == entry.term)
 
 abbrev pub may_add : Store → Request → Entry → Bool
 may_add store request entry = nat_lt store.commit (request.previous + 1)
-    && (is_well_formed entry && (nat_le (term_at store.log request.previous) entry.term && (nat_le entry.term request.term && is_injective (take request.previous store.log ++ (entry ∷ [])))))
+    && (is_well_formed entry
+    && (nat_le (term_at store.log request.previous) entry.term
+    && (nat_le entry.term request.term
+    && is_injective (take request.previous store.log ++ (entry ∷ [])))))
 
 abbrev pub rule_on_entry : Store → Request → Option Entry → Verdict
 rule_on_entry store request None = Held
-rule_on_entry store request (Some entry) = if nat_lt log_limit (request.previous + 1) then Refused else (if is_there store request entry then Held else (if may_add store request entry then Added entry else Refused))
+rule_on_entry store request (Some entry) =
+    if nat_lt log_limit (request.previous + 1) then Refused
+    else (if is_there store request entry then Held
+    else (if may_add store request entry then Added entry else Refused))
+
+abbrev pub rule : Store → Request → Verdict
+rule store request = if has_previous store request then rule_on_entry store request request.entry else Refused
 
 abbrev pub is_current : Plain → Request → Bool
-is_current server request = nat_lt server.store.term request.term || ((request.term == server.store.term) && not (is_leader server.memory.role))
+is_current server request =
+    nat_lt server.store.term request.term || ((request.term == server.store.term) && not (is_leader server.memory.role))
 
 -- what becomes of an append request
 abbrev pub judges : Plain → Request → Verdict
-judges server request = if is_current server request then (if has_previous (with_term server.store request.term) request then rule_on_entry (with_term server.store request.term) request request.entry else Refused) else Outdated
+judges server request = if is_current server request then rule (with_term server.store request.term) request else Outdated
 
 -- Commit.
 
 abbrev pub can_commit : List ℕ → ℕ → Plain → ℕ → Bool
 can_commit members member server index = nat_lt server.store.commit index
-    && (nat_le index (length server.store.log) && ((term_at server.store.log index == server.store.term) && has_quorum members (has_matched member server index)))
+    && (nat_le index (length server.store.log)
+    && ((term_at server.store.log index == server.store.term)
+    && has_quorum members (has_matched member server index)))
 
 -- the greatest number up to a limit that passes the test
 abbrev pub greatest_to : ℕ → (ℕ → Bool) → Option ℕ

@@ -17,4 +17,5 @@ pub record IsFit (member : ℕ) (server : Plain) : Type 0 where
   -- a Candidate or Leader voted for itself, in a term of at least 1
   pub vote : server.memory.role ≢ Follower → server.store.vote ≡ Some member
   pub term : server.memory.role ≢ Follower → 1 ≤ server.store.term
-  pub peers : server.memory.role ≡ Leader → (peer : ℕ) → IsWithin (length server.store.log) (server.memory.next peer) (server.memory.matched peer) (server.memory.pending peer)
+  pub peers : server.memory.role ≡ Leader → (peer : ℕ)
+      → IsWithin (length server.store.log) (server.memory.next peer) (server.memory.matched peer) (server.memory.pending peer)

@@ -30,7 +30,8 @@ no_history = record { led = λ term. false; leader = λ term. 0; list = λ term.
 
 -- a vote of this voter, with this log, is kept
 abbrev pub voted : History → ℕ → ℕ → ℕ → List Entry → History
-voted history voter candidate term log = record history { kept = record { voter = voter; candidate = candidate; term = term; log = log; led = history.led term } ∷ history.kept }
+voted history voter candidate term log = record history
+    { kept = record { voter = voter; candidate = candidate; term = term; log = log; led = history.led term } ∷ history.kept }
 
 -- the member stands for leader: its candidacy is kept, and the vote for itself
 abbrev pub stood : History → ℕ → ℕ → List Entry → History
@@ -41,7 +42,8 @@ stood history member term log = record history {
 
 -- the member leads the term, with this log
 abbrev pub elected : History → ℕ → ℕ → List Entry → History
-elected history member term log = record history { led = at history.led term true; leader = at history.leader term member; list = at history.list term log }
+elected history member term log = record history
+    { led = at history.led term true; leader = at history.leader term member; list = at history.list term log }
 
 -- the list of the term grows by an entry
 abbrev pub lengthened : History → ℕ → Entry → History

@@ -1,4 +1,5 @@
--- The moves of a server, row by row: when a move may come, its puts in order, its effect on memory and history, and the messages that it offers.
+-- The moves of a server, row by row: when a move may come, its puts in order, its effect on memory and history, and the messages
+-- that it offers.
 -- `member` is the node ID of the server, `step` the number of its step, `server` what it has before the move.
 use Rattle.std.specs.Prelude.{◌≡◌, ◌≢◌, ℕ, ◌+◌, ◌-◌, ◌<◌, ◌≤◌, Bool, true, false, List, [], ◌∷◌, ◌++◌, length, ◌==◌, ◌&&◌, if◌then◌else◌, ◌⊎◌, take, get_or, Option, Some, None, min, max, nat_le, nat_lt}
 use Rattle.raft_model.specs.Lists.{In, at, how_many}
@@ -85,7 +86,13 @@ abbrev pub win_puts : Store → List Put
 win_puts store = if adds_blank store then PutEntry (blank store.term) ∷ PutLonger (blank store.term) ∷ [] else []
 
 abbrev pub win_memory : Store → Memory → Memory
-win_memory store memory = record memory { role = Leader; told = store.commit; next = λ peer. length store.log + 1; matched = λ peer. 0; pending = λ peer. None }
+win_memory store memory = record memory {
+  role = Leader;
+  told = store.commit;
+  next = λ peer. length store.log + 1;
+  matched = λ peer. 0;
+  pending = λ peer. None;
+}
 
 -- a win that has no put is remembered when its move is done
 abbrev pub win_history : ℕ → Store → History → History
@@ -132,6 +139,26 @@ counted memory answer = at memory.votes answer.from true
 abbrev pub ended : Memory → ℕ → Memory
 ended memory peer = record memory { pending = at memory.pending peer None }
 
+-- an answer with a higher term makes a Follower
+abbrev pub stepped_down : Memory → ℕ → Memory
+stepped_down memory peer = record (ended memory peer) { role = Follower }
+
+-- a grant is counted, and a quorum wins
+abbrev pub with_vote : Memory → Answer → Memory
+with_vote memory answer = record (ended memory answer.from) { votes = counted memory answer }
+
+abbrev pub counting_puts : List ℕ → Plain → Answer → List Put
+counting_puts members server answer = if has_quorum members (counted server.memory answer) then win_puts server.store else []
+
+abbrev pub counting_memory : List ℕ → Plain → Answer → Memory
+counting_memory members server answer =
+    if has_quorum members (counted server.memory answer)
+    then win_memory server.store (with_vote server.memory answer) else with_vote server.memory answer
+
+abbrev pub counting_history : List ℕ → ℕ → Plain → Answer → History → History
+counting_history members member server answer history =
+    if has_quorum members (counted server.memory answer) then win_history member server.store history else history
+
 -- Append requests, judged on what is stored after the request's term.
 
 -- the term is not lower, and not its own while it is Leader
@@ -139,7 +166,8 @@ abbrev pub IsCurrent : Plain → Request → Type 0
 IsCurrent server request = (server.store.term < request.term) ⊎ ((request.term ≡ server.store.term) × (server.memory.role ≢ Leader))
 
 abbrev pub IsOutdated : Plain → Request → Type 0
-IsOutdated server request = (request.term < server.store.term) ⊎ ((request.term ≡ server.store.term) × (server.memory.role ≡ Leader))
+IsOutdated server request = (request.term < server.store.term)
+    ⊎ ((request.term ≡ server.store.term) × (server.memory.role ≡ Leader))
 
 -- the previous index is at most last, and the entry there has the previous term
 pub record HasPrevious (store : Store) (request : Request) : Type 0 where
@@ -153,7 +181,8 @@ IsThere store request entry = (request.previous < length store.log) × (term_at 
 -- there is no entry, or it is there
 pub record Holds (store : Store) (request : Request) : Type 0 where
   pub fits : HasPrevious store request
-  pub has : (request.entry ≡ None) ⊎ ((entry : Entry) × (request.entry ≡ Some entry) × (request.previous + 1 ≤ log_limit) × IsThere store request entry)
+  pub has : (request.entry ≡ None)
+      ⊎ ((entry : Entry) × (request.entry ≡ Some entry) × (request.previous + 1 ≤ log_limit) × IsThere store request entry)
 
 -- the entry is not there and may come into the log, cut before its place
 pub record Adds (store : Store) (request : Request) (entry : Entry) : Type 0 where
@@ -169,11 +198,17 @@ pub record Adds (store : Store) (request : Request) (entry : Entry) : Type 0 whe
 
 -- the entry is not there and may not come into the log
 abbrev pub IsBadEntry : Store → Request → Entry → Type 0
-IsBadEntry store request entry = (log_limit < request.previous + 1) ⊎ ((IsThere store request entry → ⊥) × (
-    (request.previous + 1 ≤ store.commit) ⊎ ((IsWellFormed entry → ⊥) ⊎ ((entry.term < term_at store.log request.previous) ⊎ ((request.term < entry.term) ⊎ (IsInjective (take request.previous store.log ++ (entry ∷ [])) → ⊥))))))
+IsBadEntry store request entry = (log_limit < request.previous + 1)
+    ⊎ ((IsThere store request entry → ⊥) × (
+    (request.previous + 1 ≤ store.commit)
+    ⊎ ((IsWellFormed entry → ⊥)
+    ⊎ ((entry.term < term_at store.log request.previous)
+    ⊎ ((request.term < entry.term)
+    ⊎ (IsInjective (take request.previous store.log ++ (entry ∷ [])) → ⊥))))))
 
 abbrev pub IsRefused : Store → Request → Type 0
-IsRefused store request = (HasPrevious store request → ⊥) ⊎ ((entry : Entry) × (request.entry ≡ Some entry) × IsBadEntry store request entry)
+IsRefused store request = (HasPrevious store request → ⊥)
+    ⊎ ((entry : Entry) × (request.entry ≡ Some entry) × IsBadEntry store request entry)
 
 -- what the rules on log and entry say
 abbrev pub IsRuled : Store → Request → Verdict → Type 0
@@ -187,7 +222,8 @@ abbrev pub IsJudged : Plain → Request → Verdict → Type 0
 IsJudged server request Outdated = IsOutdated server request
 IsJudged server request Refused = IsCurrent server request × IsRuled (with_term server.store request.term) request Refused
 IsJudged server request Held = IsCurrent server request × IsRuled (with_term server.store request.term) request Held
-IsJudged server request (Added entry) = IsCurrent server request × IsRuled (with_term server.store request.term) request (Added entry)
+IsJudged server request (Added entry) = IsCurrent server request
+    × IsRuled (with_term server.store request.term) request (Added entry)
 
 abbrev pub is_accepted : Verdict → Bool
 is_accepted Outdated = false
@@ -201,7 +237,8 @@ cut_puts store request = if nat_lt request.previous (length store.log) then PutS
 
 -- the lesser of the request's commit and its reach, where it is above commit
 abbrev pub advance_puts : Store → Request → List Put
-advance_puts store request = if nat_lt store.commit (min request.commit (reach request)) then PutCommit (min request.commit (reach request)) ∷ [] else []
+advance_puts store request =
+    if nat_lt store.commit (min request.commit (reach request)) then PutCommit (min request.commit (reach request)) ∷ [] else []
 
 abbrev pub append_puts : Store → Request → Verdict → List Put
 append_puts store request Outdated = []
@@ -218,13 +255,19 @@ append_memory server request (Added entry) = record server.memory { role = Follo
 -- Append answers.
 
 abbrev pub matched_after : Memory → Answer → ℕ
-matched_after memory answer = if answer.success then max (memory.matched answer.from) (reach answer.request) else memory.matched answer.from
+matched_after memory answer =
+    if answer.success then max (memory.matched answer.from) (reach answer.request) else memory.matched answer.from
 
 abbrev pub next_after : Memory → Answer → ℕ
-next_after memory answer = if answer.success then max (memory.matched answer.from) (reach answer.request) + 1 else max 1 (memory.next answer.from - 1)
+next_after memory answer =
+    if answer.success then max (memory.matched answer.from) (reach answer.request) + 1 else max 1 (memory.next answer.from - 1)
 
 abbrev pub matched_memory : Memory → Answer → Memory
-matched_memory memory answer = record memory { pending = at memory.pending answer.from None; matched = at memory.matched answer.from (matched_after memory answer); next = at memory.next answer.from (next_after memory answer) }
+matched_memory memory answer = record memory {
+  pending = at memory.pending answer.from None;
+  matched = at memory.matched answer.from (matched_after memory answer);
+  next = at memory.next answer.from (next_after memory answer);
+}
 
 -- Entries and commit of a leader.
 
@@ -270,7 +313,8 @@ vote_request member step store peer = record {
 
 -- the entry at the place after the previous index, where one is wanted and there
 abbrev pub entry_after : List Entry → ℕ → Bool → Option Entry
-entry_after log previous with_entry = if with_entry then (if nat_lt previous (length log) then Some (get_or log previous (blank 0)) else None) else None
+entry_after log previous with_entry =
+    if with_entry then (if nat_lt previous (length log) then Some (get_or log previous (blank 0)) else None) else None
 
 abbrev pub append_request : ℕ → ℕ → Store → ℕ → ℕ → Bool → Request
 append_request member step store peer previous with_entry = record {
@@ -286,11 +330,21 @@ append_request member step store peer previous with_entry = record {
 }
 
 abbrev pub answer_to : ℕ → ℕ → Store → Request → Bool → Answer
-answer_to member step store request success = record { step = step; from = member; request = request; term = store.term; success = success }
+answer_to member step store request success = record
+    { step = step; from = member; request = request; term = store.term; success = success }
 
 -- the pair of the entry that has so many before it
 abbrev pub pair_at : ℕ → ℕ → Store → ℕ → Pair
-pair_at member step store place = record { step = step; from = member; uid = (get_or store.log place (blank 0)).uid; node = (get_or store.log place (blank 0)).node }
+pair_at member step store place = record {
+  step = step;
+  from = member;
+  uid = (get_or store.log place (blank 0)).uid;
+  node = (get_or store.log place (blank 0)).node;
+}
+
+-- the request is the pending call to the peer
+abbrev pub calling : Memory → ℕ → Request → Memory
+calling memory peer request = record memory { pending = at memory.pending peer (Some request) }
 
 -- no call is pending to this other member, and none was made to it before in this step
 pub record MayCall (members : List ℕ) (member : ℕ) (called : List ℕ) (server : Plain) (peer : ℕ) : Type 0 where
@@ -304,25 +358,39 @@ pub record MayCall (members : List ℕ) (member : ℕ) (called : List ℕ) (serv
 -- when a move may come to a server that is up
 abbrev pub Comes : List ℕ → ℕ → List Message → List ℕ → Plain → Move → Type 0
 Comes members member bag called server TimeOut = (server.memory.role ≢ Leader) × (server.store.term < term_limit)
-Comes members member bag called server (TakeVoteRequest request granted) = In (Requests request) bag × (request.to ≡ member) × (request.append ≡ false) × IsGranted (with_term server.store request.term) request granted
-Comes members member bag called server (TakeVoteAnswer answer) = In (Answers answer) bag × (answer.request.from ≡ member) × (answer.request.append ≡ false) × (server.memory.pending answer.from ≡ Some answer.request)
-Comes members member bag called server (TakeAppendRequest request verdict) = In (Requests request) bag × (request.to ≡ member) × (request.append ≡ true) × IsJudged server request verdict
-Comes members member bag called server (TakeAppendAnswer answer) = In (Answers answer) bag × (answer.request.from ≡ member) × (answer.request.append ≡ true) × (server.memory.pending answer.from ≡ Some answer.request)
+Comes members member bag called server (TakeVoteRequest request granted) = In (Requests request) bag × (request.to ≡ member)
+    × (request.append ≡ false) × IsGranted (with_term server.store request.term) request granted
+Comes members member bag called server (TakeVoteAnswer answer) = In (Answers answer) bag × (answer.request.from ≡ member)
+    × (answer.request.append ≡ false) × (server.memory.pending answer.from ≡ Some answer.request)
+Comes members member bag called server (TakeAppendRequest request verdict) = In (Requests request) bag × (request.to ≡ member)
+    × (request.append ≡ true) × IsJudged server request verdict
+Comes members member bag called server (TakeAppendAnswer answer) = In (Answers answer) bag × (answer.request.from ≡ member)
+    × (answer.request.append ≡ true) × (server.memory.pending answer.from ≡ Some answer.request)
 Comes members member bag called server (ProposeEntry entry) = MayPropose server entry
 Comes members member bag called server (CommitTo index) = (server.memory.role ≡ Leader) × IsCommitIndex members member server index
-Comes members member bag called server TellPair = (server.memory.role ≡ Leader) × (server.memory.told < server.store.commit) × ((get_or server.store.log server.memory.told (blank 0)).uid ≢ zeros)
-Comes members member bag called server TellNothing = (server.memory.role ≡ Leader) × (server.memory.told < server.store.commit) × ((get_or server.store.log server.memory.told (blank 0)).uid ≡ zeros)
-Comes members member bag called server (CallForVote peer) = (server.memory.role ≡ Candidate) × MayCall members member called server peer
-Comes members member bag called server (CallToAppend peer previous with_entry) = (server.memory.role ≡ Leader) × (previous ≤ length server.store.log) × MayCall members member called server peer
-Comes members member bag called server (AnswerAgain place) = (place < server.store.commit) × ((get_or server.store.log place (blank 0)).uid ≢ zeros)
+Comes members member bag called server TellPair = (server.memory.role ≡ Leader) × (server.memory.told < server.store.commit)
+    × ((get_or server.store.log server.memory.told (blank 0)).uid ≢ zeros)
+Comes members member bag called server TellNothing = (server.memory.role ≡ Leader) × (server.memory.told < server.store.commit)
+    × ((get_or server.store.log server.memory.told (blank 0)).uid ≡ zeros)
+Comes members member bag called server (CallForVote peer) = (server.memory.role ≡ Candidate)
+    × MayCall members member called server peer
+Comes members member bag called server (CallToAppend peer previous with_entry) = (server.memory.role ≡ Leader)
+    × (previous ≤ length server.store.log) × MayCall members member called server peer
+Comes members member bag called server (AnswerAgain place) = (place < server.store.commit)
+    × ((get_or server.store.log place (blank 0)).uid ≢ zeros)
 Comes members member bag called server (GiveUp peer) = Unit {0}
 
 -- its puts, in order
 abbrev pub puts : List ℕ → ℕ → Plain → Move → List Put
-puts members member server TimeOut = stand_puts member server.store ++ (if has_quorum members (own_vote member) then win_puts (put_all server.store (stand_puts member server.store)) else [])
-puts members member server (TakeVoteRequest request granted) = term_puts server.store request.term ++ grant_puts (with_term server.store request.term) request granted
-puts members member server (TakeVoteAnswer answer) = if nat_lt server.store.term answer.term then term_puts server.store answer.term else (if counts server answer then (if has_quorum members (counted server.memory answer) then win_puts server.store else []) else [])
-puts members member server (TakeAppendRequest request verdict) = term_puts server.store request.term ++ append_puts (with_term server.store request.term) request verdict
+puts members member server TimeOut = stand_puts member server.store
+    ++ (if has_quorum members (own_vote member) then win_puts (put_all server.store (stand_puts member server.store)) else [])
+puts members member server (TakeVoteRequest request granted) = term_puts server.store request.term
+    ++ grant_puts (with_term server.store request.term) request granted
+puts members member server (TakeVoteAnswer answer) =
+    if nat_lt server.store.term answer.term then term_puts server.store answer.term
+    else (if counts server answer then counting_puts members server answer else [])
+puts members member server (TakeAppendRequest request verdict) = term_puts server.store request.term
+    ++ append_puts (with_term server.store request.term) request verdict
 puts members member server (TakeAppendAnswer answer) = term_puts server.store answer.term
 puts members member server (ProposeEntry entry) = PutEntry entry ∷ PutLonger entry ∷ []
 puts members member server (CommitTo index) = PutCommit index ∷ []
@@ -335,35 +403,45 @@ puts members member server (GiveUp peer) = []
 
 -- memory after it
 abbrev pub memory_after : List ℕ → ℕ → ℕ → Plain → Move → Memory
-memory_after members member step server TimeOut = if has_quorum members (own_vote member) then win_memory server.store (stand_memory member server.memory) else stand_memory member server.memory
+memory_after members member step server TimeOut =
+    if has_quorum members (own_vote member) then win_memory server.store (stand_memory member server.memory)
+    else stand_memory member server.memory
 memory_after members member step server (TakeVoteRequest request granted) = term_memory server request.term
-memory_after members member step server (TakeVoteAnswer answer) = if nat_lt server.store.term answer.term then record (ended server.memory answer.from) { role = Follower } else (if counts server answer then
-    (if has_quorum members (counted server.memory answer) then win_memory server.store (record (ended server.memory answer.from) { votes = counted server.memory answer }) else record (ended server.memory answer.from) { votes = counted server.memory answer })
-    else ended server.memory answer.from)
+memory_after members member step server (TakeVoteAnswer answer) =
+    if nat_lt server.store.term answer.term then stepped_down server.memory answer.from
+    else (if counts server answer then counting_memory members server answer else ended server.memory answer.from)
 memory_after members member step server (TakeAppendRequest request verdict) = append_memory server request verdict
-memory_after members member step server (TakeAppendAnswer answer) = if nat_lt server.store.term answer.term then record (ended server.memory answer.from) { role = Follower } else (if is_leader server.memory.role && (answer.term == server.store.term) then matched_memory server.memory answer else ended server.memory answer.from)
+memory_after members member step server (TakeAppendAnswer answer) =
+    if nat_lt server.store.term answer.term then stepped_down server.memory answer.from
+    else
+    (if is_leader server.memory.role && (answer.term == server.store.term)
+    then matched_memory server.memory answer else ended server.memory answer.from)
 memory_after members member step server (ProposeEntry entry) = server.memory
 memory_after members member step server (CommitTo index) = server.memory
 memory_after members member step server TellPair = record server.memory { told = server.memory.told + 1 }
 memory_after members member step server TellNothing = record server.memory { told = server.memory.told + 1 }
-memory_after members member step server (CallForVote peer) = record server.memory { pending = at server.memory.pending peer (Some (vote_request member step server.store peer)) }
-memory_after members member step server (CallToAppend peer previous with_entry) = record server.memory { pending = at server.memory.pending peer (Some (append_request member step server.store peer previous with_entry)) }
+memory_after members member step server (CallForVote peer) = calling server.memory peer (vote_request member step server.store peer)
+memory_after members member step server (CallToAppend peer previous with_entry) =
+    calling server.memory peer (append_request member step server.store peer previous with_entry)
 memory_after members member step server (AnswerAgain place) = server.memory
 memory_after members member step server (GiveUp peer) = ended server.memory peer
 
 -- the messages that it offers
 abbrev pub offers : ℕ → ℕ → Plain → Move → List Message
 offers member step server TimeOut = []
-offers member step server (TakeVoteRequest request granted) = Answers (answer_to member step (with_term server.store request.term) request granted) ∷ []
+offers member step server (TakeVoteRequest request granted) =
+    Answers (answer_to member step (with_term server.store request.term) request granted) ∷ []
 offers member step server (TakeVoteAnswer answer) = []
-offers member step server (TakeAppendRequest request verdict) = Answers (answer_to member step (with_term server.store request.term) request (is_accepted verdict)) ∷ []
+offers member step server (TakeAppendRequest request verdict) =
+    Answers (answer_to member step (with_term server.store request.term) request (is_accepted verdict)) ∷ []
 offers member step server (TakeAppendAnswer answer) = []
 offers member step server (ProposeEntry entry) = []
 offers member step server (CommitTo index) = []
 offers member step server TellPair = Pairs (pair_at member step server.store server.memory.told) ∷ []
 offers member step server TellNothing = []
 offers member step server (CallForVote peer) = Requests (vote_request member step server.store peer) ∷ []
-offers member step server (CallToAppend peer previous with_entry) = Requests (append_request member step server.store peer previous with_entry) ∷ []
+offers member step server (CallToAppend peer previous with_entry) =
+    Requests (append_request member step server.store peer previous with_entry) ∷ []
 offers member step server (AnswerAgain place) = Pairs (pair_at member step server.store place) ∷ []
 offers member step server (GiveUp peer) = []
 
@@ -388,18 +466,26 @@ calls (GiveUp peer) = []
 abbrev pub put_history : ℕ → Move → Store → Put → History → History
 put_history member TimeOut store (PutVote (Some candidate)) history = stood history member store.term store.log
 put_history member TimeOut store (PutLonger entry) history = elected history member store.term (store.log ++ (entry ∷ []))
-put_history member (TakeVoteRequest request granted) store (PutVote (Some candidate)) history = voted history member request.from request.term store.log
-put_history member (TakeVoteAnswer answer) store (PutLonger entry) history = elected history member store.term (store.log ++ (entry ∷ []))
+put_history member (TakeVoteRequest request granted) store (PutVote (Some candidate)) history = voted history member request.from
+    request.term store.log
+put_history member (TakeVoteAnswer answer) store (PutLonger entry) history = elected history member store.term
+    (store.log ++ (entry ∷ []))
 put_history member (ProposeEntry entry) store (PutLonger added) history = lengthened history store.term added
 put_history member move store change history = history
 
 abbrev pub puts_history : ℕ → Move → Store → List Put → History → History
 puts_history member move store [] history = history
-puts_history member move store (first ∷ rest) history = puts_history member move (put store first) rest (put_history member move store first history)
+puts_history member move store (first ∷ rest) history = puts_history member move (put store first) rest
+    (put_history member move store first history)
 
 -- what the model remembers besides when the move is done: a win without a blank, and a vote granted again
 abbrev pub move_history : List ℕ → ℕ → Plain → Move → History → History
-move_history members member server TimeOut history = if has_quorum members (own_vote member) then win_history member (put_all server.store (stand_puts member server.store)) history else history
-move_history members member server (TakeVoteRequest request granted) history = grant_history member (with_term server.store request.term) request granted history
-move_history members member server (TakeVoteAnswer answer) history = if nat_lt server.store.term answer.term then history else (if counts server answer then (if has_quorum members (counted server.memory answer) then win_history member server.store history else history) else history)
+move_history members member server TimeOut history =
+    if has_quorum members (own_vote member) then win_history member (put_all server.store (stand_puts member server.store)) history
+    else history
+move_history members member server (TakeVoteRequest request granted) history =
+    grant_history member (with_term server.store request.term) request granted history
+move_history members member server (TakeVoteAnswer answer) history =
+    if nat_lt server.store.term answer.term then history
+    else (if counts server answer then counting_history members member server answer history else history)
 move_history members member server move history = history

@@ -13,4 +13,6 @@ pub record IsReady (world : World) (member step : ℕ) : Type 0 where
 
 -- a step of this one move is a lawful event, whichever of its messages fit
 abbrev pub MayTake : World → ℕ → ℕ → Move → Type 0
-MayTake world member step move = (fitted : List Message) → ((message : Message) → In message fitted → In message (offers member step (world.server member) move)) → MayCome world (Steps member step (move ∷ []) fitted)
+MayTake world member step move = (fitted : List Message)
+    → ((message : Message) → In message fitted → In message (offers member step (world.server member) move))
+    → MayCome world (Steps member step (move ∷ []) fitted)

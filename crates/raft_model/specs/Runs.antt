@@ -40,7 +40,8 @@ beginning members = record {
 
 -- the server of a member at the beginning of its step
 abbrev pub site_of : World → ℕ → Site
-site_of world member = record { plain = world.server member; history = world.history; ledger = world.ledger; offered = []; called = [] }
+site_of world member = record
+    { plain = world.server member; history = world.history; ledger = world.ledger; offered = []; called = [] }
 
 -- and after these moves of it
 abbrev pub site_after : World → ℕ → ℕ → List Move → Site
@@ -48,7 +49,8 @@ site_after world member step moves = all_moved world.members member step (site_o
 
 -- the world with this at the member's server
 abbrev pub with_site : World → ℕ → Site → World
-with_site world member site = record world { server = at world.server member site.plain; history = site.history; ledger = site.ledger }
+with_site world member site = record world
+    { server = at world.server member site.plain; history = site.history; ledger = site.ledger }
 
 -- the bag with these messages too
 abbrev pub posted : List Message → List Message → List Message
@@ -56,17 +58,27 @@ posted [] bag = bag
 posted (message ∷ messages) bag = posted messages (message ∷ bag)
 
 abbrev pub after : World → Event → World
-after world (Opens member) = record world { server = at world.server member (record { store = (world.server member).store; memory = opened }) }
-after world (Steps member step moves fitted) = record (with_site world member (site_after world member step moves)) { bag = posted fitted world.bag; steps = step }
+after world (Opens member) = record world
+    { server = at world.server member (record { store = (world.server member).store; memory = opened }) }
+after world (Steps member step moves fitted) = record (with_site world member (site_after world member step moves))
+    { bag = posted fitted world.bag; steps = step }
 after world (Stops member step moves) = with_site world member (stopped (site_after world member step moves))
-after world (StopsWithin member step moves next count) = with_site world member (stopped_within world.members member count (site_after world member step moves) next)
+after world (StopsWithin member step moves next count) = with_site world member
+    (stopped_within world.members member count (site_after world member step moves) next)
 
--- when an event may come: a member that is down opens; a server that is up takes a step, with a number above all before; one that is up stops
+-- when an event may come: a member that is down opens; a server that is up takes a step, with a number above all before; one that
+-- is up stops
 abbrev pub MayCome : World → Event → Type 0
 MayCome world (Opens member) = In member world.members × ((world.server member).memory.up ≡ false)
-MayCome world (Steps member step moves fitted) = ((world.server member).memory.up ≡ true) × (world.steps < step) × AllCome world.members member step world.bag (site_of world member) moves × ((message : Message) → In message fitted → In message (site_after world member step moves).offered)
-MayCome world (Stops member step moves) = ((world.server member).memory.up ≡ true) × AllCome world.members member step world.bag (site_of world member) moves
-MayCome world (StopsWithin member step moves next count) = ((world.server member).memory.up ≡ true) × AllCome world.members member step world.bag (site_of world member) moves × Comes world.members member world.bag (site_after world member step moves).called (site_after world member step moves).plain next
+MayCome world (Steps member step moves fitted) = ((world.server member).memory.up ≡ true) × (world.steps < step)
+    × AllCome world.members member step world.bag (site_of world member) moves
+    × ((message : Message) → In message fitted → In message (site_after world member step moves).offered)
+MayCome world (Stops member step moves) = ((world.server member).memory.up ≡ true)
+    × AllCome world.members member step world.bag (site_of world member) moves
+MayCome world (StopsWithin member step moves next count) = ((world.server member).memory.up ≡ true)
+    × AllCome world.members member step world.bag (site_of world member) moves
+    × Comes world.members member world.bag (site_after world member step moves).called (site_after world member step moves).plain
+    next
 
 -- the world after these events
 abbrev pub run : World → List Event → World

@@ -16,10 +16,14 @@ pub record IsSafe (world : World) : Type 0 where
   -- no node ID stands twice in the ledger, and no unique ID but zeros
   pub injective : IsInjective world.ledger.entries
   -- each allocation answer is the pair of an entry of its sender's committed list, with neither ID zero
-  pub pairs : (pair : Pair) → In (Pairs pair) world.bag → (place : ℕ) × (place < (world.server pair.from).store.commit) × ((get_or (world.server pair.from).store.log place (blank 0)).uid ≡ pair.uid) × ((get_or (world.server pair.from).store.log place (blank 0)).node ≡ pair.node) × (pair.uid ≢ zeros) × (1 ≤ pair.node)
+  pub pairs : (pair : Pair) → In (Pairs pair) world.bag
+      → (place : ℕ) × (place < (world.server pair.from).store.commit)
+      × ((get_or (world.server pair.from).store.log place (blank 0)).uid ≡ pair.uid)
+      × ((get_or (world.server pair.from).store.log place (blank 0)).node ≡ pair.node) × (pair.uid ≢ zeros) × (1 ≤ pair.node)
   -- every place of the ledger has a stamp, and every leader of a term from the stamp on has the ledger up to this place
   pub stamps : length world.ledger.stamps ≡ length world.ledger.entries
-  pub leaders : (place term : ℕ) → place < length world.ledger.entries → get_or world.ledger.stamps place 0 ≤ term → world.history.led term ≡ true → Same (place + 1) (world.history.list term) world.ledger.entries
+  pub leaders : (place term : ℕ) → place < length world.ledger.entries → get_or world.ledger.stamps place 0 ≤ term
+      → world.history.led term ≡ true → Same (place + 1) (world.history.list term) world.ledger.entries
 
 -- what lasts from one moment of a run to every later one
 pub record Lasts (early late : World) : Type 0 where

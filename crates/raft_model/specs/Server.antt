@@ -1,5 +1,5 @@
 -- One plain server: what it has stored, what it has in memory, and the puts that change what is stored.
-use Rattle.std.specs.Prelude.{ℕ, ◌/◌, ◌+◌, Bool, false, true, List, [], ◌∷◌, ◌++◌, length, take, Option, None}
+use Rattle.std.specs.Prelude.{◌≡◌, ⊤, ℕ, ◌/◌, ◌+◌, Bool, false, true, List, [], ◌∷◌, ◌++◌, length, take, Option, None, Some}
 use Rattle.can_frame.specs.declared.entry.Entry.{Entry}
 use Rattle.raft_model.specs.Messages.{Request}
 
@@ -60,14 +60,40 @@ abbrev pub put_all : Store → List Put → Store
 put_all store [] = store
 put_all store (first ∷ rest) = put_all (put store first) rest
 
+-- last is raised only by the entry that was put just before
+abbrev pub AreWritten : Option Entry → List Put → Type 0
+AreWritten written [] = ⊤
+AreWritten written (PutEntry entry ∷ rest) = AreWritten (Some entry) rest
+AreWritten written (PutLonger entry ∷ rest) = (written ≡ Some entry) × AreWritten None rest
+AreWritten written (PutTerm term ∷ rest) = AreWritten None rest
+AreWritten written (PutVote vote ∷ rest) = AreWritten None rest
+AreWritten written (PutShorter place ∷ rest) = AreWritten None rest
+AreWritten written (PutCommit place ∷ rest) = AreWritten None rest
+
 -- an empty store
 abbrev pub empty_store : Store
 empty_store = record { term = 0; vote = None; log = []; commit = 0 }
 
 -- memory as it is from a stop to the next opening
 abbrev pub lost : Memory
-lost = record { up = false; role = Role.Follower; told = 0; votes = λ peer. false; next = λ peer. 0; matched = λ peer. 0; pending = λ peer. None }
+lost = record {
+  up = false;
+  role = Role.Follower;
+  told = 0;
+  votes = λ peer. false;
+  next = λ peer. 0;
+  matched = λ peer. 0;
+  pending = λ peer. None;
+}
 
 -- memory after opening: Follower, told 0, nothing counted, no calls
 abbrev pub opened : Memory
-opened = record { up = true; role = Role.Follower; told = 0; votes = λ peer. false; next = λ peer. 0; matched = λ peer. 0; pending = λ peer. None }
+opened = record {
+  up = true;
+  role = Role.Follower;
+  told = 0;
+  votes = λ peer. false;
+  next = λ peer. 0;
+  matched = λ peer. 0;
+  pending = λ peer. None;
+}

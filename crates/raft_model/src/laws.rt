@@ -10,7 +10,7 @@ ghost use Rattle.can_frame.specs.Zeros.{zeros};
 ghost use Rattle.raft_model.specs.Lists.{In, how_many};
 ghost use Rattle.raft_model.specs.Messages.{Answer, Message, Pair, Request};
 ghost use Rattle.raft_model.specs.Messages.Message.{Answers, Pairs, Requests};
-ghost use Rattle.raft_model.specs.Server.{Plain, Store, opened, put_all};
+ghost use Rattle.raft_model.specs.Server.{AreWritten, Plain, Store, opened, put_all};
 ghost use Rattle.raft_model.specs.Server.Role.{Candidate, Follower, Leader};
 ghost use Rattle.raft_model.specs.Moves.{CanCommit, Comes, IsCommitIndex, IsGranted, IsJudged, MayCall, MayPropose, Move, Verdict, memory_after, puts, term_limit, with_term};
 ghost use Rattle.raft_model.specs.Moves.Move.{AnswerAgain, CallForVote, CallToAppend, CommitTo, GiveUp, ProposeEntry, TakeAppendAnswer, TakeAppendRequest, TakeVoteAnswer, TakeVoteRequest, TellNothing, TellPair, TimeOut};
@@ -85,6 +85,11 @@ pub fn law_stops()
         MayCome world (Steps member step (moves ++ (next ∷ rest)) fitted) → MayCome world (StopsWithin member step moves next count) }
     ensures cut { (members : List ℕ) (member step : ℕ) (server : Plain) (moves : List Move) (count : ℕ) →
         count < length (puts_of_all members member step server moves) → IsCut members member step server moves count }
+{}
+
+/// Each move puts an entry just before it raises last by it.
+pub fn law_puts()
+    ensures { (members : List ℕ) (member : ℕ) (server : Plain) (move : Move) → AreWritten None (puts members member server move) }
 {}
 
 /// A run grows by one event at its end.
