@@ -47,7 +47,17 @@ server_at z m f = sym (λ j i. record {
 
 -- a step begins where the server is
 pub reach_start : (z : State) (k m : ℕ) → Reached z m (site_of (world_of z k) m)
-reach_start z k m = record { es = []; lawful = tt; focus = focus_of z m; ends = sym (settled z m); plain = refl; history = refl; ledger = refl; bag = refl; said = λ g i. absurd i }
+reach_start z k m = record {
+  es = [];
+  lawful = tt;
+  focus = focus_of z m;
+  ends = sym (settled z m);
+  plain = refl;
+  history = refl;
+  ledger = refl;
+  bag = refl;
+  said = λ g i. absurd i;
+}
 
 pub site_back : (z : State) (k m : ℕ) (x : Site) (r : Reached z m x) → with_site (world_of z k) m x ≡ world_of (run z r.es) k
 site_back z k m x r = there ∙ sym (ap (λ (u : State). world_of u k) r.ends)
@@ -68,7 +78,8 @@ said_anyway z bag (Requests r) h = h
 said_anyway z bag (Answers a) h = h
 said_anyway z bag (Pairs p) h = h
 
-pub posts_lawful : (gs : List Message) (z : State) → ((g : Message) → In g gs → IsSaid z g) → LawfulMicro z (posts gs) × (run z (posts gs) ≡ record z { bag = posted gs z.bag })
+pub posts_lawful : (gs : List Message) (z : State) → ((g : Message) → In g gs → IsSaid z g)
+    → LawfulMicro z (posts gs) × (run z (posts gs) ≡ record z { bag = posted gs z.bag })
 posts_lawful [] z h = (tt, refl)
 posts_lawful (g ∷ gs) z h =
     let r = posts_lawful gs (did z (Post g)) (λ x i. said_anyway z (g ∷ z.bag) x (h x (inr i))) in
@@ -83,17 +94,27 @@ pub said_reached : (z : State) (m : ℕ) (x : Site) (r : Reached z m x) (g : Mes
 said_reached z m x r g i = subst (λ (u : State). IsSaid u g) (sym r.ends) (said_there z m r.focus g (r.said g i))
 
 -- the law of events: lawful micro moves with the same result
-pub event_lawful : (z : State) (k : ℕ) (e : Event) → Facts z → MayCome (world_of z k) e → (es : List Micro) × LawfulMicro z es × (n : ℕ) × (after (world_of z k) e ≡ world_of (run z es) n)
+pub event_lawful : (z : State) (k : ℕ) (e : Event) → Facts z → MayCome (world_of z k) e
+    → (es : List Micro) × LawfulMicro z es × (n : ℕ) × (after (world_of z k) e ≡ world_of (run z es) n)
 event_lawful z k (Opens m) f h = (Open m ∷ [], ((h.1, h.0), tt), k, opens)
   where
     there : after (world_of z k) (Opens m) ≡ world_of (at_focus z m (focused m (focus_of z m) (Open m))) k
-    there = λ i. record { members = z.members; server = server_at z m (focused m (focus_of z m) (Open m)) i; bag = z.bag; history = (focus_of z m).history; ledger = (focus_of z m).ledger; steps = k }
+    there = λ i. record {
+      members = z.members;
+      server = server_at z m (focused m (focus_of z m) (Open m)) i;
+      bag = z.bag;
+      history = (focus_of z m).history;
+      ledger = (focus_of z m).ledger;
+      steps = k;
+    }
 
     opens : after (world_of z k) (Opens m) ≡ world_of (did z (Open m)) k
     opens = there ∙ sym (ap (λ (u : State). world_of u k) (did_here z m (Open m)))
 event_lawful z k (Steps m n mvs fitted) f h =
     let r = (reach_moves z m n mvs (site_of (world_of z k) m) f (reach_start z k m) h.0 h.2).0 in
-    let p = posts_lawful fitted (run z r.es) (λ g i. said_reached z m (all_moved z.members m n (site_of (world_of z k) m) mvs) r g (h.3 g i)) in
+    let p
+    = posts_lawful fitted (run z r.es) (λ g i. said_reached z m (all_moved z.members m n (site_of (world_of z k) m) mvs) r g (h.3 g i))
+    in
     let bag : (run z r.es).bag ≡ z.bag = ap (λ (u : State). u.bag) r.ends ∙ r.bag in
     let back : with_site (world_of z k) m (all_moved z.members m n (site_of (world_of z k) m) mvs) ≡ world_of (run z r.es) k = site_back z k m (all_moved z.members m n (site_of (world_of z k) m) mvs) r in (
       r.es ++ posts fitted,
@@ -113,13 +134,19 @@ event_lawful z k (StopsWithin m n mvs next i) f h =
     (s.es, s.lawful, k, site_back z k m (stopped_within z.members m i (all_moved z.members m n (site_of (world_of z k) m) mvs) next) s)
 
 -- so is every run
-pub run_lawful : (es : List Event) (z : State) (k : ℕ) → Facts z → Lawful (world_of z k) es → (ms : List Micro) × LawfulMicro z ms × (n : ℕ) × (run_events (world_of z k) es ≡ world_of (run z ms) n)
+pub run_lawful : (es : List Event) (z : State) (k : ℕ) → Facts z → Lawful (world_of z k) es
+    → (ms : List Micro) × LawfulMicro z ms × (n : ℕ) × (run_events (world_of z k) es ≡ world_of (run z ms) n)
 run_lawful [] z k f l = ([], tt, k, refl)
 run_lawful (e ∷ es) z k f l =
     let a = event_lawful z k e f l.0 in
     let next : Lawful (world_of (run z a.0) a.2) es = subst (λ (w : World). Lawful w es) a.3 l.1 in
-    let b = run_lawful es (run z a.0) a.2 (run_keeps a.0 z a.1 f) next in
-    (a.0 ++ b.0, lawful_then a.0 b.0 z a.1 b.1, b.2, ap (λ (w : World). run_events w es) a.3 ∙ (b.3 ∙ sym (ap (λ (u : State). world_of u b.2) (run_then a.0 b.0 z))))
+    let b = run_lawful es (run z a.0) a.2 (run_keeps a.0 z a.1 f) next in (
+      a.0 ++ b.0,
+      lawful_then a.0 b.0 z a.1 b.1,
+      b.2,
+      ap (λ (w : World). run_events w es) a.3
+          ∙ (b.3 ∙ sym (ap (λ (u : State). world_of u b.2) (run_then a.0 b.0 z))),
+    )
 
 pub begins : (members : List ℕ) → beginning members ≡ world_of (start members) 0
 begins members = refl

@@ -86,15 +86,18 @@ distinct_decided a b = told to from (unless (either (blank_decided a) (blank_dec
       by_test (bytes_eq a.uid b.uid) (bytes_eq-Decides a.uid b.uid) (λ e. h.uids (λ x. n (inl x)) (λ y. n (inr y)) e),
     )
 
-distinct_from_all_decided : (entry : Entry) (log : List Entry) → Decides (is_distinct_from_all entry log) ((j : ℕ) → j < length log → AreDistinct entry (get_or log j (blank 0)))
+distinct_from_all_decided : (entry : Entry) (log : List Entry)
+    → Decides (is_distinct_from_all entry log) ((j : ℕ) → j < length log → AreDistinct entry (get_or log j (blank 0)))
 distinct_from_all_decided entry [] = (λ e j b. absurd (omega (arith, b)), λ h. refl)
 distinct_from_all_decided entry (first ∷ rest) = told to from (both (distinct_decided entry first) (distinct_from_all_decided entry rest))
   where
-    to : AreDistinct entry first × ((j : ℕ) → j < length rest → AreDistinct entry (get_or rest j (blank 0))) → (j : ℕ) → j < length (first ∷ rest) → AreDistinct entry (get_or (first ∷ rest) j (blank 0))
+    to : AreDistinct entry first × ((j : ℕ) → j < length rest → AreDistinct entry (get_or rest j (blank 0))) → (j : ℕ)
+        → j < length (first ∷ rest) → AreDistinct entry (get_or (first ∷ rest) j (blank 0))
     to h zero b = h.0
     to h (suc j) b = h.1 j (omega (arith, b))
 
-    from : ((j : ℕ) → j < length (first ∷ rest) → AreDistinct entry (get_or (first ∷ rest) j (blank 0))) → AreDistinct entry first × ((j : ℕ) → j < length rest → AreDistinct entry (get_or rest j (blank 0)))
+    from : ((j : ℕ) → j < length (first ∷ rest) → AreDistinct entry (get_or (first ∷ rest) j (blank 0)))
+        → AreDistinct entry first × ((j : ℕ) → j < length rest → AreDistinct entry (get_or rest j (blank 0)))
     from h = (h 0 (omega arith), λ j b. h (suc j) (omega (arith, b)))
 
 injective_decided : (log : List Entry) → Decides (is_injective log) (IsInjective log)
@@ -120,7 +123,8 @@ free_decided (Some vote) candidate = told (λ e. inr (ap (λ (v : ℕ). Some v) 
     same (inr e) = cc
 
 grants_decided : (store : Store) (request : Request) → Decides (grants store request) (MayGrant store request)
-grants_decided store request = told (λ h. record { own_term = h.0; free = h.1.0; not_above = h.1.1 }) (λ h. (h.own_term, (h.free, h.not_above)))
+grants_decided store request = told (λ h. record { own_term = h.0; free = h.1.0; not_above = h.1.1 })
+    (λ h. (h.own_term, (h.free, h.not_above)))
     (both (equal request.term store.term) (both (free_decided store.vote request.from) (either (less (last_term store.log) request.previous_term)
     (both (equal (last_term store.log) request.previous_term) (at_most (length store.log) request.previous)))))
 
@@ -146,11 +150,14 @@ previous_decided store request = told (λ h. record { previous = h.0; previous_t
     (both (at_most request.previous (length store.log)) (equal (term_at store.log request.previous) request.previous_term))
 
 there_decided : (store : Store) (request : Request) (entry : Entry) → Decides (is_there store request entry) (IsThere store request entry)
-there_decided store request entry = both (less request.previous (length store.log)) (equal (term_at store.log (request.previous + 1)) entry.term)
+there_decided store request entry = both (less request.previous (length store.log))
+    (equal (term_at store.log (request.previous + 1)) entry.term)
 
 -- what is asked of an entry that is not there
 abbrev MayAdd : Store → Request → Entry → Type 0
-MayAdd store request entry = (store.commit < request.previous + 1) × (IsWellFormed entry × ((term_at store.log request.previous ≤ entry.term) × ((entry.term ≤ request.term) × IsInjective (take request.previous store.log ++ (entry ∷ [])))))
+MayAdd store request entry = (store.commit < request.previous + 1)
+    × (IsWellFormed entry
+    × ((term_at store.log request.previous ≤ entry.term) × ((entry.term ≤ request.term) × IsInjective (take request.previous store.log ++ (entry ∷ [])))))
 
 add_decided : (store : Store) (request : Request) (entry : Entry) → Decides (may_add store request entry) (MayAdd store request entry)
 add_decided store request entry = both (less store.commit (request.previous + 1)) (both (well_formed_decided entry)
@@ -162,10 +169,12 @@ leader_decided Candidate = (λ e. cross e, λ h. absurd (cc))
 leader_decided Leader = (λ e. refl, λ h. refl)
 
 current_decided : (server : Plain) (request : Request) → Decides (is_current server request) (IsCurrent server request)
-current_decided server request = either (less server.store.term request.term) (both (equal request.term server.store.term) (never (leader_decided server.memory.role)))
+current_decided server request = either (less server.store.term request.term)
+    (both (equal request.term server.store.term) (never (leader_decided server.memory.role)))
 
 -- a verdict that the rules on log and entry give is a verdict on the request, where its term is current
-judged_by_rules : (server : Plain) (request : Request) (verdict : Verdict) → IsCurrent server request → IsRuled (with_term server.store request.term) request verdict → IsJudged server request verdict
+judged_by_rules : (server : Plain) (request : Request) (verdict : Verdict) → IsCurrent server request
+    → IsRuled (with_term server.store request.term) request verdict → IsJudged server request verdict
 judged_by_rules server request Outdated current ruled = elim ruled [ ]
 judged_by_rules server request Refused current ruled = (current, ruled)
 judged_by_rules server request Held current ruled = (current, ruled)
@@ -177,19 +186,24 @@ one_fails {a = true} x n = inr (λ q. n (x.0 refl, q))
 one_fails {a = false} x n = inl (refuted x refl)
 
 bad_entry : (store : Store) (request : Request) (entry : Entry) → (MayAdd store request entry → ⊥) →
-    (request.previous + 1 ≤ store.commit) ⊎ ((IsWellFormed entry → ⊥) ⊎ ((entry.term < term_at store.log request.previous) ⊎ ((request.term < entry.term) ⊎ (IsInjective (take request.previous store.log ++ (entry ∷ [])) → ⊥))))
+    (request.previous + 1 ≤ store.commit)
+    ⊎ ((IsWellFormed entry → ⊥)
+    ⊎ ((entry.term < term_at store.log request.previous) ⊎ ((request.term < entry.term) ⊎ (IsInjective (take request.previous store.log ++ (entry ∷ [])) → ⊥))))
 bad_entry store request entry n = elim (one_fails (less store.commit (request.previous + 1)) n) [
   | inl a ↦ inl (omega (arith, a))
   | inr n1 ↦ elim (one_fails (well_formed_decided entry) n1) [
     | inl a ↦ inr (inl a)
     | inr n2 ↦ elim (one_fails (at_most (term_at store.log request.previous) entry.term) n2) [
       | inl a ↦ inr (inr (inl (omega (arith, a))))
-      | inr n3 ↦ elim (one_fails (at_most entry.term request.term) n3) [ inl a ↦ inr (inr (inr (inl (omega (arith, a))))) | inr n4 ↦ inr (inr (inr (inr n4))) ]
+      | inr n3 ↦
+          elim (one_fails (at_most entry.term request.term) n3)
+          [ inl a ↦ inr (inr (inr (inl (omega (arith, a))))) | inr n4 ↦ inr (inr (inr (inr n4))) ]
     ]
   ]
 ]
 
-ruled_on_entry : (store : Store) (request : Request) (carried : Option Entry) → request.entry ≡ carried → HasPrevious store request → IsRuled store request (rule_on_entry store request carried)
+ruled_on_entry : (store : Store) (request : Request) (carried : Option Entry) → request.entry ≡ carried → HasPrevious store request
+    → IsRuled store request (rule_on_entry store request carried)
 ruled_on_entry store request None e fits = record { fits = fits; has = inl e }
 ruled_on_entry store request (Some entry) e fits = elim (tell (nat_lt log_limit (request.previous + 1))) [
   | inl a ↦ rw (a) (inr (entry, e, inl ((less log_limit (request.previous + 1)).0 a)))
@@ -197,7 +211,10 @@ ruled_on_entry store request (Some entry) e fits = elim (tell (nat_lt log_limit 
     | inl b ↦ rw (b) (record { fits = fits; has = inr (entry, e, room a, (there_decided store request entry).0 b) })
     | inr b ↦ rw (b) (elim (tell (may_add store request entry)) [
       | inl c ↦ rw (c) (added a (refuted (there_decided store request entry) b) ((add_decided store request entry).0 c))
-      | inr c ↦ rw (c) (inr (entry, e, inr (refuted (there_decided store request entry) b, bad_entry store request entry (refuted (add_decided store request entry) c))))
+      | inr c ↦
+          rw (c)
+          (inr
+          (entry, e, inr (refuted (there_decided store request entry) b, bad_entry store request entry (refuted (add_decided store request entry) c))))
     ])
   ])
 ]
@@ -205,7 +222,8 @@ ruled_on_entry store request (Some entry) e fits = elim (tell (nat_lt log_limit 
     room : nat_lt log_limit (request.previous + 1) ≡ false → request.previous + 1 ≤ log_limit
     room a = let n : log_limit < request.previous + 1 → ⊥ = refuted (less log_limit (request.previous + 1)) a in omega (arith, n)
 
-    added : nat_lt log_limit (request.previous + 1) ≡ false → (IsThere store request entry → ⊥) → MayAdd store request entry → Adds store request entry
+    added : nat_lt log_limit (request.previous + 1) ≡ false → (IsThere store request entry → ⊥) → MayAdd store request entry
+        → Adds store request entry
     added a not_there h = record {
       fits = fits;
       carried = e;
@@ -236,7 +254,8 @@ pub judged : (server : Plain) (request : Request) → IsJudged server request (j
 judged server request = elim (tell (is_current server request)) [
   | inr a ↦ rw (a) (outdated server request (refuted (current_decided server request) a))
   | inl a ↦ rw (a) (elim (tell (has_previous (with_term server.store request.term) request)) [
-    | inr b ↦ rw (b) ((current_decided server request).0 a, inl (refuted (previous_decided (with_term server.store request.term) request) b))
+    | inr b ↦
+        rw (b) ((current_decided server request).0 a, inl (refuted (previous_decided (with_term server.store request.term) request) b))
     | inl b ↦ rw (b) (judged_by_rules server request (rule_on_entry (with_term server.store request.term) request request.entry) ((current_decided server request).0 a)
         (ruled_on_entry (with_term server.store request.term) request request.entry refl ((previous_decided (with_term server.store request.term) request).0 b)))
   ])
@@ -244,9 +263,12 @@ judged server request = elim (tell (is_current server request)) [
 
 -- Commit.
 
-can_commit_decided : (members : List ℕ) (member : ℕ) (server : Plain) (index : ℕ) → Decides (can_commit members member server index) (CanCommit members member server index)
-can_commit_decided members member server index = told (λ h. record { above = h.0; inside = h.1.0; own_term = h.1.1.0; held = h.1.1.1 }) (λ h. (h.above, (h.inside, (h.own_term, h.held))))
-    (both (less server.store.commit index) (both (at_most index (length server.store.log)) (both (equal (term_at server.store.log index) server.store.term) (at_most (quorum members) (how_many (has_matched member server index) members)))))
+can_commit_decided : (members : List ℕ) (member : ℕ) (server : Plain) (index : ℕ)
+    → Decides (can_commit members member server index) (CanCommit members member server index)
+can_commit_decided members member server index = told (λ h. record { above = h.0; inside = h.1.0; own_term = h.1.1.0; held = h.1.1.1 })
+    (λ h. (h.above, (h.inside, (h.own_term, h.held))))
+    (both (less server.store.commit index)
+    (both (at_most index (length server.store.log)) (both (equal (term_at server.store.log index) server.store.term) (at_most (quorum members) (how_many (has_matched member server index) members)))))
 
 -- the greatest that passes
 pub record IsGreatest (limit : ℕ) (test : ℕ → Bool) (found : Option ℕ) : Type 0 where
@@ -259,7 +281,10 @@ found e = cc
 
 greatest : (limit : ℕ) (test : ℕ → Bool) → IsGreatest limit test (greatest_to limit test)
 greatest zero test = elim (tell (test zero)) [
-  | inl a ↦ rw (a) (record { passes = λ k e. subst (λ (i : ℕ). test i ≡ true) (found e) a; greatest = λ k e i b p. omega (arith, b); none = λ e. absurd (cc) })
+  | inl a ↦
+      rw (a)
+      (record
+      { passes = λ k e. subst (λ (i : ℕ). test i ≡ true) (found e) a; greatest = λ k e i b p. omega (arith, b); none = λ e. absurd (cc) })
   | inr a ↦ rw (a) (record {
     passes = λ k e. absurd (cc);
     greatest = λ k e. absurd (cc);
@@ -285,19 +310,25 @@ greatest (suc limit) test = elim (tell (test (suc limit))) [
   })
 ]
 
-greatest_index : (members : List ℕ) (member : ℕ) (server : Plain) → IsGreatest (length server.store.log) (can_commit members member server) (commit_index members member server)
+greatest_index : (members : List ℕ) (member : ℕ) (server : Plain)
+    → IsGreatest (length server.store.log) (can_commit members member server) (commit_index members member server)
 greatest_index members member server = greatest (length server.store.log) (can_commit members member server)
 
-pub commit : (members : List ℕ) (member : ℕ) (server : Plain) (index : ℕ) → commit_index members member server ≡ Some index → IsCommitIndex members member server index
+pub commit : (members : List ℕ) (member : ℕ) (server : Plain) (index : ℕ) → commit_index members member server ≡ Some index
+    → IsCommitIndex members member server index
 commit members member server index e = record {
   can = (can_commit_decided members member server index).0 ((greatest_index members member server).passes index e);
-  greatest = λ place can. (greatest_index members member server).greatest index e place can.inside ((can_commit_decided members member server place).1 can);
+  greatest = λ place can. (greatest_index members member server).greatest index e place can.inside
+      ((can_commit_decided members member server place).1 can);
 }
 
-pub no_commit : (members : List ℕ) (member : ℕ) (server : Plain) → commit_index members member server ≡ None → (index : ℕ) → CanCommit members member server index → ⊥
-no_commit members member server e index can = cross (sym ((greatest_index members member server).none e index can.inside) ∙ (can_commit_decided members member server index).1 can)
+pub no_commit : (members : List ℕ) (member : ℕ) (server : Plain) → commit_index members member server ≡ None → (index : ℕ)
+    → CanCommit members member server index → ⊥
+no_commit members member server e index can = cross
+    (sym ((greatest_index members member server).none e index can.inside) ∙ (can_commit_decided members member server index).1 can)
 
-pub one_commit : (members : List ℕ) (member : ℕ) (server : Plain) (index : ℕ) → IsCommitIndex members member server index → commit_index members member server ≡ Some index
+pub one_commit : (members : List ℕ) (member : ℕ) (server : Plain) (index : ℕ) → IsCommitIndex members member server index
+    → commit_index members member server ≡ Some index
 one_commit members member server index is = by_answer (commit_index members member server) refl
   where
     by_answer : (answer : Option ℕ) → commit_index members member server ≡ answer → answer ≡ Some index

@@ -74,13 +74,36 @@ lawful = (
   (
     (inr (inl refl), refl),
     (
-      (refl, omega arith, ((λ e. cc, omega arith), ((refl, record { other = λ e. cc; listed = inr (inl refl); free = refl; first = λ i. i }), tt)), λ g i. i),
       (
-        (refl, omega arith, ((inl refl, refl, refl, record { own_term = refl; free = inl refl; not_above = inr (refl, omega arith) }), tt), λ g i. i),
+        refl,
+        omega arith,
+        ((λ e. cc, omega arith), ((refl, record { other = λ e. cc; listed = inr (inl refl); free = refl; first = λ i. i }), tt)),
+        λ g i. i,
+      ),
+      (
         (
-          (refl, omega arith, ((inl refl, refl, refl, refl), (record { leads = refl; room = omega arith; own_term = refl; well_formed = well_formed; not_blank = λ b. not_zeros b.1; injective = one_injective entry }, tt)), λ g i. absurd i),
+          refl,
+          omega arith,
+          ((inl refl, refl, refl, record { own_term = refl; free = inl refl; not_above = inr (refl, omega arith) }), tt),
+          λ g i. i,
+        ),
+        (
           (
-            (refl, omega arith, ((refl, omega arith, record { other = λ e. cc; listed = inr (inl refl); free = refl; first = λ i. i }), tt), λ g i. i),
+            refl,
+            omega arith,
+            (
+              (inl refl, refl, refl, refl),
+              (record { leads = refl; room = omega arith; own_term = refl; well_formed = well_formed; not_blank = λ b. not_zeros b.1; injective = one_injective entry }, tt),
+            ),
+            λ g i. absurd i,
+          ),
+          (
+            (
+              refl,
+              omega arith,
+              ((refl, omega arith, record { other = λ e. cc; listed = inr (inl refl); free = refl; first = λ i. i }), tt),
+              λ g i. i,
+            ),
             (
               (
                 refl,
@@ -110,7 +133,15 @@ lawful = (
                 λ g i. i,
               ),
               (
-                (refl, omega arith, ((inl refl, refl, refl, refl), ((refl, record { can = record { above = omega arith; inside = omega arith; own_term = refl; held = omega arith }; greatest = λ i c. c.inside }), ((refl, omega arith, not_zeros), tt))), λ g i. i),
+                (
+                  refl,
+                  omega arith,
+                  (
+                    (inl refl, refl, refl, refl),
+                    ((refl, record { can = record { above = omega arith; inside = omega arith; own_term = refl; held = omega arith }; greatest = λ i c. c.inside }), ((refl, omega arith, not_zeros), tt)),
+                  ),
+                  λ g i. i,
+                ),
                 tt,
               ),
             ),

@@ -9,7 +9,8 @@ use Rattle.raft_model.proofs.Lists.{same_less}
 use Rattle.raft_model.proofs.Complete.{completeness, less_or}
 
 -- the lists of two firm places agree up to the lower place
-pub comparable : (s : State) → Facts s → (t k u i n : ℕ) → Firm s.members s.led s.leader s.list s.bag t k → Firm s.members s.led s.leader s.list s.bag u i → n ≤ k → n ≤ i → Same n (s.list t) (s.list u)
+pub comparable : (s : State) → Facts s → (t k u i n : ℕ) → Firm s.members s.led s.leader s.list s.bag t k
+    → Firm s.members s.led s.leader s.list s.bag u i → n ≤ k → n ≤ i → Same n (s.list t) (s.list u)
 comparable s f t k u i n a b nk ni =
     elim (eqb_tells t u) [
       | inl e ↦ ap (λ (w : ℕ). take n (s.list w)) e.1
@@ -20,12 +21,16 @@ comparable s f t k u i n a b nk ni =
     ]
 
 -- of two settled lists the shorter begins the longer
-pub settled_same : (s : State) → Facts s → (l m : List Entry) (t u : ℕ) → IsSettled s.members s.led s.leader s.list s.bag l t → IsSettled s.members s.led s.leader s.list s.bag m u → length l ≤ length m → Same (length l) l m
+pub settled_same : (s : State) → Facts s → (l m : List Entry) (t u : ℕ) → IsSettled s.members s.led s.leader s.list s.bag l t
+    → IsSettled s.members s.led s.leader s.list s.bag m u → length l ≤ length m → Same (length l) l m
 settled_same s f l m t u a b h =
-    a.3 ∙ (comparable s f t a.0 u b.0 (length l) a.2 b.2 a.1 (omega (arith, h, b.1)) ∙ sym (same_less (length l) (length m) m (s.list u) h b.3))
+    a.3 ∙
+    (comparable s f t a.0 u b.0 (length l) a.2 b.2 a.1 (omega (arith, h, b.1))
+    ∙ sym (same_less (length l) (length m) m (s.list u) h b.3))
 
 -- what is settled begins every list of a term at least as high
-pub settled_later : (s : State) → Facts s → (l : List Entry) (t u : ℕ) → IsSettled s.members s.led s.leader s.list s.bag l t → t ≤ u → s.led u ≡ true → Same (length l) (s.list u) l
+pub settled_later : (s : State) → Facts s → (l : List Entry) (t u : ℕ) → IsSettled s.members s.led s.leader s.list s.bag l t → t ≤ u
+    → s.led u ≡ true → Same (length l) (s.list u) l
 settled_later s f l t u a h led =
     elim (eqb_tells t u) [
       | inl e ↦ ap (λ (w : ℕ). take (length l) (s.list w)) (sym e.1) ∙ sym a.3

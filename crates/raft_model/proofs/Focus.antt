@@ -30,7 +30,8 @@ abbrev pub focus_of : State → ℕ → Focus
 focus_of z m = record {
   plain = record {
     store = record { term = z.term m; vote = z.vote m; log = z.log m; commit = z.commit m };
-    memory = record { up = z.up m; role = z.role m; told = z.told m; votes = z.votes m; next = z.next m; matched = z.matched m; pending = z.pending m };
+    memory = record
+        { up = z.up m; role = z.role m; told = z.told m; votes = z.votes m; next = z.next m; matched = z.matched m; pending = z.pending m };
   };
   fresh = z.fresh m;
   requests = z.requests;
@@ -129,8 +130,21 @@ settled z m = λ i. record {
 pub focus_at : (z : State) (m : ℕ) (f : Focus) → focus_of (at_focus z m f) m ≡ f
 focus_at z m f = λ i. record {
   plain = record {
-    store = record { term = at_here z.term m m f.plain.store.term refl i; vote = at_here z.vote m m f.plain.store.vote refl i; log = at_here z.log m m f.plain.store.log refl i; commit = at_here z.commit m m f.plain.store.commit refl i };
-    memory = record { up = at_here z.up m m f.plain.memory.up refl i; role = at_here z.role m m f.plain.memory.role refl i; told = at_here z.told m m f.plain.memory.told refl i; votes = at_here z.votes m m f.plain.memory.votes refl i; next = at_here z.next m m f.plain.memory.next refl i; matched = at_here z.matched m m f.plain.memory.matched refl i; pending = at_here z.pending m m f.plain.memory.pending refl i };
+    store = record {
+      term = at_here z.term m m f.plain.store.term refl i;
+      vote = at_here z.vote m m f.plain.store.vote refl i;
+      log = at_here z.log m m f.plain.store.log refl i;
+      commit = at_here z.commit m m f.plain.store.commit refl i;
+    };
+    memory = record {
+      up = at_here z.up m m f.plain.memory.up refl i;
+      role = at_here z.role m m f.plain.memory.role refl i;
+      told = at_here z.told m m f.plain.memory.told refl i;
+      votes = at_here z.votes m m f.plain.memory.votes refl i;
+      next = at_here z.next m m f.plain.memory.next refl i;
+      matched = at_here z.matched m m f.plain.memory.matched refl i;
+      pending = at_here z.pending m m f.plain.memory.pending refl i;
+    };
   };
   fresh = at_here z.fresh m m f.fresh refl i;
   requests = f.requests;
@@ -215,32 +229,66 @@ focused m f (Open _) = with_both f f.plain.store opened false
 focused m f (Halt _) = with_both f f.plain.store lost false
 focused m f (Raise _ t) = with_both f (put f.plain.store (PutTerm t)) (record f.plain.memory { role = Follower }) true
 focused m f (Clear _) = with_store f (put f.plain.store (PutVote None))
-focused m f (Stand _) = record (with_both f (put f.plain.store (PutVote (Some m))) (stand_memory m f.plain.memory) false) { history = stood f.history m f.plain.store.term f.plain.store.log }
-focused m f (Grant _ n r) = record (with_both f (put f.plain.store (PutVote (Some r.from))) f.plain.memory false) { history = voted f.history m r.from r.term f.plain.store.log; answers = answer_to m n f.plain.store r true ∷ f.answers }
+focused m f (Stand _) = record (with_both f (put f.plain.store (PutVote (Some m))) (stand_memory m f.plain.memory) false)
+    { history = stood f.history m f.plain.store.term f.plain.store.log }
+focused m f (Grant _ n r) = record (with_both f (put f.plain.store (PutVote (Some r.from))) f.plain.memory false)
+    { history = voted f.history m r.from r.term f.plain.store.log; answers = answer_to m n f.plain.store r true ∷ f.answers }
 focused m f (Deny _ n r) = record f { answers = answer_to m n f.plain.store r false ∷ f.answers }
 focused m f (Count _ a) = with_memory f (record (ended f.plain.memory a.from) { votes = counted f.plain.memory a })
 focused m f (Drop _ q) = with_memory f (ended f.plain.memory q)
-focused m f (Win _ b) = record (with_both f (record f.plain.store { log = log_won_here f.plain.store b }) (win_memory f.plain.store f.plain.memory) f.fresh) { history = elected f.history m f.plain.store.term (log_won_here f.plain.store b) }
+focused m f (Win _ b) = record
+    (with_both f (record f.plain.store { log = log_won_here f.plain.store b }) (win_memory f.plain.store f.plain.memory) f.fresh)
+    { history = elected f.history m f.plain.store.term (log_won_here f.plain.store b) }
 focused m f (Yield _) = with_memory f (record f.plain.memory { role = Follower })
 focused m f (Write _ e) = f
 focused m f (Cut _ r e) = with_store f (put f.plain.store (PutShorter r.previous))
 focused m f (Grow _ r e) = with_both f (put f.plain.store (PutLonger e)) f.plain.memory false
-focused m f (Advance _ r) = record (with_store f (put f.plain.store (PutCommit (min r.commit (reach r))))) { ledger = ledger_with f.ledger (put f.plain.store (PutCommit (min r.commit (reach r)))) }
+focused m f (Advance _ r) = record (with_store f (put f.plain.store (PutCommit (min r.commit (reach r)))))
+    { ledger = ledger_with f.ledger (put f.plain.store (PutCommit (min r.commit (reach r)))) }
 focused m f (Accept _ n r) = record f { answers = answer_to m n f.plain.store r true ∷ f.answers }
 focused m f (Taken _ a) = with_memory f (matched_memory f.plain.memory a)
 focused m f (Propose _ e) = record (with_store f (put f.plain.store (PutLonger e))) { history = lengthened f.history f.plain.store.term e }
-focused m f (Commit _ k) = record (with_store f (put f.plain.store (PutCommit k))) { ledger = ledger_with f.ledger (put f.plain.store (PutCommit k)) }
-focused m f (Tell _ n) = record (with_memory f (record f.plain.memory { told = f.plain.memory.told + 1 })) { pairs = pair_at m n f.plain.store f.plain.memory.told ∷ f.pairs }
+focused m f (Commit _ k) = record (with_store f (put f.plain.store (PutCommit k)))
+    { ledger = ledger_with f.ledger (put f.plain.store (PutCommit k)) }
+focused m f (Tell _ n) = record (with_memory f (record f.plain.memory { told = f.plain.memory.told + 1 }))
+    { pairs = pair_at m n f.plain.store f.plain.memory.told ∷ f.pairs }
 focused m f (Pass _) = with_memory f (record f.plain.memory { told = f.plain.memory.told + 1 })
 focused m f (Again _ n i) = record f { pairs = pair_at m n f.plain.store i ∷ f.pairs }
-focused m f (CallVote _ n q) = record (with_memory f (record f.plain.memory { pending = at f.plain.memory.pending q (Some (vote_request m n f.plain.store q)) })) { requests = vote_request m n f.plain.store q ∷ f.requests }
-focused m f (CallAppend _ n q p w) = record (with_memory f (record f.plain.memory { pending = at f.plain.memory.pending q (Some (append_request m n f.plain.store q p w)) })) { requests = append_request m n f.plain.store q p w ∷ f.requests }
+focused m f (CallVote _ n q) = record
+    (with_memory f (record f.plain.memory { pending = at f.plain.memory.pending q (Some (vote_request m n f.plain.store q)) }))
+    { requests = vote_request m n f.plain.store q ∷ f.requests }
+focused m f (CallAppend _ n q p w) = record
+    (with_memory f (record f.plain.memory { pending = at f.plain.memory.pending q (Some (append_request m n f.plain.store q p w)) }))
+    { requests = append_request m n f.plain.store q p w ∷ f.requests }
 focused m f (Post g) = record f { bag = g ∷ f.bag }
 
 pub did_here : (z : State) (m : ℕ) (e : Micro) → did z (of m e) ≡ at_focus z m (focused m (focus_of z m) e)
-did_here z m (Open _) = ap (λ (x : State). record x { up = at z.up m true; role = at z.role m Follower; told = at z.told m 0; votes = at z.votes m (λ q. false); next = at z.next m (λ q. 0); matched = at z.matched m (λ q. 0); pending = at z.pending m (λ q. None); fresh = at z.fresh m false }) (sym (settled z m))
-did_here z m (Halt _) = ap (λ (x : State). record x { up = at z.up m false; role = at z.role m Follower; told = at z.told m 0; votes = at z.votes m (λ q. false); next = at z.next m (λ q. 0); matched = at z.matched m (λ q. 0); pending = at z.pending m (λ q. None); fresh = at z.fresh m false }) (sym (settled z m))
-did_here z m (Raise _ t) = ap (λ (x : State). record x { term = at z.term m t; role = at z.role m Follower; fresh = at z.fresh m true }) (sym (settled z m))
+did_here z m (Open _) = ap
+    (λ (x : State). record x {
+      up = at z.up m true;
+      role = at z.role m Follower;
+      told = at z.told m 0;
+      votes = at z.votes m (λ q. false);
+      next = at z.next m (λ q. 0);
+      matched = at z.matched m (λ q. 0);
+      pending = at z.pending m (λ q. None);
+      fresh = at z.fresh m false;
+    })
+    (sym (settled z m))
+did_here z m (Halt _) = ap
+    (λ (x : State). record x {
+      up = at z.up m false;
+      role = at z.role m Follower;
+      told = at z.told m 0;
+      votes = at z.votes m (λ q. false);
+      next = at z.next m (λ q. 0);
+      matched = at z.matched m (λ q. 0);
+      pending = at z.pending m (λ q. None);
+      fresh = at z.fresh m false;
+    })
+    (sym (settled z m))
+did_here z m (Raise _ t) = ap (λ (x : State). record x { term = at z.term m t; role = at z.role m Follower; fresh = at z.fresh m true })
+    (sym (settled z m))
 did_here z m (Clear _) = ap (λ (x : State). record x { vote = at z.vote m None }) (sym (settled z m))
 did_here z m (Stand _) = ap (λ (x : State). record x {
   vote = at z.vote m (Some m);
@@ -251,9 +299,19 @@ did_here z m (Stand _) = ap (λ (x : State). record x {
   candidacies = (stood (focus_of z m).history m (z.term m) (z.log m)).candidacies;
   kept = (stood (focus_of z m).history m (z.term m) (z.log m)).kept;
 }) (sym (settled z m))
-did_here z m (Grant _ n r) = ap (λ (x : State). record x { vote = at z.vote m (Some r.from); fresh = at z.fresh m false; kept = (voted (focus_of z m).history m r.from r.term (z.log m)).kept; answers = answer_to m n (focus_of z m).plain.store r true ∷ z.answers }) (sym (settled z m))
-did_here z m (Deny _ n r) = ap (λ (x : State). record x { answers = answer_to m n (focus_of z m).plain.store r false ∷ z.answers }) (sym (settled z m))
-did_here z m (Count _ a) = ap (λ (x : State). record x { votes = at z.votes m (at (z.votes m) a.from true); pending = at z.pending m (at (z.pending m) a.from None) }) (sym (settled z m))
+did_here z m (Grant _ n r) = ap
+    (λ (x : State). record x {
+      vote = at z.vote m (Some r.from);
+      fresh = at z.fresh m false;
+      kept = (voted (focus_of z m).history m r.from r.term (z.log m)).kept;
+      answers = answer_to m n (focus_of z m).plain.store r true ∷ z.answers;
+    })
+    (sym (settled z m))
+did_here z m (Deny _ n r) = ap (λ (x : State). record x { answers = answer_to m n (focus_of z m).plain.store r false ∷ z.answers })
+    (sym (settled z m))
+did_here z m (Count _ a) = ap
+    (λ (x : State). record x { votes = at z.votes m (at (z.votes m) a.from true); pending = at z.pending m (at (z.pending m) a.from None) })
+    (sym (settled z m))
 did_here z m (Drop _ q) = ap (λ (x : State). record x { pending = at z.pending m (at (z.pending m) q None) }) (sym (settled z m))
 did_here z m (Win _ b) = ap (λ (x : State). record x {
   log = at z.log m (log_won_here (focus_of z m).plain.store b);
@@ -269,19 +327,47 @@ did_here z m (Win _ b) = ap (λ (x : State). record x {
 did_here z m (Yield _) = ap (λ (x : State). record x { role = at z.role m Follower }) (sym (settled z m))
 did_here z m (Write _ e) = sym (settled z m)
 did_here z m (Cut _ r e) = ap (λ (x : State). record x { log = at z.log m (take r.previous (z.log m)) }) (sym (settled z m))
-did_here z m (Grow _ r e) = ap (λ (x : State). record x { log = at z.log m (z.log m ++ (e ∷ [])); fresh = at z.fresh m false }) (sym (settled z m))
-did_here z m (Advance _ r) = ap (λ (x : State). record x { commit = at z.commit m (min r.commit (reach r)); ledger = ledger_after z.ledger (z.log m) (min r.commit (reach r)); stamps = stamps_after z.stamps (z.term m) (min r.commit (reach r)) }) (sym (settled z m))
-did_here z m (Accept _ n r) = ap (λ (x : State). record x { answers = answer_to m n (focus_of z m).plain.store r true ∷ z.answers }) (sym (settled z m))
+did_here z m (Grow _ r e) = ap (λ (x : State). record x { log = at z.log m (z.log m ++ (e ∷ [])); fresh = at z.fresh m false })
+    (sym (settled z m))
+did_here z m (Advance _ r) = ap
+    (λ (x : State). record x {
+      commit = at z.commit m (min r.commit (reach r));
+      ledger = ledger_after z.ledger (z.log m) (min r.commit (reach r));
+      stamps = stamps_after z.stamps (z.term m) (min r.commit (reach r));
+    })
+    (sym (settled z m))
+did_here z m (Accept _ n r) = ap (λ (x : State). record x { answers = answer_to m n (focus_of z m).plain.store r true ∷ z.answers })
+    (sym (settled z m))
 did_here z m (Taken _ a) = ap (λ (x : State). record x {
   pending = at z.pending m (matched_memory (focus_of z m).plain.memory a).pending;
   matched = at z.matched m (matched_memory (focus_of z m).plain.memory a).matched;
   next = at z.next m (matched_memory (focus_of z m).plain.memory a).next;
 }) (sym (settled z m))
-did_here z m (Propose _ e) = ap (λ (x : State). record x { log = at z.log m (z.log m ++ (e ∷ [])); list = at z.list (z.term m) (z.list (z.term m) ++ (e ∷ [])) }) (sym (settled z m))
-did_here z m (Commit _ k) = ap (λ (x : State). record x { commit = at z.commit m k; ledger = ledger_after z.ledger (z.log m) k; stamps = stamps_after z.stamps (z.term m) k }) (sym (settled z m))
-did_here z m (Tell _ n) = ap (λ (x : State). record x { told = at z.told m (z.told m + 1); pairs = pair_at m n (focus_of z m).plain.store (z.told m) ∷ z.pairs }) (sym (settled z m))
+did_here z m (Propose _ e) = ap
+    (λ (x : State). record x { log = at z.log m (z.log m ++ (e ∷ [])); list = at z.list (z.term m) (z.list (z.term m) ++ (e ∷ [])) })
+    (sym (settled z m))
+did_here z m (Commit _ k) = ap
+    (λ (x : State). record x {
+      commit = at z.commit m k;
+      ledger = ledger_after z.ledger (z.log m) k;
+      stamps = stamps_after z.stamps (z.term m) k;
+    })
+    (sym (settled z m))
+did_here z m (Tell _ n) = ap
+    (λ (x : State). record x { told = at z.told m (z.told m + 1); pairs = pair_at m n (focus_of z m).plain.store (z.told m) ∷ z.pairs })
+    (sym (settled z m))
 did_here z m (Pass _) = ap (λ (x : State). record x { told = at z.told m (z.told m + 1) }) (sym (settled z m))
 did_here z m (Again _ n i) = ap (λ (x : State). record x { pairs = pair_at m n (focus_of z m).plain.store i ∷ z.pairs }) (sym (settled z m))
-did_here z m (CallVote _ n q) = ap (λ (x : State). record x { pending = at z.pending m (at (z.pending m) q (Some (vote_request m n (focus_of z m).plain.store q))); requests = vote_request m n (focus_of z m).plain.store q ∷ z.requests }) (sym (settled z m))
-did_here z m (CallAppend _ n q p w) = ap (λ (x : State). record x { pending = at z.pending m (at (z.pending m) q (Some (append_request m n (focus_of z m).plain.store q p w))); requests = append_request m n (focus_of z m).plain.store q p w ∷ z.requests }) (sym (settled z m))
+did_here z m (CallVote _ n q) = ap
+    (λ (x : State). record x {
+      pending = at z.pending m (at (z.pending m) q (Some (vote_request m n (focus_of z m).plain.store q)));
+      requests = vote_request m n (focus_of z m).plain.store q ∷ z.requests;
+    })
+    (sym (settled z m))
+did_here z m (CallAppend _ n q p w) = ap
+    (λ (x : State). record x {
+      pending = at z.pending m (at (z.pending m) q (Some (append_request m n (focus_of z m).plain.store q p w)));
+      requests = append_request m n (focus_of z m).plain.store q p w ∷ z.requests;
+    })
+    (sym (settled z m))
 did_here z m (Post g) = ap (λ (x : State). record x { bag = g ∷ z.bag }) (sym (settled z m))

@@ -14,32 +14,61 @@ use Rattle.raft_model.proofs.Stored.{each_take}
 use Rattle.raft_model.proofs.Apart.{candidate_no_follower, false_true, leader_no_follower}
 
 -- the same of one member
-pub record IsFresh (fr : Bool) (r : Role) (t : ℕ) (l : List Entry) (kept : List KeptVote) (candidacies : List Candidacy) (m : ℕ) : Type 0 where
-  pub follower : fr ≡ true → r ≡ Follower
-  pub terms : fr ≡ true → 1 ≤ t
-  pub entries : (i : ℕ) → fr ≡ true → i < length l → (get_or l i (blank 0)).term < t
-  pub votes : (k : KeptVote) → fr ≡ true → In k kept → k.voter ≡ m → k.term < t
-  pub stood : (c : Candidacy) → fr ≡ true → In c candidacies → c.candidate ≡ m → c.term < t
+pub record IsFresh (fr : Bool) (r : Role) (t : ℕ) (l : List Entry) (kept : List KeptVote) (candidacies : List Candidacy) (m : ℕ) : Type 0
+  where
+    pub follower : fr ≡ true → r ≡ Follower
+    pub terms : fr ≡ true → 1 ≤ t
+    pub entries : (i : ℕ) → fr ≡ true → i < length l → (get_or l i (blank 0)).term < t
+    pub votes : (k : KeptVote) → fr ≡ true → In k kept → k.voter ≡ m → k.term < t
+    pub stood : (c : Candidacy) → fr ≡ true → In c candidacies → c.candidate ≡ m → c.term < t
 
 pub fresh_one : (s : State) → Facts s → (m : ℕ) → IsFresh (s.fresh m) (s.role m) (s.term m) (s.log m) s.kept s.candidacies m
-fresh_one s f m = record { follower = f.fresh.follower m; terms = f.fresh.terms m; entries = λ i. f.fresh.entries m i; votes = λ k. f.fresh.votes m k; stood = λ c. f.fresh.stood m c }
+fresh_one s f m = record {
+  follower = f.fresh.follower m;
+  terms = f.fresh.terms m;
+  entries = λ i. f.fresh.entries m i;
+  votes = λ k. f.fresh.votes m k;
+  stood = λ c. f.fresh.stood m c;
+}
 
-pub fresh_all : (fresh : ℕ → Bool) (role : ℕ → Role) (term : ℕ → ℕ) (log : ℕ → List Entry) (kept : List KeptVote) (candidacies : List Candidacy) → ((m : ℕ) → IsFresh (fresh m) (role m) (term m) (log m) kept candidacies m) → Fresh fresh role term log kept candidacies
-fresh_all fresh role term log kept candidacies h = record { follower = λ m. (h m).follower; terms = λ m. (h m).terms; entries = λ m i. (h m).entries i; votes = λ m k. (h m).votes k; stood = λ m c. (h m).stood c }
+pub fresh_all : (fresh : ℕ → Bool) (role : ℕ → Role) (term : ℕ → ℕ) (log : ℕ → List Entry) (kept : List KeptVote)
+    (candidacies : List Candidacy)
+    → ((m : ℕ) → IsFresh (fresh m) (role m) (term m) (log m) kept candidacies m) → Fresh fresh role term log kept candidacies
+fresh_all fresh role term log kept candidacies h = record {
+  follower = λ m. (h m).follower;
+  terms = λ m. (h m).terms;
+  entries = λ m i. (h m).entries i;
+  votes = λ m k. (h m).votes k;
+  stood = λ m c. (h m).stood c;
+}
 
-pub not_fresh : (fr : Bool) (r : Role) (t : ℕ) (l : List Entry) (kept : List KeptVote) (candidacies : List Candidacy) (m : ℕ) → (fr ≡ true → ⊥) → IsFresh fr r t l kept candidacies m
-not_fresh fr r t l kept candidacies m h = record { follower = λ e. absurd (h e); terms = λ e. absurd (h e); entries = λ i e. absurd (h e); votes = λ k e. absurd (h e); stood = λ c e. absurd (h e) }
+pub not_fresh : (fr : Bool) (r : Role) (t : ℕ) (l : List Entry) (kept : List KeptVote) (candidacies : List Candidacy) (m : ℕ)
+    → (fr ≡ true → ⊥) → IsFresh fr r t l kept candidacies m
+not_fresh fr r t l kept candidacies m h = record {
+  follower = λ e. absurd (h e);
+  terms = λ e. absurd (h e);
+  entries = λ i e. absurd (h e);
+  votes = λ k e. absurd (h e);
+  stood = λ c e. absurd (h e);
+}
 
-pub fresh_keeps : (s : State) (e : Micro) → May s e → Facts s → Fresh (did s e).fresh (did s e).role (did s e).term (did s e).log (did s e).kept (did s e).candidacies
-fresh_keeps s (Open m) may f = fresh_all (at s.fresh m false) (at s.role m Follower) s.term s.log s.kept s.candidacies (at2_each (λ i fr r. IsFresh fr r (s.term i) (s.log i) s.kept s.candidacies i) s.fresh s.role m false Follower (not_fresh false Follower (s.term m) (s.log m) s.kept s.candidacies m false_true) (λ i n. fresh_one s f i))
-fresh_keeps s (Halt m) may f = fresh_all (at s.fresh m false) (at s.role m Follower) s.term s.log s.kept s.candidacies (at2_each (λ i fr r. IsFresh fr r (s.term i) (s.log i) s.kept s.candidacies i) s.fresh s.role m false Follower (not_fresh false Follower (s.term m) (s.log m) s.kept s.candidacies m false_true) (λ i n. fresh_one s f i))
+pub fresh_keeps : (s : State) (e : Micro) → May s e → Facts s
+    → Fresh (did s e).fresh (did s e).role (did s e).term (did s e).log (did s e).kept (did s e).candidacies
+fresh_keeps s (Open m) may f = fresh_all (at s.fresh m false) (at s.role m Follower) s.term s.log s.kept s.candidacies
+    (at2_each (λ i fr r. IsFresh fr r (s.term i) (s.log i) s.kept s.candidacies i) s.fresh s.role m false Follower
+    (not_fresh false Follower (s.term m) (s.log m) s.kept s.candidacies m false_true) (λ i n. fresh_one s f i))
+fresh_keeps s (Halt m) may f = fresh_all (at s.fresh m false) (at s.role m Follower) s.term s.log s.kept s.candidacies
+    (at2_each (λ i fr r. IsFresh fr r (s.term i) (s.log i) s.kept s.candidacies i) s.fresh s.role m false Follower
+    (not_fresh false Follower (s.term m) (s.log m) s.kept s.candidacies m false_true) (λ i n. fresh_one s f i))
 fresh_keeps s (Raise m t) may f = fresh_all (at s.fresh m true) (at s.role m Follower) (at s.term m t) s.log s.kept s.candidacies (at3_each (λ i fr r u. IsFresh fr r u (s.log i) s.kept s.candidacies i) s.fresh s.role s.term m true Follower t
     (record {
       follower = λ e. refl;
       terms = λ e. omega (arith, may.1);
       entries = λ i e b. let x : (get_or (s.log m) i (blank 0)).term ≤ s.term m = (f.stored.rising m).high i b in omega (arith, x, may.1);
-      votes = λ k e i v. let same : s.term k.voter ≡ s.term m = ap s.term v in elim (f.bound.votes k i) [ inl x ↦ omega (arith, x, same, may.1) | inr x ↦ omega (arith, x.0, same, may.1) ];
-      stood = λ c e i v. let same : s.term c.candidate ≡ s.term m = ap s.term v in elim (f.bound.stood c i) [ inl x ↦ omega (arith, x, same, may.1) | inr x ↦ omega (arith, x.0, same, may.1) ];
+      votes = λ k e i v. let same : s.term k.voter ≡ s.term m = ap s.term v in
+          elim (f.bound.votes k i) [ inl x ↦ omega (arith, x, same, may.1) | inr x ↦ omega (arith, x.0, same, may.1) ];
+      stood = λ c e i v. let same : s.term c.candidate ≡ s.term m = ap s.term v in
+          elim (f.bound.stood c i) [ inl x ↦ omega (arith, x, same, may.1) | inr x ↦ omega (arith, x.0, same, may.1) ];
     })
     (λ i n. fresh_one s f i))
 fresh_keeps s (Stand m) may f = fresh_all (at s.fresh m false) (at s.role m Candidate) s.term s.log (did s (Stand m)).kept (did s (Stand m)).candidacies (at2_each (λ i fr r. IsFresh fr r (s.term i) (s.log i) (did s (Stand m)).kept (did s (Stand m)).candidacies i) s.fresh s.role m false Candidate

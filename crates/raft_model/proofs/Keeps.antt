@@ -56,13 +56,32 @@ no_place i h = omega (arith, h)
 
 pub start_meets : (members : List ℕ) → Facts (start members)
 start_meets members = record {
-  stored = record { within = λ m. omega arith; log_limit = λ m. omega arith; well_formed = λ m i h. absurd (no_place i h); rising = λ m. rise 0; injective = λ m. inj };
+  stored = record {
+    within = λ m. omega arith;
+    log_limit = λ m. omega arith;
+    well_formed = λ m i h. absurd (no_place i h);
+    rising = λ m. rise 0;
+    injective = λ m. inj;
+  };
   roles = record { down = λ m e. (refl, refl); voted = λ m n. absurd (n refl); terms = λ m n. absurd (n refl) };
-  fresh = record { follower = λ m e. absurd (cross e); terms = λ m e. absurd (cross e); entries = λ m i e. absurd (cross e); votes = λ m k e. absurd (cross e); stood = λ m c e. absurd (cross e) };
+  fresh = record {
+    follower = λ m e. absurd (cross e);
+    terms = λ m e. absurd (cross e);
+    entries = λ m i e. absurd (cross e);
+    votes = λ m k e. absurd (cross e);
+    stood = λ m c e. absurd (cross e);
+  };
   bound = record { votes = λ k i. absurd i; stood = λ c i. absurd i };
   votes = record { one = λ x y i. absurd i; candidacy = λ k i. absurd i; flagged = λ k i. absurd i; rising = λ k i. absurd i };
   stood = record { one = λ x y i. absurd i; terms = λ c i. absurd i; rising = λ c i. absurd i; below = λ c k i. absurd i };
-  led = record { candidacy = λ t e. absurd (cross e); votes = λ t e. absurd (cross e); rising = λ t. rise t; log_limit = λ t. omega arith; well_formed = λ t i h. absurd (no_place i h); injective = λ t. inj };
+  led = record {
+    candidacy = λ t e. absurd (cross e);
+    votes = λ t e. absurd (cross e);
+    rising = λ t. rise t;
+    log_limit = λ t. omega arith;
+    well_formed = λ t i h. absurd (no_place i h);
+    injective = λ t. inj;
+  };
   place = record { above = λ t e. absurd (cross e); no_candidate = λ t e. absurd (cross e); same_log = λ t e. absurd (cross e) };
   running = record { leads = λ m e. absurd (f_no_l e); stands = λ m e. absurd (f_no_c e); counted = λ m q e. absurd (f_no_c e) };
   asked = record { other = λ r i. absurd i; vote = λ r i. absurd i; append = λ r i. absurd i; entry = λ r e i. absurd i };
@@ -70,9 +89,11 @@ start_meets members = record {
   posted = record { request = λ r i. absurd i; answer = λ a i. absurd i; pair = λ p i. absurd i };
   calls = record { own = λ m q r n. absurd (n refl); votes = λ m q r e. absurd (f_no_c e); appends = λ m q r e. absurd (f_no_l e) };
   matched = record { acked = λ m q e. absurd (f_no_l e) };
-  matching = record { logs = λ m i h. absurd (no_place i h); lists = λ t i h. absurd (no_place i h); stood = λ c i. absurd i; voted = λ k i. absurd i };
+  matching = record
+      { logs = λ m i h. absurd (no_place i h); lists = λ t i h. absurd (no_place i h); stood = λ c i. absurd i; voted = λ k i. absurd i };
   acks = record { own_log = λ m t j a. elim a [ inl x ↦ absurd (cross x.0) | inr x ↦ absurd x.1 ]; voted = λ k t j i. absurd i };
-  committed = record { server = λ m. inl refl; below = λ m. omega arith; request = λ r i. absurd i; stamped = refl; place = λ i h. absurd (no_place i h) };
+  committed = record
+      { server = λ m. inl refl; below = λ m. omega arith; request = λ r i. absurd i; stamped = refl; place = λ i h. absurd (no_place i h) };
   told = record { pair = λ p i. absurd i };
 }
   where

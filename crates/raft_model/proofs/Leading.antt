@@ -26,13 +26,21 @@ leader_is Follower h = absurd (cc)
 leader_is Candidate h = absurd (cc)
 leader_is Leader h = refl
 
-pub append_answer_lawful : (members : List ℕ) (m n : ℕ) (f : Focus) (a : Answer) → f.plain.memory.up ≡ true → Covered f.ledger f.plain.store → Comes members m f.bag [] f.plain (TakeAppendAnswer a) → Whole members m n f (TakeAppendAnswer a)
+pub append_answer_lawful : (members : List ℕ) (m n : ℕ) (f : Focus) (a : Answer) → f.plain.memory.up ≡ true → Covered f.ledger f.plain.store
+    → Comes members m f.bag [] f.plain (TakeAppendAnswer a) → Whole members m n f (TakeAppendAnswer a)
 append_answer_lawful members m n f a up c h = elim (lt_tells f.plain.store.term a.term) [
   | inl z ↦ rw (z.0) (record {
     between = focused m (focused m (focused m f (Drop m a.from)) (Raise m a.term)) (Clear m);
     leg = record {
       marks = Silent (Drop m a.from) ∷ Puts (PutTerm a.term) (Raise m a.term) ∷ Puts (PutVote None) (Clear m) ∷ [];
-      walk = (up, refl, refl, refl, refl, ((up, z.1), refl, refl, refl, stays (put f.plain.store (PutTerm a.term)) refl, (refl, refl, refl, refl, stays (put (put f.plain.store (PutTerm a.term)) (PutVote None)) refl, tt)));
+      walk = (
+        up,
+        refl,
+        refl,
+        refl,
+        refl,
+        ((up, z.1), refl, refl, refl, stays (put f.plain.store (PutTerm a.term)) refl, (refl, refl, refl, refl, stays (put (put f.plain.store (PutTerm a.term)) (PutVote None)) refl, tt)),
+      );
       puts = refl;
       ends = refl;
     };
@@ -50,7 +58,10 @@ append_answer_lawful members m n f a up c h = elim (lt_tells f.plain.store.term 
       between = f;
       leg = record { marks = []; walk = tt; puts = refl; ends = refl };
       rest = Taken m a ∷ [];
-      lawful = (record { up = up; role = leader_is f.plain.memory.role (and_left (is_leader f.plain.memory.role) _ k); in_bag = h.0; kind = h.2; mine = h.1; own_term = eqb-true a.term f.plain.store.term (and_right (is_leader f.plain.memory.role) _ k); pending = h.3 }, tt);
+      lawful = (
+        record { up = up; role = leader_is f.plain.memory.role (and_left (is_leader f.plain.memory.role) _ k); in_bag = h.0; kind = h.2; mine = h.1; own_term = eqb-true a.term f.plain.store.term (and_right (is_leader f.plain.memory.role) _ k); pending = h.3 },
+        tt,
+      );
       store = refl;
       ledger = refl;
       history = refl;
@@ -77,7 +88,8 @@ append_answer_lawful members m n f a up c h = elim (lt_tells f.plain.store.term 
     stays u e = sym (ledger_stays f.ledger u (same_commit f.ledger f.plain.store u c e))
 
 -- every move is a lawful list of micro moves with the result that the table says
-pub move_lawful : (members : List ℕ) (m n : ℕ) (f : Focus) (called : List ℕ) (mv : Move) → f.plain.memory.up ≡ true → Covered f.ledger f.plain.store → Comes members m f.bag called f.plain mv → Whole members m n f mv
+pub move_lawful : (members : List ℕ) (m n : ℕ) (f : Focus) (called : List ℕ) (mv : Move) → f.plain.memory.up ≡ true
+    → Covered f.ledger f.plain.store → Comes members m f.bag called f.plain mv → Whole members m n f mv
 move_lawful members m n f called TimeOut up c h = time_out members m n f up c
 move_lawful members m n f called (TakeVoteRequest r g) up c h = vote_request_lawful members m n f r g up c h
 move_lawful members m n f called (TakeVoteAnswer a) up c h = vote_answer_lawful members m n f a up c h
@@ -94,11 +106,20 @@ move_lawful members m n f called (ProposeEntry e) up c h = record {
       refl,
       sym (ledger_stays f.ledger f.plain.store c),
       (
-        record { up = up; role = h.leads; room = h.room; own_term = h.own_term; well_formed = h.well_formed; no_blank = h.not_blank; injective = h.injective },
+        record {
+          up = up;
+          role = h.leads;
+          room = h.room;
+          own_term = h.own_term;
+          well_formed = h.well_formed;
+          no_blank = h.not_blank;
+          injective = h.injective;
+        },
         refl,
         refl,
         refl,
-        sym (ledger_stays f.ledger (put f.plain.store (PutLonger e)) (same_commit f.ledger f.plain.store (put f.plain.store (PutLonger e)) c refl)),
+        sym (ledger_stays f.ledger (put f.plain.store (PutLonger e))
+            (same_commit f.ledger f.plain.store (put f.plain.store (PutLonger e)) c refl)),
         tt,
       ),
     );
@@ -118,7 +139,14 @@ move_lawful members m n f called (CommitTo k) up c h = record {
   between = focused m f (Commit m k);
   leg = record {
     marks = Puts (PutCommit k) (Commit m k) ∷ [];
-    walk = (record { up = up; role = h.0; above = h.1.can.above; inside = h.1.can.inside; own_term = h.1.can.own_term; held = h.1.can.held }, refl, refl, refl, refl, tt);
+    walk = (
+      record { up = up; role = h.0; above = h.1.can.above; inside = h.1.can.inside; own_term = h.1.can.own_term; held = h.1.can.held },
+      refl,
+      refl,
+      refl,
+      refl,
+      tt,
+    );
     puts = refl;
     ends = refl;
   };

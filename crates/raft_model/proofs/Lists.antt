@@ -10,7 +10,8 @@ pub same_less : (i k : ℕ) (l m : List Entry) → i ≤ k → Same k l m → Sa
 same_less i k l m h s = sym (take-take i k l h) ∙ (ap (take i) s ∙ take-take i k m h)
 
 pub same_get : (k i : ℕ) (l m : List Entry) → i < k → Same k l m → get_or l i (blank 0) ≡ get_or m i (blank 0)
-same_get k i l m h s = sym (get_or-take k l i (blank 0) h) ∙ (ap (λ (z : List Entry). get_or z i (blank 0)) s ∙ get_or-take k m i (blank 0) h)
+same_get k i l m h s = sym (get_or-take k l i (blank 0) h)
+    ∙ (ap (λ (z : List Entry). get_or z i (blank 0)) s ∙ get_or-take k m i (blank 0) h)
 
 -- where m has k places, so has l
 pub same_length : (k : ℕ) (l m : List Entry) → k ≤ length m → Same k l m → k ≤ length l
@@ -24,16 +25,21 @@ term_at_less l zero h = absurd (omega arith)
 term_at_less l (suc i) h = let e : suc i - 1 ≡ i = omega arith in sym (ap (λ (j : ℕ). (get_or l j (blank 0)).term) e)
 
 -- a matching log that is not empty is a prefix of the list of its last term
-pub ending : (led : ℕ → Bool) (list : ℕ → List Entry) (l : List Entry) → IsMatching led list l → 1 ≤ length l → (led (last_term l) ≡ true) × (length l ≤ length (list (last_term l))) × Same (length l) l (list (last_term l))
+pub ending : (led : ℕ → Bool) (list : ℕ → List Entry) (l : List Entry) → IsMatching led list l → 1 ≤ length l
+    → (led (last_term l) ≡ true) × (length l ≤ length (list (last_term l))) × Same (length l) l (list (last_term l))
 ending led list l h some =
     let e : (get_or l (length l - 1) (blank 0)).term ≡ last_term l = sym (term_at_less l (length l) some) in
     let n : (length l - 1) + 1 ≡ length l = omega arith in
-    let m : (led (get_or l (length l - 1) (blank 0)).term ≡ true) × (length l - 1 < length (list (get_or l (length l - 1) (blank 0)).term)) × Same ((length l - 1) + 1) l (list (get_or l (length l - 1) (blank 0)).term) = h (length l - 1) (omega (arith, some)) in
-    let m2 : (led (last_term l) ≡ true) × (length l - 1 < length (list (last_term l))) × Same ((length l - 1) + 1) l (list (last_term l)) = subst (λ (t : ℕ). (led t ≡ true) × (length l - 1 < length (list t)) × Same ((length l - 1) + 1) l (list t)) e m in
+    let m : (led (get_or l (length l - 1) (blank 0)).term ≡ true) × (length l - 1 < length (list (get_or l (length l - 1) (blank 0)).term))
+    × Same ((length l - 1) + 1) l (list (get_or l (length l - 1) (blank 0)).term)
+    = h (length l - 1) (omega (arith, some)) in
+    let m2 : (led (last_term l) ≡ true) × (length l - 1 < length (list (last_term l))) × Same ((length l - 1) + 1) l (list (last_term l))
+    = subst (λ (t : ℕ). (led t ≡ true) × (length l - 1 < length (list t)) × Same ((length l - 1) + 1) l (list t)) e m in
     (m2.0, omega (arith, m2.1, some), subst (λ (j : ℕ). Same j l (list (last_term l))) n m2.2)
 
 -- two matching logs with one last term: the shorter is a prefix of the longer
-pub same_last : (led : ℕ → Bool) (list : ℕ → List Entry) (l c : List Entry) → IsMatching led list l → IsMatching led list c → 1 ≤ length l → length l ≤ length c → last_term l ≡ last_term c → Same (length l) l c
+pub same_last : (led : ℕ → Bool) (list : ℕ → List Entry) (l c : List Entry) → IsMatching led list l → IsMatching led list c → 1 ≤ length l
+    → length l ≤ length c → last_term l ≡ last_term c → Same (length l) l c
 same_last led list l c hl hc some short e =
     let a = ending led list l hl some in
     let b = ending led list c hc (omega (arith, some, short)) in

@@ -15,7 +15,8 @@ without x [] i = elim i [ ]
 without x (y ∷ ys) (inl e) = ys
 without x (y ∷ ys) (inr i) = y ∷ without x ys i
 
-without_count : (test : ℕ → Bool) (x : ℕ) (ys : List ℕ) (i : In x ys) → how_many test ys ≡ (if test x then 1 else 0) + how_many test (without x ys i)
+without_count : (test : ℕ → Bool) (x : ℕ) (ys : List ℕ) (i : In x ys)
+    → how_many test ys ≡ (if test x then 1 else 0) + how_many test (without x ys i)
 without_count test x [] i = elim i [ ]
 without_count test x (y ∷ ys) (inl e) = ap (λ (z : ℕ). (if test z then 1 else 0) + how_many test ys) (sym e)
 without_count test x (y ∷ ys) (inr i) = omega (arith, without_count test x ys i)
@@ -51,9 +52,11 @@ same_count (x ∷ xs) members test h = omega (arith, same_count xs (without x me
     }
 
 same_quorum : (list members : List ℕ) (votes : ℕ → Bool) → IsAll list members → has_quorum list votes ≡ has_quorum members votes
-same_quorum list members votes h = ap (λ (n : ℕ). nat_le (n / 2 + 1) (how_many votes list)) h.as_many ∙ ap (λ (n : ℕ). nat_le (quorum members) n) (same_count list members votes h)
+same_quorum list members votes h = ap (λ (n : ℕ). nat_le (n / 2 + 1) (how_many votes list)) h.as_many
+    ∙ ap (λ (n : ℕ). nat_le (quorum members) n) (same_count list members votes h)
 
-pub same_puts : (list members : List ℕ) (member : ℕ) (server : Plain) (move : Move) → (counts_votes server move ≡ true → IsAll list members) → puts list member server move ≡ puts members member server move
+pub same_puts : (list members : List ℕ) (member : ℕ) (server : Plain) (move : Move) → (counts_votes server move ≡ true → IsAll list members)
+    → puts list member server move ≡ puts members member server move
 same_puts list members member server TimeOut h = rw (same_quorum list members (own_vote member) (h refl)) refl
 same_puts list members member server (TakeVoteAnswer answer) h = elim (tell (counts server answer)) [
   | inl c ↦ rw (same_quorum list members (counted server.memory answer) (h c)) refl
@@ -61,7 +64,9 @@ same_puts list members member server (TakeVoteAnswer answer) h = elim (tell (cou
 ]
 same_puts list members member server _ h = refl
 
-pub same_memory : (list members : List ℕ) (member step : ℕ) (server : Plain) (move : Move) → (counts_votes server move ≡ true → IsAll list members) → memory_after list member step server move ≡ memory_after members member step server move
+pub same_memory : (list members : List ℕ) (member step : ℕ) (server : Plain) (move : Move)
+    → (counts_votes server move ≡ true → IsAll list members)
+    → memory_after list member step server move ≡ memory_after members member step server move
 same_memory list members member step server TimeOut h = rw (same_quorum list members (own_vote member) (h refl)) refl
 same_memory list members member step server (TakeVoteAnswer answer) h = elim (tell (counts server answer)) [
   | inl c ↦ rw (same_quorum list members (counted server.memory answer) (h c)) refl
@@ -69,12 +74,16 @@ same_memory list members member step server (TakeVoteAnswer answer) h = elim (te
 ]
 same_memory list members member step server _ h = refl
 
-same_can : (list members : List ℕ) (member : ℕ) (server : Plain) (index : ℕ) → IsAll list members → can_commit list member server index ≡ can_commit members member server index
+same_can : (list members : List ℕ) (member : ℕ) (server : Plain) (index : ℕ) → IsAll list members
+    → can_commit list member server index ≡ can_commit members member server index
 same_can list members member server index h = rw (same_quorum list members (has_matched member server index) h) refl
 
 same_greatest : (limit : ℕ) (a b : ℕ → Bool) → ((i : ℕ) → a i ≡ b i) → greatest_to limit a ≡ greatest_to limit b
 same_greatest zero a b h = rw (h zero) refl
-same_greatest (suc limit) a b h = rw (h (suc limit)) (ap (λ (o : Option ℕ). if b (suc limit) then Some (suc limit) else o) (same_greatest limit a b h))
+same_greatest (suc limit) a b h = rw (h (suc limit))
+    (ap (λ (o : Option ℕ). if b (suc limit) then Some (suc limit) else o) (same_greatest limit a b h))
 
-pub same_commit : (list members : List ℕ) (member : ℕ) (server : Plain) → IsAll list members → commit_index list member server ≡ commit_index members member server
-same_commit list members member server h = same_greatest (length server.store.log) (can_commit list member server) (can_commit members member server) (λ i. same_can list members member server i h)
+pub same_commit : (list members : List ℕ) (member : ℕ) (server : Plain) → IsAll list members
+    → commit_index list member server ≡ commit_index members member server
+same_commit list members member server h = same_greatest (length server.store.log) (can_commit list member server)
+    (can_commit members member server) (λ i. same_can list members member server i h)

@@ -71,10 +71,30 @@ pub data Micro : Type 0 where
   Post : (g : Message) → Micro
 
 abbrev pub vote_request_of : State → ℕ → ℕ → ℕ → Request
-vote_request_of s m n q = record { step = n; from = m; to = q; append = false; term = s.term m; previous = length (s.log m); previous_term = last_term (s.log m); commit = 0; entry = None }
+vote_request_of s m n q = record {
+  step = n;
+  from = m;
+  to = q;
+  append = false;
+  term = s.term m;
+  previous = length (s.log m);
+  previous_term = last_term (s.log m);
+  commit = 0;
+  entry = None;
+}
 
 abbrev pub append_request_of : State → ℕ → ℕ → ℕ → ℕ → Bool → Request
-append_request_of s m n q p with_entry = record { step = n; from = m; to = q; append = true; term = s.term m; previous = p; previous_term = term_at (s.log m) p; commit = s.commit m; entry = entry_after (s.log m) p with_entry }
+append_request_of s m n q p with_entry = record {
+  step = n;
+  from = m;
+  to = q;
+  append = true;
+  term = s.term m;
+  previous = p;
+  previous_term = term_at (s.log m) p;
+  commit = s.commit m;
+  entry = entry_after (s.log m) p with_entry;
+}
 
 abbrev pub answer_of : State → ℕ → ℕ → Request → Bool → Answer
 answer_of s m n r success = record { step = n; from = m; request = r; term = s.term m; success = success }
@@ -86,8 +106,26 @@ abbrev pub log_won : State → ℕ → Bool → List Entry
 log_won s m with_blank = if with_blank then s.log m ++ (blank (s.term m) ∷ []) else s.log m
 
 abbrev pub did : State → Micro → State
-did s (Open m) = record s { up = at s.up m true; role = at s.role m Follower; told = at s.told m 0; votes = at s.votes m (λ q. false); next = at s.next m (λ q. 0); matched = at s.matched m (λ q. 0); pending = at s.pending m (λ q. None); fresh = at s.fresh m false }
-did s (Halt m) = record s { up = at s.up m false; role = at s.role m Follower; told = at s.told m 0; votes = at s.votes m (λ q. false); next = at s.next m (λ q. 0); matched = at s.matched m (λ q. 0); pending = at s.pending m (λ q. None); fresh = at s.fresh m false }
+did s (Open m) = record s {
+  up = at s.up m true;
+  role = at s.role m Follower;
+  told = at s.told m 0;
+  votes = at s.votes m (λ q. false);
+  next = at s.next m (λ q. 0);
+  matched = at s.matched m (λ q. 0);
+  pending = at s.pending m (λ q. None);
+  fresh = at s.fresh m false;
+}
+did s (Halt m) = record s {
+  up = at s.up m false;
+  role = at s.role m Follower;
+  told = at s.told m 0;
+  votes = at s.votes m (λ q. false);
+  next = at s.next m (λ q. 0);
+  matched = at s.matched m (λ q. 0);
+  pending = at s.pending m (λ q. None);
+  fresh = at s.fresh m false;
+}
 did s (Raise m t) = record s { term = at s.term m t; role = at s.role m Follower; fresh = at s.fresh m true }
 did s (Clear m) = record s { vote = at s.vote m None }
 did s (Stand m) = record s {
@@ -123,20 +161,30 @@ did s (Yield m) = record s { role = at s.role m Follower }
 did s (Write m e) = s
 did s (Cut m r e) = record s { log = at s.log m (take r.previous (s.log m)) }
 did s (Grow m r e) = record s { log = at s.log m (s.log m ++ (e ∷ [])); fresh = at s.fresh m false }
-did s (Advance m r) = record s { commit = at s.commit m (min r.commit (reach r)); ledger = ledger_after s.ledger (s.log m) (min r.commit (reach r)); stamps = stamps_after s.stamps (s.term m) (min r.commit (reach r)) }
+did s (Advance m r) = record s {
+  commit = at s.commit m (min r.commit (reach r));
+  ledger = ledger_after s.ledger (s.log m) (min r.commit (reach r));
+  stamps = stamps_after s.stamps (s.term m) (min r.commit (reach r));
+}
 did s (Accept m n r) = record s { answers = answer_of s m n r true ∷ s.answers }
 did s (Taken m a) = record s {
   pending = at s.pending m (at (s.pending m) a.from None);
   matched = at s.matched m (at (s.matched m) a.from (if a.success then max (s.matched m a.from) (reach a.request) else s.matched m a.from));
-  next = at s.next m (at (s.next m) a.from (if a.success then max (s.matched m a.from) (reach a.request) + 1 else max 1 (s.next m a.from - 1)));
+  next = at s.next m
+      (at (s.next m) a.from (if a.success then max (s.matched m a.from) (reach a.request) + 1 else max 1 (s.next m a.from - 1)));
 }
 did s (Propose m e) = record s { log = at s.log m (s.log m ++ (e ∷ [])); list = at s.list (s.term m) (s.list (s.term m) ++ (e ∷ [])) }
-did s (Commit m k) = record s { commit = at s.commit m k; ledger = ledger_after s.ledger (s.log m) k; stamps = stamps_after s.stamps (s.term m) k }
+did s (Commit m k) = record s
+    { commit = at s.commit m k; ledger = ledger_after s.ledger (s.log m) k; stamps = stamps_after s.stamps (s.term m) k }
 did s (Tell m n) = record s { told = at s.told m (s.told m + 1); pairs = pair_of s m n (s.told m) ∷ s.pairs }
 did s (Pass m) = record s { told = at s.told m (s.told m + 1) }
 did s (Again m n i) = record s { pairs = pair_of s m n i ∷ s.pairs }
-did s (CallVote m n q) = record s { pending = at s.pending m (at (s.pending m) q (Some (vote_request_of s m n q))); requests = vote_request_of s m n q ∷ s.requests }
-did s (CallAppend m n q p with_entry) = record s { pending = at s.pending m (at (s.pending m) q (Some (append_request_of s m n q p with_entry))); requests = append_request_of s m n q p with_entry ∷ s.requests }
+did s (CallVote m n q) = record s
+    { pending = at s.pending m (at (s.pending m) q (Some (vote_request_of s m n q))); requests = vote_request_of s m n q ∷ s.requests }
+did s (CallAppend m n q p with_entry) = record s {
+  pending = at s.pending m (at (s.pending m) q (Some (append_request_of s m n q p with_entry)));
+  requests = append_request_of s m n q p with_entry ∷ s.requests;
+}
 did s (Post g) = record s { bag = g ∷ s.bag }
 
 -- what each micro move requests for
@@ -155,7 +203,8 @@ pub record HasPrevious (s : State) (m : ℕ) (r : Request) : Type 0 where
 -- what it carries is in the log already
 pub record Holds (s : State) (m : ℕ) (r : Request) : Type 0 where
   pub fits : HasPrevious s m r
-  pub has : (r.entry ≡ None) ⊎ ((e : Entry) × (r.entry ≡ Some e) × (r.previous < length (s.log m)) × (term_at (s.log m) (r.previous + 1) ≡ e.term))
+  pub has : (r.entry ≡ None)
+      ⊎ ((e : Entry) × (r.entry ≡ Some e) × (r.previous < length (s.log m)) × (term_at (s.log m) (r.previous + 1) ≡ e.term))
 
 pub record MayGrant (s : State) (m : ℕ) (r : Request) : Type 0 where
   pub up : s.up m ≡ true

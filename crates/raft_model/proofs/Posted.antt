@@ -10,8 +10,10 @@ posted_keeps s (Deny m n r) may f = record { request = f.posted.request; pair = 
 posted_keeps s (Accept m n r) may f = record { request = f.posted.request; pair = f.posted.pair; answer = λ a i. inr (f.posted.answer a i) }
 posted_keeps s (Tell m n) may f = record { request = f.posted.request; answer = f.posted.answer; pair = λ a i. inr (f.posted.pair a i) }
 posted_keeps s (Again m n k) may f = record { request = f.posted.request; answer = f.posted.answer; pair = λ a i. inr (f.posted.pair a i) }
-posted_keeps s (CallVote m n q) may f = record { answer = f.posted.answer; pair = f.posted.pair; request = λ a i. inr (f.posted.request a i) }
-posted_keeps s (CallAppend m n q p w) may f = record { answer = f.posted.answer; pair = f.posted.pair; request = λ a i. inr (f.posted.request a i) }
+posted_keeps s (CallVote m n q) may f = record
+    { answer = f.posted.answer; pair = f.posted.pair; request = λ a i. inr (f.posted.request a i) }
+posted_keeps s (CallAppend m n q p w) may f = record
+    { answer = f.posted.answer; pair = f.posted.pair; request = λ a i. inr (f.posted.request a i) }
 posted_keeps s (Post g) may f = record {
   request = λ a i. elim i [ inl e ↦ subst (IsSaid s) (sym e) may | inr j ↦ f.posted.request a j ];
   answer = λ a i. elim i [ inl e ↦ subst (IsSaid s) (sym e) may | inr j ↦ f.posted.answer a j ];

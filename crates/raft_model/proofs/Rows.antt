@@ -10,6 +10,7 @@ in_front x [] i = elim i [ ]
 in_front x (y ∷ ys) (inl e) = inl e
 in_front x (y ∷ ys) (inr i) = inr (in_front x ys i)
 
-pub takes : (world : World) (member step : ℕ) (move : Move) → IsReady world member step → Comes world.members member world.bag [] (world.server member) move → MayTake world member step move
+pub takes : (world : World) (member step : ℕ) (move : Move) → IsReady world member step
+    → Comes world.members member world.bag [] (world.server member) move → MayTake world member step move
 takes world member step move ready comes fitted inside =
     (ready.up, ready.later, (comes, tt), λ message i. in_front message (offers member step (world.server member) move) (inside message i))

@@ -16,13 +16,20 @@ use Rattle.raft_model.proofs.Firm.{settled_later}
 use Rattle.raft_model.proofs.Bridge.{world_of}
 
 pub stores_shown : (z : State) (n : ℕ) → Facts z → StoresSound (world_of z n)
-stores_shown z n f m = record { commit = f.stored.within m; last = f.stored.log_limit m; well_formed = f.stored.well_formed m; rising = f.stored.rising m; injective = f.stored.injective m }
+stores_shown z n f m = record {
+  commit = f.stored.within m;
+  last = f.stored.log_limit m;
+  well_formed = f.stored.well_formed m;
+  rising = f.stored.rising m;
+  injective = f.stored.injective m;
+}
 
 pub votes_shown : (z : State) (n : ℕ) → Facts z → VotesBound (world_of z n)
 votes_shown z n f = record { granted = f.bound.votes; stood = f.bound.stood; own = f.roles.voted }
 
 -- a kept vote, with the candidacy that it is for
-pub has_vote : (z : State) (n : ℕ) → Facts z → (v c t : ℕ) → (k : KeptVote) → In k z.kept → k.voter ≡ v → k.candidate ≡ c → k.term ≡ t → HasVote (world_of z n).history v c t
+pub has_vote : (z : State) (n : ℕ) → Facts z → (v c t : ℕ) → (k : KeptVote) → In k z.kept → k.voter ≡ v → k.candidate ≡ c → k.term ≡ t
+    → HasVote (world_of z n).history v c t
 has_vote z n f v c t k i a b d = let x = f.votes.candidacy k i in (k, i, a, b, d, (x.0, x.1, x.2 ∙ b, x.3 ∙ d, x.4))
 
 pub elected_shown : (z : State) (n : ℕ) → Facts z → (t : ℕ) → z.led t ≡ true → IsElected (world_of z n) t
@@ -44,7 +51,8 @@ elected_shown z n f t led =
     }
 
 pub leaders_shown : (z : State) (n : ℕ) → Facts z → LeadersElected (world_of z n)
-leaders_shown z n f = record { elected = elected_shown z n f; injective = f.led.injective; leading = f.running.leads; standing = f.running.stands }
+leaders_shown z n f = record
+    { elected = elected_shown z n f; injective = f.led.injective; leading = f.running.leads; standing = f.running.stands }
 
 pub logs_shown : (z : State) (n : ℕ) → Facts z → LogsMatch (world_of z n)
 logs_shown z n f = record {
@@ -56,7 +64,8 @@ logs_shown z n f = record {
   entry = λ r e i k h. f.asked.entry r e (f.posted.request r i) k h;
 }
 
-pub acked_shown : (z : State) (n : ℕ) → Facts z → (m t j : ℕ) → Acknowledged (world_of z n) m t j → Acked z.led z.leader z.list z.answers m t j
+pub acked_shown : (z : State) (n : ℕ) → Facts z → (m t j : ℕ) → Acknowledged (world_of z n) m t j
+    → Acked z.led z.leader z.list z.answers m t j
 acked_shown z n f m t j h = elim h [ inl l ↦ inl l | inr a ↦ inr (a.0, f.posted.answer a.0 a.1, a.2, a.3, a.4, a.5, a.6) ]
 
 pub kept_shown : (z : State) (n : ℕ) → Facts z → AcknowledgedKept (world_of z n)
@@ -71,7 +80,8 @@ firm_shown z n t k h = record { led = h.there; low = h.low; inside = h.inside; o
 pub firm_back : (z : State) (n t k : ℕ) → IsFirm (world_of z n) t k → Firm z.members z.led z.leader z.list z.bag t k
 firm_back z n t k h = record { there = h.led; low = h.low; inside = h.inside; own_term = h.own_term; held = h.held }
 
-pub settled_shown : (z : State) (n : ℕ) (l : List Entry) (t : ℕ) → SettledState z.members z.led z.leader z.list z.bag l t → IsSettled (world_of z n) l t
+pub settled_shown : (z : State) (n : ℕ) (l : List Entry) (t : ℕ) → SettledState z.members z.led z.leader z.list z.bag l t
+    → IsSettled (world_of z n) l t
 settled_shown z n l t h = (h.0, h.1, firm_shown z n t h.0 h.2, h.3)
 
 pub complete_shown : (z : State) (n : ℕ) → Facts z → LeadersComplete (world_of z n)
@@ -82,7 +92,8 @@ complete_shown z n f l t u h b led =
 pub commits_shown : (z : State) (n : ℕ) → Facts z → CommitsSettled (world_of z n)
 commits_shown z n f = record {
   ledger = λ i b. settled_shown z n (take (i + 1) z.ledger) (get_or z.stamps i 0) (f.committed.place i b);
-  servers = λ m. elim (f.committed.server m) [ inl e ↦ inl e | inr s ↦ inr (s.0, s.1, settled_shown z n (take (z.commit m) (z.log m)) s.0 s.2) ];
+  servers = λ m. elim (f.committed.server m)
+      [ inl e ↦ inl e | inr s ↦ inr (s.0, s.1, settled_shown z n (take (z.commit m) (z.log m)) s.0 s.2) ];
   requests = λ r i k. let x = f.committed.request r (f.posted.request r i) k in
       (x.0, elim x.2 [ inl e ↦ inl e | inr s ↦ inr (s.0, s.1, settled_shown z n (take r.commit (z.list r.term)) s.0 s.2) ]);
 }
@@ -95,7 +106,8 @@ calls_shown z n f = record {
   appends = f.calls.appends;
   matched = f.matched.acked;
   requests = λ r i k. f.asked.vote r (f.posted.request r i) k;
-  granted = λ a i h k. let x = f.answered.voted a (f.posted.answer a i) h k in has_vote z n f a.from a.request.from a.request.term x.0 x.1 x.2 x.3 x.4;
+  granted = λ a i h k. let x = f.answered.voted a (f.posted.answer a i) h k in
+      has_vote z n f a.from a.request.from a.request.term x.0 x.1 x.2 x.3 x.4;
   counted = λ m q r h. let x = f.running.counted m q r h in has_vote z n f q m (z.term m) x.0 x.1 x.2 x.3 x.4;
 }
 
@@ -130,7 +142,9 @@ safe_shown z n f =
       injective = x.injective;
       pairs = λ p i.
           let y = f.told.pair p (f.posted.pair p i) in
-          let low : 1 ≤ (get_or (z.log p.from) y.0 (blank 0)).node = node_low (get_or (z.log p.from) y.0 (blank 0)) (f.stored.well_formed p.from y.0 (omega (arith, y.1, f.stored.within p.from))) (λ e. y.4 (sym y.2 ∙ e)) in
+          let low : 1 ≤ (get_or (z.log p.from) y.0 (blank 0)).node
+          = node_low (get_or (z.log p.from) y.0 (blank 0))
+          (f.stored.well_formed p.from y.0 (omega (arith, y.1, f.stored.within p.from))) (λ e. y.4 (sym y.2 ∙ e)) in
           (y.0, y.1, y.2, y.3, y.4, subst (λ (k : ℕ). 1 ≤ k) y.3 low);
       stamps = f.committed.stamped;
       leaders = x.later;
@@ -140,7 +154,8 @@ pub lasts_shown : (y z : State) (k n : ℕ) → Facts y → Facts z → Later y 
 lasts_shown y z k n f g h = record {
   committed_here = λ m. let c = h.commit m in
       let e : length (take (z.commit m) (z.log m)) ≡ z.commit m = omega (arith, length-take (z.commit m) (z.log m), g.stored.within m) in
-      prefix_take (y.commit m) (y.log m) (take (z.commit m) (z.log m)) (f.stored.within m) (omega (arith, e, c)) (sym (take-take (y.commit m) (z.commit m) (z.log m) c ∙ h.committed m));
+      prefix_take (y.commit m) (y.log m) (take (z.commit m) (z.log m)) (f.stored.within m) (omega (arith, e, c))
+      (sym (take-take (y.commit m) (z.commit m) (z.log m) c ∙ h.committed m));
   ledger = h.ledger.1 ∙ take_all (length y.ledger) y.ledger (omega arith);
   led = h.led;
   leader = h.leader;

@@ -21,8 +21,15 @@ stood_keeps s (Stand m) may f = record {
     ]
   ];
   terms = λ c i. elim i [ inl e ↦ subst (λ (z : Candidacy). 1 ≤ z.term) (sym e) (f.fresh.terms m may.0) | inr j ↦ f.stood.terms c j ];
-  rising = λ c i. elim i [ inl e ↦ subst (λ (z : Candidacy). IsRising z.log z.term) (sym e) (f.stored.rising m) | inr j ↦ f.stood.rising c j ];
-  below = λ c k i b. elim i [ inl e ↦ subst (λ (z : Candidacy). k < length z.log → (get_or z.log k (blank 0)).term < z.term) (sym e) (λ l. f.fresh.entries m k may.0 l) b | inr j ↦ f.stood.below c k j b ];
+  rising = λ c i. elim i
+      [ inl e ↦ subst (λ (z : Candidacy). IsRising z.log z.term) (sym e) (f.stored.rising m) | inr j ↦ f.stood.rising c j ];
+  below = λ c k i b. elim i [
+    | inl e ↦
+        subst (λ (z : Candidacy). k < length z.log → (get_or z.log k (blank 0)).term < z.term) (sym e) (λ l. f.fresh.entries m k may.0 l)
+        b
+    | inr j ↦
+        f.stood.below c k j b
+  ];
 }
   where
     old : (y : Candidacy) → In y s.candidacies → y.candidate ≡ m → y.term ≡ s.term m → ⊥

@@ -51,7 +51,8 @@ same_commit g s u h e = record { commit = omega (arith, h.commit, e); stamps = h
 abbrev pub term_focus : Focus → ℕ → Focus
 term_focus f t = with_both f (with_term f.plain.store t) (term_memory f.plain t) (if nat_lt f.plain.store.term t then true else f.fresh)
 
-pub leg_term : (members : List ℕ) (m : ℕ) (mv : Move) (f : Focus) (t : ℕ) → f.plain.memory.up ≡ true → Covered f.ledger f.plain.store → Leg members m mv f (term_focus f t) (term_puts f.plain.store t)
+pub leg_term : (members : List ℕ) (m : ℕ) (mv : Move) (f : Focus) (t : ℕ) → f.plain.memory.up ≡ true → Covered f.ledger f.plain.store
+    → Leg members m mv f (term_focus f t) (term_puts f.plain.store t)
 leg_term members m mv f t up c = elim (lt_tells f.plain.store.term t) [
   | inl h ↦ rw (h.0) (record {
     marks = Puts (PutTerm t) (Raise m t) ∷ Puts (PutVote None) (Clear m) ∷ [];
@@ -60,8 +61,17 @@ leg_term members m mv f t up c = elim (lt_tells f.plain.store.term t) [
       refl,
       refl,
       sym (term_forgets m mv f.plain.store t f.history),
-      sym (ledger_stays f.ledger (put f.plain.store (PutTerm t)) (same_commit f.ledger f.plain.store (put f.plain.store (PutTerm t)) c refl)),
-      (refl, refl, refl, sym (clear_forgets m mv (put f.plain.store (PutTerm t)) f.history), sym (ledger_stays f.ledger (put (put f.plain.store (PutTerm t)) (PutVote None)) (same_commit f.ledger f.plain.store (put (put f.plain.store (PutTerm t)) (PutVote None)) c refl)), tt),
+      sym (ledger_stays f.ledger (put f.plain.store (PutTerm t))
+          (same_commit f.ledger f.plain.store (put f.plain.store (PutTerm t)) c refl)),
+      (
+        refl,
+        refl,
+        refl,
+        sym (clear_forgets m mv (put f.plain.store (PutTerm t)) f.history),
+        sym (ledger_stays f.ledger (put (put f.plain.store (PutTerm t)) (PutVote None))
+            (same_commit f.ledger f.plain.store (put (put f.plain.store (PutTerm t)) (PutVote None)) c refl)),
+        tt,
+      ),
     );
     puts = refl;
     ends = refl;

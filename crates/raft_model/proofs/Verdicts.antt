@@ -76,5 +76,6 @@ two_verdicts p r (Added e) Refused x y = absurd (refused_added (with_term p.stor
 two_verdicts p r (Added e) Held x y = absurd (held_added (with_term p.store r.term) r e y.1 x.1)
 two_verdicts p r (Added e) (Added d) x y = ap (λ (z : Entry). Added z) (some_same e d (sym x.1.carried ∙ y.1.carried))
 
-pub one_verdict : (server : Plain) (request : Request) (verdict : Verdict) → IsJudged server request verdict → verdict ≡ judges server request
+pub one_verdict : (server : Plain) (request : Request) (verdict : Verdict) → IsJudged server request verdict
+    → verdict ≡ judges server request
 one_verdict server request verdict is = two_verdicts server request verdict (judges server request) is (judged server request)

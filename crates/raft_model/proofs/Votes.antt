@@ -26,11 +26,17 @@ votes_keeps s (Stand m) may f = record {
     ]
   ];
   candidacy = λ k i. elim i [
-    | inl e ↦ subst (λ (z : KeptVote). (c : Candidacy) × In c (did s (Stand m)).candidacies × (c.candidate ≡ z.candidate) × (c.term ≡ z.term) × NotAbove (last_term z.log) (length z.log) (last_term c.log) (length c.log)) (sym e) (record { candidate = m; term = s.term m; log = s.log m }, inl refl, refl, refl, inr (refl, omega arith))
+    | inl e ↦
+        subst
+        (λ (z : KeptVote). (c : Candidacy) × In c (did s (Stand m)).candidacies × (c.candidate ≡ z.candidate) × (c.term ≡ z.term)
+        × NotAbove (last_term z.log) (length z.log) (last_term c.log) (length c.log))
+        (sym e) (record { candidate = m; term = s.term m; log = s.log m }, inl refl, refl, refl, inr (refl, omega arith))
     | inr j ↦ let c = f.votes.candidacy k j in (c.0, inr c.1, c.2, c.3, c.4)
   ];
-  flagged = λ k i h. elim i [ inl e ↦ ap s.led (ap (λ (z : KeptVote). z.term) e) ∙ (sym (ap (λ (z : KeptVote). z.led) e) ∙ h) | inr j ↦ f.votes.flagged k j h ];
-  rising = λ k i. elim i [ inl e ↦ subst (λ (z : KeptVote). IsRising z.log z.term) (sym e) (f.stored.rising m) | inr j ↦ f.votes.rising k j ];
+  flagged = λ k i h. elim i
+      [ inl e ↦ ap s.led (ap (λ (z : KeptVote). z.term) e) ∙ (sym (ap (λ (z : KeptVote). z.led) e) ∙ h) | inr j ↦ f.votes.flagged k j h ];
+  rising = λ k i. elim i
+      [ inl e ↦ subst (λ (z : KeptVote). IsRising z.log z.term) (sym e) (f.stored.rising m) | inr j ↦ f.votes.rising k j ];
 }
   where
     old : (y : KeptVote) → In y s.kept → y.voter ≡ m → y.term ≡ s.term m → ⊥
@@ -39,28 +45,49 @@ votes_keeps s (Grant m n r) may f = record {
   one = λ x y i j v t. elim i [
     | inl a ↦ elim j [
       | inl b ↦ ap (λ (z : KeptVote). z.candidate) (a ∙ sym b)
-      | inr j2 ↦ ap (λ (z : KeptVote). z.candidate) a ∙ sym (old y j2 (sym v ∙ ap (λ (z : KeptVote). z.voter) a) (sym t ∙ ap (λ (z : KeptVote). z.term) a))
+      | inr j2 ↦
+          ap (λ (z : KeptVote). z.candidate) a
+          ∙ sym (old y j2 (sym v ∙ ap (λ (z : KeptVote). z.voter) a) (sym t ∙ ap (λ (z : KeptVote). z.term) a))
     ]
     | inr i2 ↦ elim j [
-      | inl b ↦ old x i2 (v ∙ ap (λ (z : KeptVote). z.voter) b) (t ∙ ap (λ (z : KeptVote). z.term) b) ∙ sym (ap (λ (z : KeptVote). z.candidate) b)
+      | inl b ↦
+          old x i2 (v ∙ ap (λ (z : KeptVote). z.voter) b) (t ∙ ap (λ (z : KeptVote). z.term) b) ∙ sym (ap (λ (z : KeptVote). z.candidate) b)
       | inr j2 ↦ f.votes.one x y i2 j2 v t
     ]
   ];
   candidacy = λ k i. elim i [
     | inl e ↦
         let c = f.asked.vote r (f.posted.request r may.in_bag) may.kind in
-        let na : NotAbove (last_term (s.log m)) (length (s.log m)) (last_term c.0.log) (length c.0.log) = subst (λ (z : ℕ). NotAbove (last_term (s.log m)) (length (s.log m)) z (length c.0.log)) (sym c.4) (subst (λ (z : ℕ). NotAbove (last_term (s.log m)) (length (s.log m)) r.previous_term z) (sym c.5) may.not_above) in
-        subst (λ (z : KeptVote). (c : Candidacy) × In c s.candidacies × (c.candidate ≡ z.candidate) × (c.term ≡ z.term) × NotAbove (last_term z.log) (length z.log) (last_term c.log) (length c.log)) (sym e) (c.0, c.1, c.2, c.3, na)
+        let na : NotAbove (last_term (s.log m)) (length (s.log m)) (last_term c.0.log) (length c.0.log)
+        = subst (λ (z : ℕ). NotAbove (last_term (s.log m)) (length (s.log m)) z (length c.0.log)) (sym c.4)
+        (subst (λ (z : ℕ). NotAbove (last_term (s.log m)) (length (s.log m)) r.previous_term z) (sym c.5) may.not_above) in
+        subst
+        (λ (z : KeptVote). (c : Candidacy) × In c s.candidacies × (c.candidate ≡ z.candidate) × (c.term ≡ z.term)
+        × NotAbove (last_term z.log) (length z.log) (last_term c.log) (length c.log))
+        (sym e) (c.0, c.1, c.2, c.3, na)
     | inr j ↦ f.votes.candidacy k j
   ];
-  flagged = λ k i h. elim i [ inl e ↦ ap s.led (ap (λ (z : KeptVote). z.term) e) ∙ (sym (ap (λ (z : KeptVote). z.led) e) ∙ h) | inr j ↦ f.votes.flagged k j h ];
-  rising = λ k i. elim i [ inl e ↦ subst (λ (z : KeptVote). IsRising z.log z.term) (sym e) (subst (λ (t : ℕ). IsRising (s.log m) t) (sym may.own_term) (f.stored.rising m)) | inr j ↦ f.votes.rising k j ];
+  flagged = λ k i h. elim i
+      [ inl e ↦ ap s.led (ap (λ (z : KeptVote). z.term) e) ∙ (sym (ap (λ (z : KeptVote). z.led) e) ∙ h) | inr j ↦ f.votes.flagged k j h ];
+  rising = λ k i. elim i [
+    | inl e ↦
+        subst (λ (z : KeptVote). IsRising z.log z.term) (sym e)
+        (subst (λ (t : ℕ). IsRising (s.log m) t) (sym may.own_term) (f.stored.rising m))
+    | inr j ↦
+        f.votes.rising k j
+  ];
 }
   where
     old : (y : KeptVote) → In y s.kept → y.voter ≡ m → y.term ≡ r.term → y.candidate ≡ r.from
     old y i v t = elim (subst (λ (z : ℕ). IsBound s.term s.vote z y.candidate y.term) v (f.bound.votes y i)) [
       | inl x ↦ absurd (omega (arith, x, t, may.own_term))
-      | inr x ↦ elim may.free [ inl z ↦ absurd (some_none (s.vote m) y.candidate z x.1) | inr z ↦ some_same y.candidate r.from (sym x.1 ∙ z) ]
+      | inr x ↦
+          elim may.free [ inl z ↦ absurd (some_none (s.vote m) y.candidate z x.1) | inr z ↦ some_same y.candidate r.from (sym x.1 ∙ z) ]
     ]
-votes_keeps s (Win m b) may f = record { one = f.votes.one; candidacy = f.votes.candidacy; rising = f.votes.rising; flagged = λ k i h. led_more s (s.term m) k.term (f.votes.flagged k i h) }
+votes_keeps s (Win m b) may f = record {
+  one = f.votes.one;
+  candidacy = f.votes.candidacy;
+  rising = f.votes.rising;
+  flagged = λ k i h. led_more s (s.term m) k.term (f.votes.flagged k i h);
+}
 votes_keeps s _ may f = f.votes

@@ -19,7 +19,8 @@ use Rattle.raft_model.proofs.Quorum.{tell}
 use Rattle.raft_model.proofs.Complete.{and_right}
 
 abbrev pub Won : List ℕ → ℕ → Move → Focus → Type 0
-Won members m mv g = Result members m mv g (win_puts g.plain.store) (win_memory g.plain.store g.plain.memory) (win_history m g.plain.store) []
+Won members m mv g = Result members m mv g (win_puts g.plain.store) (win_memory g.plain.store g.plain.memory) (win_history m g.plain.store)
+    []
 
 -- a move in which a put of last is that of a win's blank
 pub record Wins (m : ℕ) (mv : Move) : Type 0 where
@@ -38,12 +39,14 @@ at_most a b h = elim (le_tells a b) [ inl z ↦ z.1 | inr z ↦ absurd (two (sym
     two : true ≡ false → ⊥
     two e = cc
 
-pub win_of : (members : List ℕ) (m : ℕ) (mv : Move) (g : Focus) → Wins m mv → g.plain.memory.up ≡ true → g.plain.memory.role ≡ Candidate → has_quorum members g.plain.memory.votes ≡ true → Covered g.ledger g.plain.store → Won members m mv g
+pub win_of : (members : List ℕ) (m : ℕ) (mv : Move) (g : Focus) → Wins m mv → g.plain.memory.up ≡ true → g.plain.memory.role ≡ Candidate
+    → has_quorum members g.plain.memory.votes ≡ true → Covered g.ledger g.plain.store → Won members m mv g
 win_of members m mv g w up role quorum c = elim (tell (adds_blank g.plain.store)) [
   | inl h ↦ rw (h) (record {
     between = focused m g (Win m true);
     leg = record {
-      marks = Puts (PutEntry (blank g.plain.store.term)) (Write m (blank g.plain.store.term)) ∷ Puts (PutLonger (blank g.plain.store.term)) (Win m true) ∷ [];
+      marks = Puts (PutEntry (blank g.plain.store.term)) (Write m (blank g.plain.store.term)) ∷ Puts (PutLonger (blank g.plain.store.term))
+          (Win m true) ∷ [];
       walk = (
         up,
         refl,
@@ -51,11 +54,13 @@ win_of members m mv g w up role quorum c = elim (tell (adds_blank g.plain.store)
         sym (w.entry g.plain.store (blank g.plain.store.term) g.history),
         sym (ledger_stays g.ledger g.plain.store c),
         (
-          may true (λ e. below (length g.plain.store.log) log_limit (and_right (nat_lt g.plain.store.commit (length g.plain.store.log)) _ h)),
+          may true
+              (λ e. below (length g.plain.store.log) log_limit (and_right (nat_lt g.plain.store.commit (length g.plain.store.log)) _ h)),
           refl,
           refl,
           sym (w.longer g.plain.store (blank g.plain.store.term) g.history),
-          sym (ledger_stays g.ledger (put g.plain.store (PutLonger (blank g.plain.store.term))) (same_commit g.ledger g.plain.store (put g.plain.store (PutLonger (blank g.plain.store.term))) c refl)),
+          sym (ledger_stays g.ledger (put g.plain.store (PutLonger (blank g.plain.store.term)))
+              (same_commit g.ledger g.plain.store (put g.plain.store (PutLonger (blank g.plain.store.term))) c refl)),
           tt,
         ),
       );

@@ -3,4 +3,12 @@ use Rattle.raft_model.proofs.Verdicts.{one_verdict}
 use Rattle.raft_model.proofs.laws.law_decisions.Goals as goal
 
 pub returns : goal.returns
-returns c = record { granted = granted; one_grant = one_grant; judged = judged; one_verdict = one_verdict; commit = commit; one_commit = one_commit; no_commit = no_commit }
+returns c = record {
+  granted = granted;
+  one_grant = one_grant;
+  judged = judged;
+  one_verdict = one_verdict;
+  commit = commit;
+  one_commit = one_commit;
+  no_commit = no_commit;
+}
