@@ -56,8 +56,12 @@ acks_raise s m u h f = record {
       (λ i v. (t j : ℕ) → Acked s.led s.leader s.list s.answers i t j
       → (s.led t ≡ true) × (j ≤ length (s.list t)) × (t ≤ v) × (Same j (s.log i) (s.list t) ⊎ Off s.led s.list t j (v + 1)))
       s.term m u
-      (λ t j a. let k = f.acks.own_log m t j a in
-      (k.0, k.1, omega (arith, k.2, h), elim k.3 [ inl e ↦ inl e | inr o ↦ inr (off_more s.led s.list t j (s.term m + 1) (u + 1) (omega (arith, h)) o) ]))
+      (λ t j a. let k = f.acks.own_log m t j a in (
+        k.0,
+        k.1,
+        omega (arith, k.2, h),
+        elim k.3 [ inl e ↦ inl e | inr o ↦ inr (off_more s.led s.list t j (s.term m + 1) (u + 1) (omega (arith, h)) o) ],
+      ))
       (λ i n t j a. f.acks.own_log i t j a);
   voted = f.acks.voted;
 }
@@ -135,8 +139,12 @@ acks_grow s m e f = record {
       (λ i l. (t j : ℕ) → Acked s.led s.leader s.list s.answers i t j
       → (s.led t ≡ true) × (j ≤ length (s.list t)) × (t ≤ s.term i) × (Same j l (s.list t) ⊎ Off s.led s.list t j (s.term i + 1)))
       s.log m (s.log m ++ (e ∷ []))
-      (λ t j a. let k = f.acks.own_log m t j a in
-      (k.0, k.1, k.2, elim k.3 [ inl z ↦ inl (same_append j (s.log m) (e ∷ []) (same_length j (s.log m) (s.list t) k.1 z) ∙ z) | inr o ↦ inr o ]))
+      (λ t j a. let k = f.acks.own_log m t j a in (
+        k.0,
+        k.1,
+        k.2,
+        elim k.3 [ inl z ↦ inl (same_append j (s.log m) (e ∷ []) (same_length j (s.log m) (s.list t) k.1 z) ∙ z) | inr o ↦ inr o ],
+      ))
       (λ i n t j a. f.acks.own_log i t j a);
   voted = f.acks.voted;
 }
@@ -360,7 +368,12 @@ acks_win s m b h f = record {
         | inr g ↦
             inr (
               g.1,
-              inl (sym (at_other s.led (s.term m) t true g.1) ∙ l.0, sym (at_other s.leader (s.term m) t m g.1) ∙ l.1, subst (λ (x : List Entry). j ≤ length x) (at_other s.list (s.term m) t (log_won s m b) g.1) l.2),
+              inl (
+                sym (at_other s.led (s.term m) t true g.1) ∙ l.0,
+                sym (at_other s.leader (s.term m) t m g.1)
+                    ∙ l.1,
+                subst (λ (x : List Entry). j ≤ length x) (at_other s.list (s.term m) t (log_won s m b) g.1) l.2,
+              ),
             )
       ]
     ]
@@ -374,7 +387,8 @@ acks_win s m b h f = record {
           o.2,
           at_other s.led (s.term m) o.0 true w
               ∙ o.3,
-          λ z. o.4 (sym (ap (take j) (at_other s.list (s.term m) o.0 (log_won s m b) w)) ∙ (z ∙ ap (take j) (at_other s.list (s.term m) t (log_won s m b) n))),
+          λ z. o.4 (sym (ap (take j) (at_other s.list (s.term m) o.0 (log_won s m b) w))
+              ∙ (z ∙ ap (take j) (at_other s.list (s.term m) t (log_won s m b) n))),
         )
 
 -- acknowledgements last

@@ -47,8 +47,14 @@ pub leg_yield : (members : List ℕ) (m : ℕ) (f : Focus) (r : Request) (v : Ve
     → Leg members m (TakeAppendRequest r v) f (yielded m f r) (term_puts f.plain.store r.term)
 leg_yield members m f r v up c h = subst (λ (l : List Put). Leg members m (TakeAppendRequest r v) f (yielded m f r) l)
     (append-nil (term_puts f.plain.store r.term))
-    (join members m (TakeAppendRequest r v) f (term_focus f r.term) (yielded m f r) (term_puts f.plain.store r.term) [] (leg_term members m (TakeAppendRequest r v) f r.term up c)
-    (record { marks = Silent (Yield m) ∷ []; walk = ((term_up f.plain r.term ∙ up, current_role f.plain r h), refl, refl, refl, refl, tt); puts = refl; ends = refl }))
+    (join members m (TakeAppendRequest r v) f (term_focus f r.term) (yielded m f r) (term_puts f.plain.store r.term) []
+    (leg_term members m (TakeAppendRequest r v) f r.term up c)
+    (record {
+      marks = Silent (Yield m) ∷ [];
+      walk = ((term_up f.plain r.term ∙ up, current_role f.plain r h), refl, refl, refl, refl, tt);
+      puts = refl;
+      ends = refl;
+    }))
 
 -- from a log that holds what the request carries: commit, and the answer
 pub accepted : (members : List ℕ) (m n : ℕ) (g : Focus) (r : Request) (v : Verdict) → Holds (whole members g) m r
@@ -65,7 +71,19 @@ accepted members m n g r v h = elim (lt_tells g.plain.store.commit (min r.commit
     };
     rest = Accept m n r ∷ [];
     lawful = (
-      record { fits = record { up = h.fits.up; role = h.fits.role; in_bag = h.fits.in_bag; kind = h.fits.kind; mine = h.fits.mine; own_term = h.fits.own_term; previous = h.fits.previous; previous_term = h.fits.previous_term }; has = h.has },
+      record {
+        fits = record {
+          up = h.fits.up;
+          role = h.fits.role;
+          in_bag = h.fits.in_bag;
+          kind = h.fits.kind;
+          mine = h.fits.mine;
+          own_term = h.fits.own_term;
+          previous = h.fits.previous;
+          previous_term = h.fits.previous_term;
+        };
+        has = h.has;
+      },
       tt,
     );
     store = refl;
@@ -251,8 +269,11 @@ append_request_lawful members m n f r (Added e) up c h = elim (lt_tells r.previo
       let shorter : Covered f.ledger (put (with_term f.plain.store r.term) (PutShorter r.previous))
       = same_commit f.ledger (with_term f.plain.store r.term) (put (with_term f.plain.store r.term) (PutShorter r.previous))
       (covered_term f r.term c) refl in
-      rw (z.0) (from_yielded members m n f r (Added e) (PutShorter r.previous ∷ PutEntry e ∷ PutLonger e ∷ advance_puts (with_term f.plain.store r.term) r) up c h.3.0
-      (after_leg members m (TakeAppendRequest r (Added e)) (yielded m f r) (focused m (yielded m f r) (Cut m r e)) (PutShorter r.previous ∷ []) (PutEntry e ∷ PutLonger e ∷ advance_puts (with_term f.plain.store r.term) r)
+      rw (z.0)
+      (from_yielded members m n f r (Added e)
+      (PutShorter r.previous ∷ PutEntry e ∷ PutLonger e ∷ advance_puts (with_term f.plain.store r.term) r) up c h.3.0
+      (after_leg members m (TakeAppendRequest r (Added e)) (yielded m f r) (focused m (yielded m f r) (Cut m r e))
+      (PutShorter r.previous ∷ []) (PutEntry e ∷ PutLonger e ∷ advance_puts (with_term f.plain.store r.term) r)
       (yielded m f r).plain.memory (λ x. x) (Answers (answer_to m n (with_term f.plain.store r.term) r true) ∷ [])
       (record {
         marks = Puts (PutShorter r.previous) (Cut m r e) ∷ [];
@@ -300,7 +321,8 @@ append_request_lawful members m n f r (Added e) up c h = elim (lt_tells r.previo
       }))))
   | inr z ↦
       let n1 : r.previous ≡ length (with_term f.plain.store r.term).log = omega (arith, z.1, fits.previous) in
-      rw (z.0) (from_yielded members m n f r (Added e) (PutEntry e ∷ PutLonger e ∷ advance_puts (with_term f.plain.store r.term) r) up c h.3.0
+      rw (z.0)
+      (from_yielded members m n f r (Added e) (PutEntry e ∷ PutLonger e ∷ advance_puts (with_term f.plain.store r.term) r) up c h.3.0
       (added members m n (yielded m f r) r (Added e) e (record {
         fits = fits;
         entry = a.carried;

@@ -78,7 +78,8 @@ asked_keeps s (Propose m e) may f = record {
       s.list (s.term m) (s.list (s.term m) ++ (e ∷ []))
       (λ g. (
         omega (arith, g.0, length-append (s.list (s.term m)) (e ∷ [])),
-        same_get (r.previous + 1) r.previous (s.list (s.term m) ++ (e ∷ [])) (s.list (s.term m)) (omega arith) (same_append (r.previous + 1) (s.list (s.term m)) (e ∷ []) (omega (arith, g.0)))
+        same_get (r.previous + 1) r.previous (s.list (s.term m) ++ (e ∷ [])) (s.list (s.term m)) (omega arith)
+            (same_append (r.previous + 1) (s.list (s.term m)) (e ∷ []) (omega (arith, g.0)))
             ∙ g.1,
       ))
       (λ t n g. g) r.term q;

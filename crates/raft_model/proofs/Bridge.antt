@@ -116,13 +116,16 @@ event_lawful z k (Steps m n mvs fitted) f h =
     = posts_lawful fitted (run z r.es) (λ g i. said_reached z m (all_moved z.members m n (site_of (world_of z k) m) mvs) r g (h.3 g i))
     in
     let bag : (run z r.es).bag ≡ z.bag = ap (λ (u : State). u.bag) r.ends ∙ r.bag in
-    let back : with_site (world_of z k) m (all_moved z.members m n (site_of (world_of z k) m) mvs) ≡ world_of (run z r.es) k = site_back z k m (all_moved z.members m n (site_of (world_of z k) m) mvs) r in (
+    let back : with_site (world_of z k) m (all_moved z.members m n (site_of (world_of z k) m) mvs) ≡ world_of (run z r.es) k
+    = site_back z k m (all_moved z.members m n (site_of (world_of z k) m) mvs) r in (
       r.es ++ posts fitted,
       lawful_then r.es (posts fitted) z r.lawful p.0,
       n,
       ap (λ (w : World). record w { bag = posted fitted z.bag; steps = n }) back
-          ∙ (ap (λ (b : List Message). record (world_of (run z r.es) k) { bag = posted fitted b; steps = n }) (sym bag)
-          ∙ sym (ap (λ (u : State). world_of u n) (run_then r.es (posts fitted) z ∙ p.1))),
+          ∙ (ap (λ (b : List Message). record (world_of (run z r.es) k) {
+            bag = posted fitted b;
+            steps = n;
+          }) (sym bag) ∙ sym (ap (λ (u : State). world_of u n) (run_then r.es (posts fitted) z ∙ p.1))),
     )
 event_lawful z k (Stops m n mvs) f h =
     let r = (reach_moves z m n mvs (site_of (world_of z k) m) f (reach_start z k m) h.0 h.1).0 in

@@ -36,7 +36,8 @@ free requests m t r q a e = absurd (none_some a e)
 pub dropped : (s : State) → Facts s → (m p : ℕ) → Calling s.requests m (s.role m) (s.term m) (at (s.pending m) p None)
 dropped s f m p = at_each
     (λ q o. (a : Request) → o ≡ Some a
-    → (s.role m ≢ Follower → (a.from ≡ m) × (a.to ≡ q) × (a.term ≡ s.term m) × In a s.requests) × (s.role m ≡ Candidate → a.append ≡ false) × (s.role m ≡ Leader → a.append ≡ true))
+    → (s.role m ≢ Follower → (a.from ≡ m) × (a.to ≡ q) × (a.term ≡ s.term m) × In a s.requests) × (s.role m ≡ Candidate → a.append ≡ false)
+    × (s.role m ≡ Leader → a.append ≡ true))
     (s.pending m) p None (λ a e. absurd (none_some a e)) (λ q n. calls_one s f m q)
 
 pub calls_more : (s : State) → Facts s → (x : Request) (m : ℕ) → Calling (x ∷ s.requests) m (s.role m) (s.term m) (s.pending m)
@@ -47,7 +48,8 @@ pub called : (s : State) → Facts s → (m p : ℕ) (x : Request) → x.from �
     → Calling (x ∷ s.requests) m (s.role m) (s.term m) (at (s.pending m) p (Some x))
 called s f m p x e1 e2 e3 e4 e5 = at_each
     (λ q o. (a : Request) → o ≡ Some a
-    → (s.role m ≢ Follower → (a.from ≡ m) × (a.to ≡ q) × (a.term ≡ s.term m) × In a (x ∷ s.requests)) × (s.role m ≡ Candidate → a.append ≡ false) × (s.role m ≡ Leader → a.append ≡ true))
+    → (s.role m ≢ Follower → (a.from ≡ m) × (a.to ≡ q) × (a.term ≡ s.term m) × In a (x ∷ s.requests))
+    × (s.role m ≡ Candidate → a.append ≡ false) × (s.role m ≡ Leader → a.append ≡ true))
     (s.pending m) p (Some x)
     (λ a e. subst (λ (z : Request). (s.role m ≢ Follower → (z.from ≡ m) × (z.to ≡ p) × (z.term ≡ s.term m) × In z (x ∷ s.requests))
     × (s.role m ≡ Candidate → z.append ≡ false)
@@ -85,8 +87,16 @@ calls_keeps s (Yield m) may f = calls_all (at s.role m Follower) s.term s.pendin
 calls_keeps s (Taken m a) may f = calls_all s.role s.term (at s.pending m (at (s.pending m) a.from None)) s.requests
     (at_each (λ i p. Calling s.requests i (s.role i) (s.term i) p) s.pending m (at (s.pending m) a.from None) (dropped s f m a.from)
     (λ i n. calls_one s f i))
-calls_keeps s (CallVote m n q) may f = calls_all s.role s.term (at s.pending m (at (s.pending m) q (Some (vote_request_of s m n q)))) (vote_request_of s m n q ∷ s.requests) (at_each (λ i p. Calling (vote_request_of s m n q ∷ s.requests) i (s.role i) (s.term i) p) s.pending m (at (s.pending m) q (Some (vote_request_of s m n q)))
-    (called s f m q (vote_request_of s m n q) refl refl refl (λ r. refl) (λ r. absurd (c_no_l (sym may.role ∙ r)))) (λ i n2. calls_more s f (vote_request_of s m n q) i))
-calls_keeps s (CallAppend m n q p w) may f = calls_all s.role s.term (at s.pending m (at (s.pending m) q (Some (append_request_of s m n q p w)))) (append_request_of s m n q p w ∷ s.requests) (at_each (λ i p2. Calling (append_request_of s m n q p w ∷ s.requests) i (s.role i) (s.term i) p2) s.pending m (at (s.pending m) q (Some (append_request_of s m n q p w)))
-    (called s f m q (append_request_of s m n q p w) refl refl refl (λ r. absurd (l_no_c (sym may.0.role ∙ r))) (λ r. refl)) (λ i n2. calls_more s f (append_request_of s m n q p w) i))
+calls_keeps s (CallVote m n q) may f = calls_all s.role s.term (at s.pending m (at (s.pending m) q (Some (vote_request_of s m n q))))
+    (vote_request_of s m n q ∷ s.requests)
+    (at_each (λ i p. Calling (vote_request_of s m n q ∷ s.requests) i (s.role i) (s.term i) p) s.pending m
+    (at (s.pending m) q (Some (vote_request_of s m n q)))
+    (called s f m q (vote_request_of s m n q) refl refl refl (λ r. refl) (λ r. absurd (c_no_l (sym may.role ∙ r))))
+    (λ i n2. calls_more s f (vote_request_of s m n q) i))
+calls_keeps s (CallAppend m n q p w) may f = calls_all s.role s.term
+    (at s.pending m (at (s.pending m) q (Some (append_request_of s m n q p w)))) (append_request_of s m n q p w ∷ s.requests)
+    (at_each (λ i p2. Calling (append_request_of s m n q p w ∷ s.requests) i (s.role i) (s.term i) p2) s.pending m
+    (at (s.pending m) q (Some (append_request_of s m n q p w)))
+    (called s f m q (append_request_of s m n q p w) refl refl refl (λ r. absurd (l_no_c (sym may.0.role ∙ r))) (λ r. refl))
+    (λ i n2. calls_more s f (append_request_of s m n q p w) i))
 calls_keeps s _ may f = f.calls

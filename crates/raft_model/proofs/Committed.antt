@@ -55,7 +55,8 @@ committed_move s f led leader list bag term log fm sm len tm lm = record {
         inr (
           r.0,
           up,
-          subst (λ (x : List Entry). IsSettled s.members led leader list bag x r.0) (sym (lm m)) (settled_more s led leader list bag fm sm (take (s.commit m) (s.log m)) r.0 r.2),
+          subst (λ (x : List Entry). IsSettled s.members led leader list bag x r.0) (sym (lm m))
+              (settled_more s led leader list bag fm sm (take (s.commit m) (s.log m)) r.0 r.2),
         )
   ];
   below = f.committed.below;
@@ -70,7 +71,8 @@ committed_move s f led leader list bag term log fm sm len tm lm = record {
               inr (
                 x.0,
                 x.1,
-                subst (λ (y : List Entry). IsSettled s.members led leader list bag y x.0) (sym (sm r.term r.commit q.0 g.1)) (settled_more s led leader list bag fm sm (take r.commit (s.list r.term)) x.0 x.2),
+                subst (λ (y : List Entry). IsSettled s.members led leader list bag y x.0) (sym (sm r.term r.commit q.0 g.1))
+                    (settled_more s led leader list bag fm sm (take r.commit (s.list r.term)) x.0 x.2),
               )
         ],
       );
@@ -285,7 +287,8 @@ committed_commit s m k h f = elim (less_or k (length s.ledger)) [
           omega (arith, n),
           firm,
           ap (λ (j : ℕ). take j (take k (s.log m))) n
-              ∙ (take-take k k (s.log m) (omega arith) ∙ (ap (take k) (f.running.leads m h.role).2 ∙ ap (λ (j : ℕ). take j (s.list (s.term m))) (sym n))),
+              ∙ (take-take k k (s.log m) (omega arith)
+              ∙ (ap (take k) (f.running.leads m h.role).2 ∙ ap (λ (j : ℕ). take j (s.list (s.term m))) (sym n))),
         )
 
     server : (i : ℕ)
@@ -353,7 +356,8 @@ committed_advance s m r h f =
           inr (
             x.0,
             up,
-            subst (λ (y : List Entry). IsSettled s.members s.led s.leader s.list s.bag y x.0) (take-take (min r.commit (reach r)) r.commit (s.list r.term) (min-le_left r.commit (reach r)) ∙ sym same) less,
+            subst (λ (y : List Entry). IsSettled s.members s.led s.leader s.list s.bag y x.0)
+                (take-take (min r.commit (reach r)) r.commit (s.list r.term) (min-le_left r.commit (reach r)) ∙ sym same) less,
           )
     ] in
     let g : Committed s.members s.led s.leader s.list s.bag s.term (at s.commit m (min r.commit (reach r))) s.log s.requests s.ledger s.stamps = record {

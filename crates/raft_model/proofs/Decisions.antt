@@ -63,7 +63,8 @@ blank_decided : (entry : Entry) → Decides (is_blank entry) (IsBlank entry)
 blank_decided entry = both (equal entry.node 0) (bytes_eq-Decides entry.uid zeros)
 
 well_formed_decided : (entry : Entry) → Decides (is_well_formed entry) (IsWellFormed entry)
-well_formed_decided entry = unless (blank_decided entry) (told (λ h. record { uid = h.0; least = h.1.0; most = h.1.1 }) (λ h. (h.uid, (h.least, h.most)))
+well_formed_decided entry = unless (blank_decided entry)
+    (told (λ h. record { uid = h.0; least = h.1.0; most = h.1.1 }) (λ h. (h.uid, (h.least, h.most)))
     (both (never (bytes_eq-Decides entry.uid zeros)) (both (at_most 1 entry.node) (at_most entry.node 125))))
 
 distinct_decided : (a b : Entry) → Decides (are_distinct a b) (AreDistinct a b)
@@ -125,8 +126,9 @@ free_decided (Some vote) candidate = told (λ e. inr (ap (λ (v : ℕ). Some v) 
 grants_decided : (store : Store) (request : Request) → Decides (grants store request) (MayGrant store request)
 grants_decided store request = told (λ h. record { own_term = h.0; free = h.1.0; not_above = h.1.1 })
     (λ h. (h.own_term, (h.free, h.not_above)))
-    (both (equal request.term store.term) (both (free_decided store.vote request.from) (either (less (last_term store.log) request.previous_term)
-    (both (equal (last_term store.log) request.previous_term) (at_most (length store.log) request.previous)))))
+    (both (equal request.term store.term)
+    (both (free_decided store.vote request.from)
+    (either (less (last_term store.log) request.previous_term) (both (equal (last_term store.log) request.previous_term) (at_most (length store.log) request.previous)))))
 
 pub granted : (store : Store) (request : Request) → IsGranted store request (grants store request)
 granted store request = by_test (grants store request) (grants_decided store request)
@@ -157,11 +159,14 @@ there_decided store request entry = both (less request.previous (length store.lo
 abbrev MayAdd : Store → Request → Entry → Type 0
 MayAdd store request entry = (store.commit < request.previous + 1)
     × (IsWellFormed entry
-    × ((term_at store.log request.previous ≤ entry.term) × ((entry.term ≤ request.term) × IsInjective (take request.previous store.log ++ (entry ∷ [])))))
+    × ((term_at store.log request.previous ≤ entry.term)
+    × ((entry.term ≤ request.term) × IsInjective (take request.previous store.log ++ (entry ∷ [])))))
 
 add_decided : (store : Store) (request : Request) (entry : Entry) → Decides (may_add store request entry) (MayAdd store request entry)
-add_decided store request entry = both (less store.commit (request.previous + 1)) (both (well_formed_decided entry)
-    (both (at_most (term_at store.log request.previous) entry.term) (both (at_most entry.term request.term) (injective_decided (take request.previous store.log ++ (entry ∷ []))))))
+add_decided store request entry = both (less store.commit (request.previous + 1))
+    (both (well_formed_decided entry)
+    (both (at_most (term_at store.log request.previous) entry.term)
+    (both (at_most entry.term request.term) (injective_decided (take request.previous store.log ++ (entry ∷ []))))))
 
 leader_decided : (role : Role) → Decides (is_leader role) (role ≡ Leader)
 leader_decided Follower = (λ e. cross e, λ h. absurd (cc))
@@ -188,7 +193,8 @@ one_fails {a = false} x n = inl (refuted x refl)
 bad_entry : (store : Store) (request : Request) (entry : Entry) → (MayAdd store request entry → ⊥) →
     (request.previous + 1 ≤ store.commit)
     ⊎ ((IsWellFormed entry → ⊥)
-    ⊎ ((entry.term < term_at store.log request.previous) ⊎ ((request.term < entry.term) ⊎ (IsInjective (take request.previous store.log ++ (entry ∷ [])) → ⊥))))
+    ⊎ ((entry.term < term_at store.log request.previous)
+    ⊎ ((request.term < entry.term) ⊎ (IsInjective (take request.previous store.log ++ (entry ∷ [])) → ⊥))))
 bad_entry store request entry n = elim (one_fails (less store.commit (request.previous + 1)) n) [
   | inl a ↦ inl (omega (arith, a))
   | inr n1 ↦ elim (one_fails (well_formed_decided entry) n1) [
@@ -213,8 +219,11 @@ ruled_on_entry store request (Some entry) e fits = elim (tell (nat_lt log_limit 
       | inl c ↦ rw (c) (added a (refuted (there_decided store request entry) b) ((add_decided store request entry).0 c))
       | inr c ↦
           rw (c)
-          (inr
-          (entry, e, inr (refuted (there_decided store request entry) b, bad_entry store request entry (refuted (add_decided store request entry) c))))
+          (inr (
+            entry,
+            e,
+            inr (refuted (there_decided store request entry) b, bad_entry store request entry (refuted (add_decided store request entry) c)),
+          ))
     ])
   ])
 ]
@@ -256,8 +265,12 @@ judged server request = elim (tell (is_current server request)) [
   | inl a ↦ rw (a) (elim (tell (has_previous (with_term server.store request.term) request)) [
     | inr b ↦
         rw (b) ((current_decided server request).0 a, inl (refuted (previous_decided (with_term server.store request.term) request) b))
-    | inl b ↦ rw (b) (judged_by_rules server request (rule_on_entry (with_term server.store request.term) request request.entry) ((current_decided server request).0 a)
-        (ruled_on_entry (with_term server.store request.term) request request.entry refl ((previous_decided (with_term server.store request.term) request).0 b)))
+    | inl b ↦
+        rw (b)
+        (judged_by_rules server request (rule_on_entry (with_term server.store request.term) request request.entry)
+        ((current_decided server request).0 a)
+        (ruled_on_entry (with_term server.store request.term) request request.entry refl
+        ((previous_decided (with_term server.store request.term) request).0 b)))
   ])
 ]
 
@@ -268,7 +281,8 @@ can_commit_decided : (members : List ℕ) (member : ℕ) (server : Plain) (index
 can_commit_decided members member server index = told (λ h. record { above = h.0; inside = h.1.0; own_term = h.1.1.0; held = h.1.1.1 })
     (λ h. (h.above, (h.inside, (h.own_term, h.held))))
     (both (less server.store.commit index)
-    (both (at_most index (length server.store.log)) (both (equal (term_at server.store.log index) server.store.term) (at_most (quorum members) (how_many (has_matched member server index) members)))))
+    (both (at_most index (length server.store.log))
+    (both (equal (term_at server.store.log index) server.store.term) (at_most (quorum members) (how_many (has_matched member server index) members)))))
 
 -- the greatest that passes
 pub record IsGreatest (limit : ℕ) (test : ℕ → Bool) (found : Option ℕ) : Type 0 where

@@ -95,7 +95,11 @@ tell_comes members member step bag room site = elim (lt_tells site.plain.memory.
     | inl h ↦ rw (h) (elim (tell (bytes_eq (get_or site.plain.store.log site.plain.memory.told (blank 0)).uid zeros)) [
       | inl b ↦
           rw (b) (
-            (leader_is site.plain.memory.role h, z.1, (bytes_eq-Decides (get_or site.plain.store.log site.plain.memory.told (blank 0)).uid zeros).0 b),
+            (
+              leader_is site.plain.memory.role h,
+              z.1,
+              (bytes_eq-Decides (get_or site.plain.store.log site.plain.memory.told (blank 0)).uid zeros).0 b,
+            ),
             tt,
           )
       | inr b ↦
@@ -118,8 +122,12 @@ pub tell_duty : (members : List ℕ) (member step : ℕ) (room : Bool) (server :
 tell_duty members member step room server leads = rw (ap is_leader leads) (elim (lt_tells server.memory.told server.store.commit) [
   | inr z ↦
       rw (z.0)
-      (record
-      { passed = λ b u. absurd (omega (arith, b, z.1)); told = λ b u r. absurd (omega (arith, b, z.1)); no_room = λ b u r. absurd (omega (arith, b, z.1)); nothing = λ b. (refl, refl) })
+      (record {
+        passed = λ b u. absurd (omega (arith, b, z.1));
+        told = λ b u r. absurd (omega (arith, b, z.1));
+        no_room = λ b u r. absurd (omega (arith, b, z.1));
+        nothing = λ b. (refl, refl);
+      })
   | inl z ↦ rw (z.0) (elim (tell (bytes_eq (get_or server.store.log server.memory.told (blank 0)).uid zeros)) [
     | inl b ↦ rw (b) (record {
       passed = λ below u. (refl, refl);

@@ -149,7 +149,8 @@ vote_request_lawful members m n f r true up c h = by_vote (term_focus f r.term).
               refl,
               refl,
               sym (ledger_stays f.ledger (put (term_focus f r.term).plain.store (PutVote (Some r.from)))
-                  (same_commit f.ledger (term_focus f r.term).plain.store (put (term_focus f r.term).plain.store (PutVote (Some r.from))) (covered_term f r.term c) refl)),
+                  (same_commit f.ledger (term_focus f r.term).plain.store (put (term_focus f r.term).plain.store (PutVote (Some r.from)))
+                  (covered_term f r.term c) refl)),
               tt,
             );
             puts = refl;
@@ -208,7 +209,14 @@ vote_answer_lawful members m n f a up c h = elim (lt_tells f.plain.store.term a.
         refl,
         refl,
         refl,
-        ((up, z.1), refl, refl, refl, stays (put f.plain.store (PutTerm a.term)) refl, (refl, refl, refl, refl, stays (put (put f.plain.store (PutTerm a.term)) (PutVote None)) refl, tt)),
+        (
+          (up, z.1),
+          refl,
+          refl,
+          refl,
+          stays (put f.plain.store (PutTerm a.term)) refl,
+          (refl, refl, refl, refl, stays (put (put f.plain.store (PutTerm a.term)) (PutVote None)) refl, tt),
+        ),
       );
       puts = refl;
       ends = refl;
@@ -278,7 +286,16 @@ vote_answer_lawful members m n f a up c h = elim (lt_tells f.plain.store.term a.
         record {
           marks = Silent (Count m a) ∷ [];
           walk = (
-            record { up = up; role = role; in_bag = h.0; kind = h.2; mine = h.1; own_term = eqb-true a.term f.plain.store.term (and_left (a.term == f.plain.store.term) _ more); success = and_right (a.term == f.plain.store.term) _ more; pending = h.3 },
+            record {
+              up = up;
+              role = role;
+              in_bag = h.0;
+              kind = h.2;
+              mine = h.1;
+              own_term = eqb-true a.term f.plain.store.term (and_left (a.term == f.plain.store.term) _ more);
+              success = and_right (a.term == f.plain.store.term) _ more;
+              pending = h.3;
+            },
             refl,
             refl,
             refl,

@@ -93,7 +93,17 @@ lawful = (
             omega arith,
             (
               (inl refl, refl, refl, refl),
-              (record { leads = refl; room = omega arith; own_term = refl; well_formed = well_formed; not_blank = λ b. not_zeros b.1; injective = one_injective entry }, tt),
+              (
+                record {
+                  leads = refl;
+                  room = omega arith;
+                  own_term = refl;
+                  well_formed = well_formed;
+                  not_blank = λ b. not_zeros b.1;
+                  injective = one_injective entry;
+                },
+                tt,
+              ),
             ),
             λ g i. absurd i,
           ),
@@ -138,7 +148,16 @@ lawful = (
                   omega arith,
                   (
                     (inl refl, refl, refl, refl),
-                    ((refl, record { can = record { above = omega arith; inside = omega arith; own_term = refl; held = omega arith }; greatest = λ i c. c.inside }), ((refl, omega arith, not_zeros), tt)),
+                    (
+                      (
+                        refl,
+                        record {
+                          can = record { above = omega arith; inside = omega arith; own_term = refl; held = omega arith };
+                          greatest = λ i c. c.inside;
+                        },
+                      ),
+                      ((refl, omega arith, not_zeros), tt),
+                    ),
                   ),
                   λ g i. i,
                 ),

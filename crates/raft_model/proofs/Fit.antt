@@ -160,12 +160,20 @@ acknowledged member store memory answer pending fit = record {
     here leads = let w = fit.peers leads answer.from in let inside = w.reached answer.request pending in elim (tell answer.success) [
       | inl h ↦
           rw (h)
-          (record
-          { least = omega arith; most = omega (arith, w.acknowledged, inside); acknowledged = omega (arith, w.acknowledged, inside); reached = λ request e. absurd (none_some request e) })
+          (record {
+            least = omega arith;
+            most = omega (arith, w.acknowledged, inside);
+            acknowledged = omega (arith, w.acknowledged, inside);
+            reached = λ request e. absurd (none_some request e);
+          })
       | inr h ↦
           rw (h)
-          (record
-          { least = omega arith; most = omega (arith, w.most); acknowledged = w.acknowledged; reached = λ request e. absurd (none_some request e) })
+          (record {
+            least = omega arith;
+            most = omega (arith, w.most);
+            acknowledged = w.acknowledged;
+            reached = λ request e. absurd (none_some request e);
+          })
     ]
 
 no_follower : (role : Role) → is_candidate role ≡ true → role ≢ Follower

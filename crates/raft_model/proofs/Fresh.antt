@@ -60,7 +60,8 @@ fresh_keeps s (Open m) may f = fresh_all (at s.fresh m false) (at s.role m Follo
 fresh_keeps s (Halt m) may f = fresh_all (at s.fresh m false) (at s.role m Follower) s.term s.log s.kept s.candidacies
     (at2_each (λ i fr r. IsFresh fr r (s.term i) (s.log i) s.kept s.candidacies i) s.fresh s.role m false Follower
     (not_fresh false Follower (s.term m) (s.log m) s.kept s.candidacies m false_true) (λ i n. fresh_one s f i))
-fresh_keeps s (Raise m t) may f = fresh_all (at s.fresh m true) (at s.role m Follower) (at s.term m t) s.log s.kept s.candidacies (at3_each (λ i fr r u. IsFresh fr r u (s.log i) s.kept s.candidacies i) s.fresh s.role s.term m true Follower t
+fresh_keeps s (Raise m t) may f = fresh_all (at s.fresh m true) (at s.role m Follower) (at s.term m t) s.log s.kept s.candidacies
+    (at3_each (λ i fr r u. IsFresh fr r u (s.log i) s.kept s.candidacies i) s.fresh s.role s.term m true Follower t
     (record {
       follower = λ e. refl;
       terms = λ e. omega (arith, may.1);
@@ -71,7 +72,10 @@ fresh_keeps s (Raise m t) may f = fresh_all (at s.fresh m true) (at s.role m Fol
           elim (f.bound.stood c i) [ inl x ↦ omega (arith, x, same, may.1) | inr x ↦ omega (arith, x.0, same, may.1) ];
     })
     (λ i n. fresh_one s f i))
-fresh_keeps s (Stand m) may f = fresh_all (at s.fresh m false) (at s.role m Candidate) s.term s.log (did s (Stand m)).kept (did s (Stand m)).candidacies (at2_each (λ i fr r. IsFresh fr r (s.term i) (s.log i) (did s (Stand m)).kept (did s (Stand m)).candidacies i) s.fresh s.role m false Candidate
+fresh_keeps s (Stand m) may f = fresh_all (at s.fresh m false) (at s.role m Candidate) s.term s.log (did s (Stand m)).kept
+    (did s (Stand m)).candidacies
+    (at2_each (λ i fr r. IsFresh fr r (s.term i) (s.log i) (did s (Stand m)).kept (did s (Stand m)).candidacies i) s.fresh s.role m false
+    Candidate
     (not_fresh false Candidate (s.term m) (s.log m) (did s (Stand m)).kept (did s (Stand m)).candidacies m false_true)
     (λ i n. record {
       follower = f.fresh.follower i;
@@ -80,7 +84,8 @@ fresh_keeps s (Stand m) may f = fresh_all (at s.fresh m false) (at s.role m Cand
       votes = λ k e j v. elim j [ inl g ↦ absurd (n (sym v ∙ ap (λ (z : KeptVote). z.voter) g)) | inr j2 ↦ f.fresh.votes i k e j2 v ];
       stood = λ c e j v. elim j [ inl g ↦ absurd (n (sym v ∙ ap (λ (z : Candidacy). z.candidate) g)) | inr j2 ↦ f.fresh.stood i c e j2 v ];
     }))
-fresh_keeps s (Grant m n0 r) may f = fresh_all (at s.fresh m false) s.role s.term s.log (did s (Grant m n0 r)).kept s.candidacies (at_each (λ i fr. IsFresh fr (s.role i) (s.term i) (s.log i) (did s (Grant m n0 r)).kept s.candidacies i) s.fresh m false
+fresh_keeps s (Grant m n0 r) may f = fresh_all (at s.fresh m false) s.role s.term s.log (did s (Grant m n0 r)).kept s.candidacies
+    (at_each (λ i fr. IsFresh fr (s.role i) (s.term i) (s.log i) (did s (Grant m n0 r)).kept s.candidacies i) s.fresh m false
     (not_fresh false (s.role m) (s.term m) (s.log m) (did s (Grant m n0 r)).kept s.candidacies m false_true)
     (λ i n. record {
       follower = f.fresh.follower i;
@@ -89,14 +94,32 @@ fresh_keeps s (Grant m n0 r) may f = fresh_all (at s.fresh m false) s.role s.ter
       stood = λ c. f.fresh.stood i c;
       votes = λ k e j v. elim j [ inl g ↦ absurd (n (sym v ∙ ap (λ (z : KeptVote). z.voter) g)) | inr j2 ↦ f.fresh.votes i k e j2 v ];
     }))
-fresh_keeps s (Win m b) may f = fresh_all s.fresh (at s.role m Leader) s.term (at s.log m (log_won s m b)) s.kept s.candidacies (at2_each (λ i r l. IsFresh (s.fresh i) r (s.term i) l s.kept s.candidacies i) s.role s.log m Leader (log_won s m b)
-    (not_fresh (s.fresh m) Leader (s.term m) (log_won s m b) s.kept s.candidacies m (λ e. candidate_no_follower (s.role m) may.role (f.fresh.follower m e))) (λ i n. fresh_one s f i))
-fresh_keeps s (Yield m) may f = fresh_all s.fresh (at s.role m Follower) s.term s.log s.kept s.candidacies (at_each (λ i r. IsFresh (s.fresh i) r (s.term i) (s.log i) s.kept s.candidacies i) s.role m Follower
-    (let g = fresh_one s f m in record { follower = λ e. refl; terms = g.terms; entries = g.entries; votes = g.votes; stood = g.stood }) (λ i n. fresh_one s f i))
-fresh_keeps s (Cut m r e) may f = fresh_all s.fresh s.role s.term (at s.log m (take r.previous (s.log m))) s.kept s.candidacies (at_each (λ i l. IsFresh (s.fresh i) (s.role i) (s.term i) l s.kept s.candidacies i) s.log m (take r.previous (s.log m))
-    (let g = fresh_one s f m in record { follower = g.follower; terms = g.terms; votes = g.votes; stood = g.stood; entries = λ i h. each_take (λ x. x.term < s.term m) (s.log m) r.previous (λ k b. g.entries k h b) i }) (λ i n. fresh_one s f i))
-fresh_keeps s (Grow m r e) may f = fresh_all (at s.fresh m false) s.role s.term (at s.log m (s.log m ++ (e ∷ []))) s.kept s.candidacies (at2_each (λ i fr l. IsFresh fr (s.role i) (s.term i) l s.kept s.candidacies i) s.fresh s.log m false (s.log m ++ (e ∷ []))
+fresh_keeps s (Win m b) may f = fresh_all s.fresh (at s.role m Leader) s.term (at s.log m (log_won s m b)) s.kept s.candidacies
+    (at2_each (λ i r l. IsFresh (s.fresh i) r (s.term i) l s.kept s.candidacies i) s.role s.log m Leader (log_won s m b)
+    (not_fresh (s.fresh m) Leader (s.term m) (log_won s m b) s.kept s.candidacies m
+    (λ e. candidate_no_follower (s.role m) may.role (f.fresh.follower m e)))
+    (λ i n. fresh_one s f i))
+fresh_keeps s (Yield m) may f = fresh_all s.fresh (at s.role m Follower) s.term s.log s.kept s.candidacies
+    (at_each (λ i r. IsFresh (s.fresh i) r (s.term i) (s.log i) s.kept s.candidacies i) s.role m Follower
+    (let g = fresh_one s f m in record { follower = λ e. refl; terms = g.terms; entries = g.entries; votes = g.votes; stood = g.stood })
+    (λ i n. fresh_one s f i))
+fresh_keeps s (Cut m r e) may f = fresh_all s.fresh s.role s.term (at s.log m (take r.previous (s.log m))) s.kept s.candidacies
+    (at_each (λ i l. IsFresh (s.fresh i) (s.role i) (s.term i) l s.kept s.candidacies i) s.log m (take r.previous (s.log m))
+    (let g = fresh_one s f m in
+    record {
+      follower = g.follower;
+      terms = g.terms;
+      votes = g.votes;
+      stood = g.stood;
+      entries = λ i h. each_take (λ x. x.term < s.term m) (s.log m) r.previous (λ k b. g.entries k h b) i;
+    })
+    (λ i n. fresh_one s f i))
+fresh_keeps s (Grow m r e) may f = fresh_all (at s.fresh m false) s.role s.term (at s.log m (s.log m ++ (e ∷ []))) s.kept s.candidacies
+    (at2_each (λ i fr l. IsFresh fr (s.role i) (s.term i) l s.kept s.candidacies i) s.fresh s.log m false (s.log m ++ (e ∷ []))
     (not_fresh false (s.role m) (s.term m) (s.log m ++ (e ∷ [])) s.kept s.candidacies m false_true) (λ i n. fresh_one s f i))
-fresh_keeps s (Propose m e) may f = fresh_all s.fresh s.role s.term (at s.log m (s.log m ++ (e ∷ []))) s.kept s.candidacies (at_each (λ i l. IsFresh (s.fresh i) (s.role i) (s.term i) l s.kept s.candidacies i) s.log m (s.log m ++ (e ∷ []))
-    (not_fresh (s.fresh m) (s.role m) (s.term m) (s.log m ++ (e ∷ [])) s.kept s.candidacies m (λ h. leader_no_follower (s.role m) may.role (f.fresh.follower m h))) (λ i n. fresh_one s f i))
+fresh_keeps s (Propose m e) may f = fresh_all s.fresh s.role s.term (at s.log m (s.log m ++ (e ∷ []))) s.kept s.candidacies
+    (at_each (λ i l. IsFresh (s.fresh i) (s.role i) (s.term i) l s.kept s.candidacies i) s.log m (s.log m ++ (e ∷ []))
+    (not_fresh (s.fresh m) (s.role m) (s.term m) (s.log m ++ (e ∷ [])) s.kept s.candidacies m
+    (λ h. leader_no_follower (s.role m) may.role (f.fresh.follower m h)))
+    (λ i n. fresh_one s f i))
 fresh_keeps s _ may f = f.fresh

@@ -139,7 +139,8 @@ lawful_here members m (e ∷ es) z f k q l =
     = subst (λ (x : Focus). MayHere z.members m x e) (sym q) (subst (λ (x : List ℕ). MayHere x m f e) (sym k) l.0) in (
       (may_here z m e may, rest.0),
       rest.1
-          ∙ (ap (λ (x : State). at_focus x m (focuses m (focused m f e) es)) next ∙ focus_twice z m (focused m f e) (focuses m (focused m f e) es)),
+          ∙ (ap (λ (x : State). at_focus x m (focuses m (focused m f e) es)) next
+          ∙ focus_twice z m (focused m f e) (focuses m (focused m f e) es)),
     )
 
 pub focuses_append : (m : ℕ) (es ds : List Micro) (f : Focus) → focuses m f (es ++ ds) ≡ focuses m (focuses m f es) ds

@@ -87,7 +87,8 @@ ledger_commit s m k h f = elim (less_or k (length s.ledger)) [
       omega (arith, n),
       firm_commit s m k h f,
       ap (λ (j : ℕ). take j (take k (s.log m))) n
-          ∙ (take-take k k (s.log m) (omega arith) ∙ (ap (take k) (f.running.leads m h.role).2 ∙ ap (λ (j : ℕ). take j (s.list (s.term m))) (sym n))),
+          ∙ (take-take k k (s.log m) (omega arith)
+          ∙ (ap (take k) (f.running.leads m h.role).2 ∙ ap (λ (j : ℕ). take j (s.list (s.term m))) (sym n))),
     )
 
     old : 1 ≤ length s.ledger → length s.ledger < k → Same (length s.ledger) s.ledger (take k (s.log m))

@@ -39,7 +39,14 @@ append_answer_lawful members m n f a up c h = elim (lt_tells f.plain.store.term 
         refl,
         refl,
         refl,
-        ((up, z.1), refl, refl, refl, stays (put f.plain.store (PutTerm a.term)) refl, (refl, refl, refl, refl, stays (put (put f.plain.store (PutTerm a.term)) (PutVote None)) refl, tt)),
+        (
+          (up, z.1),
+          refl,
+          refl,
+          refl,
+          stays (put f.plain.store (PutTerm a.term)) refl,
+          (refl, refl, refl, refl, stays (put (put f.plain.store (PutTerm a.term)) (PutVote None)) refl, tt),
+        ),
       );
       puts = refl;
       ends = refl;
@@ -59,7 +66,15 @@ append_answer_lawful members m n f a up c h = elim (lt_tells f.plain.store.term 
       leg = record { marks = []; walk = tt; puts = refl; ends = refl };
       rest = Taken m a ∷ [];
       lawful = (
-        record { up = up; role = leader_is f.plain.memory.role (and_left (is_leader f.plain.memory.role) _ k); in_bag = h.0; kind = h.2; mine = h.1; own_term = eqb-true a.term f.plain.store.term (and_right (is_leader f.plain.memory.role) _ k); pending = h.3 },
+        record {
+          up = up;
+          role = leader_is f.plain.memory.role (and_left (is_leader f.plain.memory.role) _ k);
+          in_bag = h.0;
+          kind = h.2;
+          mine = h.1;
+          own_term = eqb-true a.term f.plain.store.term (and_right (is_leader f.plain.memory.role) _ k);
+          pending = h.3;
+        },
         tt,
       );
       store = refl;

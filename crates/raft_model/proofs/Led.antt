@@ -46,7 +46,8 @@ led_win s m b h f =
     record {
       candidacy = at3_each
           (λ t d l x. d ≡ true
-          → (c : Candidacy) × (rest : List Entry) × In c s.candidacies × (c.candidate ≡ l) × (c.term ≡ t) × (x ≡ c.log ++ rest) × ((i : ℕ) → i < length rest → (get_or rest i (blank 0)).term ≡ t))
+          → (c : Candidacy) × (rest : List Entry) × In c s.candidacies × (c.candidate ≡ l) × (c.term ≡ t) × (x ≡ c.log ++ rest)
+          × ((i : ℕ) → i < length rest → (get_or rest i (blank 0)).term ≡ t))
           s.led s.leader s.list (s.term m) true m (log_won s m b)
           (λ e. let c = f.running.stands m h.role in
           let w = won b in
@@ -54,7 +55,8 @@ led_win s m b h f =
           (λ t n. f.led.candidacy t);
       votes = at2_each (λ t d l. d ≡ true → quorum s.members ≤ how_many (λ v. any (is_vote v l t) s.kept) s.members) s.led s.leader
           (s.term m) true m
-          (λ e. let more : how_many (s.votes m) s.members ≤ how_many (λ v. any (is_vote v m (s.term m)) s.kept) s.members = count_grows (s.votes m) (λ v. any (is_vote v m (s.term m)) s.kept) s.members counted in
+          (λ e. let more : how_many (s.votes m) s.members ≤ how_many (λ v. any (is_vote v m (s.term m)) s.kept) s.members
+          = count_grows (s.votes m) (λ v. any (is_vote v m (s.term m)) s.kept) s.members counted in
           omega (arith, more, h.votes))
           (λ t n. f.led.votes t);
       rising = at_each (λ t x. IsRising x t) s.list (s.term m) (log_won s m b)
@@ -87,7 +89,8 @@ led_win s m b h f =
               absurd (clash (s.led k.0.term) (f.votes.flagged k.0 k.1 e) (ap s.led k.4 ∙ alone s f m h.role h.votes))
         ]
         in
-        any_there (is_vote v m (s.term m)) s.kept k.0 k.1 (and_both (k.0.voter == v) ((k.0.candidate == m) && ((k.0.term == s.term m) && not k.0.led)) (eq-eqb k.0.voter v k.2)
+        any_there (is_vote v m (s.term m)) s.kept k.0 k.1
+        (and_both (k.0.voter == v) ((k.0.candidate == m) && ((k.0.term == s.term m) && not k.0.led)) (eq-eqb k.0.voter v k.2)
         (and_both (k.0.candidate == m) ((k.0.term == s.term m) && not k.0.led) (eq-eqb k.0.candidate m k.3)
         (and_both (k.0.term == s.term m) (not k.0.led) (eq-eqb k.0.term (s.term m) k.4) (ap not no_flag))))
 
@@ -101,10 +104,19 @@ led_propose s m e h f =
     record {
       candidacy = at_each
           (λ t x. s.led t ≡ true
-          → (c : Candidacy) × (rest : List Entry) × In c s.candidacies × (c.candidate ≡ s.leader t) × (c.term ≡ t) × (x ≡ c.log ++ rest) × ((i : ℕ) → i < length rest → (get_or rest i (blank 0)).term ≡ t))
+          → (c : Candidacy) × (rest : List Entry) × In c s.candidacies × (c.candidate ≡ s.leader t) × (c.term ≡ t) × (x ≡ c.log ++ rest)
+          × ((i : ℕ) → i < length rest → (get_or rest i (blank 0)).term ≡ t))
           s.list (s.term m) (s.list (s.term m) ++ (e ∷ []))
-          (λ d. let c = f.led.candidacy (s.term m) d in
-          (c.0, c.1 ++ (e ∷ []), c.2, c.3, c.4, ap (λ (l : List Entry). l ++ (e ∷ [])) c.5 ∙ append_assoc c.0.log c.1 (e ∷ []), each_snoc (λ x. x.term ≡ s.term m) c.1 e c.6 h.own_term))
+          (λ d. let c = f.led.candidacy (s.term m) d in (
+            c.0,
+            c.1 ++ (e ∷ []),
+            c.2,
+            c.3,
+            c.4,
+            ap (λ (l : List Entry). l ++ (e ∷ [])) c.5
+                ∙ append_assoc c.0.log c.1 (e ∷ []),
+            each_snoc (λ x. x.term ≡ s.term m) c.1 e c.6 h.own_term,
+          ))
           (λ t n. f.led.candidacy t);
       votes = f.led.votes;
       rising = at_each (λ t x. IsRising x t) s.list (s.term m) (s.list (s.term m) ++ (e ∷ []))

@@ -85,26 +85,31 @@ running_keeps s (Count m a) may f = record {
   leads = f.running.leads;
   stands = f.running.stands;
   counted = at_each (λ i v. Counts s.kept i (s.role i) (s.term i) v) s.votes m (at (s.votes m) a.from true)
-      (λ q e h. at_each (λ p b. b ≡ true → (k : KeptVote) × In k s.kept × (k.voter ≡ p) × (k.candidate ≡ m) × (k.term ≡ s.term m)) (s.votes m) a.from true
-      (λ z. let i = f.posted.answer a may.in_bag in
+      (λ q e h. at_each (λ p b. b ≡ true
+      → (k : KeptVote) × In k s.kept × (k.voter ≡ p) × (k.candidate ≡ m) × (k.term ≡ s.term m)) (s.votes m) a.from true (λ z. let i = f.posted.answer a may.in_bag in
       let k = f.answered.voted a i may.success may.kind in
       let o = f.answered.success a i may.success in
-      (k.0, k.1, k.2, k.3 ∙ may.mine, k.4 ∙ (sym o.0 ∙ may.own_term)))
-      (λ p n z. f.running.counted m p e z) q h)
+      (k.0, k.1, k.2, k.3 ∙ may.mine, k.4 ∙ (sym o.0 ∙ may.own_term))) (λ p n z. f.running.counted m p e z) q h)
       (λ i n q. f.running.counted i q);
 }
 running_keeps s (Win m b) may f = record {
   leads = at2_each
       (λ i r l. r ≡ Leader
-      → (at s.led (s.term m) true (s.term i) ≡ true) × (at s.leader (s.term m) m (s.term i) ≡ i) × (l ≡ at s.list (s.term m) (log_won s m b) (s.term i)))
+      → (at s.led (s.term m) true (s.term i) ≡ true) × (at s.leader (s.term m) m (s.term i) ≡ i)
+      × (l ≡ at s.list (s.term m) (log_won s m b) (s.term i)))
       s.role s.log m Leader (log_won s m b)
       (λ e. (
         at_here s.led (s.term m) (s.term m) true refl,
         at_here s.leader (s.term m) (s.term m) m refl,
         sym (at_here s.list (s.term m) (s.term m) (log_won s m b) refl),
       ))
-      (λ i n e. let o = f.running.leads i e in let z = not_first s f m b may (s.term i) o.0 in
-      (led_more s (s.term m) (s.term i) o.0, at_other s.leader (s.term m) (s.term i) m z ∙ o.1, o.2 ∙ sym (at_other s.list (s.term m) (s.term i) (log_won s m b) z)));
+      (λ i n e. let o = f.running.leads i e in
+      let z = not_first s f m b may (s.term i) o.0 in (
+        led_more s (s.term m) (s.term i) o.0,
+        at_other s.leader (s.term m) (s.term i) m z ∙ o.1,
+        o.2
+            ∙ sym (at_other s.list (s.term m) (s.term i) (log_won s m b) z),
+      ));
   stands = at2_each (λ i r l. StandsFor s.candidacies i r (s.term i) l) s.role s.log m Leader (log_won s m b) (λ e. absurd (l_no_c e))
       (λ i n. f.running.stands i);
   counted = at_each (λ i r. Counts s.kept i r (s.term i) (s.votes i)) s.role m Leader (λ q e. absurd (l_no_c e))
@@ -130,10 +135,18 @@ running_keeps s (Propose m e) may f = record {
       (λ i l. s.role i ≡ Leader
       → (s.led (s.term i) ≡ true) × (s.leader (s.term i) ≡ i) × (l ≡ at s.list (s.term m) (s.list (s.term m) ++ (e ∷ [])) (s.term i)))
       s.log m (s.log m ++ (e ∷ []))
-      (λ g. let o = f.running.leads m g in
-      (o.0, o.1, ap (λ (x : List Entry). x ++ (e ∷ [])) o.2 ∙ sym (at_here s.list (s.term m) (s.term m) (s.list (s.term m) ++ (e ∷ [])) refl)))
-      (λ i n g. let o = f.running.leads i g in
-      (o.0, o.1, o.2 ∙ sym (at_other s.list (s.term m) (s.term i) (s.list (s.term m) ++ (e ∷ [])) (λ z. n (sym o.1 ∙ (ap s.leader z ∙ (f.running.leads m may.role).1))))));
+      (λ g. let o = f.running.leads m g in (
+        o.0,
+        o.1,
+        ap (λ (x : List Entry). x ++ (e ∷ [])) o.2
+            ∙ sym (at_here s.list (s.term m) (s.term m) (s.list (s.term m) ++ (e ∷ [])) refl),
+      ))
+      (λ i n g. let o = f.running.leads i g in (
+        o.0,
+        o.1,
+        o.2
+            ∙ sym (at_other s.list (s.term m) (s.term i) (s.list (s.term m) ++ (e ∷ [])) (λ z. n (sym o.1 ∙ (ap s.leader z ∙ (f.running.leads m may.role).1)))),
+      ));
   stands = at_each (λ i l. StandsFor s.candidacies i (s.role i) (s.term i) l) s.log m (s.log m ++ (e ∷ []))
       (λ g. absurd (two (s.role m) may.role g)) (λ i n. f.running.stands i);
 }

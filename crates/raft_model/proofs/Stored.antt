@@ -154,8 +154,17 @@ pub no_follower : (s : State) (m : ℕ) → s.role m ≡ Leader → s.role m ≢
 no_follower s m h e = cc
 
 pub stored_keeps : (s : State) (e : Micro) → May s e → Facts s → Stored (did s e).log (did s e).term (did s e).commit
-stored_keeps s (Raise m t) may f = stored_all s.log (at s.term m t) s.commit (at_each (λ i v. Good (s.log i) v (s.commit i)) s.term m t
-    (let g = good s f m in record { within = g.within; log_limit = g.log_limit; well_formed = g.well_formed; injective = g.injective; rising = rising_up (s.log m) (s.term m) t (omega (arith, may.1)) g.rising }) (λ i n. good s f i))
+stored_keeps s (Raise m t) may f = stored_all s.log (at s.term m t) s.commit
+    (at_each (λ i v. Good (s.log i) v (s.commit i)) s.term m t
+    (let g = good s f m in
+    record {
+      within = g.within;
+      log_limit = g.log_limit;
+      well_formed = g.well_formed;
+      injective = g.injective;
+      rising = rising_up (s.log m) (s.term m) t (omega (arith, may.1)) g.rising;
+    })
+    (λ i n. good s f i))
 stored_keeps s (Win m b) may f = stored_all (at s.log m (log_won s m b)) s.term s.commit
     (at_each (λ i l. Good l (s.term i) (s.commit i)) s.log m (log_won s m b) (won b refl) (λ i n. good s f i))
   where
@@ -170,19 +179,49 @@ stored_keeps s (Win m b) may f = stored_all (at s.log m (log_won s m b)) s.term 
     won true e = good_snoc (s.log m) (blank (s.term m)) (s.term m) (s.commit m) (good s f m) (may.room e)
         (λ no_blank. absurd (no_blank (refl, refl))) (last_below (s.log m) (s.term m) (f.stored.rising m)) low (omega arith)
         (inj_blank (s.log m) (s.term m) (f.stored.injective m))
-stored_keeps s (Cut m r e) may f = stored_all (at s.log m (take r.previous (s.log m))) s.term s.commit (at_each (λ i l. Good l (s.term i) (s.commit i)) s.log m (take r.previous (s.log m))
-    (let g = good s f m in record { within = omega (arith, may.after_commit, may.inside, length-take r.previous (s.log m)); log_limit = omega (arith, g.log_limit, length-take r.previous (s.log m)); well_formed = each_take IsWellFormed (s.log m) r.previous g.well_formed; rising = rising_take (s.log m) (s.term m) r.previous g.rising; injective = inj_take (s.log m) r.previous g.injective }) (λ i n. good s f i))
-stored_keeps s (Grow m r e) may f = stored_all (at s.log m (s.log m ++ (e ∷ []))) s.term s.commit (at_each (λ i l. Good l (s.term i) (s.commit i)) s.log m (s.log m ++ (e ∷ []))
-    (good_snoc (s.log m) e (s.term m) (s.commit m) (good s f m) may.room may.well_formed may.rises low (omega (arith, may.below, may.fits.own_term)) may.injective) (λ i n. good s f i))
+stored_keeps s (Cut m r e) may f = stored_all (at s.log m (take r.previous (s.log m))) s.term s.commit
+    (at_each (λ i l. Good l (s.term i) (s.commit i)) s.log m (take r.previous (s.log m))
+    (let g = good s f m in
+    record {
+      within = omega (arith, may.after_commit, may.inside, length-take r.previous (s.log m));
+      log_limit = omega (arith, g.log_limit, length-take r.previous (s.log m));
+      well_formed = each_take IsWellFormed (s.log m) r.previous g.well_formed;
+      rising = rising_take (s.log m) (s.term m) r.previous g.rising;
+      injective = inj_take (s.log m) r.previous g.injective;
+    })
+    (λ i n. good s f i))
+stored_keeps s (Grow m r e) may f = stored_all (at s.log m (s.log m ++ (e ∷ []))) s.term s.commit
+    (at_each (λ i l. Good l (s.term i) (s.commit i)) s.log m (s.log m ++ (e ∷ []))
+    (good_snoc (s.log m) e (s.term m) (s.commit m) (good s f m) may.room may.well_formed may.rises low
+    (omega (arith, may.below, may.fits.own_term)) may.injective)
+    (λ i n. good s f i))
   where
     low : 1 ≤ e.term
     low =
         let en = f.asked.entry r e (f.posted.request r may.fits.in_bag) may.fits.kind may.entry in
         subst (λ (x : Entry). 1 ≤ x.term) en.1 ((f.led.rising r.term).low r.previous en.0)
-stored_keeps s (Advance m r) may f = stored_all s.log s.term (at s.commit m (min r.commit (reach r))) (at_each (λ i c. Good (s.log i) (s.term i) c) s.commit m (min r.commit (reach r))
-    (let g = good s f m in let a = agree s f m r may.holds in record { within = omega (arith, min-le_right r.commit (reach r), a.0); log_limit = g.log_limit; well_formed = g.well_formed; rising = g.rising; injective = g.injective }) (λ i n. good s f i))
-stored_keeps s (Propose m e) may f = stored_all (at s.log m (s.log m ++ (e ∷ []))) s.term s.commit (at_each (λ i l. Good l (s.term i) (s.commit i)) s.log m (s.log m ++ (e ∷ []))
-    (good_snoc (s.log m) e (s.term m) (s.commit m) (good s f m) may.room may.well_formed (let x = last_below (s.log m) (s.term m) (f.stored.rising m) in omega (arith, x, may.own_term)) (let x = f.roles.terms m (no_follower s m may.role) in omega (arith, x, may.own_term)) (omega (arith, may.own_term)) may.injective) (λ i n. good s f i))
-stored_keeps s (Commit m k) may f = stored_all s.log s.term (at s.commit m k) (at_each (λ i c. Good (s.log i) (s.term i) c) s.commit m k
-    (let g = good s f m in record { within = may.inside; log_limit = g.log_limit; well_formed = g.well_formed; rising = g.rising; injective = g.injective }) (λ i n. good s f i))
+stored_keeps s (Advance m r) may f = stored_all s.log s.term (at s.commit m (min r.commit (reach r)))
+    (at_each (λ i c. Good (s.log i) (s.term i) c) s.commit m (min r.commit (reach r))
+    (let g = good s f m in
+    let a = agree s f m r may.holds in
+    record {
+      within = omega (arith, min-le_right r.commit (reach r), a.0);
+      log_limit = g.log_limit;
+      well_formed = g.well_formed;
+      rising = g.rising;
+      injective = g.injective;
+    })
+    (λ i n. good s f i))
+stored_keeps s (Propose m e) may f = stored_all (at s.log m (s.log m ++ (e ∷ []))) s.term s.commit
+    (at_each (λ i l. Good l (s.term i) (s.commit i)) s.log m (s.log m ++ (e ∷ []))
+    (good_snoc (s.log m) e (s.term m) (s.commit m) (good s f m) may.room may.well_formed
+    (let x = last_below (s.log m) (s.term m) (f.stored.rising m) in omega (arith, x, may.own_term))
+    (let x = f.roles.terms m (no_follower s m may.role) in omega (arith, x, may.own_term)) (omega (arith, may.own_term))
+    may.injective)
+    (λ i n. good s f i))
+stored_keeps s (Commit m k) may f = stored_all s.log s.term (at s.commit m k)
+    (at_each (λ i c. Good (s.log i) (s.term i) c) s.commit m k
+    (let g = good s f m in
+    record { within = may.inside; log_limit = g.log_limit; well_formed = g.well_formed; rising = g.rising; injective = g.injective })
+    (λ i n. good s f i))
 stored_keeps s _ may f = f.stored
