@@ -8,7 +8,7 @@ use Rattle.raft_model.proofs.Micro.{State, Micro, did, May, vote_request_of, app
 use Rattle.raft_model.proofs.Micro.Micro.{Open, Halt, Raise, Stand, Count, Drop, Win, Yield, Taken, CallVote, CallAppend}
 use Rattle.raft_model.proofs.Facts.{Facts, Calls}
 use Rattle.raft_model.proofs.At.{at_each, at2_each}
-use Rattle.raft_model.proofs.Apart.{c_no_l, f_no_c, f_no_l, l_no_c}
+use Rattle.raft_model.proofs.Apart.{c_no_l, f_no_c, f_no_l, l_no_c, none_some}
 
 -- the calls of one member
 abbrev pub Calling : List Request → ℕ → Role → ℕ → (ℕ → Option Request) → Type 0
@@ -26,9 +26,6 @@ calls_one s f m q a e = (λ n. f.calls.own m q a n e, λ r. f.calls.votes m q a 
 
 pub idle : (requests : List Request) (m t : ℕ) (pending : ℕ → Option Request) → Calling requests m Follower t pending
 idle requests m t pending q a e = (λ n. absurd (n refl), λ r. absurd (f_no_c r), λ r. absurd (f_no_l r))
-
-pub none_some : (a : Request) → None ≡ Some a → ⊥
-none_some a e = cc
 
 pub free : (requests : List Request) (m t : ℕ) (r : Role) → Calling requests m r t (λ q. None)
 free requests m t r q a e = absurd (none_some a e)

@@ -166,9 +166,6 @@ committed_propose s m e f = committed_move s f s.led s.leader (at s.list (s.term
     longer t = at_each (λ i l. length (s.list i) ≤ length l) s.list (s.term m) (s.list (s.term m) ++ (e ∷ []))
         (omega (arith, length-append (s.list (s.term m)) (e ∷ []))) (λ i n. omega arith) t
 
-pub firm_same : (s : State) (t k : ℕ) → Firm s.members s.led s.leader s.list s.bag t k → Firm s.members s.led s.leader s.list s.bag t k
-firm_same s t k a = a
-
 pub committed_log : (s : State) → Facts s → (m : ℕ) (l : List Entry) → Same (s.commit m) l (s.log m)
     → Committed s.members s.led s.leader s.list s.bag s.term s.commit (at s.log m l) s.requests s.ledger s.stamps
 committed_log s f m l h = committed_move s f s.led s.leader s.list s.bag s.term (at s.log m l) (λ t k a. a) (λ t j a b. refl)

@@ -11,7 +11,8 @@ use Rattle.raft_model.specs.Messages.{Answer, Message, reach}
 use Rattle.raft_model.specs.Lists.{In, any}
 use Rattle.raft_model.specs.Messages.Message.{Requests, Answers, Pairs}
 use Rattle.raft_model.proofs.Micro.{State}
-use Rattle.raft_model.proofs.Facts.{Facts, Firm, IsMatching, Acked, is_vote, is_ack, has_acked}
+use Rattle.raft_model.specs.Invariants.{is_vote}
+use Rattle.raft_model.proofs.Facts.{Facts, Firm, IsMatching, Acked, is_ack, has_acked}
 use Rattle.raft_model.proofs.Quorum.{tell, quorums_meet, any_found}
 use Rattle.raft_model.proofs.Lists.{same_less, same_get, same_length, same_append, term_at_less, ending, same_last}
 

@@ -15,6 +15,7 @@ use Rattle.raft_model.specs.Server.Role.{Follower, Candidate, Leader}
 use Rattle.raft_model.specs.Moves.{Verdict, MayGrant, IsGranted, HasPrevious, Adds, IsThere, IsRuled, IsCurrent, IsOutdated, IsJudged, with_term, CanCommit, IsCommitIndex, has_matched, is_leader}
 use Rattle.raft_model.specs.Moves.Verdict.{Outdated, Refused, Held, Added}
 use Rattle.raft_model.specs.Decisions.{is_blank, is_well_formed, are_distinct, is_distinct_from_all, is_injective, is_free, grants, has_previous, is_there, may_add, rule_on_entry, is_current, judges, can_commit, greatest_to, commit_index}
+use Rattle.raft_model.proofs.Apart.{some_same}
 use Rattle.raft_model.proofs.Quorum.{tell}
 use Rattle.raft_model.proofs.Whole.{lt_tells, le_tells}
 
@@ -290,15 +291,12 @@ pub record IsGreatest (limit : ℕ) (test : ℕ → Bool) (found : Option ℕ) :
   pub greatest : (k : ℕ) → found ≡ Some k → (i : ℕ) → i ≤ limit → test i ≡ true → i ≤ k
   pub none : found ≡ None → (i : ℕ) → i ≤ limit → test i ≡ false
 
-found : {a b : ℕ} → Some a ≡ Some b → a ≡ b
-found e = cc
-
 greatest : (limit : ℕ) (test : ℕ → Bool) → IsGreatest limit test (greatest_to limit test)
 greatest zero test = elim (tell (test zero)) [
   | inl a ↦
       rw (a)
       (record
-      { passes = λ k e. subst (λ (i : ℕ). test i ≡ true) (found e) a; greatest = λ k e i b p. omega (arith, b); none = λ e. absurd (cc) })
+      { passes = λ k e. subst (λ (i : ℕ). test i ≡ true) (some_same _ _ e) a; greatest = λ k e i b p. omega (arith, b); none = λ e. absurd (cc) })
   | inr a ↦ rw (a) (record {
     passes = λ k e. absurd (cc);
     greatest = λ k e. absurd (cc);
@@ -307,8 +305,8 @@ greatest zero test = elim (tell (test zero)) [
 ]
 greatest (suc limit) test = elim (tell (test (suc limit))) [
   | inl a ↦ rw (a) (record {
-    passes = λ k e. subst (λ (i : ℕ). test i ≡ true) (found e) a;
-    greatest = λ k e i b p. omega (arith, b, found e);
+    passes = λ k e. subst (λ (i : ℕ). test i ≡ true) (some_same _ _ e) a;
+    greatest = λ k e i b p. omega (arith, b, some_same (suc limit) k e);
     none = λ e. absurd (cc);
   })
   | inr a ↦ let below : IsGreatest limit test (greatest_to limit test) = greatest limit test in rw (a) (record {

@@ -1,5 +1,5 @@
 -- A cluster of three that elects a leader, commits a pair and tells it.
-use Rattle.std.proofs.Common.{◌≡◌, ◌≢◌, ℕ, ◌≤◌, true, List, [], ◌∷◌, length, refl, arith, inl, inr, Some}
+use Rattle.std.proofs.Common.{◌≡◌, ◌≢◌, ℕ, true, List, [], ◌∷◌, length, refl, arith, inl, inr, Some}
 use Rattle.std.specs.Prelude.{replicate}
 use Rattle.raft_model.specs.Lists.{In}
 use Rattle.can_frame.specs.declared.entry.Entry.{Entry}
@@ -61,12 +61,6 @@ one_injective e = λ i j b c. absurd (omega (arith, b, c))
 
 pub well_formed : IsWellFormed entry
 well_formed = λ no_blank. record { uid = not_zeros; least = omega arith; most = omega arith }
-
-pub only : {A : Type 0} (x y : A) → In y (x ∷ []) → In y (x ∷ [])
-only x y i = i
-
-pub first_place : (i : ℕ) → i ≤ 1 → i ≤ 1
-first_place i h = h
 
 pub lawful : Lawful (beginning three) example
 lawful = (

@@ -1,10 +1,11 @@
 -- What holds after every list of lawful micro moves.
-use Rattle.std.specs.Prelude.{◌≡◌, ◌≢◌, ℕ, ◌+◌, ◌<◌, ◌≤◌, Bool, true, false, List, ◌++◌, length, ◌==◌, ◌&&◌, if◌then◌else◌, ◌⊎◌, take, get_or, Option, Some, nat_le, not}
+use Rattle.std.specs.Prelude.{◌≡◌, ◌≢◌, ℕ, ◌+◌, ◌<◌, ◌≤◌, Bool, true, false, List, ◌++◌, length, ◌==◌, ◌&&◌, if◌then◌else◌, ◌⊎◌, take, get_or, Option, Some, nat_le}
 use Rattle.can_frame.specs.declared.entry.Entry.{Entry}
 use Rattle.can_frame.specs.Log.{IsInjective, IsWellFormed, blank, last_term, log_limit}
 use Rattle.can_frame.specs.Zeros.{zeros}
 use Rattle.raft_model.specs.Log.{IsRising, NotAbove, Same, term_at}
 use Rattle.raft_model.specs.Messages.{Request, reach, Answer, Pair, Message}
+use Rattle.raft_model.specs.Invariants.{is_vote}
 use Rattle.raft_model.specs.Server.{Role, quorum}
 use Rattle.raft_model.specs.History.{Candidacy, KeptVote}
 use Rattle.raft_model.specs.Lists.{In, any, how_many}
@@ -52,10 +53,6 @@ pub record Stood (candidacies : List Candidacy) : Type 0 where
   pub terms : (c : Candidacy) → In c candidacies → 1 ≤ c.term
   pub rising : (c : Candidacy) → In c candidacies → IsRising c.log c.term
   pub below : (c : Candidacy) (i : ℕ) → In c candidacies → i < length c.log → (get_or c.log i (blank 0)).term < c.term
-
--- v voted for c in term t before that term's list was there
-abbrev pub is_vote : ℕ → ℕ → ℕ → KeptVote → Bool
-is_vote v c t k = (k.voter == v) && ((k.candidate == c) && ((k.term == t) && not k.led))
 
 pub record Led (members : List ℕ) (led : ℕ → Bool) (leader : ℕ → ℕ) (list : ℕ → List Entry) (candidacies : List Candidacy)
     (kept : List KeptVote) : Type 0 where

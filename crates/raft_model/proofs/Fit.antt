@@ -11,6 +11,7 @@ use Rattle.raft_model.specs.Moves.Move.{TimeOut, TakeVoteRequest, TakeVoteAnswer
 use Rattle.raft_model.specs.Moves.Verdict.{Outdated, Refused, Held, Added}
 use Rattle.raft_model.specs.Handlers.{plain_after}
 use Rattle.raft_model.specs.Fit.{IsWithin, IsFit}
+use Rattle.raft_model.proofs.Apart.{none_some, some_same}
 use Rattle.raft_model.proofs.At.{at_each, at3_each}
 use Rattle.raft_model.proofs.Quorum.{tell}
 use Rattle.raft_model.proofs.Whole.{lt_tells}
@@ -20,9 +21,6 @@ use Rattle.raft_model.proofs.Terms.{term_log}
 
 abbrev Both : Store → Memory → Plain
 Both store memory = record { store = store; memory = memory }
-
-none_some : {A : Type 0} (x : A) → None ≡ Some x → ⊥
-none_some x e = cc
 
 follower : (member : ℕ) (store : Store) (memory : Memory) → memory.role ≡ Follower → memory.told ≤ store.commit
     → IsFit member (Both store memory)
@@ -136,13 +134,10 @@ called member peer store memory request within fit = record {
         least = w.least;
         most = w.most;
         acknowledged = w.acknowledged;
-        reached = λ other e. subst (λ (r : Request). reach r ≤ length store.log) (same request other e) (within leads);
+        reached = λ other e. subst (λ (r : Request). reach r ≤ length store.log) (some_same request other e) (within leads);
       })
       (λ i n. fit.peers leads i);
 }
-  where
-    same : (a b : Request) → Some a ≡ Some b → a ≡ b
-    same a b e = cc
 
 -- an answer is counted for the peer that gave it
 acknowledged : (member : ℕ) (store : Store) (memory : Memory) (answer : Answer) → memory.pending answer.from ≡ Some answer.request

@@ -11,7 +11,8 @@ use Rattle.raft_model.specs.Server.{quorum}
 use Rattle.raft_model.specs.History.{KeptVote, Candidacy}
 use Rattle.raft_model.proofs.Micro.{State, Micro, did, May, MayWin, MayPropose, log_won}
 use Rattle.raft_model.proofs.Micro.Micro.{Stand, Grant, Win, Propose}
-use Rattle.raft_model.proofs.Facts.{Facts, Led, is_vote}
+use Rattle.raft_model.specs.Invariants.{is_vote}
+use Rattle.raft_model.proofs.Facts.{Facts, Led}
 use Rattle.raft_model.proofs.Quorum.{tell, any_there, count_grows}
 use Rattle.raft_model.proofs.At.{at_here, at_each, at2_each, at3_each}
 use Rattle.raft_model.proofs.Alone.{alone}

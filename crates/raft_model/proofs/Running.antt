@@ -15,9 +15,6 @@ use Rattle.raft_model.proofs.Apart.{f_no_l, f_no_c, c_no_l, l_no_c, candidate_no
 use Rattle.raft_model.proofs.Votes.{led_more}
 use Rattle.raft_model.proofs.Led.{not_first}
 
-pub follower_not : (r : Role) → Follower ≡ r → r ≡ Follower
-follower_not r e = sym e
-
 abbrev pub Leads : State → ℕ → Role → ℕ → List Entry → Type 0
 Leads s i r t l = r ≡ Leader → (s.led t ≡ true) × (s.leader t ≡ i) × (l ≡ s.list t)
 

@@ -1,3 +1,4 @@
+-- Safety, from the facts of a moment.
 use Rattle.std.proofs.Common.{◌≡◌, ℕ, zero, suc, ◌+◌, ◌-◌, ◌<◌, ◌≤◌, List, length, refl, arith, sym, ◌∙◌, subst, inl, inr, ◌⊎◌, take, get_or, length-take}
 use Rattle.std.proofs.lemmas.List.{take-take, take_all}
 use Rattle.can_frame.specs.declared.entry.Entry.{Entry}

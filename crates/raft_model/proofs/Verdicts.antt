@@ -1,18 +1,13 @@
 -- A request has one verdict.
-use Rattle.std.proofs.Common.{◌≡◌, refl, arith, sym, ◌∙◌, ap, subst, inl, inr, Some, None}
+use Rattle.std.proofs.Common.{◌≡◌, refl, arith, sym, ◌∙◌, ap, subst, inl, inr}
 use Rattle.can_frame.specs.declared.entry.Entry.{Entry}
 use Rattle.raft_model.specs.Messages.{Request}
 use Rattle.raft_model.specs.Server.{Store, Plain}
 use Rattle.raft_model.specs.Moves.{Verdict, Holds, Adds, IsThere, IsBadEntry, IsRefused, IsCurrent, IsOutdated, IsJudged, with_term}
 use Rattle.raft_model.specs.Moves.Verdict.{Outdated, Refused, Held, Added}
 use Rattle.raft_model.specs.Decisions.{judges}
+use Rattle.raft_model.proofs.Apart.{none_some, some_same}
 use Rattle.raft_model.proofs.Decisions.{judged}
-
-some_same : {A : Type 0} (x y : A) → Some x ≡ Some y → x ≡ y
-some_same x y e = cc
-
-none_some : {A : Type 0} (x : A) → None ≡ Some x → ⊥
-none_some x e = cc
 
 not_both : (p : Plain) (r : Request) → IsOutdated p r → IsCurrent p r → ⊥
 not_both p r o c = elim o [
