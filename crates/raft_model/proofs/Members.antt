@@ -1,12 +1,15 @@
 -- Counts over two lists of the same members.
-use Rattle.std.proofs.Common.{◌≡◌, ◌≢◌, ℕ, zero, suc, ◌+◌, Bool, true, List, [], ◌∷◌, length, refl, arith, sym, ◌∙◌, ap, subst, inl, inr, Option, Some}
+use Rattle.std.proofs.Common.{◌≡◌, ◌≢◌, ℕ, ◌≤◌, zero, suc, ◌+◌, Bool, true, List, [], ◌∷◌, length, refl, arith, sym, ◌∙◌, ap, subst, inl, inr, Option, Some}
 use Rattle.std.specs.Prelude.{if◌then◌else◌, nat_le, ◌/◌}
 use Rattle.raft_model.specs.Lists.{In, how_many}
+use Rattle.raft_model.specs.Messages.{Message}
 use Rattle.raft_model.specs.Server.{Plain, quorum}
-use Rattle.raft_model.specs.Moves.{Move, puts, memory_after, counts, counted, has_matched, has_quorum, own_vote}
-use Rattle.raft_model.specs.Moves.Move.{TimeOut, TakeVoteAnswer}
+use Rattle.raft_model.specs.Server.Role.{Follower}
+use Rattle.raft_model.specs.Moves.{Move, Comes, CanCommit, MayCall, puts, memory_after, counts, counted, has_matched, has_quorum, own_vote}
+use Rattle.raft_model.specs.Moves.Move.{TimeOut, TakeVoteRequest, TakeVoteAnswer, TakeAppendRequest, TakeAppendAnswer, ProposeEntry, CommitTo, TellPair, TellNothing, CallForVote, CallToAppend, AnswerAgain, GiveUp}
 use Rattle.raft_model.specs.Members.{IsAll, counts_votes}
 use Rattle.raft_model.specs.Decisions.{can_commit, greatest_to, commit_index}
+use Rattle.raft_model.proofs.Apart.{candidate_no_follower, leader_no_follower}
 use Rattle.raft_model.proofs.Quorum.{tell}
 
 -- the list without the place at which x stands
@@ -87,3 +90,53 @@ pub same_commit : (list members : List ℕ) (member : ℕ) (server : Plain) → 
     → commit_index list member server ≡ commit_index members member server
 same_commit list members member server h = same_greatest (length server.store.log) (can_commit list member server)
     (can_commit members member server) (λ i. same_can list members member server i h)
+
+can_over : (list members : List ℕ) (member : ℕ) (server : Plain) (index : ℕ)
+    → how_many (has_matched member server index) list ≡ how_many (has_matched member server index) members → length list ≡ length members
+    → CanCommit list member server index → CanCommit members member server index
+can_over list members member server index count as_many can = record {
+  above = can.above;
+  inside = can.inside;
+  own_term = can.own_term;
+  held = subst (λ (n : ℕ). n / 2 + 1 ≤ how_many (has_matched member server index) members) as_many
+      (subst (λ (n : ℕ). quorum list ≤ n) count can.held);
+}
+
+calls_over : (list members : List ℕ) (member : ℕ) (called : List ℕ) (server : Plain) (peer : ℕ) → IsAll list members
+    → MayCall list member called server peer → MayCall members member called server peer
+calls_over list members member called server peer all may = record
+    { other = may.other; listed = all.among peer may.listed; free = may.free; first = may.first }
+
+-- a move that may come by a list of all members may come
+pub same_come : (list members : List ℕ) (member : ℕ) (bag : List Message) (called : List ℕ) (server : Plain) (move : Move)
+    → (server.memory.role ≢ Follower → IsAll list members)
+    → Comes list member bag called server move → Comes members member bag called server move
+same_come list members member bag called server TimeOut all comes = comes
+same_come list members member bag called server (TakeVoteRequest request granted) all comes = comes
+same_come list members member bag called server (TakeVoteAnswer answer) all comes = comes
+same_come list members member bag called server (TakeAppendRequest request verdict) all comes = comes
+same_come list members member bag called server (TakeAppendAnswer answer) all comes = comes
+same_come list members member bag called server (ProposeEntry entry) all comes = comes
+same_come list members member bag called server (CommitTo index) all comes = (
+  comes.0,
+  record {
+    can = can_over list members member server index (same_count list members (has_matched member server index) full) full.as_many comes.1.can;
+    greatest = λ place can. comes.1.greatest place
+        (can_over members list member server place (sym (same_count list members (has_matched member server place) full)) (sym full.as_many)
+        can);
+  },
+)
+  where
+    full : IsAll list members
+    full = all (λ e. leader_no_follower server.memory.role comes.0 e)
+same_come list members member bag called server TellPair all comes = comes
+same_come list members member bag called server TellNothing all comes = comes
+same_come list members member bag called server (CallForVote peer) all comes =
+    (comes.0, calls_over list members member called server peer (all (λ e. candidate_no_follower server.memory.role comes.0 e)) comes.1)
+same_come list members member bag called server (CallToAppend peer previous with_entry) all comes = (
+  comes.0,
+  comes.1,
+  calls_over list members member called server peer (all (λ e. leader_no_follower server.memory.role comes.0 e)) comes.2,
+)
+same_come list members member bag called server (AnswerAgain place) all comes = comes
+same_come list members member bag called server (GiveUp peer) all comes = comes

@@ -9,12 +9,13 @@ use Rattle.raft_model.specs.Ledger.{Ledger, ledger_through}
 use Rattle.raft_model.specs.Moves.{Move, Verdict, Comes, puts, term_puts, with_term, win_puts, adds_blank, has_quorum, own_vote, counts, counted, stand_puts, grant_puts, vote_puts, append_puts, advance_puts, cut_puts}
 use Rattle.raft_model.specs.Moves.Move.{TimeOut, TakeVoteRequest, TakeVoteAnswer, TakeAppendRequest, TakeAppendAnswer, ProposeEntry, CommitTo, TellPair, TellNothing, CallForVote, CallToAppend, AnswerAgain, GiveUp}
 use Rattle.raft_model.specs.Moves.Verdict.{Outdated, Refused, Held, Added}
-use Rattle.raft_model.specs.Stops.{Site, moved, all_moved, AllCome}
+use Rattle.raft_model.specs.Stops.{Site, AllCome}
 use Rattle.raft_model.specs.Runs.{World, Event, beginning, site_of, site_after, after, MayCome, run, Lawful}
 use Rattle.raft_model.specs.Runs.Event.{Steps, Stops}
 use Rattle.raft_model.specs.Invariants.{Invariants}
 use Rattle.raft_model.specs.Safety.{IsSafe}
 use Rattle.raft_model.proofs.At.{at_here}
+use Rattle.raft_model.proofs.Joined.{joined_moves}
 use Rattle.raft_model.proofs.Prefixes.{come_before, lawful_then_one, run_then_one}
 use Rattle.raft_model.proofs.Quorum.{tell}
 use Rattle.raft_model.proofs.Run.{keeps_invariants, is_safe}
@@ -151,11 +152,6 @@ covered world member holds safe = record {
     store : Store
     store = (world.server member).store
 
-moved_then : (members : List ℕ) (member step : ℕ) (moves : List Move) (next : Move) (site : Site)
-    → all_moved members member step site (moves ++ (next ∷ [])) ≡ moved members member step (all_moved members member step site moves) next
-moved_then members member step [] next site = refl
-moved_then members member step (move ∷ moves) next site = moved_then members member step moves next (moved members member step site move)
-
 pub ledger_waits : (members : List ℕ) (events : List Event) (member step : ℕ) (moves : List Move) (next : Move) (rest : List Move)
     (fitted : List Message)
     → Lawful (beginning members) events →
@@ -195,4 +191,4 @@ ledger_waits members events member step moves next rest fitted lawful may other 
 
     split : (site_after world member step (moves ++ (next ∷ []))).ledger
         ≡ ledger_through site.ledger site.plain.store (puts world.members member site.plain next)
-    split = ap (λ (x : Site). x.ledger) (moved_then world.members member step moves next (site_of world member))
+    split = ap (λ (x : Site). x.ledger) (joined_moves world.members member step moves (next ∷ []) (site_of world member))

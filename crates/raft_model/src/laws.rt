@@ -131,6 +131,27 @@ pub fn law_handlers()
         ≡ offers_of_all members member step site.plain moves ++ site.offered }
 {}
 
+/// Two lists of moves, one after the other, are one: the server after them, their puts and offers; and they
+/// may come together where each may come in its turn.
+pub fn law_joined()
+    ensures server { (members : List ℕ) (member step : ℕ) (first second : List Move) (server : Plain)
+        → plain_after_all members member step server (first ++ second)
+        ≡ plain_after_all members member step (plain_after_all members member step server first) second }
+    ensures puts { (members : List ℕ) (member step : ℕ) (first second : List Move) (server : Plain)
+        → puts_of_all members member step server (first ++ second)
+        ≡ puts_of_all members member step server first
+        ++ puts_of_all members member step (plain_after_all members member step server first) second }
+    ensures offers { (members : List ℕ) (member step : ℕ) (first second : List Move) (server : Plain)
+        → offers_of_all members member step server (first ++ second)
+        ≡ offers_of_all members member step (plain_after_all members member step server first) second
+        ++ offers_of_all members member step server first }
+    ensures site { (members : List ℕ) (member step : ℕ) (first second : List Move) (site : Site)
+        → all_moved members member step site (first ++ second) ≡ all_moved members member step (all_moved members member step site first) second }
+    ensures come { (members : List ℕ) (member step : ℕ) (bag : List Message) (first second : List Move) (site : Site)
+        → AllCome members member step bag site first → AllCome members member step bag (all_moved members member step site first) second
+        → AllCome members member step bag site (first ++ second) }
+{}
+
 /// What a server decides is what the moves ask for, and they ask for nothing else: whether a vote is
 /// granted, what becomes of an append request, and the index to which a leader commits.
 pub fn law_decisions()
@@ -147,8 +168,8 @@ pub fn law_decisions()
         → CanCommit members member server index → ⊥ }
 {}
 
-/// A server that knows all members counts over its own list what the machine counts over all of them; a
-/// move that counts no votes needs no list.
+/// A server that knows all members counts over its own list what the machine counts over all of them, and a
+/// move that may come by this list may come. A move that counts no votes needs no list, nor does a Follower.
 pub fn law_members()
     ensures count { (list members : List ℕ) (test : ℕ → Bool) → IsAll list members → how_many test list ≡ how_many test members }
     ensures puts { (list members : List ℕ) (member : ℕ) (server : Plain) (move : Move)
@@ -159,6 +180,9 @@ pub fn law_members()
         → memory_after list member step server move ≡ memory_after members member step server move }
     ensures commit { (list members : List ℕ) (member : ℕ) (server : Plain) → IsAll list members
         → commit_index list member server ≡ commit_index members member server }
+    ensures come { (list members : List ℕ) (member : ℕ) (bag : List Message) (called : List ℕ) (server : Plain) (move : Move)
+        → (server.memory.role ≢ Follower → IsAll list members)
+        → Comes list member bag called server move → Comes members member bag called server move }
 {}
 
 /// A server that opens is fit, every move that may come keeps it fit, and so is each server of every run.
