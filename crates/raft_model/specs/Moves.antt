@@ -220,16 +220,12 @@ IsRuled store request (Added entry) = Adds store request entry
 -- the verdict on a request: first its term, then log and entry
 abbrev pub IsJudged : Plain → Request → Verdict → Type 0
 IsJudged server request Outdated = IsOutdated server request
-IsJudged server request Refused = IsCurrent server request × IsRuled (with_term server.store request.term) request Refused
-IsJudged server request Held = IsCurrent server request × IsRuled (with_term server.store request.term) request Held
-IsJudged server request (Added entry) = IsCurrent server request
-    × IsRuled (with_term server.store request.term) request (Added entry)
+IsJudged server request verdict = IsCurrent server request × IsRuled (with_term server.store request.term) request verdict
 
 abbrev pub is_accepted : Verdict → Bool
 is_accepted Outdated = false
 is_accepted Refused = false
-is_accepted Held = true
-is_accepted (Added entry) = true
+is_accepted verdict = true
 
 -- last is cut to the previous index, where there is more
 abbrev pub cut_puts : Store → Request → List Put
@@ -248,11 +244,13 @@ append_puts store request (Added entry) = cut_puts store request ++ (PutEntry en
 
 abbrev pub append_memory : Plain → Request → Verdict → Memory
 append_memory server request Outdated = server.memory
-append_memory server request Refused = record server.memory { role = Follower }
-append_memory server request Held = record server.memory { role = Follower }
-append_memory server request (Added entry) = record server.memory { role = Follower }
+append_memory server request verdict = record server.memory { role = Follower }
 
 -- Append answers.
+
+-- an answer counts for a Leader of its term
+abbrev pub acknowledges : Plain → Answer → Bool
+acknowledges server answer = is_leader server.memory.role && (answer.term == server.store.term)
 
 abbrev pub matched_after : Memory → Answer → ℕ
 matched_after memory answer =
@@ -380,7 +378,7 @@ Comes members member bag called server (AnswerAgain place) = (place < server.sto
     × ((get_or server.store.log place (blank 0)).uid ≢ zeros)
 Comes members member bag called server (GiveUp peer) = Unit {0}
 
--- its puts, in order
+-- its puts, in order; the other moves have none
 abbrev pub puts : List ℕ → ℕ → Plain → Move → List Put
 puts members member server TimeOut = stand_puts member server.store
     ++ (if has_quorum members (own_vote member) then win_puts (put_all server.store (stand_puts member server.store)) else [])
@@ -394,14 +392,9 @@ puts members member server (TakeAppendRequest request verdict) = term_puts serve
 puts members member server (TakeAppendAnswer answer) = term_puts server.store answer.term
 puts members member server (ProposeEntry entry) = PutEntry entry ∷ PutLonger entry ∷ []
 puts members member server (CommitTo index) = PutCommit index ∷ []
-puts members member server TellPair = []
-puts members member server TellNothing = []
-puts members member server (CallForVote peer) = []
-puts members member server (CallToAppend peer previous with_entry) = []
-puts members member server (AnswerAgain place) = []
-puts members member server (GiveUp peer) = []
+puts members member server move = []
 
--- memory after it
+-- memory after it; the other moves leave it
 abbrev pub memory_after : List ℕ → ℕ → ℕ → Plain → Move → Memory
 memory_after members member step server TimeOut =
     if has_quorum members (own_vote member) then win_memory server.store (stand_memory member server.memory)
@@ -413,61 +406,41 @@ memory_after members member step server (TakeVoteAnswer answer) =
 memory_after members member step server (TakeAppendRequest request verdict) = append_memory server request verdict
 memory_after members member step server (TakeAppendAnswer answer) =
     if nat_lt server.store.term answer.term then stepped_down server.memory answer.from
-    else
-    (if is_leader server.memory.role && (answer.term == server.store.term)
-    then matched_memory server.memory answer else ended server.memory answer.from)
-memory_after members member step server (ProposeEntry entry) = server.memory
-memory_after members member step server (CommitTo index) = server.memory
+    else (if acknowledges server answer then matched_memory server.memory answer else ended server.memory answer.from)
 memory_after members member step server TellPair = record server.memory { told = server.memory.told + 1 }
 memory_after members member step server TellNothing = record server.memory { told = server.memory.told + 1 }
 memory_after members member step server (CallForVote peer) = calling server.memory peer (vote_request member step server.store peer)
 memory_after members member step server (CallToAppend peer previous with_entry) =
     calling server.memory peer (append_request member step server.store peer previous with_entry)
-memory_after members member step server (AnswerAgain place) = server.memory
 memory_after members member step server (GiveUp peer) = ended server.memory peer
+memory_after members member step server move = server.memory
 
 -- the messages that it offers
 abbrev pub offers : ℕ → ℕ → Plain → Move → List Message
-offers member step server TimeOut = []
 offers member step server (TakeVoteRequest request granted) =
     Answers (answer_to member step (with_term server.store request.term) request granted) ∷ []
-offers member step server (TakeVoteAnswer answer) = []
 offers member step server (TakeAppendRequest request verdict) =
     Answers (answer_to member step (with_term server.store request.term) request (is_accepted verdict)) ∷ []
-offers member step server (TakeAppendAnswer answer) = []
-offers member step server (ProposeEntry entry) = []
-offers member step server (CommitTo index) = []
 offers member step server TellPair = Pairs (pair_at member step server.store server.memory.told) ∷ []
-offers member step server TellNothing = []
 offers member step server (CallForVote peer) = Requests (vote_request member step server.store peer) ∷ []
 offers member step server (CallToAppend peer previous with_entry) =
     Requests (append_request member step server.store peer previous with_entry) ∷ []
 offers member step server (AnswerAgain place) = Pairs (pair_at member step server.store place) ∷ []
-offers member step server (GiveUp peer) = []
+offers member step server move = []
 
 -- the peers that it calls
 abbrev pub calls : Move → List ℕ
-calls TimeOut = []
-calls (TakeVoteRequest request granted) = []
-calls (TakeVoteAnswer answer) = []
-calls (TakeAppendRequest request verdict) = []
-calls (TakeAppendAnswer answer) = []
-calls (ProposeEntry entry) = []
-calls (CommitTo index) = []
-calls TellPair = []
-calls TellNothing = []
 calls (CallForVote peer) = peer ∷ []
 calls (CallToAppend peer previous with_entry) = peer ∷ []
-calls (AnswerAgain place) = []
-calls (GiveUp peer) = []
+calls move = []
 
 -- what the model remembers as soon as a put of it is done, where `store` is what was stored before it:
 -- a candidacy and a granted vote with the put of that vote, a win and a leader's entry with the put of last
 abbrev pub put_history : ℕ → Move → Store → Put → History → History
 put_history member TimeOut store (PutVote (Some candidate)) history = stood history member store.term store.log
 put_history member TimeOut store (PutLonger entry) history = elected history member store.term (store.log ++ (entry ∷ []))
-put_history member (TakeVoteRequest request granted) store (PutVote (Some candidate)) history = voted history member request.from
-    request.term store.log
+put_history member (TakeVoteRequest request granted) store (PutVote (Some candidate)) history =
+    voted history member request.from request.term store.log
 put_history member (TakeVoteAnswer answer) store (PutLonger entry) history = elected history member store.term
     (store.log ++ (entry ∷ []))
 put_history member (ProposeEntry entry) store (PutLonger added) history = lengthened history store.term added
