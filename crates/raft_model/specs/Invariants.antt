@@ -102,30 +102,45 @@ pub record LogsMatch (world : World) : Type 0 where
 
 -- Acknowledgements.
 
--- the member acknowledged so many places of the term: it leads the term, or answered an append request of it that reaches so far
+-- the member leads the term, with at least so many places
+abbrev pub LeadsWith : World → ℕ → ℕ → ℕ → Type 0
+LeadsWith world member term count =
+    (world.history.led term ≡ true) × (world.history.leader term ≡ member) × (count ≤ length (world.history.list term))
+
+-- the member acknowledged so many places of the term: it leads the term, or answered an append request of it that reaches so far or
+-- further
 abbrev pub Acknowledged : World → ℕ → ℕ → ℕ → Type 0
-Acknowledged world member term count =
-    ((world.history.led term ≡ true) × (world.history.leader term ≡ member) × (count ≤ length (world.history.list term)))
+Acknowledged world member term count = LeadsWith world member term count
     ⊎ ((answer : Answer) × In (Answers answer) world.bag × (answer.from ≡ member) × (answer.success ≡ true)
     × (answer.request.append ≡ true) × (answer.request.term ≡ term) × (count ≤ reach answer.request))
+
+-- and just so many: a request that reaches no further. This is the usual form; the one above is carried, and this follows
+abbrev pub AcknowledgedExactly : World → ℕ → ℕ → ℕ → Type 0
+AcknowledgedExactly world member term count = LeadsWith world member term count
+    ⊎ ((answer : Answer) × In (Answers answer) world.bag × (answer.from ≡ member) × (answer.success ≡ true)
+    × (answer.request.append ≡ true) × (answer.request.term ≡ term) × (count ≡ reach answer.request))
 
 -- some term between these two has a list that does not begin with so many places of the first one's
 abbrev pub Diverges : History → ℕ → ℕ → ℕ → Type 0
 Diverges history term count later = (between : ℕ) × (term < between) × (between < later) × (history.led between ≡ true)
     × (Same count (history.list between) (history.list term) → ⊥)
 
--- the member's log begins with what it acknowledged, or a term up to its own diverges
-abbrev pub AcknowledgedKept : World → Type 0
-AcknowledgedKept world = (member term count : ℕ) → Acknowledged world member term count
-    → (count ≤ length (world.history.list term))
+-- the member's log begins with so many places of the term, or a term up to its own diverges
+abbrev pub HasKept : World → ℕ → ℕ → ℕ → Type 0
+HasKept world member term count = (count ≤ length (world.history.list term))
     × (Same count (world.server member).store.log (world.history.list term)
     ⊎ Diverges world.history term count ((world.server member).store.term + 1))
 
 -- so does the log with which it voted in a later term, or a term in between diverges
+abbrev pub HasVotedWith : World → KeptVote → ℕ → ℕ → Type 0
+HasVotedWith world kept term count = Same count kept.log (world.history.list term) ⊎ Diverges world.history term count kept.term
+
+abbrev pub AcknowledgedKept : World → Type 0
+AcknowledgedKept world = (member term count : ℕ) → Acknowledged world member term count → HasKept world member term count
+
 abbrev pub AcknowledgedVoted : World → Type 0
 AcknowledgedVoted world = (kept : KeptVote) (term count : ℕ) → In kept world.history.kept → kept.led ≡ false → term < kept.term
-    → Acknowledged world kept.voter term count
-    → Same count kept.log (world.history.list term) ⊎ Diverges world.history term count kept.term
+    → Acknowledged world kept.voter term count → HasVotedWith world kept term count
 
 -- Commit.
 

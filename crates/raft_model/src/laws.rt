@@ -10,6 +10,7 @@ ghost use Rattle.can_frame.specs.Zeros.{zeros};
 ghost use Rattle.raft_model.specs.Lists.{In, how_many};
 ghost use Rattle.raft_model.specs.Messages.{Answer, Message, Pair, Request};
 ghost use Rattle.raft_model.specs.Messages.Message.{Answers, Pairs, Requests};
+ghost use Rattle.raft_model.specs.History.{KeptVote};
 ghost use Rattle.raft_model.specs.Server.{AreWritten, Plain, Store, opened, put_all};
 ghost use Rattle.raft_model.specs.Server.Role.{Candidate, Follower, Leader};
 ghost use Rattle.raft_model.specs.Moves.{CanCommit, Comes, IsCommitIndex, IsGranted, IsJudged, MayCall, MayPropose, Move, Verdict, memory_after, puts, term_limit, with_term};
@@ -23,7 +24,7 @@ ghost use Rattle.raft_model.specs.Stops.{AllCome, Site, all_moved};
 ghost use Rattle.raft_model.specs.Runs.{Event, Lawful, MayCome, World, after, beginning, run, site_after};
 ghost use Rattle.raft_model.specs.Runs.Event.{Steps, StopsWithin};
 ghost use Rattle.raft_model.specs.Rows.{IsReady, MayTake};
-ghost use Rattle.raft_model.specs.Invariants.{AcknowledgedKept, AcknowledgedVoted, CallsSound, CommitsSettled, Invariants, LeadersComplete, LeadersElected, LogsMatch, StoresSound, VotesBound};
+ghost use Rattle.raft_model.specs.Invariants.{AcknowledgedExactly, AcknowledgedKept, AcknowledgedVoted, HasKept, HasVotedWith, CallsSound, CommitsSettled, Invariants, LeadersComplete, LeadersElected, LogsMatch, StoresSound, VotesBound};
 ghost use Rattle.raft_model.specs.Safety.{IsSafe, Lasts};
 
 /// Every run keeps the nine invariants and is safe: at each moment, after any number of the puts of a step
@@ -65,12 +66,20 @@ pub fn law_matching()
         → LogsMatch (run (beginning members) events) }
 {}
 
-/// What a member acknowledged it keeps, and takes into its later votes, unless a later leader diverges.
+/// What a member acknowledged it keeps, and takes into its later votes, unless a later leader diverges: any
+/// number of places up to the reach of its answer, and so just those of its reach.
 pub fn law_acknowledged()
     ensures kept { (members : List ℕ) (events : List Event) → Lawful (beginning members) events
         → AcknowledgedKept (run (beginning members) events) }
     ensures voted { (members : List ℕ) (events : List Event) → Lawful (beginning members) events
         → AcknowledgedVoted (run (beginning members) events) }
+    ensures kept_exactly { (members : List ℕ) (events : List Event) (member term count : ℕ) → Lawful (beginning members) events
+        → AcknowledgedExactly (run (beginning members) events) member term count
+        → HasKept (run (beginning members) events) member term count }
+    ensures voted_exactly { (members : List ℕ) (events : List Event) (kept : KeptVote) (term count : ℕ) → Lawful (beginning members) events
+        → In kept (run (beginning members) events).history.kept → kept.led ≡ false → term < kept.term
+        → AcknowledgedExactly (run (beginning members) events) kept.voter term count
+        → HasVotedWith (run (beginning members) events) kept term count }
 {}
 
 /// What a quorum acknowledged stands in the list of every later leader, and only that is committed.
