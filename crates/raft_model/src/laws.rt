@@ -22,7 +22,7 @@ ghost use Rattle.raft_model.specs.Fit.{IsFit};
 ghost use Rattle.raft_model.specs.Duty.{CommitDuty, TellDuty, TickDuty, WinDuty, commit_phase, tell_phase, tick_phase};
 ghost use Rattle.raft_model.specs.Stops.{AllCome, Site, all_moved};
 ghost use Rattle.raft_model.specs.Runs.{Event, Lawful, MayCome, World, after, beginning, run, site_after};
-ghost use Rattle.raft_model.specs.Runs.Event.{Steps, StopsWithin};
+ghost use Rattle.raft_model.specs.Runs.Event.{Steps, Stops, StopsWithin};
 ghost use Rattle.raft_model.specs.Rows.{IsReady, MayTake};
 ghost use Rattle.raft_model.specs.Invariants.{AcknowledgedExactly, AcknowledgedKept, AcknowledgedVoted, HasKept, HasVotedWith, CallsSound, CommitsSettled, Invariants, LeadersComplete, LeadersElected, LogsMatch, StoresSound, VotesBound};
 ghost use Rattle.raft_model.specs.Safety.{IsSafe, Lasts};
@@ -110,6 +110,8 @@ pub fn law_stops()
         (count : ℕ)
         → MayCome world (Steps member step (moves ++ (next ∷ rest)) fitted)
         → MayCome world (StopsWithin member step moves next count) }
+    ensures between { (world : World) (member step : ℕ) (moves rest : List Move) (fitted : List Message)
+        → MayCome world (Steps member step (moves ++ rest) fitted) → MayCome world (Stops member step moves) }
     ensures cut { (members : List ℕ) (member step : ℕ) (server : Plain) (moves : List Move) (count : ℕ)
         → count < length (puts_of_all members member step server moves) → IsCut members member step server moves count }
 {}
