@@ -248,13 +248,15 @@ committed_commit s m k h f = elim (less_or k (length s.ledger)) [
         place = f.committed.place;
       } in
       subst
-      (λ (x : List Entry). Committed s.members s.led s.leader s.list s.bag s.term (at s.commit m k) s.log s.requests x (stamps_after s.stamps (s.term m) k))
+      (λ (x : List Entry). Committed s.members s.led s.leader s.list s.bag s.term (at s.commit m k) s.log s.requests x
+      (stamps_after s.stamps (s.term m) k))
       (sym le)
       (subst (λ (y : List ℕ). Committed s.members s.led s.leader s.list s.bag s.term (at s.commit m k) s.log s.requests s.ledger y) (sym st) g)
   | inr long ↦
       let le : ledger_after s.ledger (s.log m) k ≡ take k (s.log m)
       = ap (λ (b : Bool). if b then take k (s.log m) else s.ledger) (le-leb (suc (length s.ledger)) k (omega (arith, long))) in
-      let g : Committed s.members s.led s.leader s.list s.bag s.term (at s.commit m k) s.log s.requests (take k (s.log m)) (stamps_after s.stamps (s.term m) k) = record {
+      let g : Committed s.members s.led s.leader s.list s.bag s.term (at s.commit m k) s.log s.requests (take k (s.log m))
+      (stamps_after s.stamps (s.term m) k) = record {
         server = server;
         below = at_each (λ i c. c ≤ length (take k (s.log m))) s.commit m k (omega (arith, n))
             (λ i z. omega (arith, n, long, f.committed.below i));
@@ -270,7 +272,8 @@ committed_commit s m k h f = elim (less_or k (length s.ledger)) [
         place = λ i b. place long i b;
       } in
       subst
-      (λ (x : List Entry). Committed s.members s.led s.leader s.list s.bag s.term (at s.commit m k) s.log s.requests x (stamps_after s.stamps (s.term m) k))
+      (λ (x : List Entry). Committed s.members s.led s.leader s.list s.bag s.term (at s.commit m k) s.log s.requests x
+      (stamps_after s.stamps (s.term m) k))
       (sym le) g
 ]
   where
@@ -343,7 +346,9 @@ committed_advance s m r h f =
     = stamps_stay s (s.term m) (min r.commit (reach r)) (omega (arith, short, f.committed.stamped)) in
     let same : Same (min r.commit (reach r)) (s.log m) (s.list r.term)
     = same_less (min r.commit (reach r)) (reach r) (s.log m) (s.list r.term) (min-le_right r.commit (reach r)) a.2 in
-    let here : (min r.commit (reach r) ≡ 0) ⊎ ((t : ℕ) × (t ≤ s.term m) × IsSettled s.members s.led s.leader s.list s.bag (take (min r.commit (reach r)) (s.log m)) t) = elim q.2 [
+    let here : (min r.commit (reach r) ≡ 0)
+    ⊎ ((t : ℕ) × (t ≤ s.term m) × IsSettled s.members s.led s.leader s.list s.bag (take (min r.commit (reach r)) (s.log m)) t)
+    = elim q.2 [
       | inl z ↦ inl (omega (arith, z, min-le_left r.commit (reach r)))
       | inr x ↦
           let up : x.0 ≤ s.term m = omega (arith, x.1, h.holds.fits.own_term) in
@@ -357,7 +362,8 @@ committed_advance s m r h f =
                 (take-take (min r.commit (reach r)) r.commit (s.list r.term) (min-le_left r.commit (reach r)) ∙ sym same) less,
           )
     ] in
-    let g : Committed s.members s.led s.leader s.list s.bag s.term (at s.commit m (min r.commit (reach r))) s.log s.requests s.ledger s.stamps = record {
+    let g : Committed s.members s.led s.leader s.list s.bag s.term (at s.commit m (min r.commit (reach r))) s.log s.requests
+    s.ledger s.stamps = record {
       server = at_each (λ i c. (c ≡ 0) ⊎ ((t : ℕ) × (t ≤ s.term i) × IsSettled s.members s.led s.leader s.list s.bag (take c (s.log i)) t))
           s.commit m (min r.commit (reach r)) here (λ i z. f.committed.server i);
       below = at_each (λ i c. c ≤ length s.ledger) s.commit m (min r.commit (reach r)) short (λ i n. f.committed.below i);
@@ -366,10 +372,13 @@ committed_advance s m r h f =
       place = f.committed.place;
     } in
     subst
-    (λ (x : List Entry). Committed s.members s.led s.leader s.list s.bag s.term (at s.commit m (min r.commit (reach r))) s.log s.requests x (stamps_after
-    s.stamps (s.term m) (min r.commit (reach r))))
+    (λ (x : List Entry). Committed s.members s.led s.leader s.list s.bag s.term (at s.commit m (min r.commit (reach r))) s.log
+    s.requests x (stamps_after s.stamps (s.term m) (min r.commit (reach r))))
     (sym le)
-    (subst (λ (y : List ℕ). Committed s.members s.led s.leader s.list s.bag s.term (at s.commit m (min r.commit (reach r))) s.log s.requests s.ledger y) (sym st) g)
+    (subst
+    (λ (y : List ℕ). Committed s.members s.led s.leader s.list s.bag s.term (at s.commit m (min r.commit (reach r))) s.log
+    s.requests s.ledger y)
+    (sym st) g)
 
 pub committed_keeps : (s : State) (e : Micro) → May s e → Facts s
     → Committed (did s e).members (did s e).led (did s e).leader (did s e).list (did s e).bag (did s e).term (did s e).commit (did s e).log

@@ -129,7 +129,8 @@ grants_decided store request = told (λ h. record { own_term = h.0; free = h.1.0
     (λ h. (h.own_term, (h.free, h.not_above)))
     (both (equal request.term store.term)
     (both (free_decided store.vote request.from)
-    (either (less (last_term store.log) request.previous_term) (both (equal (last_term store.log) request.previous_term) (at_most (length store.log) request.previous)))))
+    (either (less (last_term store.log) request.previous_term)
+    (both (equal (last_term store.log) request.previous_term) (at_most (length store.log) request.previous)))))
 
 pub granted : (store : Store) (request : Request) → IsGranted store request (grants store request)
 granted store request = by_test (grants store request) (grants_decided store request)
@@ -283,7 +284,8 @@ can_commit_decided members member server index = told (λ h. record { above = h.
     (λ h. (h.above, (h.inside, (h.own_term, h.held))))
     (both (less server.store.commit index)
     (both (at_most index (length server.store.log))
-    (both (equal (term_at server.store.log index) server.store.term) (at_most (quorum members) (how_many (has_matched member server index) members)))))
+    (both (equal (term_at server.store.log index) server.store.term)
+    (at_most (quorum members) (how_many (has_matched member server index) members)))))
 
 -- the greatest that passes
 pub record IsGreatest (limit : ℕ) (test : ℕ → Bool) (found : Option ℕ) : Type 0 where

@@ -141,7 +141,10 @@ vote_request_lawful members m n f r true up c h = by_vote (term_focus f r.term).
       between = focused m (term_focus f r.term) (Grant m n r);
       leg = join members m (TakeVoteRequest r true) f (term_focus f r.term) (focused m (term_focus f r.term) (Grant m n r)) _ _
           (leg_term members m (TakeVoteRequest r true) f r.term up c)
-          (subst (λ (v : Option ℕ). Leg members m (TakeVoteRequest r true) (term_focus f r.term) (focused m (term_focus f r.term) (Grant m n r)) (vote_puts v r.from)) (sym e) (record {
+          (subst
+          (λ (v : Option ℕ). Leg members m (TakeVoteRequest r true) (term_focus f r.term) (focused m (term_focus f r.term) (Grant m n r))
+          (vote_puts v r.from))
+          (sym e) (record {
             marks = Puts (PutVote (Some r.from)) (Grant m n r) ∷ [];
             walk = (
               may,
@@ -173,8 +176,8 @@ vote_request_lawful members m n f r true up c h = by_vote (term_focus f r.term).
       between = term_focus f r.term;
       leg = join members m (TakeVoteRequest r true) f (term_focus f r.term) (term_focus f r.term) _ _
           (leg_term members m (TakeVoteRequest r true) f r.term up c)
-          (subst (λ (v : Option ℕ). Leg members m (TakeVoteRequest r true) (term_focus f r.term) (term_focus f r.term) (vote_puts v r.from)) (sym e) (record
-          { marks = []; walk = tt; puts = refl; ends = refl }));
+          (subst (λ (v : Option ℕ). Leg members m (TakeVoteRequest r true) (term_focus f r.term) (term_focus f r.term) (vote_puts v r.from))
+          (sym e) (record { marks = []; walk = tt; puts = refl; ends = refl }));
       rest = Grant m n r ∷ [];
       lawful = (may, tt);
       store = let q : Some r.from

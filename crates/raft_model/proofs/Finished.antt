@@ -26,10 +26,11 @@ moves_finish : (members : List ℕ) (member step : ℕ) (bag : List Message) (mo
     → AllCome members member step bag site moves →
     IsFinished members member site.plain → IsFinished members member (all_moved members member step site moves).plain
 moves_finish members member step bag [] site come before = before
-moves_finish members member step bag (move ∷ moves) site come before = moves_finish members member step bag moves (moved members member step site move) come.1 (record {
-  fit = fit_after members member step bag site.called site.plain move come.0 before.fit;
-  wins = win_duty members member step bag site.called site.plain move come.0 before.wins;
-})
+moves_finish members member step bag (move ∷ moves) site come before =
+    moves_finish members member step bag moves (moved members member step site move) come.1 (record {
+      fit = fit_after members member step bag site.called site.plain move come.0 before.fit;
+      wins = win_duty members member step bag site.called site.plain move come.0 before.wins;
+    })
 
 abbrev AllFinished : World → Type 0
 AllFinished world = (member : ℕ) → IsFinished world.members member (world.server member)

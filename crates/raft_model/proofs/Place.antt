@@ -53,9 +53,9 @@ place_keeps s (Open m) may f = place_all s.led s.leader s.list s.term (at s.role
 place_keeps s (Halt m) may f = place_all s.led s.leader s.list s.term (at s.role m Follower) s.log (place_role s f m)
 place_keeps s (Yield m) may f = place_all s.led s.leader s.list s.term (at s.role m Follower) s.log (place_role s f m)
 place_keeps s (Raise m u) may f = place_all s.led s.leader s.list (at s.term m u) (at s.role m Follower) s.log
-    (λ i t l e. at2_each (λ i v r. s.leader t ≡ i
-    → Stands s.list t v r (s.log i)) s.term s.role m u Follower (λ g. let o = place_one s f m t l g in
-    (omega (arith, o.0, may.1), λ c. absurd (omega (arith, o.0, may.1, c)))) (λ i n g. place_one s f i t l g) i e)
+    (λ i t l e. at2_each (λ i v r. s.leader t ≡ i → Stands s.list t v r (s.log i)) s.term s.role m u Follower
+    (λ g. let o = place_one s f m t l g in (omega (arith, o.0, may.1), λ c. absurd (omega (arith, o.0, may.1, c))))
+    (λ i n g. place_one s f i t l g) i e)
 place_keeps s (Stand m) may f = place_all s.led s.leader s.list s.term (at s.role m Candidate) s.log
     (λ i t l e. at_each (λ i r. s.leader t ≡ i → Stands s.list t (s.term i) r (s.log i)) s.role m Candidate (λ g. (
       (place_one s f m t l g).0,
@@ -67,10 +67,23 @@ place_keeps s (Grow m r e) may f = place_all s.led s.leader s.list s.term s.role
     (place_log s f m r (s.log m ++ (e ∷ [])) may.fits)
 place_keeps s (Propose m e) may f = place_all s.led s.leader (at s.list (s.term m) (s.list (s.term m) ++ (e ∷ []))) s.term s.role
     (at s.log m (s.log m ++ (e ∷ [])))
-    (λ i t l g. at_each (λ i y. s.leader t ≡ i → Stands (at s.list (s.term m) (s.list (s.term m) ++ (e ∷ []))) t (s.term i) (s.role i) y) s.log m (s.log m ++ (e ∷ [])) (λ g. let o = place_one s f m t l g in
-    (o.0, λ c. ((o.1 c).0, ap (λ (x : List Entry). x ++ (e ∷ [])) (f.running.leads m may.role).2 ∙ sym (at_here s.list (s.term m) t (s.list (s.term m) ++ (e ∷ [])) (sym c))))) (λ i n g. let o = place_one s f i t l g in
-    (o.0, λ c. ((o.1 c).0, (o.1 c).1 ∙ sym (at_other s.list (s.term m) t (s.list (s.term m) ++ (e ∷ [])) (λ z. n (sym g ∙ (ap s.leader z ∙ (f.running.leads m may.role).1)))))))
-    i g)
+    (λ i t l g. at_each
+    (λ i y. s.leader t ≡ i → Stands (at s.list (s.term m) (s.list (s.term m) ++ (e ∷ []))) t (s.term i) (s.role i) y)
+    s.log m (s.log m ++ (e ∷ [])) (here t l) (there t l) i g)
+  where
+    here : (t : ℕ) → s.led t ≡ true → s.leader t ≡ m
+        → Stands (at s.list (s.term m) (s.list (s.term m) ++ (e ∷ []))) t (s.term m) (s.role m) (s.log m ++ (e ∷ []))
+    here t l g =
+        let o = place_one s f m t l g in
+        let grown = ap (λ (x : List Entry). x ++ (e ∷ [])) (f.running.leads m may.role).2 in
+        (o.0, λ c. ((o.1 c).0, grown ∙ sym (at_here s.list (s.term m) t (s.list (s.term m) ++ (e ∷ [])) (sym c))))
+
+    there : (t : ℕ) → s.led t ≡ true → (i : ℕ) → i ≢ m → s.leader t ≡ i
+        → Stands (at s.list (s.term m) (s.list (s.term m) ++ (e ∷ []))) t (s.term i) (s.role i) (s.log i)
+    there t l i n g =
+        let o = place_one s f i t l g in
+        let other : t ≢ s.term m = λ z. n (sym g ∙ (ap s.leader z ∙ (f.running.leads m may.role).1)) in
+        (o.0, λ c. ((o.1 c).0, (o.1 c).1 ∙ sym (at_other s.list (s.term m) t (s.list (s.term m) ++ (e ∷ [])) other)))
 place_keeps s (Win m b) may f = place_all (at s.led (s.term m) true) (at s.leader (s.term m) m) (at s.list (s.term m) (log_won s m b))
     s.term (at s.role m Leader) (at s.log m (log_won s m b)) each
   where

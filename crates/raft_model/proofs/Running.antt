@@ -83,7 +83,8 @@ running_keeps s (Count m a) may f = record {
   stands = f.running.stands;
   counted = at_each (λ i v. Counts s.kept i (s.role i) (s.term i) v) s.votes m (at (s.votes m) a.from true)
       (λ q e h. at_each (λ p b. b ≡ true
-      → (k : KeptVote) × In k s.kept × (k.voter ≡ p) × (k.candidate ≡ m) × (k.term ≡ s.term m)) (s.votes m) a.from true (λ z. let i = f.posted.answer a may.in_bag in
+      → (k : KeptVote) × In k s.kept × (k.voter ≡ p) × (k.candidate ≡ m) × (k.term ≡ s.term m)) (s.votes m) a.from true (λ z.
+      let i = f.posted.answer a may.in_bag in
       let k = f.answered.voted a i may.success may.kind in
       let o = f.answered.success a i may.success in
       (k.0, k.1, k.2, k.3 ∙ may.mine, k.4 ∙ (sym o.0 ∙ may.own_term))) (λ p n z. f.running.counted m p e z) q h)
@@ -142,7 +143,8 @@ running_keeps s (Propose m e) may f = record {
         o.0,
         o.1,
         o.2
-            ∙ sym (at_other s.list (s.term m) (s.term i) (s.list (s.term m) ++ (e ∷ [])) (λ z. n (sym o.1 ∙ (ap s.leader z ∙ (f.running.leads m may.role).1)))),
+            ∙ sym (at_other s.list (s.term m) (s.term i) (s.list (s.term m) ++ (e ∷ []))
+            (λ z. n (sym o.1 ∙ (ap s.leader z ∙ (f.running.leads m may.role).1)))),
       ));
   stands = at_each (λ i l. StandsFor s.candidacies i (s.role i) (s.term i) l) s.log m (s.log m ++ (e ∷ []))
       (λ g. absurd (two (s.role m) may.role g)) (λ i n. f.running.stands i);
