@@ -1,0 +1,191 @@
+-- The phases of a step are moves that may come, and do what is owed.
+use Rattle.std.proofs.Common.{◌≡◌, ◌≢◌, ℕ, ◌<◌, Bool, true, false, List, [], ◌∷◌, length, refl, arith, ap, inl, inr, Option, Some, None, get_or}
+use Rattle.std.specs.Prelude.{if◌then◌else◌, ◌&&◌, ◌==◌, not, nat_lt}
+use Rattle.std.specs.Str.{bytes_eq}
+use Rattle.std.proofs.lemmas.Slice.Eq.{bytes_eq-Decides}
+use Rattle.can_frame.specs.declared.entry.Entry.{Entry}
+use Rattle.can_frame.specs.Log.{blank, log_limit}
+use Rattle.can_frame.specs.Zeros.{zeros}
+use Rattle.raft_model.specs.Messages.{Message}
+use Rattle.raft_model.specs.Server.{Role, Store, Plain, put_all}
+use Rattle.raft_model.specs.Server.Role.{Follower, Candidate, Leader}
+use Rattle.raft_model.specs.Moves.{Move, Comes, MayPropose, has_quorum, own_vote, counts, counted, is_leader, term_limit, adds_blank, win_puts, stand_puts}
+use Rattle.raft_model.specs.Moves.Move.{TimeOut, TakeVoteRequest, TakeVoteAnswer, TakeAppendRequest, TakeAppendAnswer, TellPair}
+use Rattle.raft_model.specs.Moves.Verdict.{Outdated, Refused, Held, Added}
+use Rattle.raft_model.specs.Stops.{Site, AllCome}
+use Rattle.raft_model.specs.Decisions.{commit_index}
+use Rattle.raft_model.specs.Handlers.{plain_after, plain_after_all, offers_of_all}
+use Rattle.raft_model.specs.Duty.{tick_phase, commit_moves, commit_phase, tell_phase, TickDuty, CommitDuty, TellDuty, WinDuty}
+use Rattle.raft_model.proofs.Complete.{and_left, and_right}
+use Rattle.raft_model.proofs.Decisions.{commit, no_commit, refuted}
+use Rattle.raft_model.proofs.Leading.{leader_is}
+use Rattle.raft_model.proofs.Quorum.{tell}
+use Rattle.raft_model.proofs.Whole.{lt_tells}
+
+-- Ticks.
+
+no_leader : (role : Role) → not (is_leader role) ≡ true → role ≢ Leader
+no_leader Follower h e = cc
+no_leader Candidate h e = cc
+no_leader Leader h e = cc
+
+pub tick_comes : (members : List ℕ) (member step : ℕ) (bag : List Message) (waited : Bool) (site : Site)
+    → AllCome members member step bag site (tick_phase waited site.plain)
+tick_comes members member step bag false site = tt
+tick_comes members member step bag true site = elim (tell (not (is_leader site.plain.memory.role) && nat_lt site.plain.store.term term_limit)) [
+  | inl h ↦ rw (h) ((no_leader site.plain.memory.role (and_left _ _ h), low (and_right _ _ h)), tt)
+  | inr h ↦ rw (h) tt
+]
+  where
+    low : nat_lt site.plain.store.term term_limit ≡ true → site.plain.store.term < term_limit
+    low e = elim (lt_tells site.plain.store.term term_limit) [ inl z ↦ z.1 | inr z ↦ absurd (cc (e, z.0)) ]
+
+win_term : (store : Store) → (put_all store (win_puts store)).term ≡ store.term
+win_term store = elim (tell (adds_blank store)) [ inl h ↦ rw (h) refl | inr h ↦ rw (h) refl ]
+
+time_out : (members : List ℕ) (member step : ℕ) (server : Plain) → TickDuty server (plain_after members member step server TimeOut)
+time_out members member step server = elim (tell (has_quorum members (own_vote member))) [
+  | inl h ↦ rw (h) (record { stands = λ e. cc; next = win_term (put_all server.store (stand_puts member server.store)) })
+  | inr h ↦ rw (h) (record { stands = λ e. cc; next = refl })
+]
+
+pub tick_duty : (members : List ℕ) (member step : ℕ) (server : Plain) → server.memory.role ≢ Leader → server.store.term < term_limit
+    → TickDuty server (plain_after_all members member step server (tick_phase true server))
+tick_duty members member step server role low = elim (lt_tells server.store.term term_limit) [
+  | inl z ↦ rw (is_not server.memory.role role) (rw (z.0) (time_out members member step server))
+  | inr z ↦ absurd (omega (arith, z.1, low))
+]
+  where
+    is_not : (r : Role) → r ≢ Leader → is_leader r ≡ false
+    is_not Follower n = refl
+    is_not Candidate n = refl
+    is_not Leader n = absurd (n refl)
+
+-- Commits.
+
+pub commit_comes : (members : List ℕ) (member step : ℕ) (bag : List Message) (site : Site)
+    → AllCome members member step bag site (commit_phase members member site.plain)
+commit_comes members member step bag site = elim (tell (is_leader site.plain.memory.role)) [
+  | inr h ↦ rw (h) tt
+  | inl h ↦ rw (h) (go (commit_index members member site.plain) refl (leader_is site.plain.memory.role h))
+]
+  where
+    go : (found : Option ℕ) → commit_index members member site.plain ≡ found → site.plain.memory.role ≡ Leader
+        → AllCome members member step bag site (commit_moves found)
+    go None e leads = tt
+    go (Some index) e leads = ((leads, commit members member site.plain index e), tt)
+
+pub commit_duty : (members : List ℕ) (member step : ℕ) (server : Plain) → server.memory.role ≡ Leader
+    → CommitDuty members member server (plain_after_all members member step server (commit_phase members member server))
+commit_duty members member step server leads = rw (ap is_leader leads) (go (commit_index members member server) refl)
+  where
+    go : (found : Option ℕ) → commit_index members member server ≡ found
+        → CommitDuty members member server (plain_after_all members member step server (commit_moves found))
+    go None e = record { greatest = λ index can. absurd (no_commit members member server e index can); only = inl refl }
+    go (Some index) e = let is = commit members member server index e in record { greatest = is.greatest; only = inr is.can }
+
+-- Pairs.
+
+pub tell_comes : (members : List ℕ) (member step : ℕ) (bag : List Message) (room : Bool) (site : Site)
+    → AllCome members member step bag site (tell_phase room site.plain)
+tell_comes members member step bag room site = elim (lt_tells site.plain.memory.told site.plain.store.commit) [
+  | inr z ↦ rw (z.0) (elim (tell (is_leader site.plain.memory.role)) [ inl h ↦ rw (h) tt | inr h ↦ rw (h) tt ])
+  | inl z ↦ rw (z.0) (elim (tell (is_leader site.plain.memory.role)) [
+    | inr h ↦ rw (h) tt
+    | inl h ↦ rw (h) (elim (tell (bytes_eq (get_or site.plain.store.log site.plain.memory.told (blank 0)).uid zeros)) [
+      | inl b ↦
+          rw (b) (
+            (
+              leader_is site.plain.memory.role h,
+              z.1,
+              (bytes_eq-Decides (get_or site.plain.store.log site.plain.memory.told (blank 0)).uid zeros).0 b,
+            ),
+            tt,
+          )
+      | inr b ↦
+          rw (b)
+          (go room (leader_is site.plain.memory.role h) z.1
+          (refuted (bytes_eq-Decides (get_or site.plain.store.log site.plain.memory.told (blank 0)).uid zeros) b))
+    ])
+  ])
+]
+  where
+    go : (fits : Bool) → site.plain.memory.role ≡ Leader → site.plain.memory.told < site.plain.store.commit
+        → (get_or site.plain.store.log site.plain.memory.told (blank 0)).uid ≢ zeros →
+        AllCome members member step bag site (if fits then TellPair ∷ [] else [])
+    go true leads below uid = ((leads, below, uid), tt)
+    go false leads below uid = tt
+
+pub tell_duty : (members : List ℕ) (member step : ℕ) (room : Bool) (server : Plain) → server.memory.role ≡ Leader →
+    TellDuty member step room server (plain_after_all members member step server (tell_phase room server))
+    (offers_of_all members member step server (tell_phase room server))
+tell_duty members member step room server leads = rw (ap is_leader leads) (elim (lt_tells server.memory.told server.store.commit) [
+  | inr z ↦
+      rw (z.0)
+      (record {
+        passed = λ b u. absurd (omega (arith, b, z.1));
+        told = λ b u r. absurd (omega (arith, b, z.1));
+        no_room = λ b u r. absurd (omega (arith, b, z.1));
+        nothing = λ b. (refl, refl);
+      })
+  | inl z ↦ rw (z.0) (elim (tell (bytes_eq (get_or server.store.log server.memory.told (blank 0)).uid zeros)) [
+    | inl b ↦ rw (b) (record {
+      passed = λ below u. (refl, refl);
+      told = λ below u r. absurd (u ((bytes_eq-Decides (get_or server.store.log server.memory.told (blank 0)).uid zeros).0 b));
+      no_room = λ below u r. absurd (u ((bytes_eq-Decides (get_or server.store.log server.memory.told (blank 0)).uid zeros).0 b));
+      nothing = λ b2. absurd (omega (arith, b2, z.1));
+    })
+    | inr b ↦ rw (b) (go room z.1 (refuted (bytes_eq-Decides (get_or server.store.log server.memory.told (blank 0)).uid zeros) b))
+  ])
+])
+  where
+    go : (fits : Bool) → server.memory.told < server.store.commit
+        → ((get_or server.store.log server.memory.told (blank 0)).uid ≡ zeros → ⊥) →
+        TellDuty member step fits server (plain_after_all members member step server (if fits then TellPair ∷ [] else []))
+        (offers_of_all members member step server (if fits then TellPair ∷ [] else []))
+    go true below n = record {
+      passed = λ b u. absurd (n u);
+      told = λ b u r. (refl, refl);
+      no_room = λ b u r. absurd (cc);
+      nothing = λ b. absurd (omega (arith, b, below));
+    }
+    go false below n = record {
+      passed = λ b u. absurd (n u);
+      told = λ b u r. absurd (cc);
+      no_room = λ b u r. (refl, refl);
+      nothing = λ b. absurd (omega (arith, b, below));
+    }
+
+-- A full log.
+
+pub full_duty : (server : Plain) (entry : Entry) → length server.store.log ≡ log_limit → MayPropose server entry → ⊥
+full_duty server entry full may = omega (arith, full, may.room)
+
+-- Quorums.
+
+pub win_duty : (members : List ℕ) (member step : ℕ) (bag : List Message) (called : List ℕ) (server : Plain) (move : Move)
+    → Comes members member bag called server move → WinDuty members server → WinDuty members (plain_after members member step server move)
+win_duty members member step bag called server TimeOut comes h = elim (tell (has_quorum members (own_vote member)))
+    [ inl q ↦ rw (q) (λ e. absurd (cc)) | inr q ↦ rw (q) (λ e. q) ]
+win_duty members member step bag called server (TakeVoteRequest request granted) comes h = elim (lt_tells server.store.term request.term)
+    [ inl z ↦ rw (z.0) (λ e. absurd (cc)) | inr z ↦ rw (z.0) h ]
+win_duty members member step bag called server (TakeVoteAnswer answer) comes h = elim (lt_tells server.store.term answer.term) [
+  | inl z ↦ rw (z.0) (λ e. absurd (cc))
+  | inr z ↦ rw (z.0) (elim (tell (counts server answer)) [
+    | inl k ↦
+        rw (k)
+        (elim (tell (has_quorum members (counted server.memory answer)))
+        [ inl q ↦ rw (q) (λ e. absurd (cc)) | inr q ↦ rw (q) (λ e. q) ])
+    | inr k ↦ rw (k) h
+  ])
+]
+win_duty members member step bag called server (TakeAppendRequest request Outdated) comes h = h
+win_duty members member step bag called server (TakeAppendRequest request Refused) comes h = λ e. absurd (cc)
+win_duty members member step bag called server (TakeAppendRequest request Held) comes h = λ e. absurd (cc)
+win_duty members member step bag called server (TakeAppendRequest request (Added entry)) comes h = λ e. absurd (cc)
+win_duty members member step bag called server (TakeAppendAnswer answer) comes h = elim (lt_tells server.store.term answer.term) [
+  | inl z ↦ rw (z.0) (λ e. absurd (cc))
+  | inr z ↦
+      rw (z.0) (elim (tell (is_leader server.memory.role && (answer.term == server.store.term))) [ inl k ↦ rw (k) h | inr k ↦ rw (k) h ])
+]
+win_duty members member step bag called server _ comes h = h

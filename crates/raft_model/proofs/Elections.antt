@@ -1,0 +1,310 @@
+-- Time out, vote requests and vote answers are lawful lists of micro moves.
+use Rattle.std.proofs.Common.{◌≡◌, ℕ, ◌+◌, Bool, true, false, List, [], ◌∷◌, refl, arith, sym, ◌∙◌, subst, inl, inr, Option, Some, None}
+use Rattle.std.specs.Prelude.{◌&&◌, ◌==◌}
+use Rattle.std.proofs.lemmas.Bool.{eqb-true}
+use Rattle.std.proofs.lemmas.List.{append-nil}
+use Rattle.raft_model.specs.Lists.{In}
+use Rattle.raft_model.specs.Messages.{Message, Request, Answer}
+use Rattle.raft_model.specs.Messages.Message.{Answers}
+use Rattle.raft_model.specs.Server.{Role, Store, Put, put, put_all}
+use Rattle.raft_model.specs.Server.Role.{Follower, Candidate, Leader}
+use Rattle.raft_model.specs.Server.Put.{PutTerm, PutVote}
+use Rattle.raft_model.specs.History.{voted}
+use Rattle.raft_model.specs.Ledger.{ledger_with}
+use Rattle.raft_model.specs.Moves.{Move, Comes, has_quorum, own_vote, stand_puts, is_candidate, counts, counted, vote_puts, vote_history, answer_to}
+use Rattle.raft_model.specs.Moves.Move.{TimeOut, TakeVoteRequest, TakeVoteAnswer}
+use Rattle.raft_model.proofs.Micro.Micro.{Raise, Clear, Stand, Grant, Deny, Count, Drop}
+use Rattle.raft_model.proofs.Focus.{Focus, focused}
+use Rattle.raft_model.proofs.Here.{MayHere, SaidHere}
+use Rattle.raft_model.proofs.Walk.{Leg, Covered, ledger_stays, join}
+use Rattle.raft_model.proofs.Walk.Mark.{Silent, Puts}
+use Rattle.raft_model.proofs.Whole.{Whole, lt_tells}
+use Rattle.raft_model.proofs.Terms.{same_commit, term_focus, leg_term, term_log, term_up}
+use Rattle.raft_model.proofs.Winning.{Won, win_of}
+use Rattle.raft_model.proofs.Quorum.{tell}
+use Rattle.raft_model.proofs.Complete.{and_left, and_right}
+
+-- the focus after standing
+abbrev pub stood_focus : ℕ → Focus → Focus
+stood_focus m f = focused m (focused m (focused m f (Raise m (f.plain.store.term + 1))) (Clear m)) (Stand m)
+
+pub leg_stand : (members : List ℕ) (m : ℕ) (f : Focus) → f.plain.memory.up ≡ true → Covered f.ledger f.plain.store
+    → Leg members m TimeOut f (stood_focus m f) (stand_puts m f.plain.store)
+leg_stand members m f up c = record {
+  marks = Puts (PutTerm (f.plain.store.term + 1)) (Raise m (f.plain.store.term + 1)) ∷ Puts (PutVote None) (Clear m) ∷ Puts
+      (PutVote (Some m)) (Stand m) ∷ [];
+  walk = (
+    (up, omega arith),
+    refl,
+    refl,
+    refl,
+    stays (put f.plain.store (PutTerm (f.plain.store.term + 1))) refl,
+    (
+      refl,
+      refl,
+      refl,
+      refl,
+      stays (put (put f.plain.store (PutTerm (f.plain.store.term + 1))) (PutVote None)) refl,
+      ((refl, up), refl, refl, refl, stays (put_all f.plain.store (stand_puts m f.plain.store)) refl, tt),
+    ),
+  );
+  puts = refl;
+  ends = refl;
+}
+  where
+    stays : (u : Store) → u.commit ≡ f.plain.store.commit → f.ledger ≡ ledger_with f.ledger u
+    stays u e = sym (ledger_stays f.ledger u (same_commit f.ledger f.plain.store u c e))
+
+pub time_out : (members : List ℕ) (m n : ℕ) (f : Focus) → f.plain.memory.up ≡ true → Covered f.ledger f.plain.store
+    → Whole members m n f TimeOut
+time_out members m n f up c = elim (tell (has_quorum members (own_vote m))) [
+  | inl h ↦
+      let g : Focus = stood_focus m f in
+      let won : Won members m TimeOut (stood_focus m f)
+      = win_of members m TimeOut (stood_focus m f) (record { entry = λ s e x. refl; longer = λ s e x. refl }) up refl h
+      (same_commit f.ledger f.plain.store (stood_focus m f).plain.store c refl) in
+      rw (h) (record {
+        between = won.between;
+        leg = join members m TimeOut f (stood_focus m f) won.between _ _ (leg_stand members m f up c) won.leg;
+        rest = won.rest;
+        lawful = won.lawful;
+        store = won.store;
+        ledger = won.ledger;
+        history = rw (h) won.history;
+        memory = won.memory;
+        bag = won.bag;
+        said = λ x i. absurd i;
+      })
+  | inr h ↦ rw (h) (record {
+    between = stood_focus m f;
+    leg = subst (λ (l : List Put). Leg members m TimeOut f (stood_focus m f) l) (sym (append-nil (stand_puts m f.plain.store)))
+        (leg_stand members m f up c);
+    rest = [];
+    lawful = tt;
+    store = refl;
+    ledger = refl;
+    history = rw (h) refl;
+    memory = refl;
+    bag = refl;
+    said = λ x i. absurd i;
+  })
+]
+
+-- the one message of a list
+pub only_said : (g : Focus) (x : Message) → SaidHere g x → (y : Message) → In y (x ∷ []) → SaidHere g y
+only_said g x h y i = elim i [ inl e ↦ subst (SaidHere g) (sym e) h | inr z ↦ absurd z ]
+
+pub covered_term : (f : Focus) (t : ℕ) → Covered f.ledger f.plain.store → Covered f.ledger (term_focus f t).plain.store
+covered_term f t c = same_commit f.ledger f.plain.store (term_focus f t).plain.store c (term_log f.plain.store t).1
+
+pub vote_request_lawful : (members : List ℕ) (m n : ℕ) (f : Focus) (r : Request) (granted : Bool) → f.plain.memory.up ≡ true
+    → Covered f.ledger f.plain.store → Comes members m f.bag [] f.plain (TakeVoteRequest r granted)
+    → Whole members m n f (TakeVoteRequest r granted)
+vote_request_lawful members m n f r false up c h = record {
+  between = term_focus f r.term;
+  leg = join members m (TakeVoteRequest r false) f (term_focus f r.term) (term_focus f r.term) _ []
+      (leg_term members m (TakeVoteRequest r false) f r.term up c) (record { marks = []; walk = tt; puts = refl; ends = refl });
+  rest = Deny m n r ∷ [];
+  lawful = ((term_up f.plain r.term ∙ up, h.0, h.1), tt);
+  store = refl;
+  ledger = refl;
+  history = refl;
+  memory = refl;
+  bag = refl;
+  said = only_said (focused m (term_focus f r.term) (Deny m n r)) (Answers (answer_to m n (term_focus f r.term).plain.store r false))
+      (inl refl);
+}
+vote_request_lawful members m n f r true up c h = by_vote (term_focus f r.term).plain.store.vote refl
+  where
+    mv : Move
+    mv = TakeVoteRequest r true
+
+    f1 : Focus
+    f1 = term_focus f r.term
+
+    may : MayHere members m (term_focus f r.term) (Grant m n r)
+    may = record {
+      up = term_up f.plain r.term ∙ up;
+      in_bag = h.0;
+      kind = h.2;
+      mine = h.1;
+      own_term = h.3.own_term;
+      free = h.3.free;
+      not_above = h.3.not_above;
+    }
+
+    none_some : (k : ℕ) → None ≡ Some k → ⊥
+    none_some k e = cc
+
+    by_vote : (v : Option ℕ) → (term_focus f r.term).plain.store.vote ≡ v → Whole members m n f (TakeVoteRequest r true)
+    by_vote None e = record {
+      between = focused m (term_focus f r.term) (Grant m n r);
+      leg = join members m (TakeVoteRequest r true) f (term_focus f r.term) (focused m (term_focus f r.term) (Grant m n r)) _ _
+          (leg_term members m (TakeVoteRequest r true) f r.term up c)
+          (subst
+          (λ (v : Option ℕ). Leg members m (TakeVoteRequest r true) (term_focus f r.term) (focused m (term_focus f r.term) (Grant m n r))
+          (vote_puts v r.from))
+          (sym e) (record {
+            marks = Puts (PutVote (Some r.from)) (Grant m n r) ∷ [];
+            walk = (
+              may,
+              refl,
+              refl,
+              refl,
+              sym (ledger_stays f.ledger (put (term_focus f r.term).plain.store (PutVote (Some r.from)))
+                  (same_commit f.ledger (term_focus f r.term).plain.store (put (term_focus f r.term).plain.store (PutVote (Some r.from)))
+                  (covered_term f r.term c) refl)),
+              tt,
+            );
+            puts = refl;
+            ends = refl;
+          }));
+      rest = [];
+      lawful = tt;
+      store = refl;
+      ledger = refl;
+      history = subst
+          (λ (v : Option ℕ). voted f.history m r.from r.term (term_focus f r.term).plain.store.log
+          ≡ vote_history m (term_focus f r.term).plain.store r v (voted f.history m r.from r.term (term_focus f r.term).plain.store.log))
+          (sym e) refl;
+      memory = refl;
+      bag = refl;
+      said = only_said (focused m (term_focus f r.term) (Grant m n r)) (Answers (answer_to m n (term_focus f r.term).plain.store r true))
+          (inl refl);
+    }
+    by_vote (Some v) e = record {
+      between = term_focus f r.term;
+      leg = join members m (TakeVoteRequest r true) f (term_focus f r.term) (term_focus f r.term) _ _
+          (leg_term members m (TakeVoteRequest r true) f r.term up c)
+          (subst (λ (v : Option ℕ). Leg members m (TakeVoteRequest r true) (term_focus f r.term) (term_focus f r.term) (vote_puts v r.from))
+          (sym e) (record { marks = []; walk = tt; puts = refl; ends = refl }));
+      rest = Grant m n r ∷ [];
+      lawful = (may, tt);
+      store = let q : Some r.from
+          ≡ (term_focus f r.term).plain.store.vote = elim h.3.free [ inl z ↦ absurd (none_some v (sym z ∙ e)) | inr z ↦ sym z ] in
+          λ i. record (term_focus f r.term).plain.store { vote = q i };
+      ledger = refl;
+      history = subst
+          (λ (w : Option ℕ). voted f.history m r.from r.term (term_focus f r.term).plain.store.log
+          ≡ vote_history m (term_focus f r.term).plain.store r w f.history)
+          (sym e) refl;
+      memory = refl;
+      bag = refl;
+      said = only_said (focused m (term_focus f r.term) (Grant m n r)) (Answers (answer_to m n (term_focus f r.term).plain.store r true))
+          (inl refl);
+    }
+
+pub candidate_is : (r : Role) → is_candidate r ≡ true → r ≡ Candidate
+candidate_is Follower h = absurd (cc)
+candidate_is Candidate h = refl
+candidate_is Leader h = absurd (cc)
+
+pub vote_answer_lawful : (members : List ℕ) (m n : ℕ) (f : Focus) (a : Answer) → f.plain.memory.up ≡ true → Covered f.ledger f.plain.store
+    → Comes members m f.bag [] f.plain (TakeVoteAnswer a) → Whole members m n f (TakeVoteAnswer a)
+vote_answer_lawful members m n f a up c h = elim (lt_tells f.plain.store.term a.term) [
+  | inl z ↦ rw (z.0) (record {
+    between = focused m (focused m (focused m f (Drop m a.from)) (Raise m a.term)) (Clear m);
+    leg = record {
+      marks = Silent (Drop m a.from) ∷ Puts (PutTerm a.term) (Raise m a.term) ∷ Puts (PutVote None) (Clear m) ∷ [];
+      walk = (
+        up,
+        refl,
+        refl,
+        refl,
+        refl,
+        (
+          (up, z.1),
+          refl,
+          refl,
+          refl,
+          stays (put f.plain.store (PutTerm a.term)) refl,
+          (refl, refl, refl, refl, stays (put (put f.plain.store (PutTerm a.term)) (PutVote None)) refl, tt),
+        ),
+      );
+      puts = refl;
+      ends = refl;
+    };
+    rest = [];
+    lawful = tt;
+    store = refl;
+    ledger = refl;
+    history = rw (z.0) refl;
+    memory = refl;
+    bag = refl;
+    said = λ x i. absurd i;
+  })
+  | inr z ↦ rw (z.0) (elim (tell (counts f.plain a)) [
+    | inr k ↦ rw (k) (record {
+      between = f;
+      leg = record { marks = []; walk = tt; puts = refl; ends = refl };
+      rest = Drop m a.from ∷ [];
+      lawful = (up, tt);
+      store = refl;
+      ledger = refl;
+      history = rw (z.0) (rw (k) refl);
+      memory = refl;
+      bag = refl;
+      said = λ x i. absurd i;
+    })
+    | inl k ↦ rw (k) (elim (tell (has_quorum members (counted f.plain.memory a))) [
+      | inr q ↦ rw (q) (record {
+        between = focused m f (Count m a);
+        leg = leg_count k;
+        rest = [];
+        lawful = tt;
+        store = refl;
+        ledger = refl;
+        history = rw (z.0) (rw (k) (rw (q) refl));
+        memory = refl;
+        bag = refl;
+        said = λ x i. absurd i;
+      })
+      | inl q ↦
+          let won : Won members m (TakeVoteAnswer a) (focused m f (Count m a))
+          = win_of members m (TakeVoteAnswer a) (focused m f (Count m a)) (record { entry = λ s e x. refl; longer = λ s e x. refl }) up
+          (candidate_is f.plain.memory.role (and_left (is_candidate f.plain.memory.role) _ k)) q c in
+          rw (q) (record {
+            between = won.between;
+            leg = join members m (TakeVoteAnswer a) f (focused m f (Count m a)) won.between [] _ (leg_count k) won.leg;
+            rest = won.rest;
+            lawful = won.lawful;
+            store = won.store;
+            ledger = won.ledger;
+            history = rw (z.0) (rw (k) (rw (q) won.history));
+            memory = won.memory;
+            bag = won.bag;
+            said = λ x i. absurd i;
+          })
+    ])
+  ])
+]
+  where
+    stays : (u : Store) → u.commit ≡ f.plain.store.commit → f.ledger ≡ ledger_with f.ledger u
+    stays u e = sym (ledger_stays f.ledger u (same_commit f.ledger f.plain.store u c e))
+
+    leg_count : counts f.plain a ≡ true → Leg members m (TakeVoteAnswer a) f (focused m f (Count m a)) []
+    leg_count k =
+        let role : f.plain.memory.role ≡ Candidate = candidate_is f.plain.memory.role (and_left (is_candidate f.plain.memory.role) _ k) in
+        let more : ((a.term == f.plain.store.term) && a.success) ≡ true = and_right (is_candidate f.plain.memory.role) _ k in
+        record {
+          marks = Silent (Count m a) ∷ [];
+          walk = (
+            record {
+              up = up;
+              role = role;
+              in_bag = h.0;
+              kind = h.2;
+              mine = h.1;
+              own_term = eqb-true a.term f.plain.store.term (and_left (a.term == f.plain.store.term) _ more);
+              success = and_right (a.term == f.plain.store.term) _ more;
+              pending = h.3;
+            },
+            refl,
+            refl,
+            refl,
+            refl,
+            tt,
+          );
+          puts = refl;
+          ends = refl;
+        }

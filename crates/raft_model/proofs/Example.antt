@@ -1,0 +1,172 @@
+-- A cluster of three that elects a leader, commits a pair and tells it.
+use Rattle.std.proofs.Common.{◌≡◌, ◌≢◌, ℕ, true, List, [], ◌∷◌, length, refl, arith, inl, inr, Some}
+use Rattle.std.specs.Prelude.{replicate}
+use Rattle.raft_model.specs.Lists.{In}
+use Rattle.can_frame.specs.declared.entry.Entry.{Entry}
+use Rattle.can_frame.specs.Log.{IsInjective, IsWellFormed}
+use Rattle.can_frame.specs.Zeros.{zeros}
+use Rattle.raft_model.specs.Messages.{Request, Answer, Pair}
+use Rattle.raft_model.specs.Messages.Message.{Requests, Answers, Pairs}
+use Rattle.raft_model.specs.Server.{Store}
+use Rattle.raft_model.specs.Moves.{vote_request, append_request, answer_to, pair_at}
+use Rattle.raft_model.specs.Moves.Move.{TimeOut, TakeVoteRequest, TakeVoteAnswer, TakeAppendRequest, TakeAppendAnswer, ProposeEntry, CommitTo, TellPair, CallForVote, CallToAppend}
+use Rattle.raft_model.specs.Moves.Verdict.{Added}
+use Rattle.raft_model.specs.Runs.{Event, beginning, run, Lawful}
+use Rattle.raft_model.specs.Runs.Event.{Opens, Steps}
+
+abbrev pub three : List ℕ
+three = 1 ∷ 2 ∷ 3 ∷ []
+
+-- the entry that is proposed
+abbrev pub entry : Entry
+entry = record { term = 1; uid = replicate 16 1; node = 125 }
+
+-- the store of a server of term 1 that voted for 1
+abbrev pub voter : Store
+voter = record { term = 1; vote = Some 1; log = []; commit = 0 }
+
+abbrev pub leader : Store
+leader = record { term = 1; vote = Some 1; log = entry ∷ []; commit = 0 }
+
+abbrev pub asked : Request
+asked = vote_request 1 1 voter 2
+
+abbrev pub granted : Answer
+granted = answer_to 2 2 voter asked true
+
+abbrev pub sent : Request
+sent = append_request 1 4 leader 2 0 true
+
+abbrev pub accepted : Answer
+accepted = answer_to 2 5 leader sent true
+
+abbrev pub told : Pair
+told = pair_at 1 6 leader 0
+
+abbrev pub example : List Event
+example = Opens 1 ∷ Opens 2
+    ∷ Steps 1 1 (TimeOut ∷ CallForVote 2 ∷ []) (Requests asked ∷ [])
+    ∷ Steps 2 2 (TakeVoteRequest asked true ∷ []) (Answers granted ∷ [])
+    ∷ Steps 1 3 (TakeVoteAnswer granted ∷ ProposeEntry entry ∷ []) []
+    ∷ Steps 1 4 (CallToAppend 2 0 true ∷ []) (Requests sent ∷ [])
+    ∷ Steps 2 5 (TakeAppendRequest sent (Added entry) ∷ []) (Answers accepted ∷ [])
+    ∷ Steps 1 6 (TakeAppendAnswer accepted ∷ CommitTo 1 ∷ TellPair ∷ []) (Pairs told ∷ [])
+    ∷ []
+
+pub not_zeros : replicate 16 1 ≢ zeros
+not_zeros e = cc
+
+pub one_injective : (e : Entry) → IsInjective (e ∷ [])
+one_injective e = λ i j b c. absurd (omega (arith, b, c))
+
+pub well_formed : IsWellFormed entry
+well_formed = λ no_blank. record { uid = not_zeros; least = omega arith; most = omega arith }
+
+pub lawful : Lawful (beginning three) example
+lawful = (
+  (inl refl, refl),
+  (
+    (inr (inl refl), refl),
+    (
+      (
+        refl,
+        omega arith,
+        ((λ e. cc, omega arith), ((refl, record { other = λ e. cc; listed = inr (inl refl); free = refl; first = λ i. i }), tt)),
+        λ g i. i,
+      ),
+      (
+        (
+          refl,
+          omega arith,
+          ((inl refl, refl, refl, record { own_term = refl; free = inl refl; not_above = inr (refl, omega arith) }), tt),
+          λ g i. i,
+        ),
+        (
+          (
+            refl,
+            omega arith,
+            (
+              (inl refl, refl, refl, refl),
+              (
+                record {
+                  leads = refl;
+                  room = omega arith;
+                  own_term = refl;
+                  well_formed = well_formed;
+                  not_blank = λ b. not_zeros b.1;
+                  injective = one_injective entry;
+                },
+                tt,
+              ),
+            ),
+            λ g i. absurd i,
+          ),
+          (
+            (
+              refl,
+              omega arith,
+              ((refl, omega arith, record { other = λ e. cc; listed = inr (inl refl); free = refl; first = λ i. i }), tt),
+              λ g i. i,
+            ),
+            (
+              (
+                refl,
+                omega arith,
+                (
+                  (
+                    inl refl,
+                    refl,
+                    refl,
+                    (
+                      inr (refl, λ e. cc),
+                      record {
+                        fits = record { previous = omega arith; previous_term = refl };
+                        carried = refl;
+                        room = omega arith;
+                        not_there = λ t. absurd (omega (arith, t.0));
+                        after_commit = omega arith;
+                        well_formed = well_formed;
+                        rises = omega arith;
+                        below = omega arith;
+                        injective = one_injective entry;
+                      },
+                    ),
+                  ),
+                  tt,
+                ),
+                λ g i. i,
+              ),
+              (
+                (
+                  refl,
+                  omega arith,
+                  (
+                    (inl refl, refl, refl, refl),
+                    (
+                      (
+                        refl,
+                        record {
+                          can = record { above = omega arith; inside = omega arith; own_term = refl; held = omega arith };
+                          greatest = λ i c. c.inside;
+                        },
+                      ),
+                      ((refl, omega arith, not_zeros), tt),
+                    ),
+                  ),
+                  λ g i. i,
+                ),
+                tt,
+              ),
+            ),
+          ),
+        ),
+      ),
+    ),
+  ),
+)
+
+pub tells : In (Pairs told) (run (beginning three) example).bag
+tells = inl refl
+
+pub commits : length (run (beginning three) example).ledger.entries ≡ 1
+commits = refl

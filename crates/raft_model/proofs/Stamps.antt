@@ -1,0 +1,194 @@
+-- Only a Leader's commit makes the ledger longer.
+use Rattle.std.proofs.Common.{◌≡◌, ◌≢◌, ℕ, ◌≤◌, true, Bool, false, Option, Some, None, List, [], ◌∷◌, ◌++◌, length, min, refl, arith, ◌∙◌, ap, subst, inl, inr, length-take}
+use Rattle.raft_model.specs.Lists.{In}
+use Rattle.raft_model.specs.Messages.{Message, Request, reach}
+use Rattle.raft_model.specs.Messages.Message.{Requests}
+use Rattle.raft_model.specs.Server.{Store, Plain, Put, put, put_all, committed, lost}
+use Rattle.raft_model.specs.Server.Put.{PutTerm, PutVote, PutEntry, PutLonger, PutShorter, PutCommit}
+use Rattle.raft_model.specs.Ledger.{Ledger, ledger_through}
+use Rattle.raft_model.specs.Moves.{Move, Verdict, Comes, puts, term_puts, with_term, win_puts, adds_blank, has_quorum, own_vote, counts, counted, stand_puts, grant_puts, vote_puts, append_puts, advance_puts, cut_puts}
+use Rattle.raft_model.specs.Moves.Move.{TimeOut, TakeVoteRequest, TakeVoteAnswer, TakeAppendRequest, TakeAppendAnswer, ProposeEntry, CommitTo, TellPair, TellNothing, CallForVote, CallToAppend, AnswerAgain, GiveUp}
+use Rattle.raft_model.specs.Moves.Verdict.{Outdated, Refused, Held, Added}
+use Rattle.raft_model.specs.Stops.{Site, AllCome}
+use Rattle.raft_model.specs.Runs.{World, Event, beginning, site_of, site_after, after, MayCome, run, Lawful}
+use Rattle.raft_model.specs.Runs.Event.{Steps, Stops}
+use Rattle.raft_model.specs.Invariants.{Invariants}
+use Rattle.raft_model.specs.Safety.{IsSafe}
+use Rattle.raft_model.proofs.At.{at_here}
+use Rattle.raft_model.proofs.Joined.{joined_moves}
+use Rattle.raft_model.proofs.Prefixes.{come_before, lawful_then_one, run_then_one}
+use Rattle.raft_model.proofs.Quorum.{tell}
+use Rattle.raft_model.proofs.Run.{keeps_invariants, is_safe}
+use Rattle.raft_model.proofs.Terms.{same_commit}
+use Rattle.raft_model.proofs.Walk.{Covered, ledger_stays}
+use Rattle.raft_model.proofs.Whole.{lt_tells}
+
+-- no commit index among the puts is above this
+abbrev pub EachLow : ℕ → List Put → Type 0
+EachLow top [] = Unit {0}
+EachLow top (PutTerm term ∷ rest) = EachLow top rest
+EachLow top (PutVote vote ∷ rest) = EachLow top rest
+EachLow top (PutEntry entry ∷ rest) = EachLow top rest
+EachLow top (PutLonger entry ∷ rest) = EachLow top rest
+EachLow top (PutShorter place ∷ rest) = EachLow top rest
+EachLow top (PutCommit place ∷ rest) = (place ≤ top) × EachLow top rest
+
+-- a put that adds nothing, before puts that add nothing
+after_one : (ledger : Ledger) (store : Store) (first : Put) (rest : List Put) → Covered ledger (put store first)
+    → ledger_through ledger (put store first) rest ≡ ledger → ledger_through ledger store (first ∷ rest) ≡ ledger
+after_one ledger store first rest covered same = ap (λ (l : Ledger). ledger_through l (put store first) rest)
+    (ledger_stays ledger (put store first) covered)
+    ∙ same
+
+stays : (ledger : Ledger) (store : Store) (changes : List Put) → Covered ledger store → EachLow (length ledger.entries) changes
+    → ledger_through ledger store changes ≡ ledger
+stays ledger store [] covered low = refl
+stays ledger store (PutTerm term ∷ rest) covered low = let c : Covered ledger (put store (PutTerm term)) = same_commit ledger store
+    (put store (PutTerm term)) covered refl in
+    after_one ledger store (PutTerm term) rest c (stays ledger (put store (PutTerm term)) rest c low)
+stays ledger store (PutVote vote ∷ rest) covered low = let c : Covered ledger (put store (PutVote vote)) = same_commit ledger store
+    (put store (PutVote vote)) covered refl in
+    after_one ledger store (PutVote vote) rest c (stays ledger (put store (PutVote vote)) rest c low)
+stays ledger store (PutEntry entry ∷ rest) covered low = let c : Covered ledger (put store (PutEntry entry)) = same_commit ledger store
+    (put store (PutEntry entry)) covered refl in
+    after_one ledger store (PutEntry entry) rest c (stays ledger (put store (PutEntry entry)) rest c low)
+stays ledger store (PutLonger entry ∷ rest) covered low = let c : Covered ledger (put store (PutLonger entry)) = same_commit ledger store
+    (put store (PutLonger entry)) covered refl in
+    after_one ledger store (PutLonger entry) rest c (stays ledger (put store (PutLonger entry)) rest c low)
+stays ledger store (PutShorter place ∷ rest) covered low = let c : Covered ledger (put store (PutShorter place)) = same_commit ledger store
+    (put store (PutShorter place)) covered refl in
+    after_one ledger store (PutShorter place) rest c (stays ledger (put store (PutShorter place)) rest c low)
+stays ledger store (PutCommit place ∷ rest) covered low = let c : Covered ledger (put store (PutCommit place)) = record
+    { commit = low.0; stamps = covered.stamps } in
+    after_one ledger store (PutCommit place) rest c (stays ledger (put store (PutCommit place)) rest c low.1)
+
+both_low : (top : ℕ) (xs ys : List Put) → EachLow top xs → EachLow top ys → EachLow top (xs ++ ys)
+both_low top [] ys a b = b
+both_low top (PutTerm term ∷ xs) ys a b = both_low top xs ys a b
+both_low top (PutVote vote ∷ xs) ys a b = both_low top xs ys a b
+both_low top (PutEntry entry ∷ xs) ys a b = both_low top xs ys a b
+both_low top (PutLonger entry ∷ xs) ys a b = both_low top xs ys a b
+both_low top (PutShorter place ∷ xs) ys a b = both_low top xs ys a b
+both_low top (PutCommit place ∷ xs) ys a b = (a.0, both_low top xs ys a.1 b)
+
+term_low : (top : ℕ) (store : Store) (term : ℕ) → EachLow top (term_puts store term)
+term_low top store term = elim (lt_tells store.term term) [ inl h ↦ rw (h.0) tt | inr h ↦ rw (h.0) tt ]
+
+win_low : (top : ℕ) (store : Store) → EachLow top (win_puts store)
+win_low top store = elim (tell (adds_blank store)) [ inl h ↦ rw (h) tt | inr h ↦ rw (h) tt ]
+
+grant_low : (top : ℕ) (store : Store) (request : Request) (granted : Bool) → EachLow top (grant_puts store request granted)
+grant_low top store request false = tt
+grant_low top store request true = vote_low store.vote
+  where
+    vote_low : (vote : Option ℕ) → EachLow top (vote_puts vote request.from)
+    vote_low None = tt
+    vote_low (Some earlier) = tt
+
+advance_low : (top : ℕ) (store : Store) (request : Request) → request.commit ≤ top → EachLow top (advance_puts store request)
+advance_low top store request low = elim (lt_tells store.commit (min request.commit (reach request)))
+    [ inl h ↦ rw (h.0) (omega (arith, low), tt) | inr h ↦ rw (h.0) tt ]
+
+append_low : (top : ℕ) (store : Store) (request : Request) (verdict : Verdict) → request.commit ≤ top
+    → EachLow top (append_puts store request verdict)
+append_low top store request Outdated low = tt
+append_low top store request Refused low = tt
+append_low top store request Held low = advance_low top store request low
+append_low top store request (Added entry) low = both_low top (cut_puts store request)
+    (PutEntry entry ∷ PutLonger entry ∷ advance_puts store request) cut (advance_low top store request low)
+  where
+    cut : EachLow top (cut_puts store request)
+    cut = elim (lt_tells request.previous (length store.log)) [ inl h ↦ rw (h.0) tt | inr h ↦ rw (h.0) tt ]
+
+-- a move that is no commit puts no commit index above the ledger
+puts_low : (members : List ℕ) (member : ℕ) (bag : List Message) (called : List ℕ) (server : Plain) (move : Move) (top : ℕ)
+    → Comes members member bag called server move →
+    ((request : Request) → In (Requests request) bag → request.append ≡ true → request.commit ≤ top) → ((index : ℕ) → move ≢ CommitTo index)
+    → EachLow top (puts members member server move)
+puts_low members member bag called server TimeOut top comes low other = elim (tell (has_quorum members (own_vote member))) [
+  | inl h ↦ rw (h) (win_low top (put_all server.store (stand_puts member server.store)))
+  | inr h ↦ rw (h) tt
+]
+puts_low members member bag called server (TakeVoteRequest request granted) top comes low other =
+    both_low top (term_puts server.store request.term) (grant_puts (with_term server.store request.term) request granted)
+    (term_low top server.store request.term) (grant_low top (with_term server.store request.term) request granted)
+puts_low members member bag called server (TakeVoteAnswer answer) top comes low other = elim (lt_tells server.store.term answer.term) [
+  | inl h ↦ rw (h.0) tt
+  | inr h ↦ rw (h.0) (elim (tell (counts server answer)) [
+    | inl k ↦
+        rw (k)
+        (elim (tell (has_quorum members (counted server.memory answer)))
+        [ inl q ↦ rw (q) (win_low top server.store) | inr q ↦ rw (q) tt ])
+    | inr k ↦ rw (k) tt
+  ])
+]
+puts_low members member bag called server (TakeAppendRequest request verdict) top comes low other =
+    both_low top (term_puts server.store request.term) (append_puts (with_term server.store request.term) request verdict)
+    (term_low top server.store request.term)
+    (append_low top (with_term server.store request.term) request verdict (low request comes.0 comes.2))
+puts_low members member bag called server (TakeAppendAnswer answer) top comes low other = term_low top server.store answer.term
+puts_low members member bag called server (ProposeEntry entry) top comes low other = tt
+puts_low members member bag called server (CommitTo index) top comes low other = absurd (other index refl)
+puts_low members member bag called server TellPair top comes low other = tt
+puts_low members member bag called server TellNothing top comes low other = tt
+puts_low members member bag called server (CallForVote peer) top comes low other = tt
+puts_low members member bag called server (CallToAppend peer previous with_entry) top comes low other = tt
+puts_low members member bag called server (AnswerAgain place) top comes low other = tt
+puts_low members member bag called server (GiveUp peer) top comes low other = tt
+
+-- in a safe world the ledger has what each member committed
+covered : (world : World) (member : ℕ) → Invariants world → IsSafe world → Covered world.ledger (world.server member).store
+covered world member holds safe = record {
+  commit = omega (
+    arith,
+    ap length (safe.committed_here member),
+    length-take (length (committed store)) world.ledger.entries,
+    length-take store.commit store.log,
+    (holds.stores member).commit,
+  );
+  stamps = safe.stamps;
+}
+  where
+    store : Store
+    store = (world.server member).store
+
+pub ledger_waits : (members : List ℕ) (events : List Event) (member step : ℕ) (moves : List Move) (next : Move) (rest : List Move)
+    (fitted : List Message)
+    → Lawful (beginning members) events →
+    MayCome (run (beginning members) events) (Steps member step (moves ++ (next ∷ rest)) fitted) → ((index : ℕ) → next ≢ CommitTo index) →
+    (site_after (run (beginning members) events) member step (moves ++ (next ∷ []))).ledger
+    ≡ (site_after (run (beginning members) events) member step moves).ledger
+ledger_waits members events member step moves next rest fitted lawful may other = split
+    ∙ stays site.ledger site.plain.store (puts world.members member site.plain next) here
+    (puts_low world.members member world.bag site.called site.plain next (length site.ledger.entries) come.1
+    (λ request i append. (holds.commits.requests request i append).0) other)
+  where
+    world : World
+    world = run (beginning members) events
+
+    site : Site
+    site = site_after world member step moves
+
+    come : AllCome world.members member step world.bag (site_of world member) moves
+        × Comes world.members member world.bag site.called site.plain next
+    come = come_before world.members member step world.bag moves next rest (site_of world member) may.2
+
+    stop : Lawful (beginning members) (events ++ (Stops member step moves ∷ []))
+    stop = lawful_then_one events (Stops member step moves) (beginning members) lawful (may.0, come.0)
+
+    holds : Invariants (after world (Stops member step moves))
+    holds = subst Invariants (run_then_one events (Stops member step moves) (beginning members))
+        (keeps_invariants members (events ++ (Stops member step moves ∷ [])) stop)
+
+    safe : IsSafe (after world (Stops member step moves))
+    safe = subst IsSafe (run_then_one events (Stops member step moves) (beginning members))
+        (is_safe members (events ++ (Stops member step moves ∷ [])) stop)
+
+    here : Covered site.ledger site.plain.store
+    here = subst (Covered site.ledger)
+        (ap (λ (p : Plain). p.store) (at_here world.server member member (record { store = site.plain.store; memory = lost }) refl))
+        (covered (after world (Stops member step moves)) member holds safe)
+
+    split : (site_after world member step (moves ++ (next ∷ []))).ledger
+        ≡ ledger_through site.ledger site.plain.store (puts world.members member site.plain next)
+    split = ap (λ (x : Site). x.ledger) (joined_moves world.members member step moves (next ∷ []) (site_of world member))

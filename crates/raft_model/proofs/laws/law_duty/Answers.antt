@@ -1,0 +1,15 @@
+use Rattle.raft_model.proofs.Duty.{tick_comes, tick_duty, commit_comes, commit_duty, tell_comes, tell_duty, full_duty}
+use Rattle.raft_model.proofs.Finished.{run_wins}
+use Rattle.raft_model.proofs.laws.law_duty.Goals as goal
+
+pub returns : goal.returns
+returns c = record {
+  tick_comes = tick_comes;
+  tick = tick_duty;
+  commit_comes = commit_comes;
+  commit = commit_duty;
+  tell_comes = tell_comes;
+  tell = tell_duty;
+  full = full_duty;
+  win = run_wins;
+}

@@ -1,0 +1,5 @@
+use Rattle.raft_model.proofs.Prefixes.{stop_comes, stop_between, cut}
+use Rattle.raft_model.proofs.laws.law_stops.Goals as goal
+
+pub returns : goal.returns
+returns c = record { stop = stop_comes; between = stop_between; cut = cut }

@@ -1,0 +1,39 @@
+-- The plain server after moves, their puts and the messages that they offer: a step without the model's memory.
+use Rattle.std.specs.Prelude.{◌≡◌, ℕ, List, [], ◌∷◌, ◌++◌, take}
+use Rattle.raft_model.specs.Messages.{Message}
+use Rattle.raft_model.specs.Server.{Plain, Put, put_all}
+use Rattle.raft_model.specs.Moves.{Move, puts, memory_after, offers}
+
+-- the server after one move, and after these
+abbrev pub plain_after : List ℕ → ℕ → ℕ → Plain → Move → Plain
+plain_after members member step server move = record
+    { store = put_all server.store (puts members member server move); memory = memory_after members member step server move }
+
+abbrev pub plain_after_all : List ℕ → ℕ → ℕ → Plain → List Move → Plain
+plain_after_all members member step server [] = server
+plain_after_all members member step server (move ∷ moves) = plain_after_all members member step
+    (plain_after members member step server move) moves
+
+-- all their puts, in order
+abbrev pub puts_of_all : List ℕ → ℕ → ℕ → Plain → List Move → List Put
+puts_of_all members member step server [] = []
+puts_of_all members member step server (move ∷ moves) = puts members member server move
+    ++ puts_of_all members member step (plain_after members member step server move) moves
+
+-- the messages that they offer, the latest first
+abbrev pub offers_of_all : List ℕ → ℕ → ℕ → Plain → List Move → List Message
+offers_of_all members member step server [] = []
+offers_of_all members member step server (move ∷ moves) = offers_of_all members member step
+    (plain_after members member step server move) moves
+    ++ offers member step server move
+
+-- where so many puts of a step end: all puts of the moves before one of them, and some of that one's
+pub record IsCut (members : List ℕ) (member step : ℕ) (server : Plain) (moves : List Move) (count : ℕ) : Type 0 where
+  pub before : List Move
+  pub next : Move
+  pub rest : List Move
+  pub within : ℕ
+  pub split : moves ≡ before ++ (next ∷ rest)
+  pub done : take count (puts_of_all members member step server moves)
+      ≡ puts_of_all members member step server before
+      ++ take within (puts members member (plain_after_all members member step server before) next)

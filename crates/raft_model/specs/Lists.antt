@@ -1,0 +1,21 @@
+-- Words on lists and functions.
+use Rattle.std.specs.Prelude.{◌≡◌, ℕ, ◌+◌, Bool, true, false, List, [], ◌∷◌, ◌==◌, if◌then◌else◌, ◌⊎◌}
+
+-- x stands in the list
+abbrev pub In : {A : Type 0} → A → List A → Type 0
+In x [] = ⊥
+In x (y ∷ ys) = (x ≡ y) ⊎ In x ys
+
+-- the values, with x at this place
+abbrev pub at : {A : Type 0} → (ℕ → A) → ℕ → A → ℕ → A
+at values place x other = if other == place then x else values other
+
+-- whether an item passes the test
+abbrev pub any : {A : Type 0} → (A → Bool) → List A → Bool
+any test [] = false
+any test (x ∷ xs) = if test x then true else any test xs
+
+-- how many items pass the test
+abbrev pub how_many : {A : Type 0} → (A → Bool) → List A → ℕ
+how_many test [] = 0
+how_many test (x ∷ xs) = (if test x then 1 else 0) + how_many test xs

@@ -1,0 +1,37 @@
+-- Safety: one ledger, which only grows, and every device is told from it alone.
+use Rattle.std.specs.Prelude.{◌≡◌, ◌≢◌, ℕ, ◌+◌, ◌<◌, ◌≤◌, true, length, get_or}
+use Rattle.raft_model.specs.Lists.{In}
+use Rattle.can_frame.specs.Log.{IsInjective, IsPrefix, blank}
+use Rattle.can_frame.specs.Zeros.{zeros}
+use Rattle.raft_model.specs.Log.{Same}
+use Rattle.raft_model.specs.Messages.{Pair}
+use Rattle.raft_model.specs.Messages.Message.{Pairs}
+use Rattle.raft_model.specs.Server.{committed}
+use Rattle.raft_model.specs.Runs.{World}
+
+-- what holds at each moment of a run
+pub record IsSafe (world : World) : Type 0 where
+  -- each member's committed list is a prefix of the ledger
+  pub committed_here : (member : ℕ) → IsPrefix (committed (world.server member).store) world.ledger.entries
+  -- no node ID stands twice in the ledger, and no unique ID but zeros
+  pub injective : IsInjective world.ledger.entries
+  -- each allocation answer is the pair of an entry of its sender's committed list, with neither ID zero
+  pub pairs : (pair : Pair) → In (Pairs pair) world.bag
+      → (place : ℕ) × (place < (world.server pair.from).store.commit)
+      × ((get_or (world.server pair.from).store.log place (blank 0)).uid ≡ pair.uid)
+      × ((get_or (world.server pair.from).store.log place (blank 0)).node ≡ pair.node) × (pair.uid ≢ zeros) × (1 ≤ pair.node)
+  -- every place of the ledger has a stamp, and every leader of a term from the stamp on has the ledger up to this place
+  pub stamps : length world.ledger.stamps ≡ length world.ledger.entries
+  pub leaders : (place term : ℕ) → place < length world.ledger.entries → get_or world.ledger.stamps place 0 ≤ term
+      → world.history.led term ≡ true → Same (place + 1) (world.history.list term) world.ledger.entries
+
+-- what lasts from one moment of a run to every later one
+pub record Lasts (early late : World) : Type 0 where
+  -- a member's committed list is a prefix of every one that it has later, through stops and openings
+  pub committed_here : (member : ℕ) → IsPrefix (committed (early.server member).store) (committed (late.server member).store)
+  -- the ledger is a prefix of every later ledger
+  pub ledger : IsPrefix early.ledger.entries late.ledger.entries
+  -- a term has at most one leader for good, and its list only grows
+  pub led : (term : ℕ) → early.history.led term ≡ true → late.history.led term ≡ true
+  pub leader : (term : ℕ) → early.history.led term ≡ true → late.history.leader term ≡ early.history.leader term
+  pub list : (term : ℕ) → early.history.led term ≡ true → IsPrefix (early.history.list term) (late.history.list term)
