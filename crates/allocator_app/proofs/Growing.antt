@@ -2,7 +2,7 @@
 use Rattle.std.proofs.Common.{◌≡◌, ℕ, ◌+◌, ◌<◌, ◌≤◌, Bool, true, false, nat_eq, nat_lt, ◌&&◌, List, [], ◌∷◌, ◌++◌, length, map, take, get_or, refl, sym, ap, ◌∙◌, subst, arith, append-nil, append_assoc}
 use Rattle.std.specs.Prelude.{Option, Some, None, if◌then◌else◌}
 use Rattle.std.specs.List.{range_with_len}
-use Rattle.std.proofs.lemmas.Bool.{and_parts, or_parts, ltb-true, false≢true}
+use Rattle.std.proofs.lemmas.Bool.{and_parts, or_parts, eq-eqb, ltb-true, false≢true, true≢false}
 use Rattle.std.proofs.lemmas.List.{length-take-le, take-take, take-append-le}
 use Rattle.std.proofs.lemmas.List.FromFn.{get_or-map-range_with_len}
 use Rattle.can_frame.specs.declared.entry.Entry.{Entry}
@@ -14,7 +14,8 @@ use Rattle.transfer_tx.specs.Queue.{queued_frames}
 use Rattle.allocator_app.specs.Allocator.{AllocatorState, allocation_payload, allocation_transfer, at_moment, committed, elected, election_is_due, ended, fits, is_leader, is_recorded, is_taken, log_places, may_tell, next_id, next_told, pair_told, proposed, recorded_at, recorded_or_proposed, status_is_due, status_of, status_offered, status_transfer, taken, told_on, whole_heard, with_allocation, with_entry, with_status}
 use Rattle.allocator_app.specs.Bytes.{is_zero, same_bytes}
 use Rattle.id_selector.specs.Choice.{IsFree, chosen}
-use Rattle.allocator_app.proofs.Sound.{Sound, Sound-push, Sound-same, Sound-told, new_is_distinct}
+use Rattle.allocator_app.specs.Promise.{Spares}
+use Rattle.allocator_app.proofs.Sound.{Sound, Sound-push, Sound-same, Sound-told, Spares-push, new_is_distinct}
 use Rattle.allocator_app.proofs.Uids.{same_bytes-same}
 
 -- a node ID that is chosen is free
@@ -41,13 +42,20 @@ committed_stays log later commit later_commit within h =
     ∙ ap (take commit) h.appended
     ∙ take-append-le commit log h.rest within
 
--- an allocator that can come after another: the log grew, and is sound
+-- an allocator that can come after another: it has the same ID, the log grew, is sound, and gives that ID to nobody
 pub record Follows (a b : AllocatorState) : Type 0 where
   pub grows : Grows a.log a.commit b.log b.commit
   pub sound : IsSound b
+  pub me : b.me ≡ a.me
+  pub spares : Spares a.me a.log → Spares a.me b.log
 
 pub Follows-itself : (a : AllocatorState) → IsSound a → Follows a a
-Follows-itself a h = record { grows = record { rest = []; appended = sym (append-nil a.log); forward = omega arith }; sound = h }
+Follows-itself a h = record {
+  grows = record { rest = []; appended = sym (append-nil a.log); forward = omega arith };
+  sound = h;
+  me = refl;
+  spares = λ spared. spared;
+}
 
 pub Follows-then : (a b c : AllocatorState) → Follows a b → Follows b c → Follows a c
 Follows-then a b c f g = record {
@@ -57,6 +65,8 @@ Follows-then a b c f g = record {
     forward = omega (arith, f.grows.forward, g.grows.forward);
   };
   sound = g.sound;
+  me = g.me ∙ f.me;
+  spares = λ spared. subst (λ me. Spares me c.log) f.me (g.spares (subst (λ me. Spares me b.log) (sym f.me) (f.spares spared)));
 }
 
 pub Follows-if : (a b c : AllocatorState) (test : Bool) → (test ≡ true → Follows a b) → (test ≡ false → Follows a c) → Follows a (if test then b else c)
@@ -65,8 +75,9 @@ Follows-if a b c false f g = g refl
 
 -- ---- parts that leave the log alone
 
--- the second has the first one's log
+-- the second has the first one's log, and its ID
 pub record HasLogOf (a b : AllocatorState) : Type 0 where
+  pub me : b.me ≡ a.me
   pub log : b.log ≡ a.log
   pub commit : b.commit ≡ a.commit
   pub told : b.told ≡ a.told
@@ -79,6 +90,8 @@ Follows-same : (a b : AllocatorState) → HasLogOf a b → IsSound a → Follows
 Follows-same a b same h = record {
   grows = record { rest = []; appended = same.log ∙ sym (append-nil a.log); forward = omega (arith, same.commit) };
   sound = Sound-same a.log b.log a.commit b.commit b.told same.log same.commit (subst (λ told. Sound a.log a.commit told) (sym same.told) h);
+  me = same.me;
+  spares = λ spared. subst (Spares a.me) (sym same.log) spared;
 }
 
 with_status-log : (a : AllocatorState) (step : ℕ) → HasLogOf a (with_status a step)
@@ -86,19 +99,19 @@ with_status-log a step = HasLogOf-if a
     (record a { queue = a.queue ++ queued_frames (status_transfer a) step 0; status_at = a.latest; status_id = next_id a.status_id })
     (record a { status_at = a.latest })
     (fits a (node_status_bytes (status_of a)))
-    (record { log = refl; commit = refl; told = refl })
-    (record { log = refl; commit = refl; told = refl })
+    (record { me = refl; log = refl; commit = refl; told = refl })
+    (record { me = refl; log = refl; commit = refl; told = refl })
 
 with_allocation-log : (a : AllocatorState) (node : ℕ) (uid : List ℕ) (step : ℕ) → HasLogOf a (with_allocation a node uid step)
 with_allocation-log a node uid step = HasLogOf-if a
     (record a { queue = a.queue ++ queued_frames (allocation_transfer a node uid) step 0; allocation_id = next_id a.allocation_id })
     a
     (fits a (allocation_payload node uid))
-    (record { log = refl; commit = refl; told = refl })
-    (record { log = refl; commit = refl; told = refl })
+    (record { me = refl; log = refl; commit = refl; told = refl })
+    (record { me = refl; log = refl; commit = refl; told = refl })
 
 pub at_moment-follows : (a : AllocatorState) (moment : ℕ) → IsSound a → Follows a (at_moment a moment)
-at_moment-follows a moment h = Follows-same a (at_moment a moment) (record { log = refl; commit = refl; told = refl }) h
+at_moment-follows a moment h = Follows-same a (at_moment a moment) (record { me = refl; log = refl; commit = refl; told = refl }) h
 
 pub status_offered-follows : (a : AllocatorState) (step : ℕ) → IsSound a → Follows a (status_offered a step)
 status_offered-follows a step h = Follows-if a (with_status a step) a (status_is_due a)
@@ -115,6 +128,8 @@ elected-follows a h = Follows-if a (record a { role = Leader; term = a.term + 1;
     (λ e. record {
       grows = record { rest = []; appended = sym (append-nil a.log); forward = omega arith };
       sound = record { injective = h.injective; pairs = h.pairs; within = h.within; behind = omega arith };
+      me = refl;
+      spares = λ spared. spared;
     })
     (λ e. Follows-itself a h)
 
@@ -124,10 +139,10 @@ elected-follows a h = Follows-if a (record a { role = Leader; term = a.term + 1;
 test_at : (test : ℕ → Bool) (count place : ℕ) → place < count → get_or (map test (range_with_len 0 count)) place true ≡ false → test place ≡ false
 test_at test count place l e = sym (get_or-map-range_with_len test 0 count place place true l (omega arith)) ∙ e
 
-free_is_new : (a : AllocatorState) (node : ℕ) → IsFree (taken a) node → is_recorded a.log node ≡ false
+-- it is not the allocator's own, nor one of the log
+free_is_new : (a : AllocatorState) (node : ℕ) → IsFree (taken a) node → (nat_eq node a.me ≡ false) × (is_recorded a.log node ≡ false)
 free_is_new a node h =
-    let e : is_taken a node ≡ false = test_at (is_taken a) 128 node (omega (arith, h.most)) h.free in
-    (or_parts (nat_eq node a.me) (is_recorded a.log node) e).1
+    or_parts (nat_eq node a.me) (is_recorded a.log node) (test_at (is_taken a) 128 node (omega (arith, h.most)) h.free)
 
 -- the unique ID is not zeros
 not_zeros : (uid : List ℕ) → is_zero uid ≡ false → uid ≡ zeros → ⊥
@@ -140,13 +155,16 @@ with_entry-follows : (a : AllocatorState) (uid : List ℕ) (choice : Option ℕ)
 with_entry-follows a uid None free no_zeros new h = Follows-itself a h
 with_entry-follows a uid (Some node) free no_zeros new h =
     let is_free : IsFree (taken a) node = free node refl in
+    let is_new = free_is_new a node is_free in
     let entry : Entry = record { term = a.term; uid = uid; node = node } in
     record {
       grows = record { rest = entry ∷ []; appended = refl; forward = omega arith };
       sound = Sound-push a.log entry a.commit a.told
-          (new_is_distinct a.log entry (free_is_new a node is_free) new)
+          (new_is_distinct a.log entry is_new.1 new)
           (record { uid = not_zeros uid no_zeros; least = is_free.least; most = is_free.most })
           h;
+      me = refl;
+      spares = Spares-push a.me a.log entry (λ e. true≢false (sym (eq-eqb node a.me e) ∙ is_new.0));
     }
 
 proposed-follows : ChoosesFree → (a : AllocatorState) (uid : List ℕ) (preference : ℕ) →
@@ -179,6 +197,8 @@ committed-follows a h =
     (λ e. record {
       grows = record { rest = []; appended = sym (append-nil a.log); forward = h.within };
       sound = record { injective = h.injective; pairs = h.pairs; within = omega arith; behind = omega (arith, h.behind, h.within) };
+      me = refl;
+      spares = λ spared. spared;
     })
     (λ e. Follows-itself a h)
 
@@ -193,6 +213,8 @@ pair_told-follows a entry step l h =
       sound = Sound-same a.log (with_allocation a entry.node entry.uid step).log a.commit (with_allocation a entry.node entry.uid step).commit
           (if fits a (allocation_payload entry.node entry.uid) then a.told + 1 else a.told) same.log same.commit
           (Sound-told a.log a.commit a.told (fits a (allocation_payload entry.node entry.uid)) l h);
+      me = same.me;
+      spares = λ spared. subst (Spares a.me) (sym same.log) spared;
     }
 
 pub told_on-follows : (a : AllocatorState) (step : ℕ) → IsSound a → Follows a (told_on a step)
@@ -202,6 +224,8 @@ told_on-follows a step h =
     (λ z. record {
       grows = record { rest = []; appended = sym (append-nil a.log); forward = omega arith };
       sound = Sound-told a.log a.commit a.told true (told_lt_commit a e) h;
+      me = refl;
+      spares = λ spared. spared;
     })
     (λ z. pair_told-follows a (next_told a) step (told_lt_commit a e) h))
     (λ e. Follows-itself a h)

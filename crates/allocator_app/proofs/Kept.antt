@@ -1,9 +1,9 @@
 -- What every row keeps, and with it every run of rows.
-use Rattle.std.proofs.Common.{◌≡◌, ℕ, ◌+◌, Bool, List, [], ◌∷◌, take, refl, sym, subst, inl, inr}
+use Rattle.std.proofs.Common.{◌≡◌, ℕ, ◌+◌, Bool, List, [], ◌∷◌, take, refl, sym, ◌∙◌, subst, arith, inl, inr}
 use Rattle.std.specs.Prelude.{Option, Some, None}
 use Rattle.can_frame.specs.declared.step.Why.{Why}
 use Rattle.can_frame.specs.Cutting.{Piece}
-use Rattle.can_frame.specs.Log.{IsInjective, IsPrefix}
+use Rattle.can_frame.specs.Log.{IsPrefix}
 use Rattle.dsdl_codec.specs.declared.allocation.Allocation.{Allocation}
 use Rattle.dsdl_codec.specs.Allocation.{allocation_of}
 use Rattle.alloc_exchange.specs.declared.heard.Heard.{Heard}
@@ -14,7 +14,7 @@ use Rattle.replay_text.specs.declared.row.Row.TheVariants.{Open, Tick, Rx, Send,
 use Rattle.allocator_app.specs.Allocator.{AllocatorState, Offer, at_moment, elected, end_offers, ended, opened, status_offered, status_offers, tick_offers, ticked}
 use Rattle.allocator_app.specs.Member.{BusFrame, MemberState, drop_cause, frame_offers, frame_taken, heard_answer, heard_of, heard_offers, member_at, message_offers, message_taken, piece_in, receive_offers, received, taken_in}
 use Rattle.allocator_app.specs.World.{Takes, WorldState, after, frame_at, received_member, sent_member, ticked_member}
-use Rattle.allocator_app.specs.Promise.{AreTaken, KeepsItsWord, committed_log, log_of, offers_of, receives, ticks}
+use Rattle.allocator_app.specs.Promise.{AreTaken, GivesOnce, KeepsItsWord, Spares, committed_log, offers_of, receives, ticks}
 use Rattle.allocator_app.proofs.Sound.{Sound-empty}
 use Rattle.allocator_app.proofs.Growing.{ChoosesFree, Follows, Follows-itself, Follows-then, IsSound, at_moment-follows, committed_stays, elected-follows, ended-follows, status_offered-follows, whole_heard-follows, with_allocation-follows}
 use Rattle.allocator_app.proofs.Offers.{AreCommitted, AreCommitted-append, AreCommitted-nil, TellsCommitted, TellsCommitted-later, end_offers-committed, follow_up-committed, status_offers-committed, whole_offers-committed}
@@ -84,78 +84,106 @@ received-kept free m frame moment step h =
 
 -- ---- a member, where there is one
 
--- its allocator is sound
-abbrev MemberSound : Option MemberState → Type 0
-MemberSound None = Unit {0}
-MemberSound (Some m) = IsSound m.allocator
+-- the allocator with this ID is sound, and gives its ID to nobody
+record IsKept (id : ℕ) (a : AllocatorState) : Type 0 where
+  pub sound : IsSound a
+  pub me : a.me ≡ id
+  pub spares : Spares id a.log
+
+abbrev MemberSound : ℕ → Option MemberState → Type 0
+MemberSound id None = Unit {0}
+MemberSound id (Some m) = IsKept id m.allocator
 
 -- what is committed stays, the offers are committed by then, and it is sound again
-record MemberKept (before later : Option MemberState) (offers : List Offer) : Type 0 where
+record MemberKept (id : ℕ) (before later : Option MemberState) (offers : List Offer) : Type 0 where
   pub stays : IsPrefix (committed_log before) (committed_log later)
   pub pairs : AreCommitted (committed_log later) offers
-  pub sound : MemberSound later
+  pub sound : MemberSound id later
 
-step-member : (m n : MemberState) (offers : List Offer) → IsSound m.allocator → StepKept m.allocator n.allocator offers → MemberKept (Some m) (Some n) offers
-step-member m n offers h kept = record {
-  stays = committed_stays m.allocator.log n.allocator.log m.allocator.commit n.allocator.commit h.within kept.follows.grows;
+step-member : (id : ℕ) (m n : MemberState) (offers : List Offer) → IsKept id m.allocator → StepKept m.allocator n.allocator offers →
+    MemberKept id (Some m) (Some n) offers
+step-member id m n offers h kept = record {
+  stays = committed_stays m.allocator.log n.allocator.log m.allocator.commit n.allocator.commit h.sound.within kept.follows.grows;
   pairs = kept.pairs;
-  sound = kept.follows.sound;
+  sound = record {
+    sound = kept.follows.sound;
+    me = kept.follows.me ∙ h.me;
+    spares = subst (λ me. Spares me n.allocator.log) h.me (kept.follows.spares (subst (λ me. Spares me m.allocator.log) (sym h.me) h.spares));
+  };
 }
 
 -- a member whose log stays
-same-member : (m : Option MemberState) → MemberSound m → MemberKept m m []
-same-member None h = record { stays = refl; pairs = AreCommitted-nil []; sound = h }
-same-member (Some m) h = step-member m m [] h (record { follows = Follows-itself m.allocator h; pairs = AreCommitted-nil (take m.allocator.commit m.allocator.log) })
+same-member : (id : ℕ) (m : Option MemberState) → MemberSound id m → MemberKept id m m []
+same-member id None h = record { stays = refl; pairs = AreCommitted-nil []; sound = h }
+same-member id (Some m) h =
+    step-member id m m [] h (record { follows = Follows-itself m.allocator h.sound; pairs = AreCommitted-nil (take m.allocator.commit m.allocator.log) })
 
-ticked-member : (m : Option MemberState) (moment step : ℕ) → MemberSound m → MemberKept m (ticked_member m moment step) (ticks m moment step)
-ticked-member None moment step h = same-member None h
-ticked-member (Some m) moment step h =
-    step-member m (record m { allocator = ticked m.allocator moment step }) (tick_offers m.allocator moment step) h (ticked-kept m.allocator moment step h)
+ticked-member : (id : ℕ) (m : Option MemberState) (moment step : ℕ) → MemberSound id m → MemberKept id m (ticked_member m moment step) (ticks m moment step)
+ticked-member id None moment step h = same-member id None h
+ticked-member id (Some m) moment step h =
+    step-member id m (record m { allocator = ticked m.allocator moment step }) (tick_offers m.allocator moment step) h
+    (ticked-kept m.allocator moment step h.sound)
 
-received-member : ChoosesFree → (m : Option MemberState) (frame : BusFrame) (moment step : ℕ) → MemberSound m →
-    MemberKept m (received_member m frame moment step) (receives m frame moment step)
-received-member free None frame moment step h = same-member None h
-received-member free (Some m) frame moment step h =
-    step-member m (received m frame moment step) (receive_offers m frame moment step) h (received-kept free m frame moment step h)
+received-member : ChoosesFree → (id : ℕ) (m : Option MemberState) (frame : BusFrame) (moment step : ℕ) → MemberSound id m →
+    MemberKept id m (received_member m frame moment step) (receives m frame moment step)
+received-member free id None frame moment step h = same-member id None h
+received-member free id (Some m) frame moment step h =
+    step-member id m (received m frame moment step) (receive_offers m frame moment step) h (received-kept free m frame moment step h.sound)
 
 -- a frame leaves the queue, and the log stays
-sent-member : (m : Option MemberState) → MemberSound m → MemberKept m (sent_member m) []
-sent-member None h = same-member None h
-sent-member (Some m) h =
-    let kept = same-member (Some m) h in
-    record { stays = kept.stays; pairs = kept.pairs; sound = kept.sound }
+sent-member : (id : ℕ) (m : Option MemberState) → MemberSound id m → MemberKept id m (sent_member m) []
+sent-member id None h = same-member id None h
+sent-member id (Some m) h =
+    let kept = same-member id (Some m) h in
+    record { stays = kept.stays; pairs = kept.pairs; sound = record { sound = h.sound; me = h.me; spares = h.spares } }
 
-opened-member : (m : Option MemberState) (id moment word : ℕ) → m ≡ None → MemberKept m (Some (record { allocator = opened id moment word; accepted = [] })) []
+opened-member : (m : Option MemberState) (id moment word : ℕ) → m ≡ None → MemberKept id m (Some (record { allocator = opened id moment word; accepted = [] })) []
 opened-member m id moment word none = record {
   stays = subst (λ before. IsPrefix (committed_log before) []) (sym none) refl;
   pairs = AreCommitted-nil [];
-  sound = Sound-empty;
+  sound = record { sound = Sound-empty; me = refl; spares = λ i within. absurd (omega (arith, within)) };
 }
 
 -- ---- a row, and every row
 
-row-kept : ChoosesFree → (w : WorldState) (row : Row) → Takes w row → MemberSound w.member → MemberKept w.member (after w row).member (offers_of w row)
+row-kept : ChoosesFree → (w : WorldState) (row : Row) → Takes w row → MemberSound w.id w.member →
+    MemberKept w.id w.member (after w row).member (offers_of w row)
 row-kept free w (Open n moment word) taken h = opened-member w.member w.id moment word taken.1
-row-kept free w (Tick n moment word) taken h = ticked-member w.member moment (w.rows + 1) h
-row-kept free w (Rx n k moment) taken h = received-member free w.member (frame_at w.frames k) moment (w.rows + 1) h
-row-kept free w (Send n) taken h = sent-member w.member h
-row-kept free w (Ext frame) taken h = same-member w.member h
+row-kept free w (Tick n moment word) taken h = ticked-member w.id w.member moment (w.rows + 1) h
+row-kept free w (Rx n k moment) taken h = received-member free w.id w.member (frame_at w.frames k) moment (w.rows + 1) h
+row-kept free w (Send n) taken h = sent-member w.id w.member h
+row-kept free w (Ext frame) taken h = same-member w.id w.member h
 row-kept free w (Crash n calls pattern) taken h = absurd taken
 row-kept free w (Fault n call) taken h = absurd taken
 
-injective_log : (m : Option MemberState) → MemberSound m → IsInjective (log_of m)
-injective_log None h = Sound-empty.injective
-injective_log (Some m) h = h.injective
+-- the world keeps its ID
+same_id : (w : WorldState) (row : Row) → (after w row).id ≡ w.id
+same_id w (Open n moment word) = refl
+same_id w (Tick n moment word) = refl
+same_id w (Rx n k moment) = refl
+same_id w (Send n) = refl
+same_id w (Ext frame) = refl
+same_id w (Crash n calls pattern) = refl
+same_id w (Fault n call) = refl
 
-rows_kept : ChoosesFree → (w : WorldState) (rows : List Row) → AreTaken w rows → MemberSound w.member → KeepsItsWord w rows
-rows_kept free w [] taken h = injective_log w.member h
+gives_once : (id rows : ℕ) (frames : List BusFrame) (m : Option MemberState) → MemberSound id m →
+    GivesOnce (record { id = id; rows = rows; frames = frames; member = m })
+gives_once id rows frames None h = record { injective = Sound-empty.injective; spares = λ i within. absurd (omega (arith, within)) }
+gives_once id rows frames (Some m) h = record { injective = h.sound.injective; spares = h.spares }
+
+rows_kept : ChoosesFree → (w : WorldState) (rows : List Row) → AreTaken w rows → MemberSound w.id w.member → KeepsItsWord w rows
+rows_kept free w [] taken h = gives_once w.id w.rows w.frames w.member h
 rows_kept free w (row ∷ rows) taken h =
-    let kept = row-kept free w row taken.0 h in
-    (injective_log w.member h, kept.pairs, kept.stays, rows_kept free (after w row) rows taken.1 kept.sound)
+    let kept = row-kept free w row taken.0 h in (
+      gives_once w.id w.rows w.frames w.member h,
+      kept.pairs,
+      kept.stays,
+      rows_kept free (after w row) rows taken.1 (subst (λ id. MemberSound id (after w row).member) (sym (same_id w row)) kept.sound),
+    )
 
 -- from a world whose member was not opened
 pub every_run : ChoosesFree → (w : WorldState) (rows : List Row) → w.member ≡ None → AreTaken w rows → KeepsItsWord w rows
-every_run free w rows none taken = rows_kept free w rows taken (subst MemberSound (sym none) tt)
+every_run free w rows none taken = rows_kept free w rows taken (subst (MemberSound w.id) (sym none) tt)
 
 free_by_choice : (taken : List Bool) (preferred id : ℕ) → IsChoice taken preferred (Some id) → IsFree taken id
 free_by_choice taken preferred id (inl above) = above.free

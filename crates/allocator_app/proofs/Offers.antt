@@ -46,7 +46,7 @@ IsCommitted-more log later pair front h = record {
   entry = h.entry;
   stands = subst (λ l. Contains l h.entry) (ap (λ l. l ++ drop (length log) later) (sym front) ∙ take-append-drop (length log) later)
       (Contains-append_left log (drop (length log) later) h.entry h.stands);
-  no_blank = h.no_blank;
+  is_pair = h.is_pair;
   uid = h.uid;
   node = h.node;
 }
@@ -78,7 +78,7 @@ place_is_committed log commit told place uid pair h l uids e =
     record {
       entry = get_or log place (blank 0);
       stands = subst (Contains (take commit log)) (get_or-take commit log place (blank 0) l) (Contains-get_or (take commit log) place (blank 0) within);
-      no_blank = λ b. (h.pairs place (omega (arith, l, h.within))).uid b.1;
+      is_pair = h.pairs place (omega (arith, l, h.within));
       uid = uids ∙ ap (λ p. p.uid) e;
       node = ap (λ p. p.node) e;
     }

@@ -10,6 +10,7 @@ use Rattle.can_frame.specs.declared.entry.Entry.{Entry}
 use Rattle.can_frame.specs.Log.{AreDistinct, IsDistinctFromAll, IsInjective, IsPair, blank}
 use Rattle.allocator_app.specs.Allocator.{is_recorded, recorded_at}
 use Rattle.allocator_app.specs.Bytes.{same_bytes}
+use Rattle.allocator_app.specs.Promise.{Spares}
 use Rattle.allocator_app.proofs.Uids.{same_bytes-same}
 
 -- each entry is a pair, none is given twice, and what is told is committed
@@ -90,3 +91,10 @@ Sound-push log entry commit told distinct pair h = record {
   within = omega (arith, h.within, length_push log entry);
   behind = h.behind;
 }
+
+-- and it gives an ID to nobody still
+pub Spares-push : (me : ℕ) (log : List Entry) (entry : Entry) → (entry.node ≡ me → ⊥) → Spares me log → Spares me (log ++ entry ∷ [])
+Spares-push me log entry other h = λ i within. elim (push_at log entry i within) [
+  | inl here ↦ λ e. h i here.0 (sym (ap (λ x. x.node) here.1) ∙ e)
+  | inr last ↦ λ e. other (sym (ap (λ x. x.node) last.1) ∙ e)
+]

@@ -12,8 +12,8 @@ ghost use Rattle.allocator_app.specs.declared.status.Status.{Status};
 use id_selector::laws::chosen_is_the_choice;
 use replay_text::laws::a_line_has_one_row;
 
-/// Along every list of rows that a world takes from its beginning: the log gives no ID twice, what is
-/// committed stays, and every pair that is offered is committed by then.
+/// Along every list of rows that a world takes from its beginning: the log gives no ID twice, and the
+/// allocator's own to nobody; what is committed stays, and every pair that is offered is committed by then.
 pub fn every_allocation_is_kept()
     ensures { (id : ℕ) (rows : List Row) → AreTaken (empty_world id) rows → KeepsItsWord (empty_world id) rows }
 {

@@ -1,9 +1,11 @@
-ghost use Rattle.std.specs.Prelude.{◌≡◌, ◌<◌, ℕ, List, [], map, Some, None};
+ghost use Rattle.std.specs.Prelude.{◌≡◌, ◌<◌, ◌↔◌, ℕ, List, [], map, Some, None, IsNone, option_map};
 ghost use Rattle.arrayvec.specs.ArrayVec.{array_vec_len};
 ghost use Rattle.dsdl_codec.specs.Allocation.{allocation_of};
 ghost use Rattle.alloc_exchange.specs.Exchange.{Accepted, HasItsSize, after};
 ghost use Rattle.alloc_exchange.specs.Stands.{StandsFor};
-ghost use Rattle.allocator_app.specs.Allocator.{may_follow, opened};
+ghost use Rattle.transfer_tx.specs.Queue.{left_behind, next_out};
+ghost use Rattle.transfer_tx.specs.Views.{queued_of};
+ghost use Rattle.allocator_app.specs.Allocator.{may_follow, opened, tick_offers, ticked};
 ghost use Rattle.allocator_app.specs.Member.{BusFrame, MemberState, cause_alone, drop_cause, heard_answer, heard_of, heard_offers, is_wanted, message_offers, message_seen, message_taken, receive_offers, received, seen_in, frame_offers, frame_taken, piece_in};
 
 use crate::allocator::{Allocator, Offered};
@@ -11,6 +13,7 @@ use alloc_exchange::{Exchange, Heard};
 use arrayvec::ArrayVec;
 use can_frame::{Frame, Ident, Kind, NodeId, Seen, Tail, Why};
 use dsdl_codec::Allocation;
+use transfer_tx::Marked;
 
 /// A member of the cluster: an allocator, and its exchange with nodes that have no ID.
 #[derive(Drop)]
@@ -28,6 +31,24 @@ impl Member {
             allocator: Allocator::open(me, moment, word),
             exchange: Exchange::new(),
         }
+    }
+
+    /// A step: it reads its clock, and `step` is the number of the step.
+    pub fn tick(&mut self, moment: u64, step: u64) -> Offered
+        ensures sent { result.items ≡ map (λ offer. offer.sent) (tick_offers self.old.allocator moment step) }
+        ensures next { self.new ≡ record self.old { allocator = ticked self.old.allocator moment step } }
+    {
+        self.allocator.tick(moment, step)
+    }
+
+    /// The next frame of the queue.
+    pub fn pop(&mut self) -> Option<Marked>
+        ensures next { option_map queued_of result ≡ next_out self.old.allocator.queue }
+        ensures rest { self.new ≡ record self.old { allocator = record self.old.allocator { queue = left_behind self.old.allocator.queue } } }
+        ensures none { IsNone result ↔ (self.old.allocator.queue ≡ []) }
+        ensures unchanged { IsNone result → self.new ≡ self.old }
+    {
+        self.allocator.pop()
     }
 
     /// A step: a frame of the bus is received, and `step` is the number of the step.

@@ -29,9 +29,9 @@ use std::alloc::Global;
 /// the lines of exactly the rows whose line feeds were read are written; where the sink failed, it has a
 /// front of the report (`specs/InPart.antt`). With `Usage` and `Memory` nothing is read or written.
 ///
-/// Along the rows of the report, the log never gives one node ID to two devices, or two to one, what is
-/// committed stays, and whatever pair a step offers to the bus is committed when that step is done
-/// (`specs/Promise.antt`).
+/// Along the rows of the report, the log never gives one node ID to two devices, or two to one, nor the
+/// allocator's own to any; what is committed stays, and whatever pair a step offers to the bus is committed
+/// when that step is done (`specs/Promise.antt`).
 pub fn run<S: Source, K: Sink>(
     alloc: Global,
     words: &[String],

@@ -2,7 +2,6 @@ ghost use Rattle.std.specs.Prelude.{◌≡◌, ◌≢◌, ◌≤◌, ◌<◌, �
 ghost use Rattle.can_frame.specs.Identifier.{identifier_of};
 ghost use Rattle.can_frame.specs.declared.step.Seen.TheVariants.{Ticked};
 ghost use Rattle.transfer_tx.specs.Queue.{left_behind, next_out};
-ghost use Rattle.transfer_tx.specs.Views.{queued_of};
 ghost use Rattle.replay_text.specs.declared.told.Told.TheVariants.{Opened, Stepped, Outside};
 ghost use Rattle.alloc_exchange.specs.Stands as exchange;
 ghost use Rattle.allocator_app.specs.Allocator.{opened, tick_offers, ticked};
@@ -16,7 +15,6 @@ use can_frame::{Frame, Ident, Kind, NodeId, Seen};
 use replay_text::{Row, Told};
 use std::alloc::{AllocError, Global};
 use std::marker::Model;
-use transfer_tx::Marked;
 
 /// A cluster of one allocator, and its bus.
 #[derive(Drop)]
@@ -143,7 +141,7 @@ impl World {
         let Some(member) = &mut self.member else {
             return None;
         };
-        let sent = tick_member(member, moment, self.rows + 1);
+        let sent = member.tick(moment, self.rows + 1);
         let told = stepped(n, &member.allocator, Seen::Ticked, sent);
         self.rows += 1;
         Some(told)
@@ -191,7 +189,7 @@ impl World {
         let Some(member) = &mut self.member else {
             return None;
         };
-        let next = pop_frame(member)?;
+        let next = member.pop()?;
         self.rows += 1;
         let frame = next.frame.copy();
         put_on(&mut self.frames, next.frame);
@@ -220,24 +218,6 @@ impl World {
             k: self.frames.len() as u32,
         })
     }
-}
-
-/// A tick of the member's clock.
-fn tick_member(member: &mut Member, moment: u64, step: u64) -> Offered
-    ensures sent { result.items ≡ map (λ offer. offer.sent) (tick_offers member.old.allocator moment step) }
-    ensures next { member.new ≡ record member.old { allocator = ticked member.old.allocator moment step } }
-{
-    member.allocator.tick(moment, step)
-}
-
-/// The next frame of the member's queue.
-fn pop_frame(member: &mut Member) -> Option<Marked>
-    ensures next { option_map queued_of result ≡ next_out member.old.allocator.queue }
-    ensures rest { member.new ≡ record member.old { allocator = record member.old.allocator { queue = left_behind member.old.allocator.queue } } }
-    ensures none { IsNone result ↔ (member.old.allocator.queue ≡ []) }
-    ensures unchanged { IsNone result → member.new ≡ member.old }
-{
-    member.allocator.pop()
 }
 
 /// Puts a frame on the bus.
