@@ -1,0 +1,13 @@
+pub mod Appending
+pub mod Backs
+pub mod Calls
+pub mod Fits
+pub mod Handled
+pub mod Peers
+pub mod Requests
+pub mod Roles
+pub mod Stands
+pub mod StoredPuts
+pub mod Taken
+pub mod Telling
+pub mod Times

@@ -1,0 +1,27 @@
+-- What becomes of what is kept of a peer.
+use Rattle.std.specs.Prelude.{ℕ, ◌+◌, ◌-◌, Bool, false, Option, Some, None, max, nat_le, ◌==◌, if◌then◌else◌}
+use Rattle.raft_core.specs.declared.peer.Asked.{Asked}
+use Rattle.raft_core.specs.declared.peer.Peer.{Peer}
+use Rattle.raft_core.specs.declared.peer.Waiting.{Waiting}
+
+-- a peer of which nothing is known
+abbrev pub fresh : ℕ → Peer
+fresh next = record { voted = false; answered = false; next = next; matched = 0; appended = None; call = None }
+
+-- its call, where it is less than 1,000 ms old
+abbrev pub young : ℕ → Option Waiting → Option Waiting
+young now None = None
+young now (Some call) = if nat_le 1000 (now - call.sent) then None else Some call
+
+abbrev pub expired : ℕ → Peer → Peer
+expired now peer = record peer { call = young now peer.call }
+
+-- it answered an append request that reached up to a place
+abbrev pub moved_on : ℕ → Bool → Peer → Peer
+moved_on reach success peer =
+    if success then record peer { matched = max peer.matched reach; next = max peer.matched reach + 1 } else record peer { next = max 1 (peer.next - 1) }
+
+-- what the call that waits under this transfer ID asks for
+abbrev pub asked_under : ℕ → Option Waiting → Option Asked
+asked_under id None = None
+asked_under id (Some call) = if call.id == id then Some call.asked else None

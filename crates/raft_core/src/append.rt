@@ -1,0 +1,205 @@
+ghost use Rattle.std.specs.Prelude.{◌≡◌, ◌↔◌, ◌⊎◌, ◌≤◌, ◌<◌, ◌+◌, ◌++◌, ◌∷◌, [], ℕ, List, IsTrue, true, false, OnOk, IfOk, Ok, Some, length, take};
+ghost use Rattle.can_frame.specs.declared.step.Role.TheVariants.{Leader};
+ghost use Rattle.can_frame.specs.Log.{log_limit};
+ghost use Rattle.raft_log.specs.DurableViews.{durable_state};
+ghost use Rattle.raft_log.specs.MayFollow.{MayFollow};
+ghost use Rattle.raft_model.specs.Log.{term_at};
+ghost use Rattle.raft_model.specs.Moves.{IsRuled, Verdict, append_puts, is_accepted, with_term};
+ghost use Rattle.raft_model.specs.Decisions.{judges};
+ghost use Rattle.raft_model.specs.Messages.{Request};
+ghost use Rattle.raft_model.specs.Moves.Move.{TakeAppendAnswer, TakeAppendRequest};
+ghost use Rattle.raft_model.specs.Server.{Plain};
+ghost use Rattle.raft_core.specs.Appending.{commit_puts, cut_to, write_puts};
+ghost use Rattle.raft_core.specs.Handled.{answer_of, append_request_of};
+ghost use Rattle.raft_core.specs.StoredPuts.{DoesPuts, store_of};
+ghost use Rattle.raft_core.specs.Times.{Times, given_at, is_awaited};
+
+use crate::laws::puts_in_turn;
+use crate::peer::Asked;
+use crate::raft::Raft;
+use can_frame::{Entry, Role};
+use disk_model::Disk;
+use dsdl_codec::{AppendAnswer, AppendRequest};
+use kv_store::Fault;
+use raft_log::{Durable, may_follow};
+
+impl Raft {
+    ghost use Rattle.raft_core.specs.Fits.{Fits};
+    ghost use Rattle.raft_core.specs.Handled.{MakesMoves};
+    ghost use Rattle.raft_core.specs.Stands.{StandsFor};
+
+    /// A leader's append request came from the node `from`. A request of a lower term is refused, and one
+    /// of the member's own term while it leads; any other begins the wait and makes it Follower, also
+    /// where the log or the entry refuses it then.
+    pub fn on_append_request<D: Disk>(
+        &mut self,
+        d: &mut Durable<D>,
+        from: u8,
+        req: &AppendRequest,
+        now: u64,
+    ) -> Result<AppendAnswer, Fault>
+        requires fits { Fits self.old (durable_state d.old) }
+        ensures moves { (members : List ℕ) (n : ℕ) (p : Plain) (t : Times) → StandsFor self.old members (durable_state d.old) p t →
+            (step : ℕ) → let r = append_request_of req.now step from self.old.me in let v = judges p r in
+            MakesMoves members self.old.me n (given_at now) (TakeAppendRequest r v ∷ []) p t d.old d.new self.new result ×
+            IfOk result (λ answer. (answer.term ≡ (with_term p.store r.term).term) × (answer.success ≡ is_accepted v)) }
+        ensures fits { OnOk result (Fits self.new (durable_state d.new)) }
+    {
+        if self.is_outdated(d.term(), req.term) {
+            return Ok(AppendAnswer {
+                term: d.term(),
+                success: false,
+            });
+        }
+        self.raise(d, req.term, now)?;
+        self.role = Role::Follower;
+        self.since = now;
+        let success = accept(d, req)?;
+        Ok(AppendAnswer {
+            term: req.term,
+            success,
+        })
+    }
+
+    /// An answer to an append request came from the node `from` under a transfer ID. Whether it was
+    /// taken: where the append call to that node waits under this transfer ID. Else nothing changes.
+    pub fn on_append_answer<D: Disk>(
+        &mut self,
+        d: &mut Durable<D>,
+        from: u8,
+        id: u8,
+        ans: &AppendAnswer,
+        now: u64,
+    ) -> Result<bool, Fault>
+        requires most { from ≤ 125 }
+        requires fits { Fits self.old (durable_state d.old) }
+        ensures refused { (members : List ℕ) (p : Plain) (t : Times) → StandsFor self.old members (durable_state d.old) p t →
+            is_awaited p t from true id ≡ false → (result ≡ Ok false) × (self.new ≡ self.old) × (d.new ≡ d.old) }
+        ensures moves { (members : List ℕ) (n : ℕ) (p : Plain) (t : Times) → StandsFor self.old members (durable_state d.old) p t →
+            is_awaited p t from true id ≡ true → (step : ℕ) (r : Request) → p.memory.pending from ≡ Some r →
+            MakesMoves members self.old.me n (given_at now) (TakeAppendAnswer (answer_of step from r ans.now.term ans.now.success) ∷ []) p t d.old d.new self.new result ×
+            IfOk result (λ taken. IsTrue taken) }
+        ensures fits { OnOk result (Fits self.new (durable_state d.new)) }
+    {
+        let Some(Asked::Append(reach)) = self.awaited(from, id) else {
+            return Ok(false);
+        };
+        self.peers[from as usize].call = None;
+        self.raise(d, ans.term, now)?;
+        if self.role == Role::Leader && ans.term == d.term() {
+            self.peers[from as usize].move_on(reach, ans.success);
+        }
+        Ok(true)
+    }
+
+    /// Whether a request is refused for its term.
+    fn is_outdated(&self, own: u32, term: u32) -> bool
+        ensures { IsTrue result ↔ ((term < own) ⊎ ((term ≡ own) × (self.now.role ≡ Leader))) }
+    {
+        term < own || term == own && self.role == Role::Leader
+    }
+}
+
+/// The rules on the log and the entry, with the puts of what they say; whether they accept the request.
+fn accept<D: Disk>(d: &mut Durable<D>, req: &AppendRequest) -> Result<bool, Fault>
+    requires { req.now.term ≡ (durable_state d.old).term }
+    ensures puts { (step from to : ℕ) (v : Verdict) → let r = append_request_of req.now step from to in IsRuled (store_of (durable_state d.old)) r v →
+        DoesPuts (append_puts (store_of (durable_state d.old)) r v) d.old d.new result × IfOk result (λ success. success ≡ is_accepted v) }
+    ensures commit { OnOk result ((durable_state d.old).commit ≤ (durable_state d.new).commit) }
+{
+    if !has_previous(d, req) {
+        return Ok(false);
+    }
+    match req.entry {
+        Some(entry) => take_entry(d, req, entry),
+        None => hold(d, req.commit.min(req.prev_index)),
+    }
+}
+
+/// The entry of a request that stands on the log.
+fn take_entry<D: Disk>(d: &mut Durable<D>, req: &AppendRequest, entry: Entry) -> Result<bool, Fault>
+    requires term { req.now.term ≡ (durable_state d.old).term }
+    requires entry { req.now.entry ≡ Some entry }
+    requires previous { req.now.prev_index ≤ length (durable_state d.old).log }
+    requires previous_term { term_at (durable_state d.old).log req.now.prev_index ≡ req.now.prev_term }
+    ensures puts { (step from to : ℕ) (v : Verdict) → let r = append_request_of req.now step from to in IsRuled (store_of (durable_state d.old)) r v →
+        DoesPuts (append_puts (store_of (durable_state d.old)) r v) d.old d.new result × IfOk result (λ success. success ≡ is_accepted v) }
+    ensures commit { OnOk result ((durable_state d.old).commit ≤ (durable_state d.new).commit) }
+{
+    let previous = req.prev_index;
+    if is_there(d, previous, entry.term) {
+        return hold(d, req.commit.min(previous + 1));
+    }
+    if !may_add(d, previous, &entry) {
+        return Ok(false);
+    }
+    write(d, previous, entry)?;
+    hold(d, req.commit.min(previous + 1))
+}
+
+/// The request stands on the log.
+fn has_previous<D: Disk>(d: &Durable<D>, req: &AppendRequest) -> bool
+    ensures { IsTrue result ↔ ((req.now.prev_index ≤ length (durable_state d.now).log) × (term_at (durable_state d.now).log req.now.prev_index ≡ req.now.prev_term)) }
+{
+    req.prev_index <= d.last() && d.entry(req.prev_index).term == req.prev_term
+}
+
+/// The log has an entry of this term after the previous place.
+fn is_there<D: Disk>(d: &Durable<D>, previous: u8, term: u32) -> bool
+    ensures { IsTrue result ↔ ((previous < length (durable_state d.now).log) × (term_at (durable_state d.now).log (previous + 1) ≡ term)) }
+{
+    previous < d.last() && d.entry(previous + 1).term == term
+}
+
+/// The entry may come into the log after the previous place, which is cut there.
+fn may_add<D: Disk>(d: &Durable<D>, previous: u8, entry: &Entry) -> bool
+    requires { previous ≤ length (durable_state d.now).log }
+    ensures { IsTrue result ↔ ((previous < log_limit) × ((durable_state d.now).commit ≤ previous) × MayFollow (take previous (durable_state d.now).log) (durable_state d.now).term entry.now) }
+{
+    previous < 127
+        && d.commit() <= previous
+        && may_follow(&d.log()[..previous as usize], d.term(), entry)
+}
+
+/// The log is accepted as it is: what the request commits of it is committed. Answers true.
+fn hold<D: Disk>(d: &mut Durable<D>, place: u8) -> Result<bool, Fault>
+    requires { place ≤ length (durable_state d.old).log }
+    ensures puts { DoesPuts (commit_puts (store_of (durable_state d.old)) place) d.old d.new result }
+    ensures commit { OnOk result ((durable_state d.old).commit ≤ (durable_state d.new).commit) }
+    ensures accepted { IfOk result (λ success. IsTrue success) }
+{
+    puts_in_turn::<D, (), bool>();
+    if d.commit() < place {
+        d.set_commit(place)?;
+    }
+    Ok(true)
+}
+
+/// The log is cut after the previous place, and the entry written there.
+fn write<D: Disk>(d: &mut Durable<D>, previous: u8, entry: Entry) -> Result<(), Fault>
+    requires inside { previous ≤ length (durable_state d.old).log }
+    requires room { previous < log_limit }
+    requires kept { (durable_state d.old).commit ≤ previous }
+    requires follows { MayFollow (take previous (durable_state d.old).log) (durable_state d.old).term entry }
+    ensures puts { DoesPuts (write_puts (store_of (durable_state d.old)) previous entry) d.old d.new result }
+    ensures log { OnOk result ((durable_state d.new).log ≡ take previous (durable_state d.old).log ++ (entry ∷ [])) }
+    ensures commit { OnOk result ((durable_state d.new).commit ≡ (durable_state d.old).commit) }
+{
+    puts_in_turn::<D, (), ()>();
+    cut(d, previous)?;
+    d.append(entry)
+}
+
+/// The log is cut after the previous place, where it is longer.
+fn cut<D: Disk>(d: &mut Durable<D>, previous: u8) -> Result<(), Fault>
+    requires inside { previous ≤ length (durable_state d.old).log }
+    requires kept { (durable_state d.old).commit ≤ previous }
+    ensures puts { DoesPuts (cut_to (store_of (durable_state d.old)) previous) d.old d.new result }
+    ensures state { OnOk result (durable_state d.new ≡ record (durable_state d.old) { log = take previous (durable_state d.old).log }) }
+{
+    puts_in_turn::<D, (), ()>();
+    if previous < d.last() {
+        d.truncate(previous)?;
+    }
+    Ok(())
+}

@@ -1,0 +1,192 @@
+ghost use Rattle.std.specs.Prelude.{◌≡◌, ◌≢◌, ◌≤◌, ◌<◌, ◌∷◌, [], ℕ, List, Bool, true, false, Option, Some, None, IsNone, IfSome, length, slice_index_or, ◌+◌};
+ghost use Rattle.raft_log.specs.DurableViews.{durable_state};
+ghost use Rattle.raft_log.specs.Stored.{Stored};
+ghost use Rattle.raft_core.specs.Requests.{append_call, vote_call};
+ghost use Rattle.raft_core.specs.Handled.{moves_of_expire};
+ghost use Rattle.raft_model.specs.Handlers.{plain_after_all};
+ghost use Rattle.raft_model.specs.Lists.{In};
+ghost use Rattle.raft_model.specs.Messages.{Request, items};
+ghost use Rattle.raft_model.specs.Moves.{Move};
+ghost use Rattle.raft_model.specs.Server.{Plain};
+ghost use Rattle.raft_core.specs.Times as times;
+ghost use Rattle.raft_core.specs.Times.{Given, Sending, Times, given_at, is_awaited, overdue, times_after_all};
+
+use crate::peer::{Asked, Waiting};
+use crate::raft::Raft;
+use can_frame::Role;
+use disk_model::Disk;
+use dsdl_codec::{AppendRequest, VoteRequest};
+use raft_log::Durable;
+
+/// A request to a peer.
+#[derive(Clone, Copy, Debug, PartialEq, Eq)]
+pub enum Call {
+    Vote(VoteRequest),
+    Append(AppendRequest),
+}
+
+/// A call that waits for its answer.
+#[derive(Clone, Copy, Debug, PartialEq, Eq)]
+pub struct Pending {
+    /// 31 for a vote request, 30 for an append request
+    /// (`uavcan.protocol.dynamic_node_id.server.RequestVote`, `AppendEntries`).
+    pub service: u8,
+
+    /// The transfer ID of the request, and of its answer.
+    pub id: u8,
+
+    /// The step that made the call.
+    pub step: u64,
+
+    /// When it was made, in milliseconds.
+    pub sent: u64,
+}
+
+impl Raft {
+    ghost use Rattle.raft_core.specs.declared.peer.Peer.{Peer};
+    ghost use Rattle.raft_core.specs.Calls.{IsPending, Owes, OwesNone, owed};
+    ghost use Rattle.raft_core.specs.Peers.{asked_under};
+    ghost use Rattle.raft_core.specs.Fits.{Fits};
+    ghost use Rattle.raft_core.specs.Stands.{StandsFor};
+
+    /// Calls that were made 1,000 ms ago, or earlier, are given up.
+    pub fn expire(&mut self, now: u64)
+        ensures moves { (members : List ℕ) (n : ℕ) (state : Stored) (p : Plain) (t : Times) → StandsFor self.old members state p t →
+            (nodes : List ℕ) → ((q : ℕ) → q < 128 → p.memory.pending q ≢ None → In q nodes) → let moves = moves_of_expire (overdue t now nodes) in
+            StandsFor self.new members state (plain_after_all members self.old.me n p moves) (times_after_all members self.old.me n (given_at now) p moves t) }
+        ensures fits { (state : Stored) → Fits self.old state → Fits self.new state }
+    {
+        for peer in &mut self.peers {
+            peer.expire(now);
+        }
+    }
+
+    /// The call that is owed to a peer. A candidate asks each peer for its vote until it answers. A leader
+    /// sends the next entry, where there is one; and where there is none, it says every 400 ms that it
+    /// leads. None is owed while a call to the peer is pending.
+    pub fn call<D: Disk>(&self, d: &Durable<D>, peer: u8, now: u64) -> Option<Call>
+        requires most { peer ≤ 125 }
+        requires fits { Fits self.now (durable_state d.now) }
+        ensures some { IfSome result (λ call. Owes self.now (durable_state d.now) peer now call) }
+        ensures none { IsNone result → OwesNone self.now (durable_state d.now) peer now }
+    {
+        let kept = &self.peers[peer as usize];
+        if kept.call.is_some() {
+            return None;
+        }
+        match self.role {
+            Role::Follower => None,
+            Role::Candidate if kept.answered => None,
+            Role::Candidate => Some(Call::Vote(vote_request(d))),
+            Role::Leader if kept.next > d.last() && !kept.is_silent(now) => None,
+            Role::Leader => Some(Call::Append(append_request(d, kept.next))),
+        }
+    }
+
+    /// The call that was owed was made in a step, under a transfer ID.
+    pub fn called<D: Disk>(
+        &mut self,
+        d: &Durable<D>,
+        peer: u8,
+        what: &Call,
+        id: u8,
+        step: u64,
+        now: u64,
+    )
+        requires most { peer ≤ 125 }
+        requires fits { Fits self.old (durable_state d.now) }
+        requires owed { Owes self.old (durable_state d.now) peer now what.now }
+        requires id { id < 32 }
+        ensures moves { (members : List ℕ) (p : Plain) (t : Times) → StandsFor self.old members (durable_state d.now) p t →
+            (move : Move) → owed p t peer now ≡ Some move → let given = record { now = now; word = 0; id = id } in
+            StandsFor self.new members (durable_state d.now) (plain_after_all members self.old.me step p (move ∷ [])) (times_after_all members self.old.me step given p (move ∷ []) t) }
+        ensures fits { Fits self.new (durable_state d.now) }
+    {
+        let kept = &mut self.peers[peer as usize];
+        let asked = match what {
+            Call::Vote(_) => Asked::Vote,
+            Call::Append(request) => {
+                kept.appended = Some(now);
+                Asked::Append(reach(request))
+            }
+        };
+        kept.call = Some(Waiting {
+            asked,
+            id,
+            step,
+            sent: now,
+        });
+    }
+
+    /// The call to a peer that waits for its answer.
+    pub fn pending(&self, peer: u8) -> Option<Pending>
+        requires { peer ≤ 125 }
+        ensures some { IfSome result (λ pending. (members : List ℕ) (state : Stored) (p : Plain) (t : Times) → StandsFor self.now members state p t →
+            (r : Request) × (sending : Sending) × (p.memory.pending peer ≡ Some r) × (t.sending peer ≡ Some sending) × IsPending pending r sending) }
+        ensures none { IsNone result → (members : List ℕ) (state : Stored) (p : Plain) (t : Times) → StandsFor self.now members state p t → p.memory.pending peer ≡ None }
+    {
+        let call = self.peers[peer as usize].call?;
+        Some(Pending {
+            service: match call.asked {
+                Asked::Vote => 31,
+                Asked::Append(_) => 30,
+            },
+            id: call.id,
+            step: call.step,
+            sent: call.sent,
+        })
+    }
+
+    /// What the call to a node that waits under a transfer ID asks for.
+    pub(crate) fn awaited(&self, from: u8, id: u8) -> Option<Asked>
+        requires { from ≤ 125 }
+        ensures { (d : Peer) → result ≡ asked_under id (slice_index_or self.now.peers from d).call }
+    {
+        let call = self.peers[from as usize].call?;
+        if call.id == id {
+            Some(call.asked)
+        } else {
+            None
+        }
+    }
+}
+
+fn vote_request<D: Disk>(d: &Durable<D>) -> VoteRequest
+    ensures { result ≡ vote_call (durable_state d.now) }
+{
+    VoteRequest {
+        term: d.term(),
+        last_term: d.entry(d.last()).term,
+        last_index: d.last(),
+    }
+}
+
+/// The append request with the entry at a place, where there is one.
+fn append_request<D: Disk>(d: &Durable<D>, next: u8) -> AppendRequest
+    requires least { 1 ≤ next }
+    requires most { next ≤ length (durable_state d.now).log + 1 }
+    ensures { result ≡ append_call (durable_state d.now) next }
+{
+    AppendRequest {
+        term: d.term(),
+        prev_term: d.entry(next - 1).term,
+        prev_index: next - 1,
+        commit: d.commit(),
+        entry: if next <= d.last() {
+            Some(d.entry(next))
+        } else {
+            None
+        },
+    }
+}
+
+/// The last place that an append request speaks of.
+fn reach(request: &AppendRequest) -> u8
+    requires { request.now.prev_index ≤ 127 }
+    ensures { result ≡ request.now.prev_index + items request.now.entry }
+{
+    match request.entry {
+        Some(_) => request.prev_index + 1,
+        None => request.prev_index,
+    }
+}

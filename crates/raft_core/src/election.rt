@@ -1,0 +1,132 @@
+ghost use Rattle.std.specs.Prelude.{◌≡◌, ◌≢◌, ◌≤◌, ◌<◌, ◌+◌, ◌∷◌, [], ℕ, List, true, OnOk, length, slice_index_or, if◌then◌else◌};
+ghost use Rattle.can_frame.specs.Log as log;
+ghost use Rattle.can_frame.specs.declared.step.Role.TheVariants.{Follower, Candidate};
+ghost use Rattle.raft_log.specs.DurableViews.{durable_state};
+ghost use Rattle.raft_model.specs.Moves.{stand_memory, stand_puts, win_memory, win_puts};
+ghost use Rattle.raft_model.specs.Moves.Move.{TimeOut};
+ghost use Rattle.raft_model.specs.Server.{Plain, put_all};
+ghost use Rattle.raft_core.specs.StoredPuts.{DoesPuts, store_of};
+ghost use Rattle.raft_core.specs.Times as times;
+ghost use Rattle.raft_core.specs.Times.{Times};
+
+use crate::laws::puts_in_turn;
+use crate::peer::Peer;
+use crate::raft::{Cause, Raft};
+use arrayvec::ArrayVec;
+use can_frame::{Entry, Role};
+use disk_model::Disk;
+use kv_store::Fault;
+use raft_log::Durable;
+
+impl Raft {
+    ghost use Rattle.raft_core.specs.Fits.{Fits};
+    ghost use Rattle.raft_core.specs.Handled.{MakesMoves};
+    ghost use Rattle.raft_core.specs.Stands.{StandsFor, role_of};
+
+    /// Time has passed. A member that is no leader begins an election where its wait has passed and its
+    /// term is not the highest, once it knows all members: `peers` are the others that it knows, and
+    /// `complete` says whether they are all. `word` is for the next wait.
+    pub fn tick<D: Disk>(
+        &mut self,
+        d: &mut Durable<D>,
+        peers: &[u8],
+        complete: bool,
+        now: u64,
+        word: u32,
+    ) -> Result<(), Fault>
+        requires peers { (i : ℕ) → i < length peers.now → slice_index_or peers.now i 0 ≤ 125 }
+        requires complete { complete ≡ true → length peers.now + 1 ≡ self.old.size }
+        requires fits { Fits self.old (durable_state d.old) }
+        ensures moves { (members : List ℕ) (n : ℕ) (p : Plain) (t : Times) → StandsFor self.old members (durable_state d.old) p t →
+            (complete ≡ true → members ≡ self.old.me ∷ peers.now) → let given = record { now = now; word = word; id = 0 } in
+            MakesMoves members self.old.me n given (if times.stands complete now p t then TimeOut ∷ [] else []) p t d.old d.new self.new result }
+        ensures fits { OnOk result (Fits self.new (durable_state d.new)) }
+    {
+        puts_in_turn::<D, (), ()>();
+        if !complete || !self.may_stand(d.term(), now) {
+            return Ok(());
+        }
+        self.stand(d, peers, now, word)?;
+        if self.has_quorum(Cause::Candidacy) {
+            self.win(d)?;
+        }
+        Ok(())
+    }
+
+    /// Whether the wait for an election has passed, of one that is no leader and below the highest term.
+    fn may_stand(&self, term: u32, now: u64) -> bool
+        ensures { (p : Plain) (t : Times) → p.memory.role ≡ role_of self.now.role → p.store.term ≡ term → t.since ≡ self.now.since → t.word ≡ self.now.word →
+            result ≡ times.stands true now p t }
+    {
+        let wait = 2000 + u64::from(self.word) % 2001;
+        self.role != Role::Leader && term < u32::MAX && now.saturating_sub(self.since) >= wait
+    }
+
+    /// It is a candidate of the next term, and votes for itself.
+    fn stand<D: Disk>(
+        &mut self,
+        d: &mut Durable<D>,
+        peers: &[u8],
+        now: u64,
+        word: u32,
+    ) -> Result<(), Fault>
+        requires term { (durable_state d.old).term < 4294967295 }
+        requires peers { (i : ℕ) → i < length peers.now → slice_index_or peers.now i 0 ≤ 125 }
+        requires complete { length peers.now + 1 ≡ self.old.size }
+        requires fits { Fits self.old (durable_state d.old) }
+        ensures puts { DoesPuts (stand_puts self.old.me (store_of (durable_state d.old))) d.old d.new result }
+        ensures stands { (members : List ℕ) (p : Plain) (t : Times) → StandsFor self.old members (durable_state d.old) p t → (id : ℕ) →
+            OnOk result (StandsFor self.new (self.old.me ∷ peers.now) (durable_state d.new)
+            (record { store = put_all p.store (stand_puts self.old.me p.store); memory = stand_memory self.old.me p.memory })
+            (times.stand (record { now = now; word = word; id = id }) t)) }
+        ensures fits { OnOk result (Fits self.new (durable_state d.new)) }
+        ensures role { OnOk result (self.new.role ≡ Candidate) }
+        ensures me { self.new.me ≡ self.old.me }
+    {
+        puts_in_turn::<D, (), ()>();
+        d.set_term(d.term() + 1)?;
+        d.set_vote(self.me)?;
+        self.role = Role::Candidate;
+        self.since = now;
+        self.word = word;
+        self.members.clear();
+        self.members.push(self.me);
+        match self.members.try_extend_from_slice(peers) {
+            Ok(()) => {}
+            Err(_) => unreachable!(),
+        }
+        self.peers = [Peer::new(1); 128];
+        self.peers[self.me as usize].voted = true;
+        Ok(())
+    }
+
+    /// A candidate leads from now on. Where its log is not all committed, and has room, it appends a blank.
+    pub(crate) fn win<D: Disk>(&mut self, d: &mut Durable<D>) -> Result<(), Fault>
+        requires role { self.old.role ≢ Follower }
+        requires fits { Fits self.old (durable_state d.old) }
+        ensures puts { DoesPuts (win_puts (store_of (durable_state d.old))) d.old d.new result }
+        ensures stands { (members : List ℕ) (p : Plain) (t : Times) → StandsFor self.old members (durable_state d.old) p t →
+            OnOk result (StandsFor self.new members (durable_state d.new)
+            (record { store = put_all p.store (win_puts p.store); memory = win_memory p.store p.memory }) (times.win t)) }
+        ensures fits { OnOk result (Fits self.new (durable_state d.new)) }
+    {
+        puts_in_turn::<D, (), ()>();
+        self.role = Role::Leader;
+        self.told = d.commit();
+        self.peers = [Peer::new(d.last() + 1); 128];
+        if d.commit() < d.last() && d.last() < 127 {
+            d.append(blank(d.term()))?;
+        }
+        Ok(())
+    }
+}
+
+/// The blank of a term.
+fn blank(term: u32) -> Entry
+    ensures { result ≡ log.blank term }
+{
+    Entry {
+        term,
+        ..Entry::default()
+    }
+}

@@ -1,0 +1,156 @@
+ghost use Rattle.std.specs.Prelude.{◌≡◌, ◌≢◌, ◌<◌, ◌≤◌, ℕ, List, Bool, OnOk, length, nat_le, slice_index_or};
+ghost use Rattle.arrayvec.specs.ArrayVec.{array_vec_len};
+ghost use Rattle.can_frame.specs.declared.step.Role.TheVariants.{Follower};
+ghost use Rattle.raft_log.specs.DurableViews.{durable_state};
+ghost use Rattle.raft_log.specs.Stored.{Stored};
+ghost use Rattle.raft_model.specs.Lists.{how_many};
+ghost use Rattle.raft_model.specs.Moves.{term_memory, term_puts, with_term};
+ghost use Rattle.raft_model.specs.Server.{Plain, quorum, opened};
+
+use crate::laws::puts_in_turn;
+use crate::peer::Peer;
+use arrayvec::ArrayVec;
+use can_frame::Role;
+use disk_model::Disk;
+use kv_store::Fault;
+use raft_log::Durable;
+
+/// What a member of the cluster keeps in memory. Moments are milliseconds, and may fall.
+#[derive(Drop)]
+pub struct Raft {
+    /// The member's own node ID.
+    pub(crate) me: u8,
+
+    /// How many members the cluster has.
+    pub(crate) size: u8,
+
+    pub(crate) role: Role,
+
+    /// A leader has told the pairs of the entries up to this place.
+    pub(crate) told: u8,
+
+    /// When the wait for an election began.
+    pub(crate) since: u64,
+
+    /// The word that the wait takes.
+    pub(crate) word: u32,
+
+    /// All members, itself first, since the last election.
+    pub(crate) members: ArrayVec<u8, 5>,
+
+    /// By node ID.
+    pub(crate) peers: [Peer; 128],
+
+    ghost least: { 1 ≤ me },
+    ghost most: { me ≤ 125 },
+    ghost short: { array_vec_len members ≤ 5 },
+    ghost numbered: { (i : ℕ) → i < length members.items → slice_index_or members.items i 0 < 128 },
+    ghost complete: { role ≢ Follower → array_vec_len members ≡ size },
+}
+
+/// What a member may stand behind.
+#[derive(Clone, Copy)]
+pub(crate) enum Cause {
+    /// The candidacy, by its vote.
+    Candidacy,
+
+    /// The log up to this place, by having it.
+    Place(u8),
+}
+
+impl Raft {
+    ghost use Rattle.raft_core.specs.Backs.{Backs};
+    ghost use Rattle.raft_core.specs.Fits.{Fits};
+    ghost use Rattle.raft_core.specs.Roles.{StepsDown};
+    ghost use Rattle.raft_core.specs.Stands.{StandsFor, role_of};
+    ghost use Rattle.raft_core.specs.StoredPuts.{DoesPuts, store_of};
+    ghost use Rattle.raft_core.specs.Times as times;
+    ghost use Rattle.raft_core.specs.Times.{Times, opened_times};
+
+    /// A member that opens now, in a cluster of 1 to 5 members. The word makes its wait for an election
+    /// differ from the others'.
+    pub fn new(me: u8, size: u8, now: u64, word: u32) -> Raft
+        requires least { 1 ≤ me }
+        requires most { me ≤ 125 }
+        requires some { 1 ≤ size }
+        requires five { size ≤ 5 }
+        ensures stands { (members : List ℕ) (state : Stored) → StandsFor result members state (record { store = store_of state; memory = opened }) (opened_times now word) }
+        ensures fits { (state : Stored) → Fits result state }
+    {
+        Raft {
+            me,
+            size,
+            role: Role::Follower,
+            told: 0,
+            since: now,
+            word,
+            members: ArrayVec::new(),
+            peers: [Peer::new(1); 128],
+        }
+    }
+
+    pub fn role(&self) -> Role
+        ensures role { result ≡ self.now.role }
+        ensures stands { (members : List ℕ) (state : Stored) (p : Plain) (t : Times) → StandsFor self.now members state p t → p.memory.role ≡ role_of result }
+    {
+        self.role
+    }
+
+    /// It is a Follower from now on; the wait begins where it was none.
+    pub(crate) fn step_down(&mut self, now: u64)
+        ensures { StepsDown self.old self.new now }
+    {
+        if self.role != Role::Follower {
+            self.since = now;
+        }
+        self.role = Role::Follower;
+    }
+
+    /// A term above its own is stored, with no vote in it, and makes it Follower.
+    pub(crate) fn raise<D: Disk>(
+        &mut self,
+        d: &mut Durable<D>,
+        term: u32,
+        now: u64,
+    ) -> Result<(), Fault>
+        ensures puts { DoesPuts (term_puts (store_of (durable_state d.old)) term) d.old d.new result }
+        ensures stands { (members : List ℕ) (p : Plain) (t : Times) → StandsFor self.old members (durable_state d.old) p t →
+            OnOk result (StandsFor self.new members (durable_state d.new) (record { store = with_term p.store term; memory = term_memory p term }) (times.raise now term p t)) }
+        ensures fits { Fits self.old (durable_state d.old) → OnOk result (Fits self.new (durable_state d.new)) }
+        ensures me { self.new.me ≡ self.old.me }
+        ensures term { OnOk result (term ≤ (durable_state d.new).term) }
+        ensures log { OnOk result ((durable_state d.new).log ≡ (durable_state d.old).log) }
+    {
+        puts_in_turn::<D, (), ()>();
+        if d.term() < term {
+            d.set_term(term)?;
+            self.step_down(now);
+        }
+        Ok(())
+    }
+
+    /// Whether more than half of the members stand behind it.
+    pub(crate) fn has_quorum(&self, cause: Cause) -> bool
+        requires { self.now.role ≢ Follower }
+        ensures { (test : ℕ → Bool) → Backs self.now.me self.now.peers cause test →
+            result ≡ nat_le (quorum self.now.members.items) (how_many test self.now.members.items) }
+    {
+        let mut count = 0;
+        for node in &self.members {
+            if self.backs(*node, cause) {
+                count += 1;
+            }
+        }
+        count > self.size / 2
+    }
+
+    fn backs(&self, node: u8, cause: Cause) -> bool
+        requires { node < 128 }
+        ensures { (test : ℕ → Bool) → Backs self.now.me self.now.peers cause test → result ≡ test node }
+    {
+        match cause {
+            Cause::Candidacy => self.peers[node as usize].voted,
+            Cause::Place(place) => node == self.me || place <= self.peers[node as usize].matched,
+        }
+    }
+}

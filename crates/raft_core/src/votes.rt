@@ -1,0 +1,154 @@
+ghost use Rattle.std.specs.Prelude.{◌≡◌, ◌≢◌, ◌↔◌, ◌≤◌, ◌∷◌, [], ℕ, List, Bool, true, false, IsTrue, OnOk, IfOk, Some, Ok, length, if◌then◌else◌};
+ghost use Rattle.can_frame.specs.declared.step.Role.TheVariants.{Candidate};
+ghost use Rattle.can_frame.specs.Log.{last_term};
+ghost use Rattle.raft_log.specs.DurableViews.{durable_state};
+ghost use Rattle.raft_model.specs.Decisions.{grants};
+ghost use Rattle.raft_model.specs.Messages.{Request};
+ghost use Rattle.raft_model.specs.Lists.{at};
+ghost use Rattle.raft_model.specs.Log.{NotAbove};
+ghost use Rattle.raft_model.specs.Moves.{IsGranted, MayGrant, grant_puts, has_quorum, win_memory, win_puts, with_term};
+ghost use Rattle.raft_model.specs.Moves.Move.{TakeVoteRequest, TakeVoteAnswer};
+ghost use Rattle.raft_model.specs.Server.{Plain, put_all};
+ghost use Rattle.raft_core.specs.Handled.{answer_of, vote_request_of};
+ghost use Rattle.raft_core.specs.StoredPuts.{DoesPuts, store_of};
+ghost use Rattle.raft_core.specs.Times as times;
+ghost use Rattle.raft_core.specs.Times.{Times, given_at, is_awaited};
+
+use crate::laws::puts_in_turn;
+use crate::peer::Asked;
+use crate::raft::{Cause, Raft};
+use can_frame::Role;
+use disk_model::Disk;
+use dsdl_codec::{VoteAnswer, VoteRequest};
+use kv_store::Fault;
+use raft_log::Durable;
+
+impl Raft {
+    ghost use Rattle.raft_core.specs.Fits.{Fits};
+    ghost use Rattle.raft_core.specs.Handled.{MakesMoves};
+    ghost use Rattle.raft_core.specs.Stands.{StandsFor};
+
+    /// A candidate's vote request came from the node `from`. The vote is granted in the member's own term
+    /// to a candidate whose log is not behind, where it has not voted for another; a grant begins the
+    /// wait, also a repeated one.
+    pub fn on_vote_request<D: Disk>(
+        &mut self,
+        d: &mut Durable<D>,
+        from: u8,
+        req: &VoteRequest,
+        now: u64,
+    ) -> Result<VoteAnswer, Fault>
+        requires least { 1 ≤ from }
+        requires most { from ≤ 125 }
+        requires fits { Fits self.old (durable_state d.old) }
+        ensures moves { (members : List ℕ) (n : ℕ) (p : Plain) (t : Times) → StandsFor self.old members (durable_state d.old) p t →
+            (step : ℕ) → let r = vote_request_of req.now step from self.old.me in let granted = grants (with_term p.store r.term) r in
+            MakesMoves members self.old.me n (given_at now) (TakeVoteRequest r granted ∷ []) p t d.old d.new self.new result ×
+            IfOk result (λ answer. (answer.term ≡ (with_term p.store r.term).term) × (answer.granted ≡ granted)) }
+        ensures fits { OnOk result (Fits self.new (durable_state d.new)) }
+    {
+        puts_in_turn::<D, (), bool>();
+        self.raise(d, req.term, now)?;
+        let granted = grant(d, from, req)?;
+        if granted {
+            self.since = now;
+        }
+        Ok(VoteAnswer {
+            term: d.term(),
+            granted,
+        })
+    }
+
+    /// An answer to a vote request came from the node `from` under a transfer ID. Whether it was taken:
+    /// where the vote call to that node waits under this transfer ID. Else nothing changes.
+    pub fn on_vote_answer<D: Disk>(
+        &mut self,
+        d: &mut Durable<D>,
+        from: u8,
+        id: u8,
+        ans: &VoteAnswer,
+        now: u64,
+    ) -> Result<bool, Fault>
+        requires most { from ≤ 125 }
+        requires fits { Fits self.old (durable_state d.old) }
+        ensures refused { (members : List ℕ) (p : Plain) (t : Times) → StandsFor self.old members (durable_state d.old) p t →
+            is_awaited p t from false id ≡ false → (result ≡ Ok false) × (self.new ≡ self.old) × (d.new ≡ d.old) }
+        ensures moves { (members : List ℕ) (n : ℕ) (p : Plain) (t : Times) → StandsFor self.old members (durable_state d.old) p t →
+            is_awaited p t from false id ≡ true → (step : ℕ) (r : Request) → p.memory.pending from ≡ Some r →
+            MakesMoves members self.old.me n (given_at now) (TakeVoteAnswer (answer_of step from r ans.now.term ans.now.granted) ∷ []) p t d.old d.new self.new result ×
+            IfOk result (λ taken. IsTrue taken) }
+        ensures fits { OnOk result (Fits self.new (durable_state d.new)) }
+    {
+        puts_in_turn::<D, (), bool>();
+        let Some(Asked::Vote) = self.awaited(from, id) else {
+            return Ok(false);
+        };
+        self.peers[from as usize].call = None;
+        self.peers[from as usize].answered = true;
+        self.raise(d, ans.term, now)?;
+        if ans.granted && ans.term == d.term() && self.role == Role::Candidate {
+            self.count_vote(d, from)?;
+        }
+        Ok(true)
+    }
+
+    /// A candidate counts the vote of a node, and wins with those of a quorum.
+    fn count_vote<D: Disk>(&mut self, d: &mut Durable<D>, from: u8) -> Result<(), Fault>
+        requires most { from ≤ 125 }
+        requires role { self.old.role ≡ Candidate }
+        requires fits { Fits self.old (durable_state d.old) }
+        ensures puts { (members : List ℕ) (p : Plain) (t : Times) → StandsFor self.old members (durable_state d.old) p t →
+            DoesPuts (if has_quorum members (at p.memory.votes from true) then win_puts p.store else []) d.old d.new result }
+        ensures stands { (members : List ℕ) (p : Plain) (t : Times) → StandsFor self.old members (durable_state d.old) p t →
+            let counted = record p.memory { votes = at p.memory.votes from true } in
+            OnOk result (StandsFor self.new members (durable_state d.new)
+            (if has_quorum members counted.votes then record { store = put_all p.store (win_puts p.store); memory = win_memory p.store counted } else record p { memory = counted })
+            (if has_quorum members counted.votes then times.win t else t)) }
+        ensures fits { OnOk result (Fits self.new (durable_state d.new)) }
+    {
+        puts_in_turn::<D, (), ()>();
+        self.peers[from as usize].voted = true;
+        if self.has_quorum(Cause::Candidacy) {
+            self.win(d)?;
+        }
+        Ok(())
+    }
+}
+
+/// Votes for the node, where it may; whether it did, or had.
+fn grant<D: Disk>(d: &mut Durable<D>, from: u8, req: &VoteRequest) -> Result<bool, Fault>
+    requires least { 1 ≤ from }
+    requires most { from ≤ 125 }
+    ensures puts { (step to : ℕ) (granted : Bool) → let r = vote_request_of req.now step from to in IsGranted (store_of (durable_state d.old)) r granted →
+        DoesPuts (grant_puts (store_of (durable_state d.old)) r granted) d.old d.new result × IfOk result (λ answer. answer ≡ granted) }
+    ensures term { OnOk result ((durable_state d.new).term ≡ (durable_state d.old).term) }
+    ensures vote { OnOk result ((durable_state d.old).vote ≢ 0 → (durable_state d.new).vote ≡ (durable_state d.old).vote) }
+    ensures log { OnOk result ((durable_state d.new).log ≡ (durable_state d.old).log) }
+    ensures commit { OnOk result ((durable_state d.new).commit ≡ (durable_state d.old).commit) }
+{
+    puts_in_turn::<D, (), bool>();
+    if !may_grant(d, from, req) {
+        return Ok(false);
+    }
+    if d.vote() == 0 {
+        d.set_vote(from)?;
+    }
+    Ok(true)
+}
+
+fn may_grant<D: Disk>(d: &Durable<D>, from: u8, req: &VoteRequest) -> bool
+    requires { 1 ≤ from }
+    ensures { (step to : ℕ) → IsTrue result ↔ MayGrant (store_of (durable_state d.now)) (vote_request_of req.now step from to) }
+{
+    let free = d.vote() == 0 || d.vote() == from;
+    req.term == d.term() && free && is_not_behind(d, req)
+}
+
+/// The candidate's log is not behind: its last term is above the member's, or is the same and its last
+/// place not below.
+fn is_not_behind<D: Disk>(d: &Durable<D>, req: &VoteRequest) -> bool
+    ensures { IsTrue result ↔ NotAbove (last_term (durable_state d.now).log) (length (durable_state d.now).log) req.now.last_term req.now.last_index }
+{
+    let last_term = d.entry(d.last()).term;
+    last_term < req.last_term || last_term == req.last_term && d.last() <= req.last_index
+}
