@@ -73,15 +73,15 @@ module _ {D : Type 0} {disk : Ghosts D} where
   }
 
   -- the first puts failed
-  pub cut_off : {T U : Type 0} (xs ys : List Put) (old new : Durable D disk) (fault : Fault)
+  pub cut_off : {T U : Type 0} (xs ys : List Put) (old new : Durable D disk) (fault : Fault) (result : Result U Fault) → result ≡ Err fault
       → ((xs ys : List StoredPut) → MakesPuts {T = T} xs old new (Err fault) → MakesPuts {T = T} (xs ++ ys) old new (Err fault))
-      → DoesPuts {T = T} xs old new (Err fault) → DoesPuts {T = U} (xs ++ ys) old new (Err fault)
-  cut_off {T} {U} xs ys old new fault law first = let s = durable_state old in record {
+      → DoesPuts {T = T} xs old new (Err fault) → DoesPuts (xs ++ ys) old new result
+  cut_off {T} {U} xs ys old new fault result is law first = let s = durable_state old in subst (λ (r : Result U Fault). DoesPuts (xs ++ ys) old new r) (sym is) (record {
     made = puts_still (stored_puts (xs ++ ys) s) old new fault
         (subst (λ (l : List StoredPut). MakesPuts {T = T} l old new (Err fault)) (sym (stored_both xs ys s)) (law (stored_puts xs s) (stored_puts ys (after_puts (stored_puts xs s) s)) first.made));
     fault = λ works. fault_still old new fault works (first.fault works);
     kept = first.kept;
-  }
+  })
 
   -- the first puts were done, and then the others were made
   module _ {T U : Type 0} (xs ys : List Put) (old mid new : Durable D disk) (value : T) (result : Result U Fault)
@@ -124,3 +124,27 @@ module _ {D : Type 0} {disk : Ghosts D} where
       fault = λ works. (both works).1;
       kept = second.kept;
     }
+
+  -- one call of the store made these puts
+  pub does : {T : Type 0} (puts : List Put) (stored : List StoredPut) (old new : Durable D disk) (result : Result T Fault)
+      → stored_puts puts (durable_state old) ≡ stored → MakesPuts stored old new result → KeepsFault old new result → DoesPuts puts old new result
+  does puts stored old new result same made keeps = record {
+    made = subst (λ (l : List StoredPut). MakesPuts l old new result) (sym same) made;
+    fault = λ works. keeps;
+    kept = keeps.kept;
+  }
+
+  -- and its caller answers something else
+  pub answers : {T U : Type 0} (puts : List Put) (old new : Durable D disk) (value : T) (other : U) → DoesPuts puts old new (Ok value) → DoesPuts puts old new (Ok other)
+  answers puts old new value other done = record {
+    made = record { state = done.made.state; durable = done.made.durable; cut = λ works. tt; stop = done.made.stop; made = done.made.made; copies = done.made.copies };
+    fault = λ works. let keeps = done.fault works in record { closed = open_yet (durable_fault old) _ works; kept = tt; cause = λ w. tt; works = keeps.works; tells = keeps.tells; later = keeps.later };
+    kept = tt;
+  }
+
+  pub fails : {T U : Type 0} (puts : List Put) (old new : Durable D disk) (fault : Fault) (result : Result U Fault) → result ≡ Err fault → DoesPuts {T = T} puts old new (Err fault) → DoesPuts puts old new result
+  fails puts old new fault result is done = subst (λ (r : Result _ Fault). DoesPuts puts old new r) (sym is)
+      (record { made = puts_still (stored_puts puts (durable_state old)) old new fault done.made; fault = λ works. fault_still old new fault works (done.fault works); kept = done.kept })
+
+  pub none_made : {T : Type 0} (puts : List Put) (durable : Durable D disk) (result : Result T Fault) → puts ≡ [] → DoesPuts [] durable durable result → DoesPuts puts durable durable result
+  none_made puts durable result none made = subst (λ (l : List Put). DoesPuts l durable durable result) (sym none) made

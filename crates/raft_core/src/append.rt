@@ -22,6 +22,7 @@ use disk_model::Disk;
 use dsdl_codec::{AppendAnswer, AppendRequest};
 use kv_store::Fault;
 use raft_log::{Durable, may_follow};
+use raft_model::laws::law_decisions;
 
 impl Raft {
     ghost use Rattle.raft_core.specs.Fits.{Fits};
@@ -45,6 +46,8 @@ impl Raft {
             IfOk result (λ answer. (answer.term ≡ (with_term p.store r.term).term) × (answer.success ≡ is_accepted v)) }
         ensures fits { OnOk result (Fits self.new (durable_state d.new)) }
     {
+        puts_in_turn::<D, (), AppendAnswer>();
+        law_decisions();
         if self.is_outdated(d.term(), req.term) {
             return Ok(AppendAnswer {
                 term: d.term(),
@@ -107,6 +110,7 @@ fn accept<D: Disk>(d: &mut Durable<D>, req: &AppendRequest) -> Result<bool, Faul
         DoesPuts (append_puts (store_of (durable_state d.old)) r v) d.old d.new result × IfOk result (λ success. success ≡ is_accepted v) }
     ensures commit { OnOk result ((durable_state d.old).commit ≤ (durable_state d.new).commit) }
 {
+    puts_in_turn::<D, (), bool>();
     if !has_previous(d, req) {
         return Ok(false);
     }
@@ -126,6 +130,7 @@ fn take_entry<D: Disk>(d: &mut Durable<D>, req: &AppendRequest, entry: Entry) ->
         DoesPuts (append_puts (store_of (durable_state d.old)) r v) d.old d.new result × IfOk result (λ success. success ≡ is_accepted v) }
     ensures commit { OnOk result ((durable_state d.old).commit ≤ (durable_state d.new).commit) }
 {
+    puts_in_turn::<D, (), bool>();
     let previous = req.prev_index;
     if is_there(d, previous, entry.term) {
         return hold(d, req.commit.min(previous + 1));

@@ -11,5 +11,5 @@ returns-clause-joined g c = λ xs ys old mid new value result first second.
     joined xs ys old mid new value result (λ xs ys. c.puts_in_turn.ensures.joined xs ys old mid new value result) first second
 
 pub returns-clause-cut_off : goal.returns-clause-cut_off
-returns-clause-cut_off g c = λ xs ys old new fault first.
-    cut_off xs ys old new fault (λ xs ys made. c.puts_in_turn.ensures.cut_off xs ys old new _ fault refl made) first
+returns-clause-cut_off g c = λ xs ys old new fault result is first.
+    cut_off xs ys old new fault result is (λ xs ys made. c.puts_in_turn.ensures.cut_off xs ys old new _ fault refl made) first

@@ -1,0 +1,173 @@
+-- An append request is judged, first by its term.
+use Rattle.std.proofs.Common.{◌≡◌, ◌⊎◌, inl, inr, ℕ, ◌+◌, ◌<◌, ◌≤◌, Bool, true, false, List, [], ◌∷◌, ◌++◌, refl, sym, ap, subst, ◌∙◌, arith}
+use Rattle.std.specs.Prelude.{⊤, nat_lt, min, if◌then◌else◌, length}
+use Rattle.std.proofs.lemmas.Bool.Decides.{nat_tests, leb_tells}
+use Rattle.raft_log.specs.Stored.{Stored}
+use Rattle.raft_model.specs.Handlers.{plain_after}
+use Rattle.raft_model.specs.Messages.{Request, reach}
+use Rattle.raft_model.specs.Moves.{IsCurrent, IsJudged, IsOutdated, IsRuled, Verdict, append_memory, append_puts, term_memory, term_puts, with_term}
+use Rattle.raft_model.specs.Moves.Move.{TakeAppendRequest}
+use Rattle.raft_model.specs.Moves.Verdict.{Outdated, Refused, Held, Added}
+use Rattle.raft_model.specs.Server.{Memory, Plain, Put, Store, put_all, Role as MachineRole}
+use Rattle.raft_model.specs.Server.Put.{PutTerm, PutVote, PutEntry, PutLonger, PutShorter, PutCommit}
+use Rattle.raft_core.specs.declared.raft.Raft.{Raft}
+use Rattle.can_frame.specs.declared.step.Role.TheVariants.{Follower, Leader}
+use Rattle.raft_core.specs.Stands.{StandsFor, role_of}
+use Rattle.raft_core.specs.StoredPuts.{store_of}
+use Rattle.raft_core.specs.Times.{Given, Times, raise, step_down, times_after}
+use Rattle.raft_core.proofs.Appending.{lt_false, lt_true}
+use Rattle.raft_core.proofs.Moving.{AllCount, follower_stands, leads}
+
+-- ---- a term
+
+same_term : (s : Store) (term : ℕ) → term ≤ s.term → with_term s term ≡ s
+same_term s term low = rw (lt_false s.term term low) refl
+
+pub no_term_puts : (s : Store) (term : ℕ) → term ≤ s.term → term_puts s term ≡ []
+no_term_puts s term low = rw (lt_false s.term term low) refl
+
+pub own_term : (s : Store) (term : ℕ) → term ≤ s.term → s.term ≡ (with_term s term).term
+own_term s term low = sym (ap (λ (z : Store). z.term) (same_term s term low))
+
+pub raised_term : (s : Store) (term : ℕ) → s.term ≤ term → term ≡ (with_term s term).term
+raised_term s term high = elim (leb_tells (s.term + 1) term) [
+  | inl t ↦ rw (lt_true s.term term (omega (arith, t.1))) refl
+  | inr t ↦ let same : term ≡ s.term = omega (arith, t.1, high) in same ∙ own_term s term (omega (arith, same))
+]
+
+if_same : {A B : Type 0} (b : Bool) (x y : A) (f : A → B) → f x ≡ f y → f (if b then x else y) ≡ f y
+if_same true x y f e = e
+if_same false x y f e = refl
+
+pub term_told : (p : Plain) (term : ℕ) → (term_memory p term).told ≡ p.memory.told
+term_told p term = if_same (nat_lt p.store.term term) (record p.memory { role = MachineRole.Follower }) p.memory (λ (x : Memory). x.told) refl
+
+pub term_pending : (p : Plain) (term : ℕ) → (term_memory p term).pending ≡ p.memory.pending
+term_pending p term = if_same (nat_lt p.store.term term) (record p.memory { role = MachineRole.Follower }) p.memory (λ (x : Memory). x.pending) refl
+
+down_sending : (now : ℕ) (role : MachineRole) (t : Times) → (step_down now role t).sending ≡ t.sending
+down_sending now MachineRole.Follower t = refl
+down_sending now MachineRole.Candidate t = refl
+down_sending now MachineRole.Leader t = refl
+
+down_word : (now : ℕ) (role : MachineRole) (t : Times) → (step_down now role t).word ≡ t.word
+down_word now MachineRole.Follower t = refl
+down_word now MachineRole.Candidate t = refl
+down_word now MachineRole.Leader t = refl
+
+pub raise_sending : (now term : ℕ) (p : Plain) (t : Times) → (raise now term p t).sending ≡ t.sending
+raise_sending now term p t = if_same (nat_lt p.store.term term) (step_down now p.memory.role t) t (λ (x : Times). x.sending) (down_sending now p.memory.role t)
+
+pub raise_word : (now term : ℕ) (p : Plain) (t : Times) → (raise now term p t).word ≡ t.word
+raise_word now term p t = if_same (nat_lt p.store.term term) (step_down now p.memory.role t) t (λ (x : Times). x.word) (down_word now p.memory.role t)
+
+-- ---- verdicts
+
+not_both : (p : Plain) (r : Request) → IsCurrent p r → IsOutdated p r → ⊥
+not_both p r (inl a) (inl b) = omega (arith, a, b)
+not_both p r (inl a) (inr b) = let e : r.term ≡ p.store.term = b.0 in omega (arith, a, e)
+not_both p r (inr a) (inl b) = let e : r.term ≡ p.store.term = a.0 in omega (arith, e, b)
+not_both p r (inr a) (inr b) = a.1 b.1
+
+pub judged_outdated : (p : Plain) (r : Request) (v : Verdict) → IsJudged p r v → IsOutdated p r → v ≡ Outdated
+judged_outdated p r Outdated h o = refl
+judged_outdated p r Refused h o = absurd (not_both p r h.0 o)
+judged_outdated p r Held h o = absurd (not_both p r h.0 o)
+judged_outdated p r (Added e) h o = absurd (not_both p r h.0 o)
+
+pub judged_ruled : (p : Plain) (r : Request) (v : Verdict) → IsJudged p r v → (IsOutdated p r → ⊥) → IsRuled (with_term p.store r.term) r v
+judged_ruled p r Outdated h n = absurd (n h)
+judged_ruled p r Refused h n = h.1
+judged_ruled p r Held h n = h.1
+judged_ruled p r (Added e) h n = h.1
+
+-- a request that is outdated is not of a higher term, and one that is current not of a lower one
+pub outdated_term : (p : Plain) (r : Request) → IsOutdated p r → r.term ≤ p.store.term
+outdated_term p r (inl a) = omega (arith, a)
+outdated_term p r (inr a) = let e : r.term ≡ p.store.term = a.0 in omega (arith, e)
+
+-- ---- puts and memory
+
+commits_count : (b : Bool) (k : ℕ) → AllCount (if b then PutCommit k ∷ [] else [])
+commits_count true k = (tt, tt)
+commits_count false k = tt
+
+after_cut : (b : Bool) (k : ℕ) (xs : List Put) → AllCount xs → AllCount ((if b then PutShorter k ∷ [] else []) ++ xs)
+after_cut true k xs h = (tt, h)
+after_cut false k xs h = h
+
+pub append_counts : (s : Store) (r : Request) (v : Verdict) → AllCount (append_puts s r v)
+append_counts s r Outdated = tt
+append_counts s r Refused = tt
+append_counts s r Held = commits_count (nat_lt s.commit (min r.commit (reach r))) (min r.commit (reach r))
+append_counts s r (Added e) = after_cut (nat_lt r.previous (length s.log)) r.previous _ (tt, (tt, commits_count (nat_lt s.commit (min r.commit (reach r))) (min r.commit (reach r))))
+
+append_role : (p : Plain) (r : Request) (s : Store) (v : Verdict) → IsRuled s r v → (append_memory p r v).role ≡ MachineRole.Follower
+append_role p r s Outdated h = absurd h
+append_role p r s Refused h = refl
+append_role p r s Held h = refl
+append_role p r s (Added e) h = refl
+
+append_told : (p : Plain) (r : Request) (v : Verdict) → (append_memory p r v).told ≡ p.memory.told
+append_told p r Outdated = refl
+append_told p r Refused = refl
+append_told p r Held = refl
+append_told p r (Added e) = refl
+
+append_pending : (p : Plain) (r : Request) (v : Verdict) → (append_memory p r v).pending ≡ p.memory.pending
+append_pending p r Outdated = refl
+append_pending p r Refused = refl
+append_pending p r Held = refl
+append_pending p r (Added e) = refl
+
+append_times : (members : List ℕ) (m : ℕ) (given : Given) (p : Plain) (t : Times) (r : Request) (s : Store) (v : Verdict) → IsRuled s r v
+    → times_after members m given p (TakeAppendRequest r v) t ≡ record t { since = given.now }
+append_times members m given p t r s Outdated h = absurd h
+append_times members m given p t r s Refused h = refl
+append_times members m given p t r s Held h = refl
+append_times members m given p t r s (Added e) h = refl
+
+-- the member after an append request that is not outdated
+pub taken_stands : (members : List ℕ) (m n : ℕ) (given : Given) (p : Plain) (t : Times) (r : Request) (v : Verdict) (raft raft2 : Raft) (mid new : Stored)
+    → StandsFor raft members mid (record { store = with_term p.store r.term; memory = term_memory p r.term }) (raise given.now r.term p t)
+    → IsRuled (with_term p.store r.term) r v
+    → store_of new ≡ put_all p.store (term_puts p.store r.term ++ append_puts (with_term p.store r.term) r v)
+    → raft2.role ≡ Follower → given.now ≡ raft2.since → raft2.told ≡ raft.told → raft2.word ≡ raft.word → raft2.peers ≡ raft.peers
+    → StandsFor raft2 members new (plain_after members m n p (TakeAppendRequest r v)) (times_after members m given p (TakeAppendRequest r v) t)
+taken_stands members m n given p t r v raft raft2 mid new st ruled store role since told word peers =
+    let p1 : Plain = record { store = with_term p.store r.term; memory = term_memory p r.term } in
+    let t1 = raise given.now r.term p t in
+    let p2 = plain_after members m n p (TakeAppendRequest r v) in
+    let t2 : Times = record t { since = given.now } in
+    subst (λ (x : Times). StandsFor raft2 members new p2 x) (sym (append_times members m given p t r (with_term p.store r.term) v ruled))
+    (follower_stands raft raft2 members mid new p1 p2 t1 t2 st
+    (append_role p r (with_term p.store r.term) v ruled)
+    (append_told p r v ∙ sym (term_told p r.term))
+    (append_pending p r v ∙ sym (term_pending p r.term))
+    (sym store)
+    (sym (raise_sending given.now r.term p t))
+    (sym (raise_word given.now r.term p t))
+    since role told word peers)
+
+-- ---- told of what the code keeps
+
+module _ (raft : Raft) (members : List ℕ) (s : Stored) (p : Plain) (t : Times) (r : Request) (st : StandsFor raft members s p t) where
+  abbrev pub IsLate : Type 0
+  IsLate = (r.term < s.term) ⊎ ((r.term ≡ s.term) × (raft.role ≡ Leader))
+
+  stored_term : p.store.term ≡ s.term
+  stored_term = ap (λ (z : Store). z.term) st.store
+
+  pub late : IsLate → IsOutdated p r
+  late (inl low) = inl (subst (λ n. r.term < n) (sym stored_term) low)
+  late (inr own) = inr (own.0 ∙ sym stored_term, st.role ∙ ap role_of own.1)
+
+  pub not_late : (IsLate → ⊥) → IsOutdated p r → ⊥
+  not_late no_late (inl low) = no_late (inl (subst (λ n. r.term < n) stored_term low))
+  not_late no_late (inr own) = no_late (inr (own.0 ∙ stored_term, leads raft.role (sym st.role ∙ own.1)))
+
+  pub not_lower : (IsLate → ⊥) → p.store.term ≤ r.term
+  not_lower no_late = elim (leb_tells p.store.term r.term) [
+    | inl x ↦ x.1
+    | inr x ↦ absurd (no_late (inl (subst (λ n. r.term < n) stored_term x.1)))
+  ]

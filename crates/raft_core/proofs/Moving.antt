@@ -1,0 +1,110 @@
+-- One move of the machine: its puts, and the server and times after it.
+use Rattle.std.proofs.Common.{◌≡◌, ◌≢◌, ℕ, zero, suc, ◌<◌, Bool, true, false, List, [], ◌∷◌, ◌++◌, Option, Some, None, refl, sym, ap, subst, ◌∙◌}
+use Rattle.std.specs.Prelude.{⊤, Result, Ok, Err, OnOk, slice_index_or}
+use Rattle.can_frame.specs.declared.step.Role.{Role}
+use Rattle.can_frame.specs.declared.step.Role.TheVariants.{Follower, Candidate, Leader}
+use Rattle.disk_model.specs.declared.disk.Disk.{Ghosts}
+use Rattle.kv_store.specs.declared.fault.Fault.{Fault}
+use Rattle.raft_log.specs.declared.durable.Durable.{Durable}
+use Rattle.raft_log.specs.DurableViews.{durable_state}
+use Rattle.raft_log.specs.Stored.{Stored, after_put, after_puts}
+use Rattle.raft_model.specs.Handlers.{plain_after}
+use Rattle.raft_model.specs.Moves.{Move, puts}
+use Rattle.raft_model.specs.Server.{Plain, Put, Store, put, put_all, Role as MachineRole}
+use Rattle.raft_model.specs.Server.Put.{PutTerm, PutVote, PutEntry, PutLonger, PutShorter, PutCommit}
+use Rattle.raft_core.specs.declared.peer.Peer.{Peer}
+use Rattle.raft_core.specs.declared.raft.Raft.{Raft}
+use Rattle.raft_core.specs.Handled.{MakesMoves}
+use Rattle.raft_core.specs.Stands.{StandsFor, Tells, Waits, role_of}
+use Rattle.raft_core.specs.StoredPuts.{DoesPuts, store_of, stored_put, stored_puts}
+use Rattle.raft_core.specs.Times.{Given, Times, times_after}
+
+-- ---- what is stored
+
+-- a put of a vote for a node, and not for 0
+abbrev pub Counts : Put → Type 0
+Counts (PutTerm term) = ⊤
+Counts (PutVote None) = ⊤
+Counts (PutVote (Some zero)) = ⊥
+Counts (PutVote (Some (suc n))) = ⊤
+Counts (PutEntry entry) = ⊤
+Counts (PutLonger entry) = ⊤
+Counts (PutShorter count) = ⊤
+Counts (PutCommit index) = ⊤
+
+abbrev pub AllCount : List Put → Type 0
+AllCount [] = ⊤
+AllCount (x ∷ xs) = Counts x × AllCount xs
+
+store_after_one : (x : Put) (s : Stored) → Counts x → store_of (after_put (stored_put x s) s) ≡ put (store_of s) x
+store_after_one (PutTerm term) s h = refl
+store_after_one (PutVote None) s h = refl
+store_after_one (PutVote (Some zero)) s h = absurd h
+store_after_one (PutVote (Some (suc n))) s h = refl
+store_after_one (PutEntry entry) s h = refl
+store_after_one (PutLonger entry) s h = refl
+store_after_one (PutShorter count) s h = refl
+store_after_one (PutCommit index) s h = refl
+
+-- what is stored after puts is the same in both words
+pub store_after : (xs : List Put) (s : Stored) → AllCount xs → store_of (after_puts (stored_puts xs s) s) ≡ put_all (store_of s) xs
+store_after [] s h = refl
+store_after (x ∷ xs) s h = store_after xs (after_put (stored_put x s) s) h.1 ∙ ap (λ (z : Store). put_all z xs) (store_after_one x s h.0)
+
+pub put_then : (xs ys : List Put) (s : Store) → put_all s (xs ++ ys) ≡ put_all (put_all s xs) ys
+put_then [] ys s = refl
+put_then (x ∷ xs) ys s = put_then xs ys (put s x)
+
+nothing_more : (xs : List Put) → xs ++ [] ≡ xs
+nothing_more [] = refl
+nothing_more (x ∷ xs) = ap (λ (rest : List Put). x ∷ rest) (nothing_more xs)
+
+-- ---- one move
+
+module _ {D T : Type 0} {disk : Ghosts D} (members : List ℕ) (m n : ℕ) (given : Given) (move : Move) (p : Plain) (t : Times) (old new : Durable D disk) (raft : Raft) where
+  pub one_move : (result : Result T Fault) → DoesPuts (puts members m p move) old new result
+      → OnOk result (StandsFor raft members (durable_state new) (plain_after members m n p move) (times_after members m given p move t))
+      → MakesMoves members m n given (move ∷ []) p t old new raft result
+  one_move result made after = record { puts = subst (λ (l : List Put). DoesPuts l old new result) (sym (nothing_more (puts members m p move))) made; after = after }
+
+  pub one_move_failed : (result : Result T Fault) (fault : Fault) → result ≡ Err fault → DoesPuts (puts members m p move) old new result
+      → MakesMoves members m n given (move ∷ []) p t old new raft result
+  one_move_failed result fault is made = one_move result made
+      (subst (λ (r : Result T Fault). OnOk r (StandsFor raft members (durable_state new) (plain_after members m n p move) (times_after members m given p move t))) (sym is) tt)
+
+-- ---- roles
+
+pub leads : (x : Role) → role_of x ≡ MachineRole.Leader → x ≡ Leader
+leads Follower h = absurd (cc h)
+leads Candidate h = absurd (cc h)
+leads Leader h = refl
+
+-- a Follower stands for whatever has its role, its stored state and its calls
+pub follower_stands : (raft raft2 : Raft) (members : List ℕ) (mid new : Stored) (p p2 : Plain) (t t2 : Times) → StandsFor raft members mid p t
+    → p2.memory.role ≡ MachineRole.Follower → p2.memory.told ≡ p.memory.told → p2.memory.pending ≡ p.memory.pending → p2.store ≡ store_of new
+    → t2.sending ≡ t.sending → t2.word ≡ t.word → t2.since ≡ raft2.since
+    → raft2.role ≡ Follower → raft2.told ≡ raft.told → raft2.word ≡ raft.word → raft2.peers ≡ raft.peers
+    → StandsFor raft2 members new p2 t2
+follower_stands raft raft2 members mid new p p2 t t2 st role told pending store sending word since role2 told2 word2 peers2 = record {
+  store = store;
+  role = role ∙ ap role_of (sym role2);
+  told = told ∙ (st.told ∙ sym told2);
+  known = λ other. absurd (other role2);
+  since = since;
+  word = word ∙ (st.word ∙ sym word2);
+  peers = λ q d below. subst (λ (peers : List Peer). Tells (slice_index_or peers q d) p2 t2 q) (sym peers2) (record {
+    call = subst (λ x. Waits (slice_index_or raft.peers q d).call x (t2.sending q)) (sym (ap (λ f. f q) pending))
+        (subst (λ x. Waits (slice_index_or raft.peers q d).call (p.memory.pending q) x) (sym (ap (λ f. f q) sending)) (st.peers q d below).call);
+    voted = λ h. absurd (no_candidate h);
+    answered = λ h. absurd (no_candidate h);
+    next = λ h. absurd (no_leader h);
+    matched = λ h. absurd (no_leader h);
+    appended = λ h. absurd (no_leader h);
+  });
+}
+  where
+    no_candidate : p2.memory.role ≡ MachineRole.Candidate → ⊥
+    no_candidate h = cc (sym role ∙ h)
+
+    no_leader : p2.memory.role ≡ MachineRole.Leader → ⊥
+    no_leader h = cc (sym role ∙ h)
