@@ -4,3 +4,4 @@ pub mod Verdicts
 pub mod Judged
 pub mod Moving
 pub mod AppendRequest
+pub mod VoteRequest

@@ -17,7 +17,7 @@ use Rattle.raft_core.specs.declared.raft.Raft.{Raft}
 use Rattle.raft_core.specs.Handled.{MakesMoves}
 use Rattle.raft_core.specs.Stands.{StandsFor, Tells, Waits, role_of}
 use Rattle.raft_core.specs.StoredPuts.{DoesPuts, store_of, stored_put, stored_puts}
-use Rattle.raft_core.specs.Times.{Given, Times, times_after}
+use Rattle.raft_core.specs.Times.{Given, Times, begin_wait, times_after}
 
 -- ---- what is stored
 
@@ -108,3 +108,18 @@ follower_stands raft raft2 members mid new p p2 t t2 st role told pending store 
 
     no_leader : p2.memory.role ≡ MachineRole.Leader → ⊥
     no_leader h = cc (sym role ∙ h)
+
+-- another stored state, and a wait that begins anew
+pub waiting_stands : (raft raft2 : Raft) (members : List ℕ) (s new : Stored) (p : Plain) (t : Times) (now : ℕ) (store : Store) → StandsFor raft members s p t → store ≡ store_of new
+    → raft2.role ≡ raft.role → raft2.told ≡ raft.told → raft2.members ≡ raft.members → now ≡ raft2.since → raft2.word ≡ raft.word → raft2.peers ≡ raft.peers
+    → StandsFor raft2 members new (record p { store = store }) (begin_wait now t)
+waiting_stands raft raft2 members s new p t now store st stored role told known since word peers = record {
+  store = stored;
+  role = st.role ∙ ap role_of (sym role);
+  told = st.told ∙ sym told;
+  known = λ other. ap (λ x. x.items) known ∙ st.known (λ h. other (role ∙ h));
+  since = since;
+  word = st.word ∙ sym word;
+  peers = λ q d below. let x = st.peers q d below in subst (λ (list : List Peer). Tells (slice_index_or list q d) (record p { store = store }) (begin_wait now t) q) (sym peers)
+      (record { call = x.call; voted = x.voted; answered = x.answered; next = x.next; matched = x.matched; appended = x.appended });
+}

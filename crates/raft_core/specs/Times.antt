@@ -33,9 +33,15 @@ pub record Given : Type 0 where
   pub word : ℕ
   pub id : ℕ
 
--- a moment alone
+-- a moment alone, that of a tick, and that of a call
 abbrev pub given_at : ℕ → Given
 given_at now = record { now = now; word = 0; id = 0 }
+
+abbrev pub given_tick : ℕ → ℕ → Given
+given_tick now word = record { now = now; word = word; id = 0 }
+
+abbrev pub given_call : ℕ → ℕ → Given
+given_call now id = record { now = now; word = 0; id = id }
 
 -- a member that opens
 abbrev pub opened_times : ℕ → ℕ → Times

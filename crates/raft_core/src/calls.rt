@@ -8,8 +8,7 @@ ghost use Rattle.raft_model.specs.Lists.{In};
 ghost use Rattle.raft_model.specs.Messages.{Request, items};
 ghost use Rattle.raft_model.specs.Moves.{Move};
 ghost use Rattle.raft_model.specs.Server.{Plain};
-ghost use Rattle.raft_core.specs.Times as times;
-ghost use Rattle.raft_core.specs.Times.{Given, Sending, Times, given_at, is_awaited, overdue, times_after_all};
+ghost use Rattle.raft_core.specs.Times.{Sending, Times, given_at, given_call, overdue, times_after_all};
 
 use crate::peer::{Asked, Waiting};
 use crate::raft::Raft;
@@ -98,8 +97,8 @@ impl Raft {
         requires owed { Owes self.old (durable_state d.now) peer now what.now }
         requires id { id < 32 }
         ensures moves { (members : List ℕ) (p : Plain) (t : Times) → StandsFor self.old members (durable_state d.now) p t →
-            (move : Move) → owed p t peer now ≡ Some move → let given = record { now = now; word = 0; id = id } in
-            StandsFor self.new members (durable_state d.now) (plain_after_all members self.old.me step p (move ∷ [])) (times_after_all members self.old.me step given p (move ∷ []) t) }
+            (move : Move) → owed p t peer now ≡ Some move → 
+            StandsFor self.new members (durable_state d.now) (plain_after_all members self.old.me step p (move ∷ [])) (times_after_all members self.old.me step (given_call now id) p (move ∷ []) t) }
         ensures fits { Fits self.new (durable_state d.now) }
     {
         let kept = &mut self.peers[peer as usize];

@@ -7,7 +7,7 @@ ghost use Rattle.raft_model.specs.Moves.Move.{TimeOut};
 ghost use Rattle.raft_model.specs.Server.{Plain, put_all};
 ghost use Rattle.raft_core.specs.StoredPuts.{DoesPuts, store_of};
 ghost use Rattle.raft_core.specs.Times as times;
-ghost use Rattle.raft_core.specs.Times.{Times};
+ghost use Rattle.raft_core.specs.Times.{Times, given_tick};
 
 use crate::laws::puts_in_turn;
 use crate::peer::Peer;
@@ -38,8 +38,8 @@ impl Raft {
         requires complete { complete ≡ true → length peers.now + 1 ≡ self.old.size }
         requires fits { Fits self.old (durable_state d.old) }
         ensures moves { (members : List ℕ) (n : ℕ) (p : Plain) (t : Times) → StandsFor self.old members (durable_state d.old) p t →
-            (complete ≡ true → members ≡ self.old.me ∷ peers.now) → let given = record { now = now; word = word; id = 0 } in
-            MakesMoves members self.old.me n given (if times.stands complete now p t then TimeOut ∷ [] else []) p t d.old d.new self.new result }
+            (complete ≡ true → members ≡ self.old.me ∷ peers.now) → 
+            MakesMoves members self.old.me n (given_tick now word) (if times.stands complete now p t then TimeOut ∷ [] else []) p t d.old d.new self.new result }
         ensures fits { OnOk result (Fits self.new (durable_state d.new)) }
     {
         puts_in_turn::<D, (), ()>();
@@ -75,10 +75,10 @@ impl Raft {
         requires complete { length peers.now + 1 ≡ self.old.size }
         requires fits { Fits self.old (durable_state d.old) }
         ensures puts { DoesPuts (stand_puts self.old.me (store_of (durable_state d.old))) d.old d.new result }
-        ensures stands { (members : List ℕ) (p : Plain) (t : Times) → StandsFor self.old members (durable_state d.old) p t → (id : ℕ) →
+        ensures stands { (members : List ℕ) (p : Plain) (t : Times) → StandsFor self.old members (durable_state d.old) p t →
             OnOk result (StandsFor self.new (self.old.me ∷ peers.now) (durable_state d.new)
             (record { store = put_all p.store (stand_puts self.old.me p.store); memory = stand_memory self.old.me p.memory })
-            (times.stand (record { now = now; word = word; id = id }) t)) }
+            (times.stand (given_tick now word) t)) }
         ensures fits { OnOk result (Fits self.new (durable_state d.new)) }
         ensures role { OnOk result (self.new.role ≡ Candidate) }
         ensures me { self.new.me ≡ self.old.me }

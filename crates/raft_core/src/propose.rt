@@ -6,7 +6,7 @@ ghost use Rattle.raft_log.specs.DurableViews.{durable_state};
 ghost use Rattle.raft_model.specs.Moves.{MayPropose};
 ghost use Rattle.raft_model.specs.Moves.Move.{ProposeEntry};
 ghost use Rattle.raft_model.specs.Server.{Plain};
-ghost use Rattle.raft_core.specs.Taken.{IsTaken};
+ghost use Rattle.raft_core.specs.Taken.{IsTaken, proposal};
 ghost use Rattle.raft_core.specs.Times.{Given, Times};
 
 use crate::laws::puts_in_turn;
@@ -49,10 +49,10 @@ impl Raft {
         requires node { node ≤ 125 }
         requires fits { Fits self.old (durable_state d.old) }
         ensures moves { (members : List ℕ) (n : ℕ) (p : Plain) (t : Times) → StandsFor self.old members (durable_state d.old) p t →
-            (given : Given) → let entry = record { term = p.store.term; uid = uid.now; node = node } in MayPropose p entry →
+            (given : Given) → let entry = proposal p.store.term uid.now node in MayPropose p entry →
             MakesMoves members self.old.me n given (ProposeEntry entry ∷ []) p t d.old d.new self.new result }
         ensures added { OnOk result ((members : List ℕ) (p : Plain) (t : Times) → StandsFor self.old members (durable_state d.old) p t →
-            (result ≡ Ok Added) ↔ MayPropose p (record { term = p.store.term; uid = uid.now; node = node })) }
+            (result ≡ Ok Added) ↔ MayPropose p (proposal p.store.term uid.now node)) }
         ensures not_leader { OnOk result ((result ≡ Ok NotLeader) ↔ (self.old.role ≢ Leader)) }
         ensures full { OnOk result ((result ≡ Ok LogFull) ↔ ((self.old.role ≡ Leader) × (length (durable_state d.old).log ≡ log_limit))) }
         ensures taken { OnOk result ((result ≡ Ok Taken) ↔ ((self.old.role ≡ Leader) × (length (durable_state d.old).log < log_limit) × IsTaken (durable_state d.old).log uid.now node)) }

@@ -1,4 +1,4 @@
-ghost use Rattle.std.specs.Prelude.{◌≡◌, ◌≢◌, ◌↔◌, ◌≤◌, ◌∷◌, [], ℕ, List, Bool, true, false, IsTrue, OnOk, IfOk, Some, Ok, length, if◌then◌else◌};
+ghost use Rattle.std.specs.Prelude.{◌≡◌, ◌==◌, ◌↔◌, ◌≤◌, ◌∷◌, [], ℕ, List, Bool, true, false, IsTrue, OnOk, IfOk, Some, Ok, length, if◌then◌else◌};
 ghost use Rattle.can_frame.specs.declared.step.Role.TheVariants.{Candidate};
 ghost use Rattle.can_frame.specs.Log.{last_term};
 ghost use Rattle.raft_log.specs.DurableViews.{durable_state};
@@ -6,7 +6,7 @@ ghost use Rattle.raft_model.specs.Decisions.{grants};
 ghost use Rattle.raft_model.specs.Messages.{Request};
 ghost use Rattle.raft_model.specs.Lists.{at};
 ghost use Rattle.raft_model.specs.Log.{NotAbove};
-ghost use Rattle.raft_model.specs.Moves.{IsGranted, MayGrant, grant_puts, has_quorum, win_memory, win_puts, with_term};
+ghost use Rattle.raft_model.specs.Moves.{MayGrant, has_quorum, vote_puts, win_memory, win_puts, with_term};
 ghost use Rattle.raft_model.specs.Moves.Move.{TakeVoteRequest, TakeVoteAnswer};
 ghost use Rattle.raft_model.specs.Server.{Plain, put_all};
 ghost use Rattle.raft_core.specs.Handled.{answer_of, vote_request_of};
@@ -22,6 +22,7 @@ use disk_model::Disk;
 use dsdl_codec::{VoteAnswer, VoteRequest};
 use kv_store::Fault;
 use raft_log::Durable;
+use raft_model::laws::law_decisions;
 
 impl Raft {
     ghost use Rattle.raft_core.specs.Fits.{Fits};
@@ -47,15 +48,20 @@ impl Raft {
             IfOk result (λ answer. (answer.term ≡ (with_term p.store r.term).term) × (answer.granted ≡ granted)) }
         ensures fits { OnOk result (Fits self.new (durable_state d.new)) }
     {
-        puts_in_turn::<D, (), bool>();
+        puts_in_turn::<D, (), VoteAnswer>();
+        law_decisions();
         self.raise(d, req.term, now)?;
-        let granted = grant(d, from, req)?;
-        if granted {
-            self.since = now;
+        if !may_grant(d, from, req) {
+            return Ok(VoteAnswer {
+                term: d.term(),
+                granted: false,
+            });
         }
+        vote(d, from)?;
+        self.since = now;
         Ok(VoteAnswer {
             term: d.term(),
-            granted,
+            granted: true,
         })
     }
 
@@ -115,27 +121,21 @@ impl Raft {
     }
 }
 
-/// Votes for the node, where it may; whether it did, or had.
-fn grant<D: Disk>(d: &mut Durable<D>, from: u8, req: &VoteRequest) -> Result<bool, Fault>
-    requires least { 1 ≤ from }
-    requires most { from ≤ 125 }
-    ensures puts { (step to : ℕ) (granted : Bool) → let r = vote_request_of req.now step from to in IsGranted (store_of (durable_state d.old)) r granted →
-        DoesPuts (grant_puts (store_of (durable_state d.old)) r granted) d.old d.new result × IfOk result (λ answer. answer ≡ granted) }
-    ensures term { OnOk result ((durable_state d.new).term ≡ (durable_state d.old).term) }
-    ensures vote { OnOk result ((durable_state d.old).vote ≢ 0 → (durable_state d.new).vote ≡ (durable_state d.old).vote) }
-    ensures log { OnOk result ((durable_state d.new).log ≡ (durable_state d.old).log) }
-    ensures commit { OnOk result ((durable_state d.new).commit ≡ (durable_state d.old).commit) }
+/// Votes for a node, where it has not voted in this term.
+fn vote<D: Disk>(d: &mut Durable<D>, node: u8) -> Result<(), Fault>
+    requires least { 1 ≤ node }
+    requires most { node ≤ 125 }
+    ensures puts { DoesPuts (vote_puts (store_of (durable_state d.old)).vote node) d.old d.new result }
+    ensures state { OnOk result (durable_state d.new ≡ record (durable_state d.old) { vote = if (durable_state d.old).vote == 0 then node else (durable_state d.old).vote }) }
 {
-    puts_in_turn::<D, (), bool>();
-    if !may_grant(d, from, req) {
-        return Ok(false);
-    }
+    puts_in_turn::<D, (), ()>();
     if d.vote() == 0 {
-        d.set_vote(from)?;
+        d.set_vote(node)?;
     }
-    Ok(true)
+    Ok(())
 }
 
+/// Whether a vote may be granted in the member's term.
 fn may_grant<D: Disk>(d: &Durable<D>, from: u8, req: &VoteRequest) -> bool
     requires { 1 ≤ from }
     ensures { (step to : ℕ) → IsTrue result ↔ MayGrant (store_of (durable_state d.now)) (vote_request_of req.now step from to) }
