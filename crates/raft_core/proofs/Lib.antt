@@ -5,3 +5,5 @@ pub mod Judged
 pub mod Moving
 pub mod AppendRequest
 pub mod VoteRequest
+pub mod Counting
+pub mod Committing

@@ -123,3 +123,24 @@ waiting_stands raft raft2 members s new p t now store st stored role told known 
   peers = λ q d below. let x = st.peers q d below in subst (λ (list : List Peer). Tells (slice_index_or list q d) (record p { store = store }) (begin_wait now t) q) (sym peers)
       (record { call = x.call; voted = x.voted; answered = x.answered; next = x.next; matched = x.matched; appended = x.appended });
 }
+
+-- another stored state
+pub storing_stands : (raft : Raft) (members : List ℕ) (s new : Stored) (p : Plain) (t : Times) (store : Store) → StandsFor raft members s p t → store ≡ store_of new → StandsFor raft members new (record p { store = store }) t
+storing_stands raft members s new p t store st stored = record {
+  store = stored;
+  role = st.role;
+  told = st.told;
+  known = st.known;
+  since = st.since;
+  word = st.word;
+  peers = λ q d below. let x = st.peers q d below in record { call = x.call; voted = x.voted; answered = x.answered; next = x.next; matched = x.matched; appended = x.appended };
+}
+
+-- a call that makes no move
+module _ {D T : Type 0} {disk : Ghosts D} (members : List ℕ) (m n : ℕ) (given : Given) (p : Plain) (t : Times) (durable : Durable D disk) (raft : Raft) where
+  pub no_move : (result : Result T Fault) → DoesPuts [] durable durable result → StandsFor raft members (durable_state durable) p t → MakesMoves members m n given [] p t durable durable raft result
+  no_move result made st = record { puts = made; after = each result }
+    where
+      each : (r : Result T Fault) → OnOk r (StandsFor raft members (durable_state durable) p t)
+      each (Ok value) = st
+      each (Err fault) = tt

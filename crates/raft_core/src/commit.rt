@@ -12,6 +12,7 @@ use can_frame::Role;
 use disk_model::Disk;
 use kv_store::Fault;
 use raft_log::Durable;
+use raft_model::laws::law_decisions;
 
 impl Raft {
     ghost use Rattle.raft_core.specs.Fits.{Fits};
@@ -28,6 +29,7 @@ impl Raft {
         ensures fits { OnOk result (Fits self.new (durable_state d.new)) }
     {
         puts_in_turn::<D, (), ()>();
+        law_decisions();
         if let Some(place) = self.commit_index(d) {
             d.set_commit(place)?;
         }

@@ -130,16 +130,15 @@ impl Raft {
     }
 
     /// Whether more than half of the members stand behind it.
+    #[tactic(auto, using(crate::proofs::Counting::one_more_counted))]
     pub(crate) fn has_quorum(&self, cause: Cause) -> bool
         requires { self.now.role ≢ Follower }
         ensures { (test : ℕ → Bool) → Backs self.now.me self.now.peers cause test →
             result ≡ nat_le (quorum self.now.members.items) (how_many test self.now.members.items) }
     {
         let mut count = 0;
-        for node in &self.members {
-            if self.backs(*node, cause) {
-                count += 1;
-            }
+        for node in self.members.as_slice() {
+            count += u8::from(self.backs(*node, cause));
         }
         count > self.size / 2
     }

@@ -1,0 +1,88 @@
+-- A leader commits what a quorum has.
+use Rattle.std.proofs.Common.{◌≡◌, ◌⊎◌, inl, inr, ℕ, ◌+◌, ◌<◌, ◌≤◌, Bool, true, false, List, [], ◌∷◌, Option, Some, None, refl, sym, ap, subst, ◌∙◌, arith}
+use Rattle.std.proofs.lemmas.Bool.Decides.{eqb_tells, leb_tells}
+use Rattle.std.specs.Prelude.{slice_index_or, if◌then◌else◌, ◌==◌, Result, Ok, Err}
+use Rattle.can_frame.specs.declared.step.Role.{Role}
+use Rattle.can_frame.specs.declared.step.Role.TheVariants.{Follower, Candidate, Leader}
+use Rattle.disk_model.specs.declared.disk.Disk.{Ghosts}
+use Rattle.kv_store.specs.declared.fault.Fault.{Fault}
+use Rattle.raft_log.specs.declared.durable.Durable.{Durable}
+use Rattle.raft_log.specs.DurableViews.{durable_state}
+use Rattle.raft_log.specs.Stored.{Stored}
+use Rattle.raft_model.specs.Decisions.{commit_index}
+use Rattle.raft_model.specs.Moves.{CanCommit, IsCommitIndex, is_leader}
+use Rattle.raft_model.specs.Moves.Move.{CommitTo}
+use Rattle.raft_model.specs.Server.{Plain, Store, Role as MachineRole}
+use Rattle.raft_model.specs.Server.Put.{PutCommit}
+use Rattle.raft_core.specs.declared.peer.Peer.{Peer}
+use Rattle.raft_core.specs.declared.raft.Cause.{Cause}
+use Rattle.raft_core.specs.declared.raft.Cause.TheVariants.{Place}
+use Rattle.raft_core.specs.declared.raft.Raft.{Raft}
+use Rattle.raft_core.specs.Backs.{Backs, backs}
+use Rattle.raft_core.specs.Handled.{MakesMoves, commits_to, moves_of_commit}
+use Rattle.raft_core.specs.Peers.{fresh}
+use Rattle.raft_core.specs.Stands.{StandsFor, role_of}
+use Rattle.raft_core.specs.StoredPuts.{DoesPuts, store_of}
+use Rattle.raft_core.specs.Times.{Given, Times}
+use Rattle.raft_core.proofs.Moving.{leads, no_move, one_move, one_move_failed, store_after, storing_stands}
+
+itself : (me place node : ℕ) (peer : Peer) → node ≡ me → (node == me) ≡ backs me (Place place) node peer
+itself me place node peer same = elim (eqb_tells node me) [ inl t ↦ rw t.0 refl | inr t ↦ absurd (t.1 same) ]
+
+-- a member itself has all of its log
+pub itself_backs : (me : ℕ) (peers : List Peer) (cause : Cause) (place node : ℕ) (test : ℕ → Bool) → Backs me peers cause test → cause ≡ Place place → node ≡ me → node < 128 → (node == me) ≡ test node
+itself_backs me peers cause place node test says is same below =
+    itself me place node (slice_index_or peers node (fresh 0)) same ∙ (ap (λ x. backs me x node (slice_index_or peers node (fresh 0))) (sym is) ∙ sym (says node (fresh 0) below))
+
+-- places are tried from the last one down
+pub greatest : (members : List ℕ) (me : ℕ) (p : Plain) (place : ℕ) → CanCommit members me p place → ((i : ℕ) → place < i → CanCommit members me p i → ⊥) → IsCommitIndex members me p place
+greatest members me p place can none = record { can = can; greatest = λ i can_i. elim (leb_tells i place) [ inl t ↦ t.1 | inr t ↦ absurd (none i t.1 can_i) ] }
+
+pub next_down : (members : List ℕ) (me : ℕ) (p : Plain) (place below : ℕ) → place ≤ below + 1 → (CanCommit members me p place → ⊥) → ((i : ℕ) → place < i → CanCommit members me p i → ⊥)
+    → (i : ℕ) → below < i → CanCommit members me p i → ⊥
+next_down members me p place below one not_here none i above can = elim (eqb_tells i place) [
+  | inl t ↦ not_here (subst (CanCommit members me p) t.1 can)
+  | inr t ↦ none i (let other = t.1 in omega (arith, one, above, other)) can
+]
+
+not_leading : (x : MachineRole) → (x ≡ MachineRole.Leader → ⊥) → is_leader x ≡ false
+not_leading MachineRole.Follower h = refl
+not_leading MachineRole.Candidate h = refl
+not_leading MachineRole.Leader h = absurd (h refl)
+
+found_moves : (members : List ℕ) (m : ℕ) (p : Plain) (k : ℕ) → p.memory.role ≡ MachineRole.Leader → commit_index members m p ≡ Some k → moves_of_commit members m p ≡ CommitTo k ∷ []
+found_moves members m p k role is = rw (role, is) refl
+
+no_moves : (members : List ℕ) (m : ℕ) (p : Plain) → (p.memory.role ≡ MachineRole.Leader → commit_index members m p ≡ None) → moves_of_commit members m p ≡ []
+no_moves members m p none = by_role p.memory.role refl where
+  by_role : (x : MachineRole) → p.memory.role ≡ x → (if is_leader x then commits_to (commit_index members m p) else []) ≡ []
+  by_role MachineRole.Follower is = refl
+  by_role MachineRole.Candidate is = refl
+  by_role MachineRole.Leader is = rw (none is) refl
+
+known : (o : Option ℕ) → (o ≡ None) ⊎ ((k : ℕ) × (o ≡ Some k))
+known None = inl refl
+known (Some k) = inr (k, refl)
+
+-- no index where none can be committed
+pub no_index : (members : List ℕ) (m : ℕ) (p : Plain) → ((k : ℕ) → commit_index members m p ≡ Some k → IsCommitIndex members m p k) → ((k : ℕ) → CanCommit members m p k → ⊥) → commit_index members m p ≡ None
+no_index members m p law none = elim (known (commit_index members m p)) [ inl e ↦ e | inr x ↦ absurd (none x.0 (law x.0 x.1).can) ]
+
+module _ {D : Type 0} {disk : Ghosts D} (members : List ℕ) (m n : ℕ) (given : Given) (p : Plain) (t : Times) (old : Durable D disk) (raft : Raft) (st : StandsFor raft members (durable_state old) p t) where
+  module _ (k : ℕ) (role : raft.role ≡ Leader) (is : commit_index members m p ≡ Some k) (new : Durable D disk) where
+    moves : moves_of_commit members m p ≡ CommitTo k ∷ []
+    moves = found_moves members m p k (st.role ∙ ap role_of role) is
+
+    pub committed : DoesPuts {T = Unit {0}} (PutCommit k ∷ []) old new (Ok tt) → MakesMoves {T = Unit {0}} members m n given (moves_of_commit members m p) p t old new raft (Ok tt)
+    committed made = subst (λ mvs. MakesMoves {T = Unit {0}} members m n given mvs p t old new raft (Ok tt)) (sym moves)
+        (one_move members m n given (CommitTo k) p t old new raft (Ok tt) made
+        (storing_stands raft members (durable_state old) (durable_state new) p t _ st
+        (ap (λ (z : Store). record z { commit = k }) st.store ∙ sym (ap store_of made.made.state))))
+
+    pub commit_failed : (fault : Fault) (result : Result (Unit {0}) Fault) → result ≡ Err fault → DoesPuts (PutCommit k ∷ []) old new result → MakesMoves members m n given (moves_of_commit members m p) p t old new raft result
+    commit_failed fault result failed made = subst (λ mvs. MakesMoves members m n given mvs p t old new raft result) (sym moves)
+        (one_move_failed members m n given (CommitTo k) p t old new raft result fault failed made)
+
+  pub nothing_committed : (raft.role ≡ Leader → commit_index members m p ≡ None) → (result : Result (Unit {0}) Fault) → DoesPuts [] old old result → MakesMoves members m n given (moves_of_commit members m p) p t old old raft result
+  nothing_committed none result made = subst (λ mvs. MakesMoves members m n given mvs p t old old raft result) (sym (no_moves members m p (λ role. none (leads raft.role (sym st.role ∙ role)))))
+      (no_move members m n given p t old raft result made st)
