@@ -7,3 +7,5 @@ pub mod AppendRequest
 pub mod VoteRequest
 pub mod Counting
 pub mod Committing
+pub mod Proposing
+pub mod Winning

@@ -36,6 +36,14 @@ on_ok : {T E : Type 0} {A : Type 0} (r : Result T E) (x y z : A) → y ≡ z →
 on_ok (Ok value) x y z e p = p ∙ e
 on_ok (Err error) x y z e p = tt
 
+-- where the call succeeds
+pub each_ok : {T E : Type 0} (r : Result T E) (Q : Type 0) → ((value : T) → r ≡ Ok value → Q) → OnOk r Q
+each_ok (Ok value) Q f = f value refl
+each_ok (Err error) Q f = tt
+
+pub got : {T E : Type 0} (r : Result T E) (value : T) (P : Type 0) → r ≡ Ok value → OnOk r P → P
+got r value P is h = subst (λ x. OnOk x P) is h
+
 open_yet : (fault : Option Fault) (P : Fault → Type 0) → fault ≡ None → IfSome fault P
 open_yet None P works = tt
 open_yet (Some f) P works = absurd (cc works)

@@ -28,7 +28,7 @@ last_of_take log (suc i) within =
     let long : length (take (suc i) log) ≡ suc i = length-take-le (suc i) log within in
     ap (λ n. (entry_at (take (suc i) log) n).term) long ∙ ap (λ (e : Entry). e.term) (get_or-take (suc i) log i (blank 0) (omega arith))
 
-distinct_from : (log : List Entry) (e : Entry) → IsInjective (log ++ e ∷ []) → IsDistinctFromAll log e
+pub distinct_from : (log : List Entry) (e : Entry) → IsInjective (log ++ e ∷ []) → IsDistinctFromAll log e
 distinct_from log e injective i below =
     subst (λ x. AreDistinct (get_or log i (blank 0)) x) (get_or-append_seam log e [] (blank 0))
     (subst (λ x. AreDistinct x (get_or (log ++ e ∷ []) (length log) (blank 0))) (get_or_append_left log (e ∷ []) (blank 0) i below)

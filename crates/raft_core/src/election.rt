@@ -2,7 +2,7 @@ ghost use Rattle.std.specs.Prelude.{◌≡◌, ◌≢◌, ◌≤◌, ◌<◌, �
 ghost use Rattle.can_frame.specs.Log as log;
 ghost use Rattle.can_frame.specs.declared.step.Role.TheVariants.{Follower, Candidate};
 ghost use Rattle.raft_log.specs.DurableViews.{durable_state};
-ghost use Rattle.raft_model.specs.Moves.{stand_memory, stand_puts, win_memory, win_puts};
+ghost use Rattle.raft_model.specs.Moves.{adds_blank, stand_memory, stand_puts, win_memory, win_puts};
 ghost use Rattle.raft_model.specs.Moves.Move.{TimeOut};
 ghost use Rattle.raft_model.specs.Server.{Plain, put_all};
 ghost use Rattle.raft_core.specs.StoredPuts.{DoesPuts, store_of};
@@ -110,15 +110,31 @@ impl Raft {
             (record { store = put_all p.store (win_puts p.store); memory = win_memory p.store p.memory }) (times.win t)) }
         ensures fits { OnOk result (Fits self.new (durable_state d.new)) }
     {
-        puts_in_turn::<D, (), ()>();
         self.role = Role::Leader;
         self.told = d.commit();
         self.peers = [Peer::new(d.last() + 1); 128];
-        if d.commit() < d.last() && d.last() < 127 {
-            d.append(blank(d.term()))?;
-        }
-        Ok(())
+        add_blank(d)
     }
+}
+
+/// A new leader appends a blank, where its log is not all committed and has room.
+fn add_blank<D: Disk>(d: &mut Durable<D>) -> Result<(), Fault>
+    ensures puts { DoesPuts (win_puts (store_of (durable_state d.old))) d.old d.new result }
+    ensures vote { OnOk result ((durable_state d.new).vote ≡ (durable_state d.old).vote) }
+    ensures commit { OnOk result ((durable_state d.new).commit ≡ (durable_state d.old).commit) }
+    ensures log { OnOk result (length (durable_state d.old).log ≤ length (durable_state d.new).log) }
+{
+    puts_in_turn::<D, (), ()>();
+    if wants_blank(d) {
+        d.append(blank(d.term()))?;
+    }
+    Ok(())
+}
+
+fn wants_blank<D: Disk>(d: &Durable<D>) -> bool
+    ensures { result ≡ adds_blank (store_of (durable_state d.now)) }
+{
+    d.commit() < d.last() && d.last() < 127
 }
 
 /// The blank of a term.
