@@ -9,3 +9,5 @@ pub mod Counting
 pub mod Committing
 pub mod Proposing
 pub mod Winning
+pub mod Standing
+pub mod Ticking

@@ -1,5 +1,5 @@
 -- What becomes of what is kept of a peer.
-use Rattle.std.specs.Prelude.{ℕ, ◌+◌, ◌-◌, Bool, false, Option, Some, None, max, nat_le, ◌==◌, if◌then◌else◌}
+use Rattle.std.specs.Prelude.{ℕ, ◌+◌, ◌-◌, Bool, true, false, Option, Some, None, max, nat_le, ◌==◌, if◌then◌else◌}
 use Rattle.raft_core.specs.declared.peer.Asked.{Asked}
 use Rattle.raft_core.specs.declared.peer.Peer.{Peer}
 use Rattle.raft_core.specs.declared.peer.Waiting.{Waiting}
@@ -7,6 +7,10 @@ use Rattle.raft_core.specs.declared.peer.Waiting.{Waiting}
 -- a peer of which nothing is known
 abbrev pub fresh : ℕ → Peer
 fresh next = record { voted = false; answered = false; next = next; matched = 0; appended = None; call = None }
+
+-- one that voted for the candidate
+abbrev pub voter : Peer
+voter = record (fresh 1) { voted = true }
 
 -- its call, where it is less than 1,000 ms old
 abbrev pub young : ℕ → Option Waiting → Option Waiting

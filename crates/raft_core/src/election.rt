@@ -1,10 +1,12 @@
-ghost use Rattle.std.specs.Prelude.{◌≡◌, ◌≢◌, ◌≤◌, ◌<◌, ◌+◌, ◌∷◌, [], ℕ, List, true, OnOk, length, slice_index_or, if◌then◌else◌};
+ghost use Rattle.std.specs.Prelude.{◌≡◌, ◌≢◌, ◌≤◌, ◌<◌, ◌+◌, ◌∷◌, [], ℕ, List, true, OnOk, length, replicate, slice_index_or, slice_set, if◌then◌else◌};
+ghost use Rattle.arrayvec.specs.ArrayVec.{array_vec_len};
 ghost use Rattle.can_frame.specs.Log as log;
 ghost use Rattle.can_frame.specs.declared.step.Role.TheVariants.{Follower, Candidate};
 ghost use Rattle.raft_log.specs.DurableViews.{durable_state};
 ghost use Rattle.raft_model.specs.Moves.{adds_blank, stand_memory, stand_puts, win_memory, win_puts};
 ghost use Rattle.raft_model.specs.Moves.Move.{TimeOut};
 ghost use Rattle.raft_model.specs.Server.{Plain, put_all};
+ghost use Rattle.raft_core.specs.Peers.{fresh, voter};
 ghost use Rattle.raft_core.specs.StoredPuts.{DoesPuts, store_of};
 ghost use Rattle.raft_core.specs.Times as times;
 ghost use Rattle.raft_core.specs.Times.{Times, given_tick};
@@ -43,7 +45,7 @@ impl Raft {
         ensures fits { OnOk result (Fits self.new (durable_state d.new)) }
     {
         puts_in_turn::<D, (), ()>();
-        if !complete || !self.may_stand(d.term(), now) {
+        if !self.may_stand(complete, d.term(), now) {
             return Ok(());
         }
         self.stand(d, peers, now, word)?;
@@ -53,13 +55,16 @@ impl Raft {
         Ok(())
     }
 
-    /// Whether the wait for an election has passed, of one that is no leader and below the highest term.
-    fn may_stand(&self, term: u32, now: u64) -> bool
-        ensures { (p : Plain) (t : Times) → p.memory.role ≡ role_of self.now.role → p.store.term ≡ term → t.since ≡ self.now.since → t.word ≡ self.now.word →
-            result ≡ times.stands true now p t }
+    /// Whether the wait for an election has passed, of one that knows all members, is no leader and is
+    /// below the highest term.
+    fn may_stand(&self, complete: bool, term: u32, now: u64) -> bool
+        ensures stands { (p : Plain) (t : Times) → p.memory.role ≡ role_of self.now.role → p.store.term ≡ term → t.since ≡ self.now.since → t.word ≡ self.now.word →
+            result ≡ times.stands complete now p t }
+        ensures complete { result ≡ true → complete ≡ true }
+        ensures term { result ≡ true → term < 4294967295 }
     {
         let wait = 2000 + u64::from(self.word) % 2001;
-        self.role != Role::Leader && term < u32::MAX && now.saturating_sub(self.since) >= wait
+        complete && self.role != Role::Leader && term < u32::MAX && now.saturating_sub(self.since) >= wait
     }
 
     /// It is a candidate of the next term, and votes for itself.
@@ -83,20 +88,12 @@ impl Raft {
         ensures role { OnOk result (self.new.role ≡ Candidate) }
         ensures me { self.new.me ≡ self.old.me }
     {
-        puts_in_turn::<D, (), ()>();
-        d.set_term(d.term() + 1)?;
-        d.set_vote(self.me)?;
+        vote_for_itself(d, self.me)?;
         self.role = Role::Candidate;
         self.since = now;
         self.word = word;
-        self.members.clear();
-        self.members.push(self.me);
-        match self.members.try_extend_from_slice(peers) {
-            Ok(()) => {}
-            Err(_) => unreachable!(),
-        }
-        self.peers = [Peer::new(1); 128];
-        self.peers[self.me as usize].voted = true;
+        self.members = all_members(self.me, peers);
+        self.peers = peers_of_candidate(self.me);
         Ok(())
     }
 
@@ -114,6 +111,43 @@ impl Raft {
         self.told = d.commit();
         self.peers = [Peer::new(d.last() + 1); 128];
         add_blank(d)
+    }
+}
+
+/// Takes the next term, and votes for the member itself.
+fn vote_for_itself<D: Disk>(d: &mut Durable<D>, me: u8) -> Result<(), Fault>
+    requires term { (durable_state d.old).term < 4294967295 }
+    requires least { 1 ≤ me }
+    requires most { me ≤ 125 }
+    ensures puts { DoesPuts (stand_puts me (store_of (durable_state d.old))) d.old d.new result }
+    ensures state { OnOk result (durable_state d.new ≡ record (durable_state d.old) { term = (durable_state d.old).term + 1; vote = me }) }
+{
+    puts_in_turn::<D, (), ()>();
+    d.set_term(d.term() + 1)?;
+    d.set_vote(me)
+}
+
+/// A candidate has its own vote, and knows nothing of the others.
+fn peers_of_candidate(me: u8) -> [Peer; 128]
+    requires { me < 128 }
+    ensures { result ≡ slice_set (replicate 128 (fresh 1)) me voter }
+{
+    let mut peers = [Peer::new(1); 128];
+    peers[me as usize] = Peer::voter();
+    peers
+}
+
+/// All members: the member itself and its peers.
+fn all_members(me: u8, peers: &[u8]) -> ArrayVec<u8, 5>
+    requires { length peers.now < 5 }
+    ensures items { result.items ≡ me ∷ peers.now }
+    ensures len { array_vec_len result ≡ length peers.now + 1 }
+{
+    let mut members = ArrayVec::new();
+    members.push(me);
+    match members.try_extend_from_slice(peers) {
+        Ok(()) => members,
+        Err(_) => unreachable!(),
     }
 }
 

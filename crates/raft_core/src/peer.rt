@@ -48,7 +48,7 @@ pub(crate) struct Peer {
 }
 
 impl Peer {
-    ghost use Rattle.raft_core.specs.Peers.{expired, moved_on, fresh};
+    ghost use Rattle.raft_core.specs.Peers.{expired, fresh, moved_on, voter};
 
     /// A peer of which nothing is known: it is sent the entry at this place first.
     pub fn new(next: u8) -> Peer
@@ -61,6 +61,16 @@ impl Peer {
             matched: 0,
             appended: None,
             call: None,
+        }
+    }
+
+    /// A peer that voted for the candidate.
+    pub fn voter() -> Peer
+        ensures { result ≡ voter }
+    {
+        Peer {
+            voted: true,
+            ..Peer::new(1)
         }
     }
 

@@ -43,6 +43,7 @@ pub struct Raft {
 
     ghost least: { 1 ≤ me },
     ghost most: { me ≤ 125 },
+    ghost five: { size ≤ 5 },
     ghost short: { array_vec_len members ≤ 5 },
     ghost numbered: { (i : ℕ) → i < length members.items → slice_index_or members.items i 0 < 128 },
     ghost complete: { role ≢ Follower → array_vec_len members ≡ size },
