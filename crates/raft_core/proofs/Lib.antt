@@ -11,3 +11,4 @@ pub mod Proposing
 pub mod Winning
 pub mod Standing
 pub mod Ticking
+pub mod VoteAnswer

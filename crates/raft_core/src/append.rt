@@ -1,12 +1,15 @@
-ghost use Rattle.std.specs.Prelude.{◌≡◌, ◌↔◌, ◌⊎◌, ◌≤◌, ◌<◌, ◌+◌, ◌++◌, ◌∷◌, [], ℕ, List, IsTrue, true, false, OnOk, IfOk, Ok, Some, length, take};
+ghost use Rattle.std.specs.Prelude.{◌≡◌, ◌↔◌, ◌⊎◌, ◌≤◌, ◌<◌, ◌+◌, ◌++◌, ◌∷◌, [], ℕ, List, IsTrue, true, false, OnOk, IfOk, Ok, Some, length, slice_index_or, take};
 ghost use Rattle.can_frame.specs.declared.step.Role.TheVariants.{Leader};
 ghost use Rattle.can_frame.specs.Log.{log_limit};
 ghost use Rattle.raft_log.specs.DurableViews.{durable_state};
 ghost use Rattle.raft_log.specs.MayFollow.{MayFollow};
+ghost use Rattle.raft_log.specs.Stored.{Stored};
 ghost use Rattle.raft_model.specs.Log.{term_at};
-ghost use Rattle.raft_model.specs.Moves.{IsRuled, Verdict, append_puts, is_accepted, with_term};
+ghost use Rattle.raft_model.specs.Moves.{IsRuled, Verdict, append_puts, is_accepted, matched_after, next_after, with_term};
 ghost use Rattle.raft_model.specs.Decisions.{judges};
-ghost use Rattle.raft_model.specs.Messages.{Request};
+ghost use Rattle.raft_model.specs.Messages.{Answer, Request};
+ghost use Rattle.raft_model.specs.Messages as messages;
+ghost use Rattle.raft_model.specs.Lists.{at};
 ghost use Rattle.raft_model.specs.Moves.Move.{TakeAppendAnswer, TakeAppendRequest};
 ghost use Rattle.raft_model.specs.Server.{Plain};
 ghost use Rattle.raft_core.specs.Appending.{commit_puts, cut_to, write_puts};
@@ -15,7 +18,6 @@ ghost use Rattle.raft_core.specs.StoredPuts.{DoesPuts, store_of};
 ghost use Rattle.raft_core.specs.Times.{Times, given_at, is_awaited};
 
 use crate::laws::puts_in_turn;
-use crate::peer::Asked;
 use crate::raft::Raft;
 use can_frame::{Entry, Role};
 use disk_model::Disk;
@@ -25,6 +27,7 @@ use raft_log::{Durable, may_follow};
 use raft_model::laws::law_decisions;
 
 impl Raft {
+    ghost use Rattle.raft_core.specs.declared.peer.Peer.{Peer};
     ghost use Rattle.raft_core.specs.Fits.{Fits};
     ghost use Rattle.raft_core.specs.Handled.{MakesMoves};
     ghost use Rattle.raft_core.specs.Stands.{StandsFor};
@@ -84,15 +87,31 @@ impl Raft {
             IfOk result (λ taken. IsTrue taken) }
         ensures fits { OnOk result (Fits self.new (durable_state d.new)) }
     {
-        let Some(Asked::Append(reach)) = self.awaited(from, id) else {
+        puts_in_turn::<D, (), bool>();
+        let Some(reach) = self.awaited_reach(from, id) else {
             return Ok(false);
         };
-        self.peers[from as usize].call = None;
+        self.end_call(from);
         self.raise(d, ans.term, now)?;
-        if self.role == Role::Leader && ans.term == d.term() {
-            self.peers[from as usize].move_on(reach, ans.success);
+        if self.role != Role::Leader || ans.term != d.term() {
+            return Ok(true);
         }
+        self.move_on(from, reach, ans.success);
         Ok(true)
+    }
+
+    /// A leader knows from an answer up to where a node has its log, and what it is sent next.
+    fn move_on(&mut self, from: u8, reach: u8, success: bool)
+        requires most { from ≤ 125 }
+        requires reach { reach ≤ 127 }
+        requires matched { (d : Peer) → (slice_index_or self.old.peers from d).matched ≤ 127 }
+        ensures stands { (members : List ℕ) (state : Stored) (p : Plain) (t : Times) → StandsFor self.old members state p t → self.old.role ≡ Leader →
+            (a : Answer) → a.from ≡ from → a.success ≡ success → messages.reach a.request ≡ reach →
+            StandsFor self.new members state (record p { memory = record p.memory { matched = at p.memory.matched from (matched_after p.memory a); next = at p.memory.next from (next_after p.memory a) } }) t }
+        ensures fits { (state : Stored) → Fits self.old state → reach ≤ length state.log → Fits self.new state }
+        ensures me { self.new.me ≡ self.old.me }
+    {
+        self.peers[from as usize].move_on(reach, success);
     }
 
     /// Whether a request is refused for its term.

@@ -1,14 +1,16 @@
-ghost use Rattle.std.specs.Prelude.{◌≡◌, ◌≢◌, ◌≤◌, ◌<◌, ◌∷◌, [], ℕ, List, Bool, true, false, Option, Some, None, IsNone, IfSome, length, slice_index_or, ◌+◌};
+ghost use Rattle.std.specs.Prelude.{◌≡◌, ◌≢◌, ◌≤◌, ◌<◌, ◌∷◌, [], ℕ, List, Bool, true, false, Option, Some, None, IsNone, IfSome, length, ◌+◌};
 ghost use Rattle.raft_log.specs.DurableViews.{durable_state};
 ghost use Rattle.raft_log.specs.Stored.{Stored};
 ghost use Rattle.raft_core.specs.Requests.{append_call, vote_call};
 ghost use Rattle.raft_core.specs.Handled.{moves_of_expire};
 ghost use Rattle.raft_model.specs.Handlers.{plain_after_all};
 ghost use Rattle.raft_model.specs.Lists.{In};
-ghost use Rattle.raft_model.specs.Messages.{Request, items};
-ghost use Rattle.raft_model.specs.Moves.{Move};
+ghost use Rattle.raft_model.specs.Messages.{Request, items, reach};
+ghost use Rattle.raft_model.specs.Moves.{Move, ended};
 ghost use Rattle.raft_model.specs.Server.{Plain};
-ghost use Rattle.raft_core.specs.Times.{Sending, Times, given_at, given_call, overdue, times_after_all};
+ghost use Rattle.raft_core.specs.Times as times;
+ghost use Rattle.raft_core.specs.Times.{Sending, Times, given_at, given_call, is_awaited, overdue, times_after_all};
+ghost use Rattle.can_frame.specs.declared.step.Role.TheVariants.{Leader};
 
 use crate::peer::{Asked, Waiting};
 use crate::raft::Raft;
@@ -42,9 +44,7 @@ pub struct Pending {
 }
 
 impl Raft {
-    ghost use Rattle.raft_core.specs.declared.peer.Peer.{Peer};
     ghost use Rattle.raft_core.specs.Calls.{IsPending, Owes, OwesNone, owed};
-    ghost use Rattle.raft_core.specs.Peers.{asked_under};
     ghost use Rattle.raft_core.specs.Fits.{Fits};
     ghost use Rattle.raft_core.specs.Stands.{StandsFor};
 
@@ -106,7 +106,7 @@ impl Raft {
             Call::Vote(_) => Asked::Vote,
             Call::Append(request) => {
                 kept.appended = Some(now);
-                Asked::Append(reach(request))
+                Asked::Append(last_place(request))
             }
         };
         kept.call = Some(Waiting {
@@ -136,17 +136,38 @@ impl Raft {
         })
     }
 
-    /// What the call to a node that waits under a transfer ID asks for.
-    pub(crate) fn awaited(&self, from: u8, id: u8) -> Option<Asked>
+    /// Whether the call to a node that waits under a transfer ID asks for its vote.
+    pub(crate) fn awaits_vote(&self, from: u8, id: u8) -> bool
         requires { from ≤ 125 }
-        ensures { (d : Peer) → result ≡ asked_under id (slice_index_or self.now.peers from d).call }
+        ensures { (members : List ℕ) (state : Stored) (p : Plain) (t : Times) → StandsFor self.now members state p t → result ≡ is_awaited p t from false id }
     {
-        let call = self.peers[from as usize].call?;
-        if call.id == id {
-            Some(call.asked)
-        } else {
-            None
+        matches!(self.peers[from as usize].asked_under(id), Some(Asked::Vote))
+    }
+
+    /// The place up to which the append call to a node goes that waits under a transfer ID.
+    pub(crate) fn awaited_reach(&self, from: u8, id: u8) -> Option<u8>
+        requires { from ≤ 125 }
+        ensures some { IfSome result (λ place. (members : List ℕ) (state : Stored) (p : Plain) (t : Times) → StandsFor self.now members state p t →
+            (is_awaited p t from true id ≡ true) × ((r : Request) → p.memory.pending from ≡ Some r → reach r ≡ place)) }
+        ensures none { IsNone result → (members : List ℕ) (state : Stored) (p : Plain) (t : Times) → StandsFor self.now members state p t → is_awaited p t from true id ≡ false }
+        ensures within { IfSome result (λ place. (state : Stored) → Fits self.now state → self.now.role ≡ Leader → place ≤ length state.log) }
+    {
+        match self.peers[from as usize].asked_under(id) {
+            Some(Asked::Append(place)) => Some(place),
+            _ => None,
         }
+    }
+
+    /// The call to a node waits no more.
+    pub(crate) fn end_call(&mut self, from: u8)
+        requires { from ≤ 125 }
+        ensures stands { (members : List ℕ) (state : Stored) (p : Plain) (t : Times) → StandsFor self.old members state p t →
+            StandsFor self.new members state (record p { memory = ended p.memory from }) (times.end_call from t) }
+        ensures fits { (state : Stored) → Fits self.old state → Fits self.new state }
+        ensures me { self.new.me ≡ self.old.me }
+        ensures role { self.new.role ≡ self.old.role }
+    {
+        self.peers[from as usize].call = None;
     }
 }
 
@@ -180,7 +201,7 @@ fn append_request<D: Disk>(d: &Durable<D>, next: u8) -> AppendRequest
 }
 
 /// The last place that an append request speaks of.
-fn reach(request: &AppendRequest) -> u8
+fn last_place(request: &AppendRequest) -> u8
     requires { request.now.prev_index ≤ 127 }
     ensures { result ≡ request.now.prev_index + items request.now.entry }
 {

@@ -48,7 +48,7 @@ pub(crate) struct Peer {
 }
 
 impl Peer {
-    ghost use Rattle.raft_core.specs.Peers.{expired, fresh, moved_on, voter};
+    ghost use Rattle.raft_core.specs.Peers.{asked_under, expired, fresh, moved_on, voter};
 
     /// A peer of which nothing is known: it is sent the entry at this place first.
     pub fn new(next: u8) -> Peer
@@ -93,6 +93,14 @@ impl Peer {
             Some(moment) => now.saturating_sub(moment) >= 400,
             None => true,
         }
+    }
+
+    /// What the call asks for that waits under a transfer ID.
+    pub fn asked_under(&self, id: u8) -> Option<Asked>
+        ensures { result ≡ asked_under id self.now.call }
+    {
+        let call = self.call?;
+        if call.id == id { Some(call.asked) } else { None }
     }
 
     /// The peer answered an append request that reached up to a place. Where it refused it, the entry

@@ -2,6 +2,7 @@ ghost use Rattle.std.specs.Prelude.{◌≡◌, ◌==◌, ◌↔◌, ◌≤◌, �
 ghost use Rattle.can_frame.specs.declared.step.Role.TheVariants.{Candidate};
 ghost use Rattle.can_frame.specs.Log.{last_term};
 ghost use Rattle.raft_log.specs.DurableViews.{durable_state};
+ghost use Rattle.raft_log.specs.Stored.{Stored};
 ghost use Rattle.raft_model.specs.Decisions.{grants};
 ghost use Rattle.raft_model.specs.Messages.{Request};
 ghost use Rattle.raft_model.specs.Lists.{at};
@@ -15,7 +16,6 @@ ghost use Rattle.raft_core.specs.Times as times;
 ghost use Rattle.raft_core.specs.Times.{Times, given_at, is_awaited};
 
 use crate::laws::puts_in_turn;
-use crate::peer::Asked;
 use crate::raft::{Cause, Raft};
 use can_frame::Role;
 use disk_model::Disk;
@@ -86,16 +86,39 @@ impl Raft {
         ensures fits { OnOk result (Fits self.new (durable_state d.new)) }
     {
         puts_in_turn::<D, (), bool>();
-        let Some(Asked::Vote) = self.awaited(from, id) else {
+        if !self.awaits_vote(from, id) {
             return Ok(false);
-        };
-        self.peers[from as usize].call = None;
-        self.peers[from as usize].answered = true;
+        }
+        self.end_call(from);
+        self.note_answer(from);
         self.raise(d, ans.term, now)?;
         if ans.granted && ans.term == d.term() && self.role == Role::Candidate {
             self.count_vote(d, from)?;
         }
         Ok(true)
+    }
+
+    /// A node answered the vote request of this term: it is not asked again.
+    fn note_answer(&mut self, from: u8)
+        requires { from ≤ 125 }
+        ensures stands { (members : List ℕ) (state : Stored) (p : Plain) (t : Times) → StandsFor self.old members state p t →
+            StandsFor self.new members state p (record t { answered = at t.answered from true }) }
+        ensures fits { (state : Stored) → Fits self.old state → Fits self.new state }
+        ensures me { self.new.me ≡ self.old.me }
+    {
+        self.peers[from as usize].answered = true;
+    }
+
+    /// The vote of a node counts.
+    fn count(&mut self, from: u8)
+        requires { from ≤ 125 }
+        ensures stands { (members : List ℕ) (state : Stored) (p : Plain) (t : Times) → StandsFor self.old members state p t →
+            StandsFor self.new members state (record p { memory = record p.memory { votes = at p.memory.votes from true } }) t }
+        ensures fits { (state : Stored) → Fits self.old state → Fits self.new state }
+        ensures me { self.new.me ≡ self.old.me }
+        ensures role { self.new.role ≡ self.old.role }
+    {
+        self.peers[from as usize].voted = true;
     }
 
     /// A candidate counts the vote of a node, and wins with those of a quorum.
@@ -113,7 +136,7 @@ impl Raft {
         ensures fits { OnOk result (Fits self.new (durable_state d.new)) }
     {
         puts_in_turn::<D, (), ()>();
-        self.peers[from as usize].voted = true;
+        self.count(from);
         if self.has_quorum(Cause::Candidacy) {
             self.win(d)?;
         }

@@ -1,0 +1,37 @@
+-- A vote answer.
+use Rattle.std.proofs.Common.{◌≡◌, ℕ, Bool, true, false, List, [], ◌∷◌, ◌++◌, refl, sym, ap, subst, ◌∙◌}
+use Rattle.std.specs.Prelude.{Result, Ok, Err, OnOk, IfOk, IsTrue, if◌then◌else◌}
+use Rattle.disk_model.specs.declared.disk.Disk.{Ghosts}
+use Rattle.kv_store.specs.declared.fault.Fault.{Fault}
+use Rattle.raft_log.specs.declared.durable.Durable.{Durable}
+use Rattle.raft_log.specs.DurableViews.{durable_state}
+use Rattle.raft_log.specs.Stored.{Stored}
+use Rattle.raft_model.specs.Lists.{at}
+use Rattle.raft_model.specs.Moves.{has_quorum, win_memory, win_puts}
+use Rattle.raft_model.specs.Server.{Memory, Plain, Put, Store, put_all}
+use Rattle.raft_core.specs.declared.raft.Raft.{Raft}
+use Rattle.raft_core.specs.Stands.{StandsFor}
+use Rattle.raft_core.specs.StoredPuts.{DoesPuts, store_of}
+use Rattle.raft_core.specs.Times.{Times, win}
+
+module _ {D : Type 0} {disk : Ghosts D} (members : List ℕ) (p : Plain) (t : Times) (votes : ℕ → Bool) (old new : Durable D disk) (raft2 : Raft) where
+  -- a candidate with these votes, which wins with those of a quorum
+  abbrev pub votes_puts : List Put
+  votes_puts = if has_quorum members votes then win_puts p.store else []
+
+  abbrev pub CountsVotes : Type 0
+  CountsVotes = StandsFor raft2 members (durable_state new)
+      (if has_quorum members votes then record { store = put_all p.store (win_puts p.store); memory = win_memory p.store (record p.memory { votes = votes }) } else record p { memory = record p.memory { votes = votes } })
+      (if has_quorum members votes then win t else t)
+
+  pub won_puts : (result : Result (Unit {0}) Fault) → has_quorum members votes ≡ true → p.store ≡ store_of (durable_state old) → DoesPuts (win_puts (store_of (durable_state old))) old new result → DoesPuts votes_puts old new result
+  won_puts result quorum store made = rw quorum (subst (λ (z : Store). DoesPuts (win_puts z) old new result) (sym store) made)
+
+  pub no_puts : (result : Result (Unit {0}) Fault) → has_quorum members votes ≡ false → DoesPuts [] old new result → DoesPuts votes_puts old new result
+  no_puts result quorum made = rw quorum made
+
+  pub won_counted : has_quorum members votes ≡ true → StandsFor raft2 members (durable_state new) (record { store = put_all p.store (win_puts p.store); memory = win_memory p.store (record p.memory { votes = votes }) }) (win t) → CountsVotes
+  won_counted quorum st = rw quorum st
+
+  pub not_won : has_quorum members votes ≡ false → StandsFor raft2 members (durable_state new) (record p { memory = record p.memory { votes = votes } }) t → CountsVotes
+  not_won quorum st = rw quorum st
