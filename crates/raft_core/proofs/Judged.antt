@@ -1,8 +1,13 @@
 -- An append request is judged, first by its term.
-use Rattle.std.proofs.Common.{◌≡◌, ◌⊎◌, inl, inr, ℕ, ◌+◌, ◌<◌, ◌≤◌, Bool, true, false, List, [], ◌∷◌, ◌++◌, refl, sym, ap, subst, ◌∙◌, arith}
-use Rattle.std.specs.Prelude.{⊤, nat_lt, min, if◌then◌else◌, length}
+use Rattle.std.proofs.Common.{◌≡◌, ◌⊎◌, inl, inr, None, ℕ, ◌+◌, ◌<◌, ◌≤◌, Bool, true, false, List, [], ◌∷◌, ◌++◌, refl, sym, ap, subst, ◌∙◌, arith}
+use Rattle.std.specs.Prelude.{⊤, Result, nat_lt, min, if◌then◌else◌, length}
 use Rattle.std.proofs.lemmas.Bool.Decides.{nat_tests, leb_tells}
-use Rattle.raft_log.specs.Stored.{Stored}
+use Rattle.disk_model.specs.declared.disk.Disk.{Ghosts}
+use Rattle.kv_store.specs.declared.fault.Fault.{Fault}
+use Rattle.raft_log.specs.declared.durable.Durable.{Durable}
+use Rattle.raft_log.specs.Calls.{KeepsFault, MakesPuts}
+use Rattle.raft_log.specs.DurableViews.{durable_state}
+use Rattle.raft_log.specs.Stored.{Stored, Put as StoredPut}
 use Rattle.raft_model.specs.Handlers.{plain_after}
 use Rattle.raft_model.specs.Messages.{Request, reach}
 use Rattle.raft_model.specs.Moves.{IsCurrent, IsJudged, IsOutdated, IsRuled, Verdict, append_memory, append_puts, term_memory, term_puts, with_term}
@@ -13,9 +18,10 @@ use Rattle.raft_model.specs.Server.Put.{PutTerm, PutVote, PutEntry, PutLonger, P
 use Rattle.raft_core.specs.declared.raft.Raft.{Raft}
 use Rattle.can_frame.specs.declared.step.Role.TheVariants.{Follower, Leader}
 use Rattle.raft_core.specs.Stands.{StandsFor, role_of}
-use Rattle.raft_core.specs.StoredPuts.{store_of}
+use Rattle.raft_core.specs.StoredPuts.{DoesPuts, store_of}
 use Rattle.raft_core.specs.Times.{Given, Times, raise, step_down, times_after}
 use Rattle.raft_core.proofs.Appending.{lt_false, lt_true}
+use Rattle.raft_core.proofs.Puts.{does}
 use Rattle.raft_core.proofs.Moving.{AllCount, follower_stands, leads}
 
 -- ---- a term
@@ -60,6 +66,11 @@ raise_sending now term p t = if_same (nat_lt p.store.term term) (step_down now p
 
 pub raise_word : (now term : ℕ) (p : Plain) (t : Times) → (raise now term p t).word ≡ t.word
 raise_word now term p t = if_same (nat_lt p.store.term term) (step_down now p.memory.role t) t (λ (x : Times). x.word) (down_word now p.memory.role t)
+
+-- a higher term is stored, with no vote
+pub term_made : {D T : Type 0} {disk : Ghosts D} (old new : Durable D disk) (result : Result T Fault) (term : ℕ) → (durable_state old).term < term
+    → MakesPuts (StoredPut.PutTerm term ∷ StoredPut.PutVote 0 ∷ []) old new result → KeepsFault old new result → DoesPuts (term_puts (store_of (durable_state old)) term) old new result
+term_made old new result term higher made keeps = rw (lt_true (durable_state old).term term higher) (does (PutTerm term ∷ PutVote None ∷ []) _ old new result refl made keeps)
 
 -- ---- verdicts
 

@@ -12,3 +12,4 @@ pub mod Winning
 pub mod Standing
 pub mod Ticking
 pub mod VoteAnswer
+pub mod Answering

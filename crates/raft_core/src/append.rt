@@ -1,11 +1,11 @@
-ghost use Rattle.std.specs.Prelude.{◌≡◌, ◌↔◌, ◌⊎◌, ◌≤◌, ◌<◌, ◌+◌, ◌++◌, ◌∷◌, [], ℕ, List, IsTrue, true, false, OnOk, IfOk, Ok, Some, length, slice_index_or, take};
+ghost use Rattle.std.specs.Prelude.{◌≡◌, ◌↔◌, ◌⊎◌, ◌≤◌, ◌<◌, ◌+◌, ◌++◌, ◌∷◌, ◌==◌, ◌&&◌, [], ℕ, List, IsTrue, true, false, OnOk, IfOk, Ok, Some, length, slice_index_or, take};
 ghost use Rattle.can_frame.specs.declared.step.Role.TheVariants.{Leader};
 ghost use Rattle.can_frame.specs.Log.{log_limit};
 ghost use Rattle.raft_log.specs.DurableViews.{durable_state};
 ghost use Rattle.raft_log.specs.MayFollow.{MayFollow};
 ghost use Rattle.raft_log.specs.Stored.{Stored};
 ghost use Rattle.raft_model.specs.Log.{term_at};
-ghost use Rattle.raft_model.specs.Moves.{IsRuled, Verdict, append_puts, is_accepted, matched_after, next_after, with_term};
+ghost use Rattle.raft_model.specs.Moves.{IsRuled, Verdict, append_puts, is_accepted, is_leader, matched_after, next_after, with_term};
 ghost use Rattle.raft_model.specs.Decisions.{judges};
 ghost use Rattle.raft_model.specs.Messages.{Answer, Request};
 ghost use Rattle.raft_model.specs.Messages as messages;
@@ -30,7 +30,7 @@ impl Raft {
     ghost use Rattle.raft_core.specs.declared.peer.Peer.{Peer};
     ghost use Rattle.raft_core.specs.Fits.{Fits};
     ghost use Rattle.raft_core.specs.Handled.{MakesMoves};
-    ghost use Rattle.raft_core.specs.Stands.{StandsFor};
+    ghost use Rattle.raft_core.specs.Stands.{StandsFor, role_of};
 
     /// A leader's append request came from the node `from`. A request of a lower term is refused, and one
     /// of the member's own term while it leads; any other begins the wait and makes it Follower, also
@@ -93,11 +93,20 @@ impl Raft {
         };
         self.end_call(from);
         self.raise(d, ans.term, now)?;
-        if self.role != Role::Leader || ans.term != d.term() {
+        if !self.leads(d.term(), ans) {
             return Ok(true);
         }
         self.move_on(from, reach, ans.success);
         Ok(true)
+    }
+
+    /// Whether the answer is to a leader of this term.
+    fn leads(&self, term: u32, ans: &AppendAnswer) -> bool
+        ensures leads { (p : Plain) (a : Answer) → p.memory.role ≡ role_of self.now.role → p.store.term ≡ term → a.term ≡ ans.now.term →
+            result ≡ (is_leader p.memory.role && (a.term == p.store.term)) }
+        ensures leader { result ≡ true → self.now.role ≡ Leader }
+    {
+        self.role == Role::Leader && ans.term == term
     }
 
     /// A leader knows from an answer up to where a node has its log, and what it is sent next.

@@ -4,10 +4,10 @@ ghost use Rattle.can_frame.specs.Log.{last_term};
 ghost use Rattle.raft_log.specs.DurableViews.{durable_state};
 ghost use Rattle.raft_log.specs.Stored.{Stored};
 ghost use Rattle.raft_model.specs.Decisions.{grants};
-ghost use Rattle.raft_model.specs.Messages.{Request};
+ghost use Rattle.raft_model.specs.Messages.{Answer, Request};
 ghost use Rattle.raft_model.specs.Lists.{at};
 ghost use Rattle.raft_model.specs.Log.{NotAbove};
-ghost use Rattle.raft_model.specs.Moves.{MayGrant, has_quorum, vote_puts, win_memory, win_puts, with_term};
+ghost use Rattle.raft_model.specs.Moves.{MayGrant, counts, has_quorum, vote_puts, win_memory, win_puts, with_term};
 ghost use Rattle.raft_model.specs.Moves.Move.{TakeVoteRequest, TakeVoteAnswer};
 ghost use Rattle.raft_model.specs.Server.{Plain, put_all};
 ghost use Rattle.raft_core.specs.Handled.{answer_of, vote_request_of};
@@ -27,7 +27,7 @@ use raft_model::laws::law_decisions;
 impl Raft {
     ghost use Rattle.raft_core.specs.Fits.{Fits};
     ghost use Rattle.raft_core.specs.Handled.{MakesMoves};
-    ghost use Rattle.raft_core.specs.Stands.{StandsFor};
+    ghost use Rattle.raft_core.specs.Stands.{StandsFor, role_of};
 
     /// A candidate's vote request came from the node `from`. The vote is granted in the member's own term
     /// to a candidate whose log is not behind, where it has not voted for another; a grant begins the
@@ -92,10 +92,19 @@ impl Raft {
         self.end_call(from);
         self.note_answer(from);
         self.raise(d, ans.term, now)?;
-        if ans.granted && ans.term == d.term() && self.role == Role::Candidate {
-            self.count_vote(d, from)?;
+        if !self.counts(d.term(), ans) {
+            return Ok(true);
         }
+        self.count_vote(d, from)?;
         Ok(true)
+    }
+
+    /// Whether an answer counts: a grant, for a candidate of this term.
+    fn counts(&self, term: u32, ans: &VoteAnswer) -> bool
+        ensures counts { (p : Plain) (a : Answer) → p.memory.role ≡ role_of self.now.role → p.store.term ≡ term → a.term ≡ ans.now.term → a.success ≡ ans.now.granted → result ≡ counts p a }
+        ensures candidate { result ≡ true → self.now.role ≡ Candidate }
+    {
+        self.role == Role::Candidate && ans.term == term && ans.granted
     }
 
     /// A node answered the vote request of this term: it is not asked again.

@@ -1,9 +1,16 @@
 use Rattle.std.proofs.Common.{rules}
 use Rattle.raft_log.specs.DurableViews.{durable_state}
 use Rattle.raft_core.specs.StoredPuts.{store_of}
-use Rattle.raft_core.proofs.Judged.{no_term_puts}
-use Rattle.raft_core.proofs.Puts.{none_made}
+use Rattle.raft_core.proofs.Judged.{no_term_puts, term_made}
+use Rattle.raft_core.proofs.Puts.{fails, none_made}
 use Rattle.raft_core.proofs.raft.Raft.raise.Goals as goal
+
+pub returns-in_err-set_term-clause-puts : goal.returns-in_err-set_term-clause-puts
+returns-in_err-set_term-clause-puts g c =
+    fails _ c.args.d.now _ c.in_err-set_term.field-0.0 _ (search rules) (term_made c.args.d.now _ _ c.args.term (search rules) c.in_err-set_term.ensures.puts c.in_err-set_term.ensures.fault)
+
+pub returns-in_ok-set_term-clause-puts : goal.returns-in_ok-set_term-clause-puts
+returns-in_ok-set_term-clause-puts g c = term_made c.args.d.now _ _ c.args.term (search rules) c.in_ok-set_term.ensures.puts c.in_ok-set_term.ensures.fault
 
 pub returns-else-term-clause-puts : goal.returns-else-term-clause-puts
 returns-else-term-clause-puts g c =

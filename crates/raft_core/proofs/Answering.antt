@@ -1,0 +1,116 @@
+-- An answer of a peer: the call ends, a higher term counts, and else what the answer says.
+use Rattle.std.proofs.Common.{◌≡◌, ℕ, None, Bool, true, false, List, [], ◌∷◌, ◌++◌, refl, sym, ap, subst, ◌∙◌}
+use Rattle.std.specs.Prelude.{Result, Ok, Err, OnOk, if◌then◌else◌, ◌&&◌, ◌==◌, nat_lt}
+use Rattle.disk_model.specs.declared.disk.Disk.{Ghosts}
+use Rattle.kv_store.specs.declared.fault.Fault.{Fault}
+use Rattle.can_frame.specs.declared.step.Role.{Role}
+use Rattle.can_frame.specs.declared.step.Role.TheVariants.{Follower, Candidate, Leader}
+use Rattle.raft_log.specs.declared.durable.Durable.{Durable}
+use Rattle.raft_log.specs.DurableViews.{durable_state}
+use Rattle.raft_log.specs.Stored.{Stored}
+use Rattle.raft_model.specs.Messages.{Answer}
+use Rattle.raft_model.specs.Moves.{counted, counts, ended, has_quorum, is_leader, matched_memory, memory_after, puts, term_memory, term_puts, win_memory, win_puts, with_term}
+use Rattle.raft_model.specs.Moves.Move.{TakeAppendAnswer, TakeVoteAnswer}
+use Rattle.raft_model.specs.Server.{Memory, Plain, Put, Store, put_all, Role as MachineRole}
+use Rattle.raft_model.specs.Server.Put.{PutTerm, PutVote}
+use Rattle.raft_core.specs.declared.raft.Raft.{Raft}
+use Rattle.raft_core.specs.Handled.{MakesMoves}
+use Rattle.raft_core.specs.Stands.{StandsFor, role_of}
+use Rattle.raft_core.specs.StoredPuts.{DoesPuts, store_of}
+use Rattle.raft_core.specs.Times.{Given, Times, end_call, end_vote_call, raise, step_down, times_after, win}
+use Rattle.raft_core.proofs.Moving.{one_move, one_move_failed}
+use Rattle.raft_core.proofs.VoteAnswer.{CountsVotes, votes_puts}
+
+-- ---- choices
+
+twice : {A : Type 0} (b : Bool) (x z : A) → (if b then x else z) ≡ (if b then (if b then x else z) else z)
+twice true x z = refl
+twice false x z = refl
+
+skip : {A : Type 0} (b c : Bool) (x y z : A) → (b ≡ false → c ≡ false) → (if b then x else z) ≡ (if b then x else (if c then y else z))
+skip true c x y z h = refl
+skip false c x y z h = rw (h refl) refl
+
+pick : {A : Type 0} (b c : Bool) (x y z : A) → b ≡ false → c ≡ true → y ≡ (if b then x else (if c then y else z))
+pick b c x y z low so = rw (low, so) refl
+
+and_false : (c q : Bool) → c ≡ false → (c && q) ≡ false
+and_false c q e = rw e refl
+
+-- no higher term
+pub unraised : (raft : Raft) (members : List ℕ) (s : Stored) (p : Plain) (t : Times) (now term : ℕ) → nat_lt p.store.term term ≡ false
+    → StandsFor raft members s (record { store = with_term p.store term; memory = term_memory p term }) (raise now term p t) → StandsFor raft members s p t
+unraised raft members s p t now term low st = by_test (nat_lt p.store.term term) low st where
+  by_test : (b : Bool) → b ≡ false → StandsFor raft members s
+      (record { store = put_all p.store (if b then PutTerm term ∷ PutVote None ∷ [] else []); memory = if b then record p.memory { role = MachineRole.Follower } else p.memory }) (if b then step_down now p.memory.role t else t) → StandsFor raft members s p t
+  by_test true e h = absurd (cc e)
+  by_test false e h = h
+
+-- who is no Follower by then had no higher term
+pub not_higher : (p : Plain) (term : ℕ) (role : Role) → (term_memory p term).role ≡ role_of role → (role ≡ Follower → ⊥) → nat_lt p.store.term term ≡ false
+not_higher p term role same other = by_test (nat_lt p.store.term term) same where
+  follower : (x : Role) → MachineRole.Follower ≡ role_of x → x ≡ Follower
+  follower Follower h = refl
+  follower Candidate h = absurd (cc h)
+  follower Leader h = absurd (cc h)
+
+  by_test : (b : Bool) → (if b then record p.memory { role = MachineRole.Follower } else p.memory).role ≡ role_of role → b ≡ false
+  by_test true h = absurd (other (follower role h))
+  by_test false h = refl
+
+-- who leads by then led before
+pub leader_stays : (raft raft2 : Raft) → ((raft2.role ≡ Follower → ⊥) → raft2.role ≡ raft.role) → raft2.role ≡ Leader → raft.role ≡ Leader
+leader_stays raft raft2 stays leads = sym (stays (λ h. no_follower (sym leads ∙ h))) ∙ leads where
+  no_follower : Leader ≡ Follower → ⊥
+  no_follower h = cc h
+
+-- ---- exits
+
+module _ {D : Type 0} {disk : Ghosts D} (members : List ℕ) (m n : ℕ) (given : Given) (p : Plain) (t : Times) (a : Answer) (old new : Durable D disk) (raft2 : Raft) (result : Result Bool Fault) where
+  abbrev p1 : Plain
+  p1 = record p { memory = ended p.memory a.from }
+
+  abbrev higher : Bool
+  higher = nat_lt p.store.term a.term
+
+  abbrev pub Raised : Times → Type 0
+  Raised t1 = StandsFor raft2 members (durable_state new) (record { store = with_term p.store a.term; memory = term_memory (record p { memory = ended p.memory a.from }) a.term }) (raise given.now a.term (record p { memory = ended p.memory a.from }) t1)
+
+  -- a vote that does not count
+  pub no_vote_counted : (nat_lt p.store.term a.term ≡ false → counts p a ≡ false) → DoesPuts (term_puts p.store a.term) old new result → OnOk result (Raised (end_vote_call a.from t))
+      → MakesMoves members m n given (TakeVoteAnswer a ∷ []) p t old new raft2 result
+  no_vote_counted none made after = one_move members m n given (TakeVoteAnswer a) p t old new raft2 result
+      (subst (λ (l : List Put). DoesPuts l old new result) same_puts made)
+      (subst (λ (x : Times). OnOk result (StandsFor raft2 members (durable_state new) (record { store = put_all p.store (puts members m p (TakeVoteAnswer a)); memory = memory_after members m n p (TakeVoteAnswer a) }) x))
+      (skip higher (counts p a && has_quorum members (counted p.memory a)) (step_down given.now p.memory.role (end_vote_call a.from t)) (win (end_vote_call a.from t)) (end_vote_call a.from t) (λ low. and_false (counts p a) _ (none low)))
+      (subst (λ (x : Memory). OnOk result (StandsFor raft2 members (durable_state new) (record { store = put_all p.store (puts members m p (TakeVoteAnswer a)); memory = x }) (raise given.now a.term p1 (end_vote_call a.from t))))
+      (skip higher (counts p a) (record (ended p.memory a.from) { role = MachineRole.Follower }) _ (ended p.memory a.from) none)
+      (subst (λ (l : List Put). OnOk result (StandsFor raft2 members (durable_state new) (record { store = put_all p.store l; memory = term_memory p1 a.term }) (raise given.now a.term p1 (end_vote_call a.from t)))) same_puts after)))
+    where
+      same_puts : term_puts p.store a.term ≡ puts members m p (TakeVoteAnswer a)
+      same_puts = twice higher _ [] ∙ skip higher (counts p a) (term_puts p.store a.term) (if has_quorum members (counted p.memory a) then win_puts p.store else []) [] none
+
+  -- one that counts
+  pub vote_counted : nat_lt p.store.term a.term ≡ false → counts p a ≡ true → DoesPuts (votes_puts members p1 t (counted p.memory a) old new raft2) old new result
+      → OnOk result (CountsVotes members p1 (end_vote_call a.from t) (counted p.memory a) old new raft2)
+      → MakesMoves members m n given (TakeVoteAnswer a ∷ []) p t old new raft2 result
+  vote_counted low so made after = one_move members m n given (TakeVoteAnswer a) p t old new raft2 result (rw (low, so) made) (rw (low, so) (by_quorum (has_quorum members (counted p.memory a)) result after))
+    where
+      by_quorum : (q : Bool) (r : Result Bool Fault)
+          → OnOk r (StandsFor raft2 members (durable_state new) (if q then record { store = put_all p.store (win_puts p.store); memory = win_memory p.store (record p1.memory { votes = counted p.memory a }) } else record p1 { memory = record p1.memory { votes = counted p.memory a } }) (if q then win (end_vote_call a.from t) else end_vote_call a.from t))
+          → OnOk r (StandsFor raft2 members (durable_state new) (record { store = put_all p.store (if q then win_puts p.store else []); memory = if q then win_memory p.store (record p1.memory { votes = counted p.memory a }) else record p1.memory { votes = counted p.memory a } }) (if q then win (end_vote_call a.from t) else end_vote_call a.from t))
+      by_quorum true r h = h
+      by_quorum false r h = h
+
+  -- an append answer that does not count
+  pub not_matched : (nat_lt p.store.term a.term ≡ false → (is_leader p.memory.role && (a.term == p.store.term)) ≡ false) → DoesPuts (term_puts p.store a.term) old new result → OnOk result (Raised (end_call a.from t))
+      → MakesMoves members m n given (TakeAppendAnswer a ∷ []) p t old new raft2 result
+  not_matched none made after = one_move members m n given (TakeAppendAnswer a) p t old new raft2 result made
+      (subst (λ (x : Memory). OnOk result (StandsFor raft2 members (durable_state new) (record { store = with_term p.store a.term; memory = x }) (raise given.now a.term p1 (end_call a.from t))))
+      (skip higher (is_leader p.memory.role && (a.term == p.store.term)) (record (ended p.memory a.from) { role = MachineRole.Follower }) (matched_memory p.memory a) (ended p.memory a.from) none) after)
+
+  -- one that counts
+  pub matched : nat_lt p.store.term a.term ≡ false → (is_leader p.memory.role && (a.term == p.store.term)) ≡ true → DoesPuts (term_puts p.store a.term) old new result
+      → OnOk result (StandsFor raft2 members (durable_state new) (record p { memory = matched_memory p.memory a }) (end_call a.from t))
+      → MakesMoves members m n given (TakeAppendAnswer a ∷ []) p t old new raft2 result
+  matched low so made after = one_move members m n given (TakeAppendAnswer a) p t old new raft2 result made (rw (low, so) after)
