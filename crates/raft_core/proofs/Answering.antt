@@ -114,3 +114,24 @@ module _ {D : Type 0} {disk : Ghosts D} (members : List ℕ) (m n : ℕ) (given 
       → OnOk result (StandsFor raft2 members (durable_state new) (record p { memory = matched_memory p.memory a }) (end_call a.from t))
       → MakesMoves members m n given (TakeAppendAnswer a ∷ []) p t old new raft2 result
   matched low so made after = one_move members m n given (TakeAppendAnswer a) p t old new raft2 result made (rw (low, so) after)
+
+  -- the votes were not stored
+  pub count_failed : (fault : Fault) → result ≡ Err fault → nat_lt p.store.term a.term ≡ false → counts p a ≡ true → DoesPuts (votes_puts members p1 t (counted p.memory a) old new raft2) old new result
+      → MakesMoves members m n given (TakeVoteAnswer a ∷ []) p t old new raft2 result
+  count_failed fault failed low so made = one_move_failed members m n given (TakeVoteAnswer a) p t old new raft2 result fault failed (rw (low, so) made)
+
+  -- what is put besides the term
+  abbrev pub rest : List Put
+  rest = if nat_lt p.store.term a.term then [] else (if counts p a then (if has_quorum members (counted p.memory a) then win_puts p.store else []) else [])
+
+  -- the term was not stored
+  pub term_failed : (fault : Fault) → result ≡ Err fault → DoesPuts (term_puts p.store a.term ++ rest) old new result → MakesMoves members m n given (TakeVoteAnswer a ∷ []) p t old new raft2 result
+  term_failed fault failed made = one_move_failed members m n given (TakeVoteAnswer a) p t old new raft2 result fault failed (subst (λ (l : List Put). DoesPuts l old new result) (joins higher _) made)
+    where
+      joins : (b : Bool) (more : List Put) → (if b then PutTerm a.term ∷ PutVote None ∷ [] else []) ++ (if b then [] else more) ≡ (if b then (if b then PutTerm a.term ∷ PutVote None ∷ [] else []) else more)
+      joins true more = refl
+      joins false more = refl
+
+-- the puts of a term that is not higher are none
+pub low_puts : (s : Store) (term : ℕ) (more : List Put) → nat_lt s.term term ≡ false → term_puts s term ++ more ≡ more
+low_puts s term more low = rw low refl
