@@ -13,3 +13,5 @@ pub mod Standing
 pub mod Ticking
 pub mod VoteAnswer
 pub mod Answering
+pub mod Calling
+pub mod Expiring

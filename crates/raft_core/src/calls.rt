@@ -97,7 +97,7 @@ impl Raft {
         requires owed { Owes self.old (durable_state d.now) peer now what.now }
         requires id { id < 32 }
         ensures moves { (members : List ℕ) (p : Plain) (t : Times) → StandsFor self.old members (durable_state d.now) p t →
-            (move : Move) → owed p t peer now ≡ Some move → 
+            (move : Move) → owed p t peer now ≡ Some move →
             StandsFor self.new members (durable_state d.now) (plain_after_all members self.old.me step p (move ∷ [])) (times_after_all members self.old.me step (given_call now id) p (move ∷ []) t) }
         ensures fits { Fits self.new (durable_state d.now) }
     {
