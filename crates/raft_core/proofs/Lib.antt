@@ -15,3 +15,4 @@ pub mod VoteAnswer
 pub mod Answering
 pub mod Calling
 pub mod Expiring
+pub mod Skipping
