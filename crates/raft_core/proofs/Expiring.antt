@@ -1,5 +1,6 @@
 -- Calls that are given up.
 use Rattle.std.proofs.Common.{◌≡◌, ◌≢◌, ◌⊎◌, inl, inr, ℕ, ◌<◌, ◌-◌, Bool, true, false, List, [], ◌∷◌, Option, Some, None, refl, sym, ap, subst, ◌∙◌}
+use Rattle.std.proofs.lemmas.Bool.{cases_Bool}
 use Rattle.std.proofs.lemmas.Bool.Decides.{eqb_tells}
 use Rattle.std.specs.Prelude.{nat_le, slice_index_or, if◌then◌else◌}
 use Rattle.raft_log.specs.Stored.{Stored}
@@ -17,10 +18,6 @@ use Rattle.raft_core.specs.Stands.{StandsFor, Tells, Waits, role_of}
 use Rattle.raft_core.specs.Times.{Given, Sending, Times, is_overdue, overdue, times_after_all}
 
 -- ---- those that are overdue
-
-yes_or_not : (b : Bool) → (b ≡ true) ⊎ (b ≡ false)
-yes_or_not true = inl refl
-yes_or_not false = inr refl
 
 -- a node that is listed stays so, whether or not one more is
 listed_still : (b : Bool) (q node : ℕ) (qs : List ℕ) → In q qs → In q (if b then node ∷ qs else qs)
@@ -104,7 +101,7 @@ waits_young now None None r2 (Some s) s2 waits late kept = absurd waits
 waits_young now None (Some r) r2 s s2 waits late kept = absurd waits
 waits_young now (Some call) None r2 s s2 waits late kept = absurd waits
 waits_young now (Some call) (Some r) r2 None s2 waits late kept = absurd waits
-waits_young now (Some call) (Some r) r2 (Some s) s2 waits late kept = elim (yes_or_not (nat_le 1000 (now - call.sent))) [
+waits_young now (Some call) (Some r) r2 (Some s) s2 waits late kept = elim (cases_Bool (nat_le 1000 (now - call.sent))) [
   | inl old ↦
       let gone = late (λ h. cc h) (ap (λ moment. nat_le 1000 (now - moment)) waits.moment ∙ old) in
       subst (λ b. Waits (if b then None else Some call) r2 s2) (sym old) (subst (λ x. Waits None x s2) (sym gone.0) (subst (λ x. Waits None None x) (sym gone.1) tt))

@@ -16,3 +16,6 @@ pub mod Answering
 pub mod Calling
 pub mod Expiring
 pub mod Skipping
+pub mod SomeServer
+pub mod Peers
+pub mod Called

@@ -54,6 +54,8 @@ impl Raft {
             (nodes : List ℕ) → ((q : ℕ) → q < 128 → p.memory.pending q ≢ None → In q nodes) → let moves = moves_of_expire (overdue t now nodes) in
             StandsFor self.new members state (plain_after_all members self.old.me n p moves) (times_after_all members self.old.me n (given_at now) p moves t) }
         ensures fits { (state : Stored) → Fits self.old state → Fits self.new state }
+        ensures me { self.new.me ≡ self.old.me }
+        ensures size { self.new.size ≡ self.old.size }
     {
         for peer in &mut self.peers {
             peer.expire(now);
@@ -95,11 +97,12 @@ impl Raft {
         requires most { peer ≤ 125 }
         requires fits { Fits self.old (durable_state d.now) }
         requires owed { Owes self.old (durable_state d.now) peer now what.now }
-        requires id { id < 32 }
         ensures moves { (members : List ℕ) (p : Plain) (t : Times) → StandsFor self.old members (durable_state d.now) p t →
             (move : Move) → owed p t peer now ≡ Some move →
             StandsFor self.new members (durable_state d.now) (plain_after_all members self.old.me step p (move ∷ [])) (times_after_all members self.old.me step (given_call now id) p (move ∷ []) t) }
         ensures fits { Fits self.new (durable_state d.now) }
+        ensures me { self.new.me ≡ self.old.me }
+        ensures size { self.new.size ≡ self.old.size }
     {
         let kept = &mut self.peers[peer as usize];
         let asked = match what {

@@ -52,6 +52,8 @@ impl Raft {
             (given : Given) (move : Move) → IsTelling p move →
             StandsFor self.new members state (plain_after_all members self.old.me n p (move ∷ [])) (times_after_all members self.old.me n given p (move ∷ []) t) }
         ensures fits { (state : Stored) → Fits self.old state → self.old.told < state.commit → Fits self.new state }
+        ensures me { self.new.me ≡ self.old.me }
+        ensures size { self.new.size ≡ self.old.size }
     {
         self.told = place;
     }
