@@ -10,7 +10,7 @@ use Rattle.raft_log.specs.declared.durable.Durable.{Durable}
 use Rattle.raft_log.specs.DurableViews.{durable_state}
 use Rattle.raft_log.specs.Stored.{Stored}
 use Rattle.raft_model.specs.Moves.{adds_blank, win_memory, win_puts}
-use Rattle.raft_model.specs.Server.{Plain, Store, put_all, Role as MachineRole}
+use Rattle.raft_model.specs.Server.{Plain, Store, opened, put_all, Role as MachineRole}
 use Rattle.raft_model.specs.Server.Put.{PutEntry, PutLonger}
 use Rattle.raft_core.specs.declared.peer.Peer.{Peer}
 use Rattle.raft_core.specs.declared.raft.Raft.{Raft}
@@ -18,7 +18,7 @@ use Rattle.raft_core.specs.Fits.{Fits, IsWithin}
 use Rattle.raft_core.specs.Peers.{fresh}
 use Rattle.raft_core.specs.Stands.{StandsFor, Tells, role_of}
 use Rattle.raft_core.specs.StoredPuts.{DoesPuts, store_of}
-use Rattle.raft_core.specs.Times.{Times, win}
+use Rattle.raft_core.specs.Times.{Times, opened_times, win}
 use Rattle.raft_core.proofs.Moving.{AllCount, store_after}
 use Rattle.raft_core.proofs.Puts.{got}
 
@@ -77,3 +77,26 @@ module _ {D : Type 0} {disk : Ghosts D} (old new : Durable D disk) (result : Res
   pub won_store : (value : Unit {0}) → result ≡ Ok value → DoesPuts (win_puts (store_of (durable_state old))) old new result
       → store_of (durable_state new) ≡ put_all (store_of (durable_state old)) (win_puts (store_of (durable_state old)))
   won_store value is made = ap store_of (got result value _ is made.made.state) ∙ store_after (win_puts (store_of (durable_state old))) (durable_state old) (win_counts (store_of (durable_state old)))
+
+-- a member that opens
+pub opened_stands : (raft : Raft) (members : List ℕ) (s : Stored) (now word : ℕ) → raft.role ≡ Follower → raft.told ≡ 0 → raft.since ≡ now → raft.word ≡ word → raft.peers ≡ replicate 128 (fresh 1)
+    → StandsFor raft members s (record { store = store_of s; memory = opened }) (opened_times now word)
+opened_stands raft members s now word role told since is_word peers = record {
+  store = refl;
+  role = ap role_of (sym role);
+  told = sym told;
+  known = λ other. absurd (other role);
+  since = sym since;
+  word = sym is_word;
+  peers = λ q d below. subst (λ (x : Peer). Tells x (record { store = store_of s; memory = opened }) (opened_times now word) q) (sym (new_peer raft.peers 1 q d peers below)) (record {
+    call = tt;
+    voted = λ h. refl;
+    answered = λ h. refl;
+    next = λ h. absurd (no_leader h);
+    matched = λ h. refl;
+    appended = λ h. refl;
+  });
+}
+  where
+    no_leader : MachineRole.Follower ≡ MachineRole.Leader → ⊥
+    no_leader h = cc h
