@@ -48,6 +48,8 @@ impl Raft {
             MakesMoves members self.old.me n (given_at now) (TakeAppendRequest r v ∷ []) p t d.old d.new self.new result ×
             IfOk result (λ answer. (answer.term ≡ (with_term p.store r.term).term) × (answer.success ≡ is_accepted v)) }
         ensures fits { OnOk result (Fits self.new (durable_state d.new)) }
+        ensures me { self.new.me ≡ self.old.me }
+        ensures size { self.new.size ≡ self.old.size }
     {
         puts_in_turn::<D, (), AppendAnswer>();
         law_decisions();
@@ -86,6 +88,8 @@ impl Raft {
             MakesMoves members self.old.me n (given_at now) (TakeAppendAnswer (answer_of step from r ans.now.term ans.now.success) ∷ []) p t d.old d.new self.new result ×
             IfOk result (λ taken. IsTrue taken) }
         ensures fits { OnOk result (Fits self.new (durable_state d.new)) }
+        ensures me { self.new.me ≡ self.old.me }
+        ensures size { self.new.size ≡ self.old.size }
     {
         puts_in_turn::<D, (), bool>();
         let Some(reach) = self.awaited_reach(from, id) else {
@@ -119,6 +123,7 @@ impl Raft {
             StandsFor self.new members state (record p { memory = record p.memory { matched = at p.memory.matched from (matched_after p.memory a); next = at p.memory.next from (next_after p.memory a) } }) t }
         ensures fits { (state : Stored) → Fits self.old state → reach ≤ length state.log → Fits self.new state }
         ensures me { self.new.me ≡ self.old.me }
+        ensures size { self.new.size ≡ self.old.size }
     {
         self.peers[from as usize].move_on(reach, success);
     }

@@ -168,6 +168,7 @@ impl Raft {
             StandsFor self.new members state (record p { memory = ended p.memory from }) (times.end_call from t) }
         ensures fits { (state : Stored) → Fits self.old state → Fits self.new state }
         ensures me { self.new.me ≡ self.old.me }
+        ensures size { self.new.size ≡ self.old.size }
         ensures role { self.new.role ≡ self.old.role }
     {
         self.peers[from as usize].call = None;

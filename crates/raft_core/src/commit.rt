@@ -27,6 +27,7 @@ impl Raft {
             (given : Given) →
             MakesMoves members self.old.me n given (moves_of_commit members self.old.me p) p t d.old d.new self.new result }
         ensures fits { OnOk result (Fits self.new (durable_state d.new)) }
+        ensures same { self.new ≡ self.old }
     {
         puts_in_turn::<D, (), ()>();
         law_decisions();

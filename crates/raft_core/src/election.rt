@@ -43,6 +43,8 @@ impl Raft {
             (complete ≡ true → members ≡ self.old.me ∷ peers.now) → 
             MakesMoves members self.old.me n (given_tick now word) (if times.stands complete now p t then TimeOut ∷ [] else []) p t d.old d.new self.new result }
         ensures fits { OnOk result (Fits self.new (durable_state d.new)) }
+        ensures me { self.new.me ≡ self.old.me }
+        ensures size { self.new.size ≡ self.old.size }
     {
         puts_in_turn::<D, (), ()>();
         if !self.may_stand(complete, d.term(), now) {
@@ -87,6 +89,7 @@ impl Raft {
         ensures fits { OnOk result (Fits self.new (durable_state d.new)) }
         ensures role { OnOk result (self.new.role ≡ Candidate) }
         ensures me { self.new.me ≡ self.old.me }
+        ensures size { self.new.size ≡ self.old.size }
     {
         vote_for_itself(d, self.me)?;
         self.role = Role::Candidate;
@@ -106,6 +109,8 @@ impl Raft {
             OnOk result (StandsFor self.new members (durable_state d.new)
             (record { store = put_all p.store (win_puts p.store); memory = win_memory p.store p.memory }) (times.win t)) }
         ensures fits { OnOk result (Fits self.new (durable_state d.new)) }
+        ensures me { self.new.me ≡ self.old.me }
+        ensures size { self.new.size ≡ self.old.size }
     {
         self.role = Role::Leader;
         self.told = d.commit();

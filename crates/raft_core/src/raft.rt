@@ -77,6 +77,8 @@ impl Raft {
         requires five { size ≤ 5 }
         ensures stands { (members : List ℕ) (state : Stored) → StandsFor result members state (record { store = store_of state; memory = opened }) (opened_times now word) }
         ensures fits { (state : Stored) → Fits result state }
+        ensures me { result.me ≡ me }
+        ensures size { result.size ≡ size }
     {
         Raft {
             me,
@@ -119,6 +121,7 @@ impl Raft {
             OnOk result (StandsFor self.new members (durable_state d.new) (record { store = with_term p.store term; memory = term_memory p term }) (times.raise now term p t)) }
         ensures fits { Fits self.old (durable_state d.old) → OnOk result (Fits self.new (durable_state d.new)) }
         ensures me { self.new.me ≡ self.old.me }
+        ensures size { self.new.size ≡ self.old.size }
         ensures role { OnOk result (self.new.role ≢ Follower → self.new.role ≡ self.old.role) }
         ensures term { OnOk result (term ≤ (durable_state d.new).term) }
         ensures log { OnOk result ((durable_state d.new).log ≡ (durable_state d.old).log) }

@@ -47,6 +47,8 @@ impl Raft {
             MakesMoves members self.old.me n (given_at now) (TakeVoteRequest r granted ∷ []) p t d.old d.new self.new result ×
             IfOk result (λ answer. (answer.term ≡ (with_term p.store r.term).term) × (answer.granted ≡ granted)) }
         ensures fits { OnOk result (Fits self.new (durable_state d.new)) }
+        ensures me { self.new.me ≡ self.old.me }
+        ensures size { self.new.size ≡ self.old.size }
     {
         puts_in_turn::<D, (), VoteAnswer>();
         law_decisions();
@@ -84,6 +86,8 @@ impl Raft {
             MakesMoves members self.old.me n (given_at now) (TakeVoteAnswer (answer_of step from r ans.now.term ans.now.granted) ∷ []) p t d.old d.new self.new result ×
             IfOk result (λ taken. IsTrue taken) }
         ensures fits { OnOk result (Fits self.new (durable_state d.new)) }
+        ensures me { self.new.me ≡ self.old.me }
+        ensures size { self.new.size ≡ self.old.size }
     {
         puts_in_turn::<D, (), bool>();
         if !self.awaits_vote(from, id) {
@@ -114,6 +118,7 @@ impl Raft {
             StandsFor self.new members state p (record t { answered = at t.answered from true }) }
         ensures fits { (state : Stored) → Fits self.old state → Fits self.new state }
         ensures me { self.new.me ≡ self.old.me }
+        ensures size { self.new.size ≡ self.old.size }
     {
         self.peers[from as usize].answered = true;
     }
@@ -125,6 +130,7 @@ impl Raft {
             StandsFor self.new members state (record p { memory = record p.memory { votes = at p.memory.votes from true } }) t }
         ensures fits { (state : Stored) → Fits self.old state → Fits self.new state }
         ensures me { self.new.me ≡ self.old.me }
+        ensures size { self.new.size ≡ self.old.size }
         ensures role { self.new.role ≡ self.old.role }
     {
         self.peers[from as usize].voted = true;
@@ -143,6 +149,8 @@ impl Raft {
             (if has_quorum members counted.votes then record { store = put_all p.store (win_puts p.store); memory = win_memory p.store counted } else record p { memory = counted })
             (if has_quorum members counted.votes then times.win t else t)) }
         ensures fits { OnOk result (Fits self.new (durable_state d.new)) }
+        ensures me { self.new.me ≡ self.old.me }
+        ensures size { self.new.size ≡ self.old.size }
     {
         puts_in_turn::<D, (), ()>();
         self.count(from);
