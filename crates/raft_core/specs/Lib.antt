@@ -3,6 +3,7 @@ pub mod Backs
 pub mod Calls
 pub mod Fits
 pub mod Handled
+pub mod OneFit
 pub mod Peers
 pub mod Requests
 pub mod Roles

@@ -28,6 +28,8 @@ mod peer;
 mod propose;
 mod raft;
 mod tell;
+#[cfg(test)]
+mod tests;
 mod votes;
 
 pub use calls::{Call, Pending};
