@@ -1,6 +1,6 @@
 -- An answer of a peer: the call ends, a higher term counts, and else what the answer says.
-use Rattle.std.proofs.Common.{◌≡◌, ℕ, None, Bool, true, false, List, [], ◌∷◌, ◌++◌, refl, sym, ap, subst, ◌∙◌}
-use Rattle.std.specs.Prelude.{Result, Ok, Err, OnOk, if◌then◌else◌, ◌&&◌, ◌==◌, nat_lt}
+use Rattle.std.proofs.Common.{◌≡◌, ℕ, None, Bool, true, false, List, [], ◌∷◌, ◌++◌, refl, sym, subst, ◌∙◌}
+use Rattle.std.specs.Prelude.{Result, Err, OnOk, if◌then◌else◌, ◌&&◌, ◌==◌, nat_lt}
 use Rattle.disk_model.specs.declared.disk.Disk.{Ghosts}
 use Rattle.kv_store.specs.declared.fault.Fault.{Fault}
 use Rattle.can_frame.specs.declared.step.Role.{Role}
@@ -16,8 +16,8 @@ use Rattle.raft_model.specs.Server.Put.{PutTerm, PutVote}
 use Rattle.raft_core.specs.declared.raft.Raft.{Raft}
 use Rattle.raft_core.specs.Handled.{MakesMoves}
 use Rattle.raft_core.specs.Stands.{StandsFor, role_of}
-use Rattle.raft_core.specs.StoredPuts.{DoesPuts, store_of}
-use Rattle.raft_core.specs.Times.{Given, Times, end_call, end_vote_call, raise, step_down, times_after, win}
+use Rattle.raft_core.specs.StoredPuts.{DoesPuts}
+use Rattle.raft_core.specs.Times.{Given, Times, end_call, end_vote_call, raise, step_down, win}
 use Rattle.raft_core.proofs.Moving.{one_move, one_move_failed}
 use Rattle.raft_core.proofs.VoteAnswer.{CountsVotes, votes_puts}
 

@@ -1,5 +1,5 @@
 -- The exits of an append request.
-use Rattle.std.proofs.Common.{◌≡◌, ◌⊎◌, ℕ, ◌<◌, ◌≤◌, Bool, true, false, List, [], ◌∷◌, ◌++◌, refl, sym, ap, subst, ◌∙◌}
+use Rattle.std.proofs.Common.{◌≡◌, ℕ, Bool, false, List, [], ◌∷◌, ◌++◌, refl, sym, ap, subst, ◌∙◌}
 use Rattle.std.specs.Prelude.{Result, Ok, Err, IfOk}
 use Rattle.disk_model.specs.declared.disk.Disk.{Ghosts}
 use Rattle.dsdl_codec.specs.declared.append_answer.AppendAnswer.{AppendAnswer}
@@ -8,7 +8,7 @@ use Rattle.kv_store.specs.declared.fault.Fault.{Fault}
 use Rattle.raft_log.specs.declared.durable.Durable.{Durable}
 use Rattle.raft_log.specs.DurableViews.{durable_state}
 use Rattle.raft_model.specs.Messages.{Request}
-use Rattle.raft_model.specs.Moves.{IsJudged, IsOutdated, IsRuled, Verdict, append_puts, is_accepted, puts, term_memory, term_puts, with_term}
+use Rattle.raft_model.specs.Moves.{IsJudged, IsOutdated, IsRuled, Verdict, append_puts, is_accepted, term_memory, term_puts, with_term}
 use Rattle.raft_model.specs.Moves.Move.{TakeAppendRequest}
 use Rattle.raft_model.specs.Moves.Verdict.{Outdated}
 use Rattle.raft_model.specs.Server.{Plain, Put, Store, put_all}
@@ -35,10 +35,11 @@ module _ {D : Type 0} {disk : Ghosts D} (members : List ℕ) (m n : ℕ) (given 
       let out : IsOutdated p r = late raft members (durable_state old) p t r st is_late in
       let result : Result AppendAnswer Fault = Ok (record { term = term; success = false }) in
       let none : term_puts p.store r.term ++ [] ≡ [] = ap (λ (l : List Put). l ++ []) (no_term_puts p.store r.term (outdated_term p r out)) in
-      subst (λ (w : Verdict). MakesMoves members m n given (TakeAppendRequest r w ∷ []) p t old old raft result × ((term ≡ (with_term p.store r.term).term) × (false ≡ is_accepted w))) (sym (judged_outdated p r v judged out))
-      (one_move members m n given (TakeAppendRequest r Outdated) p t old old raft result (none_made _ old result none nothing)
-      (subst (λ (l : List Put). StandsFor raft members (durable_state old) (record p { store = put_all p.store l }) t) (sym none) st),
-      (own ∙ (sym (ap (λ (z : Store). z.term) st.store) ∙ own_term p.store r.term (outdated_term p r out)), refl))
+      subst (λ (w : Verdict). MakesMoves members m n given (TakeAppendRequest r w ∷ []) p t old old raft result × ((term ≡ (with_term p.store r.term).term) × (false ≡ is_accepted w))) (sym (judged_outdated p r v judged out)) (
+        one_move members m n given (TakeAppendRequest r Outdated) p t old old raft result (none_made _ old result none nothing)
+            (subst (λ (l : List Put). StandsFor raft members (durable_state old) (record p { store = put_all p.store l }) t) (sym none) st),
+        (own ∙ (sym (ap (λ (z : Store). z.term) st.store) ∙ own_term p.store r.term (outdated_term p r out)), refl),
+      )
 
   module _ (not : IsLate raft members (durable_state old) p t r st → ⊥) where
     ruled : IsRuled (with_term p.store r.term) r v
@@ -47,10 +48,11 @@ module _ {D : Type 0} {disk : Ghosts D} (members : List ℕ) (m n : ℕ) (given 
     -- the term was not stored
     pub term_failed : (fault : Fault) (raft2 : Raft) (result : Result AppendAnswer Fault) → result ≡ Err fault
         → DoesPuts (term_puts (store_of (durable_state old)) r.term ++ append_puts (with_term p.store r.term) r v) old new result → IsTaken new raft2 result
-    term_failed fault raft2 result is made =
-        (one_move_failed members m n given (TakeAppendRequest r v) p t old new raft2 result fault is
-        (subst (λ (z : Store). DoesPuts (term_puts z r.term ++ append_puts (with_term p.store r.term) r v) old new result) (sym st.store) made),
-        subst (λ (x : Result AppendAnswer Fault). IfOk x (λ answer. (answer.term ≡ (with_term p.store r.term).term) × (answer.success ≡ is_accepted v))) (sym is) tt)
+    term_failed fault raft2 result is made = (
+      one_move_failed members m n given (TakeAppendRequest r v) p t old new raft2 result fault is
+          (subst (λ (z : Store). DoesPuts (term_puts z r.term ++ append_puts (with_term p.store r.term) r v) old new result) (sym st.store) made),
+      subst (λ (x : Result AppendAnswer Fault). IfOk x (λ answer. (answer.term ≡ (with_term p.store r.term).term) × (answer.success ≡ is_accepted v))) (sym is) tt,
+    )
 
     module _ (mid : Durable D disk) (raft1 : Raft)
         (st1 : StandsFor raft1 members (durable_state mid) (record { store = with_term p.store r.term; memory = term_memory p r.term }) (raise given.now r.term p t)) where
@@ -67,11 +69,12 @@ module _ {D : Type 0} {disk : Ghosts D} (members : List ℕ) (m n : ℕ) (given 
           → DoesPuts {T = Bool} (append_puts (store_of (durable_state mid)) r v) mid new (Ok success)
           → DoesPuts {T = AppendAnswer} (term_puts (store_of (durable_state old)) r.term ++ append_puts (with_term p.store r.term) r v) old new (Ok (record { term = term; success = success }))
           → IsTaken new raft2 (Ok (record { term = term; success = success }))
-      taken success term raft2 role since told word peers is_success is_term appended made =
-          (one_move members m n given (TakeAppendRequest r v) p t old new raft2 _
-          (subst (λ (z : Store). DoesPuts {T = AppendAnswer} (term_puts z r.term ++ append_puts (with_term p.store r.term) r v) old new (Ok (record { term = term; success = success }))) (sym st.store) made)
-          (taken_stands members m n given p t r v raft1 raft2 (durable_state mid) (durable_state new) st1 ruled stored role since told word peers),
-          (is_term ∙ raised_term p.store r.term (not_lower raft members (durable_state old) p t r st not), is_success))
+      taken success term raft2 role since told word peers is_success is_term appended made = (
+        one_move members m n given (TakeAppendRequest r v) p t old new raft2 _
+            (subst (λ (z : Store). DoesPuts {T = AppendAnswer} (term_puts z r.term ++ append_puts (with_term p.store r.term) r v) old new (Ok (record { term = term; success = success }))) (sym st.store) made)
+            (taken_stands members m n given p t r v raft1 raft2 (durable_state mid) (durable_state new) st1 ruled stored role since told word peers),
+        (is_term ∙ raised_term p.store r.term (not_lower raft members (durable_state old) p t r st not), is_success),
+      )
         where
           stored : store_of (durable_state new) ≡ put_all p.store (term_puts p.store r.term ++ append_puts (with_term p.store r.term) r v)
           stored = ap store_of appended.made.state

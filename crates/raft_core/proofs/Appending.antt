@@ -1,5 +1,5 @@
 -- What the steps of an append request put.
-use Rattle.std.proofs.Common.{rules, ◌≡◌, ℕ, ◌+◌, ◌<◌, ◌≤◌, Bool, true, false, List, [], ◌∷◌, ◌++◌, length, take, min, Option, Some, None, refl, sym, ap, subst, ◌∙◌, arith, append_assoc}
+use Rattle.std.proofs.Common.{◌≡◌, ℕ, ◌+◌, ◌<◌, ◌≤◌, Bool, true, false, List, [], ◌∷◌, ◌++◌, length, take, min, Option, Some, None, refl, sym, ap, subst, ◌∙◌, arith, append_assoc}
 use Rattle.std.specs.Prelude.{Result, Ok, Err, IfOk, IsTrue, nat_lt}
 use Rattle.std.proofs.lemmas.Bool.Decides.{nat_tests}
 use Rattle.can_frame.specs.declared.entry.Entry.{Entry}
@@ -11,7 +11,7 @@ use Rattle.raft_log.specs.DurableViews.{durable_state}
 use Rattle.raft_log.specs.Stored.{Put as StoredPut}
 use Rattle.raft_model.specs.Messages.{Request, items, reach}
 use Rattle.raft_model.specs.Moves.{Verdict, append_puts, is_accepted}
-use Rattle.raft_model.specs.Moves.Verdict.{Outdated, Refused, Held, Added}
+use Rattle.raft_model.specs.Moves.Verdict.{Refused, Held, Added}
 use Rattle.raft_model.specs.Server.{Put, Store}
 use Rattle.raft_model.specs.Server.Put.{PutEntry, PutLonger, PutShorter, PutCommit}
 use Rattle.raft_core.specs.Appending.{commit_puts, cut_to, write_puts}

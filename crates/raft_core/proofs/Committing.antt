@@ -1,14 +1,12 @@
 -- A leader commits what a quorum has.
-use Rattle.std.proofs.Common.{◌≡◌, ◌⊎◌, inl, inr, ℕ, ◌+◌, ◌<◌, ◌≤◌, Bool, true, false, List, [], ◌∷◌, Option, Some, None, refl, sym, ap, subst, ◌∙◌, arith}
+use Rattle.std.proofs.Common.{◌≡◌, ◌⊎◌, inl, inr, ℕ, ◌+◌, ◌<◌, ◌≤◌, Bool, false, List, [], ◌∷◌, Option, Some, None, refl, sym, ap, subst, ◌∙◌, arith}
 use Rattle.std.proofs.lemmas.Bool.Decides.{eqb_tells, leb_tells}
 use Rattle.std.specs.Prelude.{slice_index_or, if◌then◌else◌, ◌==◌, Result, Ok, Err}
-use Rattle.can_frame.specs.declared.step.Role.{Role}
-use Rattle.can_frame.specs.declared.step.Role.TheVariants.{Follower, Candidate, Leader}
+use Rattle.can_frame.specs.declared.step.Role.TheVariants.{Leader}
 use Rattle.disk_model.specs.declared.disk.Disk.{Ghosts}
 use Rattle.kv_store.specs.declared.fault.Fault.{Fault}
 use Rattle.raft_log.specs.declared.durable.Durable.{Durable}
 use Rattle.raft_log.specs.DurableViews.{durable_state}
-use Rattle.raft_log.specs.Stored.{Stored}
 use Rattle.raft_model.specs.Decisions.{commit_index}
 use Rattle.raft_model.specs.Moves.{CanCommit, IsCommitIndex, is_leader}
 use Rattle.raft_model.specs.Moves.Move.{CommitTo}
@@ -24,7 +22,7 @@ use Rattle.raft_core.specs.Peers.{fresh}
 use Rattle.raft_core.specs.Stands.{StandsFor, role_of}
 use Rattle.raft_core.specs.StoredPuts.{DoesPuts, store_of}
 use Rattle.raft_core.specs.Times.{Given, Times}
-use Rattle.raft_core.proofs.Moving.{leads, no_move, one_move, one_move_failed, store_after, storing_stands}
+use Rattle.raft_core.proofs.Moving.{leads, no_move, one_move, one_move_failed, storing_stands}
 
 itself : (me place node : ℕ) (peer : Peer) → node ≡ me → (node == me) ≡ backs me (Place place) node peer
 itself me place node peer same = elim (eqb_tells node me) [ inl t ↦ rw t.0 refl | inr t ↦ absurd (t.1 same) ]

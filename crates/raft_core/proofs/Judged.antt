@@ -1,7 +1,7 @@
 -- An append request is judged, first by its term.
 use Rattle.std.proofs.Common.{◌≡◌, ◌⊎◌, inl, inr, None, ℕ, ◌+◌, ◌<◌, ◌≤◌, Bool, true, false, List, [], ◌∷◌, ◌++◌, refl, sym, ap, subst, ◌∙◌, arith}
-use Rattle.std.specs.Prelude.{⊤, Result, nat_lt, min, if◌then◌else◌, length}
-use Rattle.std.proofs.lemmas.Bool.Decides.{nat_tests, leb_tells}
+use Rattle.std.specs.Prelude.{Result, nat_lt, min, if◌then◌else◌, length}
+use Rattle.std.proofs.lemmas.Bool.Decides.{leb_tells}
 use Rattle.disk_model.specs.declared.disk.Disk.{Ghosts}
 use Rattle.kv_store.specs.declared.fault.Fault.{Fault}
 use Rattle.raft_log.specs.declared.durable.Durable.{Durable}
@@ -14,7 +14,7 @@ use Rattle.raft_model.specs.Moves.{IsCurrent, IsJudged, IsOutdated, IsRuled, Ver
 use Rattle.raft_model.specs.Moves.Move.{TakeAppendRequest}
 use Rattle.raft_model.specs.Moves.Verdict.{Outdated, Refused, Held, Added}
 use Rattle.raft_model.specs.Server.{Memory, Plain, Put, Store, put_all, Role as MachineRole}
-use Rattle.raft_model.specs.Server.Put.{PutTerm, PutVote, PutEntry, PutLonger, PutShorter, PutCommit}
+use Rattle.raft_model.specs.Server.Put.{PutTerm, PutVote, PutShorter, PutCommit}
 use Rattle.raft_core.specs.declared.raft.Raft.{Raft}
 use Rattle.can_frame.specs.declared.step.Role.TheVariants.{Follower, Leader}
 use Rattle.raft_core.specs.Stands.{StandsFor, role_of}

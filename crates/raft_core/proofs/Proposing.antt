@@ -1,11 +1,10 @@
 -- A leader appends an entry.
-use Rattle.std.proofs.Common.{◌≡◌, ◌≢◌, ◌⊎◌, inl, inr, ℕ, ◌+◌, ◌<◌, ◌≤◌, Bool, true, false, List, [], ◌∷◌, ◌++◌, Option, Some, None, length, get_or, refl, sym, ap, subst, ◌∙◌, arith}
-use Rattle.std.specs.Prelude.{⊤, slice_index_or, Result, Ok, Err}
+use Rattle.std.proofs.Common.{◌≡◌, ◌≢◌, ◌⊎◌, inl, inr, ℕ, ◌≤◌, List, [], ◌∷◌, ◌++◌, Option, Some, None, length, get_or, sym, ap, ◌∙◌, arith}
+use Rattle.std.specs.Prelude.{slice_index_or, Ok}
 use Rattle.can_frame.specs.declared.entry.Entry.{Entry}
 use Rattle.can_frame.specs.Log.{IsBlank, IsInjective, blank}
 use Rattle.can_frame.specs.Zeros.{zeros}
 use Rattle.disk_model.specs.declared.disk.Disk.{Ghosts}
-use Rattle.kv_store.specs.declared.fault.Fault.{Fault}
 use Rattle.raft_log.specs.declared.durable.Durable.{Durable}
 use Rattle.raft_log.specs.DurableViews.{durable_state}
 use Rattle.raft_log.specs.Stored.{Stored, Put as StoredPut}
@@ -14,10 +13,9 @@ use Rattle.raft_model.specs.Server.{Plain, Store}
 use Rattle.raft_model.specs.Server.Put.{PutEntry, PutLonger}
 use Rattle.raft_core.specs.declared.peer.Asked.{Asked}
 use Rattle.raft_core.specs.declared.peer.Asked.TheVariants.{Vote, Append}
-use Rattle.raft_core.specs.declared.peer.Peer.{Peer}
 use Rattle.raft_core.specs.declared.peer.Waiting.{Waiting}
 use Rattle.raft_core.specs.declared.raft.Raft.{Raft}
-use Rattle.raft_core.specs.Fits.{AsksUpTo, Fits, IsWithin, ReachesUpTo}
+use Rattle.raft_core.specs.Fits.{AsksUpTo, Fits, ReachesUpTo}
 use Rattle.raft_core.specs.Handled.{MakesMoves}
 use Rattle.raft_core.specs.Stands.{StandsFor}
 use Rattle.raft_core.specs.StoredPuts.{DoesPuts, store_of, stored_puts}

@@ -1,6 +1,6 @@
 -- The exits of a tick.
-use Rattle.std.proofs.Common.{◌≡◌, ◌≢◌, ℕ, ◌<◌, Bool, true, false, List, [], ◌∷◌, ◌++◌, refl, sym, ap, subst, ◌∙◌}
-use Rattle.std.specs.Prelude.{Result, Ok, Err, OnOk, if◌then◌else◌, slice_index_or, nat_le}
+use Rattle.std.proofs.Common.{◌≡◌, ℕ, Bool, true, false, List, [], ◌∷◌, ◌++◌, sym, ap, subst, ◌∙◌}
+use Rattle.std.specs.Prelude.{Result, Err, OnOk, if◌then◌else◌, nat_le}
 use Rattle.can_frame.specs.declared.step.Role.TheVariants.{Follower, Candidate}
 use Rattle.disk_model.specs.declared.disk.Disk.{Ghosts}
 use Rattle.kv_store.specs.declared.fault.Fault.{Fault}
@@ -10,8 +10,7 @@ use Rattle.raft_log.specs.Stored.{Stored}
 use Rattle.raft_model.specs.Lists.{how_many}
 use Rattle.raft_model.specs.Moves.{has_quorum, own_vote, stand_memory, stand_puts, win_memory, win_puts}
 use Rattle.raft_model.specs.Moves.Move.{TimeOut}
-use Rattle.raft_model.specs.Server.{Plain, Put, Store, put_all, quorum, Role as MachineRole}
-use Rattle.raft_core.specs.declared.peer.Peer.{Peer}
+use Rattle.raft_model.specs.Server.{Plain, Put, Store, put_all, quorum}
 use Rattle.raft_core.specs.declared.raft.Cause.TheVariants.{Candidacy}
 use Rattle.raft_core.specs.declared.raft.Raft.{Raft}
 use Rattle.raft_core.specs.Backs.{Backs}
@@ -19,8 +18,7 @@ use Rattle.raft_core.specs.Handled.{MakesMoves}
 use Rattle.raft_core.specs.Stands.{StandsFor, role_of}
 use Rattle.raft_core.specs.StoredPuts.{DoesPuts, store_of}
 use Rattle.raft_core.specs.Times.{Given, Times, stand, stands, win}
-use Rattle.raft_core.proofs.Moving.{no_move, one_move, one_move_failed, put_then}
-use Rattle.raft_core.proofs.Puts.{each_ok, got}
+use Rattle.raft_core.proofs.Moving.{no_move, one_move, one_move_failed}
 
 -- what a candidate counts is what the machine counts
 pub counted_as : (raft : Raft) (members : List ℕ) (s : Stored) (p : Plain) (t : Times) → StandsFor raft members s p t → raft.role ≡ Candidate → (result : Bool)

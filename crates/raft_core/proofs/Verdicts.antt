@@ -1,5 +1,5 @@
 -- Which verdict the rules on log and entry give, told by what the tests of the code say.
-use Rattle.std.proofs.Common.{◌≡◌, ◌⊎◌, inl, inr, ℕ, zero, suc, ◌+◌, ◌<◌, ◌≤◌, List, [], ◌∷◌, ◌++◌, Option, Some, None, length, take, get_or, refl, sym, ap, subst, ◌∙◌, arith}
+use Rattle.std.proofs.Common.{◌≡◌, ◌⊎◌, inl, inr, ℕ, zero, suc, ◌+◌, ◌<◌, ◌≤◌, List, [], ◌∷◌, ◌++◌, Some, None, length, take, get_or, refl, sym, ap, subst, ◌∙◌, arith}
 use Rattle.std.proofs.lemmas.List.{get_or-take, get_or_append_left, length-take-le, length-append}
 use Rattle.std.proofs.Math.Seq.{get_or-append_seam}
 use Rattle.std.proofs.lemmas.Bool.Decides.{leb_tells}
@@ -9,7 +9,7 @@ use Rattle.raft_log.specs.MayFollow.{MayFollow}
 use Rattle.raft_log.specs.Stored.{Stored}
 use Rattle.raft_model.specs.Log.{term_at}
 use Rattle.raft_model.specs.Messages.{Request}
-use Rattle.raft_model.specs.Moves.{Adds, HasPrevious, Holds, IsBadEntry, IsRefused, IsRuled, IsThere, Verdict}
+use Rattle.raft_model.specs.Moves.{Adds, HasPrevious, IsBadEntry, IsRuled, IsThere, Verdict}
 use Rattle.raft_model.specs.Moves.Verdict.{Outdated, Refused, Held, Added}
 use Rattle.raft_core.specs.StoredPuts.{store_of}
 
@@ -89,12 +89,16 @@ module _ (s : Stored) (r : Request) (e : Entry) (is : r.entry ≡ Some e) where
 
   module _ (own : r.term ≡ s.term) (fits : HasPrevious (store_of s) r) (not_there : IsThere (store_of s) r e → ⊥) where
     may_add : Adds (store_of s) r e → MayAdd
-    may_add a = (omega (arith, a.room), omega (arith, a.after_commit), record {
-      formed = a.well_formed;
-      order = subst (λ n. n ≤ e.term) (sym (last_of_take s.log r.previous fits.previous)) a.rises;
-      bound = subst (λ n. e.term ≤ n) own a.below;
-      distinct = distinct_from (take r.previous s.log) e a.injective;
-    })
+    may_add a = (
+      omega (arith, a.room),
+      omega (arith, a.after_commit),
+      record {
+        formed = a.well_formed;
+        order = subst (λ n. n ≤ e.term) (sym (last_of_take s.log r.previous fits.previous)) a.rises;
+        bound = subst (λ n. e.term ≤ n) own a.below;
+        distinct = distinct_from (take r.previous s.log) e a.injective;
+      },
+    )
 
     -- it may not
     pub refused : (MayAdd → ⊥) → (v : Verdict) → IsRuled (store_of s) r v → v ≡ Refused

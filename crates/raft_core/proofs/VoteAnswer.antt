@@ -1,14 +1,12 @@
 -- A vote answer.
-use Rattle.std.proofs.Common.{◌≡◌, ℕ, Bool, true, false, List, [], ◌∷◌, ◌++◌, refl, sym, ap, subst, ◌∙◌}
-use Rattle.std.specs.Prelude.{Result, Ok, Err, OnOk, IfOk, IsTrue, if◌then◌else◌}
+use Rattle.std.proofs.Common.{◌≡◌, ℕ, Bool, true, false, List, [], sym, subst}
+use Rattle.std.specs.Prelude.{Result, if◌then◌else◌}
 use Rattle.disk_model.specs.declared.disk.Disk.{Ghosts}
 use Rattle.kv_store.specs.declared.fault.Fault.{Fault}
 use Rattle.raft_log.specs.declared.durable.Durable.{Durable}
 use Rattle.raft_log.specs.DurableViews.{durable_state}
-use Rattle.raft_log.specs.Stored.{Stored}
-use Rattle.raft_model.specs.Lists.{at}
 use Rattle.raft_model.specs.Moves.{has_quorum, win_memory, win_puts}
-use Rattle.raft_model.specs.Server.{Memory, Plain, Put, Store, put_all}
+use Rattle.raft_model.specs.Server.{Plain, Put, Store, put_all}
 use Rattle.raft_core.specs.declared.raft.Raft.{Raft}
 use Rattle.raft_core.specs.Stands.{StandsFor}
 use Rattle.raft_core.specs.StoredPuts.{DoesPuts, store_of}

@@ -1,16 +1,15 @@
 -- The exits of a vote request.
-use Rattle.std.proofs.Common.{◌≡◌, ◌≢◌, ◌⊎◌, ℕ, zero, suc, ◌<◌, ◌≤◌, Bool, true, false, List, [], ◌∷◌, ◌++◌, refl, sym, ap, subst, ◌∙◌, arith}
+use Rattle.std.proofs.Common.{◌≡◌, ◌≢◌, ℕ, zero, suc, ◌≤◌, Bool, true, false, List, [], ◌∷◌, ◌++◌, refl, sym, ap, subst, ◌∙◌, arith}
 use Rattle.std.specs.Prelude.{Some, Result, Ok, Err, IfOk, if◌then◌else◌, nat_lt}
 use Rattle.disk_model.specs.declared.disk.Disk.{Ghosts}
 use Rattle.dsdl_codec.specs.declared.vote_answer.VoteAnswer.{VoteAnswer}
 use Rattle.kv_store.specs.declared.fault.Fault.{Fault}
 use Rattle.raft_log.specs.declared.durable.Durable.{Durable}
 use Rattle.raft_log.specs.DurableViews.{durable_state}
-use Rattle.raft_log.specs.Stored.{Stored}
 use Rattle.raft_model.specs.Messages.{Request}
-use Rattle.raft_model.specs.Moves.{IsGranted, MayGrant, grant_puts, puts, term_memory, term_puts, vote_puts, with_term}
+use Rattle.raft_model.specs.Moves.{IsGranted, MayGrant, grant_puts, term_memory, term_puts, vote_puts, with_term}
 use Rattle.raft_model.specs.Moves.Move.{TakeVoteRequest}
-use Rattle.raft_model.specs.Server.{Plain, Put, Store, put_all, Role as MachineRole}
+use Rattle.raft_model.specs.Server.{Plain, Store, put_all, Role as MachineRole}
 use Rattle.raft_model.specs.Server.Put.{PutVote}
 use Rattle.raft_core.specs.declared.raft.Raft.{Raft}
 use Rattle.raft_core.specs.Handled.{MakesMoves}
@@ -62,10 +61,11 @@ module _ {D : Type 0} {disk : Ghosts D} (members : List ℕ) (m n : ℕ) (given 
 
   pub vote_failed : (new : Durable D disk) (fault : Fault) (raft2 : Raft) (result : Result VoteAnswer Fault) → result ≡ Err fault
       → DoesPuts (term_puts (store_of (durable_state old)) r.term ++ grant_puts (with_term p.store r.term) r granted) old new result → IsVoted new raft2 result
-  vote_failed new fault raft2 result failed made =
-      (one_move_failed members m n given (TakeVoteRequest r granted) p t old new raft2 result fault failed
-      (subst (λ (z : Store). DoesPuts (term_puts z r.term ++ grant_puts (with_term p.store r.term) r granted) old new result) (sym st.store) made),
-      subst (λ (x : Result VoteAnswer Fault). IfOk x (λ answer. (answer.term ≡ (with_term p.store r.term).term) × (answer.granted ≡ granted))) (sym failed) tt)
+  vote_failed new fault raft2 result failed made = (
+    one_move_failed members m n given (TakeVoteRequest r granted) p t old new raft2 result fault failed
+        (subst (λ (z : Store). DoesPuts (term_puts z r.term ++ grant_puts (with_term p.store r.term) r granted) old new result) (sym st.store) made),
+    subst (λ (x : Result VoteAnswer Fault). IfOk x (λ answer. (answer.term ≡ (with_term p.store r.term).term) × (answer.granted ≡ granted))) (sym failed) tt,
+  )
 
   module _ (mid : Durable D disk) (raft1 : Raft)
       (st1 : StandsFor raft1 members (durable_state mid) (record { store = with_term p.store r.term; memory = term_memory p r.term }) (raise given.now r.term p t)) where
@@ -83,11 +83,12 @@ module _ {D : Type 0} {disk : Ghosts D} (members : List ℕ) (m n : ℕ) (given 
       vote_denied no_grant made =
           let result : Result VoteAnswer Fault = Ok (record { term = term; granted = false }) in
           subst (λ (b : Bool). MakesMoves members m n given (TakeVoteRequest r b ∷ []) p t old mid raft1 result × ((term ≡ (with_term p.store r.term).term) × (false ≡ b)))
-          (sym (denied (store_of (durable_state mid)) r granted granted_now no_grant))
-          (one_move members m n given (TakeVoteRequest r false) p t old mid raft1 result
-          (subst (λ (z : Store). DoesPuts (term_puts z r.term ++ []) old mid result) (sym st.store) made)
-          (subst (λ (z : Store). StandsFor raft1 members (durable_state mid) (record { store = z; memory = term_memory p r.term }) (raise given.now r.term p t)) (sym (put_then (term_puts p.store r.term) [] p.store)) st1),
-          (term_now, refl))
+          (sym (denied (store_of (durable_state mid)) r granted granted_now no_grant)) (
+            one_move members m n given (TakeVoteRequest r false) p t old mid raft1 result
+                (subst (λ (z : Store). DoesPuts (term_puts z r.term ++ []) old mid result) (sym st.store) made)
+                (subst (λ (z : Store). StandsFor raft1 members (durable_state mid) (record { store = z; memory = term_memory p r.term }) (raise given.now r.term p t)) (sym (put_then (term_puts p.store r.term) [] p.store)) st1),
+            (term_now, refl),
+          )
 
       -- it is granted
       pub vote_granted : (new : Durable D disk) (raft2 : Raft) → MayGrant (store_of (durable_state mid)) r → 1 ≤ r.from
@@ -103,13 +104,14 @@ module _ {D : Type 0} {disk : Ghosts D} (members : List ℕ) (m n : ℕ) (given 
           ap store_of voted.made.state ∙ (store_after (vote_puts (store_of s).vote r.from) s (vote_counts s.vote r.from least)
           ∙ (ap (λ (z : Store). put_all z (vote_puts z.vote r.from)) same ∙ sym (put_then (term_puts p.store r.term) (vote_puts (with_term p.store r.term).vote r.from) p.store))) in
           subst (λ (b : Bool). MakesMoves members m n given (TakeVoteRequest r b ∷ []) p t old new raft2 result × ((term ≡ (with_term p.store r.term).term) × (true ≡ b)))
-          (sym (allowed (store_of s) r granted granted_now may))
-          (one_move members m n given (TakeVoteRequest r true) p t old new raft2 result
-          (subst (λ (z : Store). DoesPuts (term_puts z r.term ++ vote_puts (with_term p.store r.term).vote r.from) old new result) (sym st.store)
-          (subst (λ (z : Store). DoesPuts (term_puts (store_of (durable_state old)) r.term ++ vote_puts z.vote r.from) old new result) same made))
-          (subst (λ (x : Times). StandsFor raft2 members (durable_state new) (record { store = put_all p.store (term_puts p.store r.term ++ vote_puts (with_term p.store r.term).vote r.from); memory = term_memory p r.term }) x) (raise_wait given.now r.term p t)
-          (waiting_stands raft1 raft2 members s (durable_state new) (record { store = with_term p.store r.term; memory = term_memory p r.term }) (raise given.now r.term p t) given.now _ st1 (sym stored) role told known since word peers)),
-          (term_now, refl))
+          (sym (allowed (store_of s) r granted granted_now may)) (
+            one_move members m n given (TakeVoteRequest r true) p t old new raft2 result
+                (subst (λ (z : Store). DoesPuts (term_puts z r.term ++ vote_puts (with_term p.store r.term).vote r.from) old new result) (sym st.store)
+                (subst (λ (z : Store). DoesPuts (term_puts (store_of (durable_state old)) r.term ++ vote_puts z.vote r.from) old new result) same made))
+                (subst (λ (x : Times). StandsFor raft2 members (durable_state new) (record { store = put_all p.store (term_puts p.store r.term ++ vote_puts (with_term p.store r.term).vote r.from); memory = term_memory p r.term }) x) (raise_wait given.now r.term p t)
+                (waiting_stands raft1 raft2 members s (durable_state new) (record { store = with_term p.store r.term; memory = term_memory p r.term }) (raise given.now r.term p t) given.now _ st1 (sym stored) role told known since word peers)),
+            (term_now, refl),
+          )
 
     pub granted_puts : MayGrant (store_of (durable_state mid)) r → vote_puts (store_of (durable_state mid)).vote r.from ≡ grant_puts (with_term p.store r.term) r granted
     granted_puts may =

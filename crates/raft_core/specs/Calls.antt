@@ -1,5 +1,5 @@
 -- The calls that a member owes its peers.
-use Rattle.std.specs.Prelude.{◌≡◌, ⊤, ℕ, ◌-◌, ◌≤◌, ◌||◌, Bool, true, false, if◌then◌else◌, nat_le, List, Option, Some, None, length}
+use Rattle.std.specs.Prelude.{◌≡◌, ℕ, ◌-◌, ◌||◌, true, if◌then◌else◌, nat_le, List, Option, Some, None, length}
 use Rattle.dsdl_codec.specs.declared.append_request.AppendRequest.{AppendRequest}
 use Rattle.dsdl_codec.specs.declared.vote_request.VoteRequest.{VoteRequest}
 use Rattle.raft_model.specs.Messages.{Request}

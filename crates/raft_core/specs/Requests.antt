@@ -1,6 +1,5 @@
 -- The requests that a member makes of what it has stored.
-use Rattle.std.specs.Prelude.{ℕ, ◌-◌, List, Option, Some, None, length, nat_le, if◌then◌else◌}
-use Rattle.can_frame.specs.declared.entry.Entry.{Entry}
+use Rattle.std.specs.Prelude.{ℕ, ◌-◌, Some, None, length, nat_le, if◌then◌else◌}
 use Rattle.can_frame.specs.Log.{entry_at, last_term}
 use Rattle.dsdl_codec.specs.declared.append_request.AppendRequest.{AppendRequest}
 use Rattle.dsdl_codec.specs.declared.vote_request.VoteRequest.{VoteRequest}

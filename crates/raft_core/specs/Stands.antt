@@ -1,5 +1,5 @@
 -- Which server of the message machine, and which times, a member of the code stands for.
-use Rattle.std.specs.Prelude.{◌≡◌, ◌≢◌, ⊤, ℕ, ◌<◌, ◌≤◌, Bool, true, false, List, Option, Some, None, slice_index_or}
+use Rattle.std.specs.Prelude.{◌≡◌, ◌≢◌, ⊤, ℕ, ◌<◌, true, false, List, Option, Some, None, slice_index_or}
 use Rattle.can_frame.specs.declared.step.Role.{Role}
 use Rattle.can_frame.specs.declared.step.Role.TheVariants.{Follower, Candidate, Leader}
 use Rattle.raft_log.specs.Stored.{Stored}

@@ -2,11 +2,11 @@
 -- A move changes it as it changes the memory of the machine (`raft_model`, `memory_after`).
 use Rattle.std.specs.Prelude.{ℕ, ◌+◌, ◌-◌, ◌%◌, ◌&&◌, ◌==◌, Bool, true, false, not, if◌then◌else◌, nat_lt, nat_le, List, [], ◌∷◌, Option, Some, None}
 use Rattle.raft_model.specs.Lists.{at}
-use Rattle.raft_model.specs.Messages.{Request, Answer}
+use Rattle.raft_model.specs.Messages.{Request}
 use Rattle.raft_model.specs.Server.{Plain, Role}
 use Rattle.raft_model.specs.Server.Role.{Follower, Candidate, Leader}
 use Rattle.raft_model.specs.Handlers.{plain_after}
-use Rattle.raft_model.specs.Moves.{Move, Verdict, counted, counts, has_quorum, is_leader, own_vote, term_limit}
+use Rattle.raft_model.specs.Moves.{Move, counted, counts, has_quorum, is_leader, own_vote, term_limit}
 use Rattle.raft_model.specs.Moves.Move.{TimeOut, TakeVoteRequest, TakeVoteAnswer, TakeAppendRequest, TakeAppendAnswer, ProposeEntry, CommitTo, TellPair, TellNothing, CallForVote, CallToAppend, AnswerAgain, GiveUp}
 use Rattle.raft_model.specs.Moves.Verdict.{Outdated, Refused, Held, Added}
 

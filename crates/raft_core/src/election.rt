@@ -40,7 +40,7 @@ impl Raft {
         requires complete { complete ≡ true → length peers.now + 1 ≡ self.old.size }
         requires fits { Fits self.old (durable_state d.old) }
         ensures moves { (members : List ℕ) (n : ℕ) (p : Plain) (t : Times) → StandsFor self.old members (durable_state d.old) p t →
-            (complete ≡ true → members ≡ self.old.me ∷ peers.now) → 
+            (complete ≡ true → members ≡ self.old.me ∷ peers.now) →
             MakesMoves members self.old.me n (given_tick now word) (if times.stands complete now p t then TimeOut ∷ [] else []) p t d.old d.new self.new result }
         ensures fits { OnOk result (Fits self.new (durable_state d.new)) }
         ensures me { self.new.me ≡ self.old.me }
@@ -66,7 +66,10 @@ impl Raft {
         ensures term { result ≡ true → term < 4294967295 }
     {
         let wait = 2000 + u64::from(self.word) % 2001;
-        complete && self.role != Role::Leader && term < u32::MAX && now.saturating_sub(self.since) >= wait
+        complete
+            && self.role != Role::Leader
+            && term < u32::MAX
+            && now.saturating_sub(self.since) >= wait
     }
 
     /// It is a candidate of the next term, and votes for itself.

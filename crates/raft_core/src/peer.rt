@@ -100,7 +100,11 @@ impl Peer {
         ensures { result ≡ asked_under id self.now.call }
     {
         let call = self.call?;
-        if call.id == id { Some(call.asked) } else { None }
+        if call.id == id {
+            Some(call.asked)
+        } else {
+            None
+        }
     }
 
     /// The peer answered an append request that reached up to a place. Where it refused it, the entry

@@ -1,4 +1,4 @@
-use Rattle.std.proofs.Common.{rules, ◌≤◌, ◌+◌, arith, sym, ap, subst, ◌<◌}
+use Rattle.std.proofs.Common.{rules, arith, ap}
 use Rattle.raft_model.specs.Server.{Store}
 use Rattle.raft_core.proofs.Committing.{greatest, next_down}
 use Rattle.raft_core.proofs.raft.Raft.commit_index.Goals as goal

@@ -1,4 +1,4 @@
-use Rattle.std.proofs.Common.{◌≡◌, ◌≤◌, ◌<◌, ℕ, List, length}
+use Rattle.std.proofs.Common.{◌≤◌, ◌<◌, ℕ, List, length}
 use Rattle.raft_log.specs.DurableViews.{durable_state}
 use Rattle.raft_model.specs.Moves.{CanCommit}
 use Rattle.raft_model.specs.Server.{Plain}

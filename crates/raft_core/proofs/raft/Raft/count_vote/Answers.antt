@@ -1,4 +1,4 @@
-use Rattle.std.proofs.Common.{rules, ◌≡◌, true, false, sym, ◌∙◌}
+use Rattle.std.proofs.Common.{rules, true, sym, ◌∙◌}
 use Rattle.raft_log.specs.DurableViews.{durable_state}
 use Rattle.raft_model.specs.Lists.{at}
 use Rattle.raft_model.specs.Server.{Plain}

@@ -1,13 +1,11 @@
-use Rattle.std.proofs.Common.{rules, ◌≡◌, ◌≤◌, ◌<◌, Bool, true, false, refl, sym, subst, ap, ◌∙◌, length, arith}
-use Rattle.std.specs.Prelude.{Ok, IfOk, IsTrue, nat_lt}
-use Rattle.can_frame.specs.declared.step.Role.TheVariants.{Leader}
+use Rattle.std.proofs.Common.{rules, ◌≡◌, ◌≤◌, true, false, refl, sym, subst, ap, ◌∙◌, length, arith}
+use Rattle.std.specs.Prelude.{Ok, nat_lt}
 use Rattle.raft_log.specs.DurableViews.{durable_state}
-use Rattle.raft_log.specs.Stored.{Stored}
 use Rattle.raft_model.specs.Moves.{ended, term_puts}
 use Rattle.raft_model.specs.Moves.Move.{TakeAppendAnswer}
 use Rattle.raft_model.specs.Server.{Plain, Store}
 use Rattle.raft_core.specs.Handled.{answer_of}
-use Rattle.raft_core.specs.StoredPuts.{DoesPuts, store_of}
+use Rattle.raft_core.specs.StoredPuts.{DoesPuts}
 use Rattle.raft_core.specs.Times.{end_call, given_at}
 use Rattle.raft_core.proofs.Answering.{leader_stays, matched, not_higher, not_matched, unraised}
 use Rattle.raft_core.proofs.Moving.{one_move_failed}
@@ -28,10 +26,11 @@ pub returns-in_err-raise-clause-moves : goal.returns-in_err-raise-clause-moves
 returns-in_err-raise-clause-moves g c = λ members n p t st awaited step r is.
     let old = c.args.d.now in
     let a = answer_of step c.args.from r c.args.ans.now.term c.args.ans.now.success in
-    let puts = fails _ old _ c.in_err-raise.field-0.0 c.from_residual.result (search rules) c.in_err-raise.ensures.puts in
-    (one_move_failed members c.args.self.now.me n (given_at c.args.now) (TakeAppendAnswer a) p t old _ c.raise.new.self _ c.in_err-raise.field-0.0 (search rules)
-    (subst (λ (z : Store). DoesPuts (term_puts z a.term) old c.raise.new.d c.from_residual.result) (sym st.store) puts),
-    search rules)
+    let puts = fails _ old _ c.in_err-raise.field-0.0 c.from_residual.result (search rules) c.in_err-raise.ensures.puts in (
+      one_move_failed members c.args.self.now.me n (given_at c.args.now) (TakeAppendAnswer a) p t old _ c.raise.new.self _ c.in_err-raise.field-0.0 (search rules)
+          (subst (λ (z : Store). DoesPuts (term_puts z a.term) old c.raise.new.d c.from_residual.result) (sym st.store) puts),
+      search rules,
+    )
 
 pub returns-then-not-leads-clause-refused : goal.returns-then-not-leads-clause-refused
 returns-then-not-leads-clause-refused g c = λ members p t st not.
@@ -47,10 +46,11 @@ returns-then-not-leads-clause-moves g c = λ members n p t st awaited step r is.
     let st2 = c.in_ok-raise.ensures.stands members p1 t1 (c.end_call.ensures.stands members (durable_state old) p t st) in
     let none = λ (low : nat_lt p.store.term a.term ≡ false).
     let st3 = unraised c.raise.new.self members (durable_state c.raise.new.d) p1 t1 c.args.now a.term low st2 in
-    sym (c.leads.ensures.leads p1 a st3.role (ap (λ (z : Store). z.term) st3.store ∙ sym c.term.ensures) refl) ∙ c.if-not-leads.true in
-    (not_matched members c.args.self.now.me n (given_at c.args.now) p t a old c.raise.new.d c.raise.new.self _ none
-    (subst (λ (z : Store). DoesPuts (term_puts z a.term) old c.raise.new.d (Ok true)) (sym st.store) (answers _ old _ _ true c.in_ok-raise.ensures.puts)) st2,
-    refl)
+    sym (c.leads.ensures.leads p1 a st3.role (ap (λ (z : Store). z.term) st3.store ∙ sym c.term.ensures) refl) ∙ c.if-not-leads.true in (
+      not_matched members c.args.self.now.me n (given_at c.args.now) p t a old c.raise.new.d c.raise.new.self _ none
+          (subst (λ (z : Store). DoesPuts (term_puts z a.term) old c.raise.new.d (Ok true)) (sym st.store) (answers _ old _ _ true c.in_ok-raise.ensures.puts)) st2,
+      refl,
+    )
 
 pub returns-then-not-leads-clause-fits : goal.returns-then-not-leads-clause-fits
 returns-then-not-leads-clause-fits g c = c.in_ok-raise.ensures.fits (c.end_call.ensures.fits (durable_state c.args.d.now) c.requires.fits)
@@ -83,11 +83,12 @@ returns-clause-moves g c = λ members n p t st awaited step r is.
     let st2 = c.in_ok-raise.ensures.stands members p1 t1 (c.end_call.ensures.stands members (durable_state old) p t st) in
     let low = not_higher p1 a.term c.raise.new.self.role st2.role (λ h. cc (sym leads ∙ h)) in
     let st3 = unraised c.raise.new.self members (durable_state c.raise.new.d) p1 t1 c.args.now a.term low st2 in
-    let so = sym (c.leads.ensures.leads p1 a st3.role (ap (λ (z : Store). z.term) st3.store ∙ sym c.term.ensures) refl) ∙ c.if-not-leads.false in
-    (matched members c.args.self.now.me n (given_at c.args.now) p t a old c.raise.new.d _ _ low so
-    (subst (λ (z : Store). DoesPuts (term_puts z a.term) old c.raise.new.d (Ok true)) (sym st.store) (answers _ old _ _ true c.in_ok-raise.ensures.puts))
-    (c.move_on.ensures.stands members (durable_state c.raise.new.d) p1 t1 st3 leads a refl refl ((c.in-Some.ensures.some members (durable_state old) p t st).1 r is)),
-    refl)
+    let so = sym (c.leads.ensures.leads p1 a st3.role (ap (λ (z : Store). z.term) st3.store ∙ sym c.term.ensures) refl) ∙ c.if-not-leads.false in (
+      matched members c.args.self.now.me n (given_at c.args.now) p t a old c.raise.new.d _ _ low so
+          (subst (λ (z : Store). DoesPuts (term_puts z a.term) old c.raise.new.d (Ok true)) (sym st.store) (answers _ old _ _ true c.in_ok-raise.ensures.puts))
+          (c.move_on.ensures.stands members (durable_state c.raise.new.d) p1 t1 st3 leads a refl refl ((c.in-Some.ensures.some members (durable_state old) p t st).1 r is)),
+      refl,
+    )
 
 pub returns-clause-fits : goal.returns-clause-fits
 returns-clause-fits g c =

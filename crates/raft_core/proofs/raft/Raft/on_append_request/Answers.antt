@@ -1,4 +1,4 @@
-use Rattle.std.proofs.Common.{rules, ℕ, ◌≡◌, true, sym, subst, refl}
+use Rattle.std.proofs.Common.{rules, subst, refl}
 use Rattle.std.specs.Prelude.{Bool, Ok, Err}
 use Rattle.raft_log.specs.DurableViews.{durable_state}
 use Rattle.raft_model.specs.Decisions.{judges}

@@ -1,9 +1,7 @@
-use Rattle.std.proofs.Common.{rules, ◌≡◌, ◌++◌, [], Bool, true, false, refl, sym, subst, ap, ◌∙◌}
+use Rattle.std.proofs.Common.{rules, ◌≡◌, ◌++◌, true, false, refl, sym, subst, ap, ◌∙◌}
 use Rattle.std.specs.Prelude.{Ok, nat_lt}
-use Rattle.can_frame.specs.declared.step.Role.TheVariants.{Candidate}
 use Rattle.raft_log.specs.DurableViews.{durable_state}
-use Rattle.raft_model.specs.Moves.{counted, ended, puts, term_puts}
-use Rattle.raft_model.specs.Moves.Move.{TakeVoteAnswer}
+use Rattle.raft_model.specs.Moves.{counted, ended, term_puts}
 use Rattle.raft_model.specs.Server.{Plain, Store}
 use Rattle.raft_core.specs.Handled.{answer_of}
 use Rattle.raft_core.specs.StoredPuts.{DoesPuts, store_of}
@@ -25,11 +23,12 @@ pub returns-in_err-raise-clause-moves : goal.returns-in_err-raise-clause-moves
 returns-in_err-raise-clause-moves g c = λ members n p t st awaited step r is.
     let old = c.args.d.now in
     let a = answer_of step c.args.from r c.args.ans.now.term c.args.ans.now.granted in
-    let more = rest members c.args.self.now.me n (given_at c.args.now) p t a old c.raise.new.d c.raise.new.self c.from_residual.result in
-    (term_failed members c.args.self.now.me n (given_at c.args.now) p t a old c.raise.new.d c.raise.new.self _ c.in_err-raise.field-0.0 (search rules)
-    (subst (λ (z : Store). DoesPuts (term_puts z a.term ++ more) old c.raise.new.d c.from_residual.result) (sym st.store)
-    (c.puts_in_turn.ensures.cut_off (term_puts (store_of (durable_state old)) a.term) more old _ c.in_err-raise.field-0.0 c.from_residual.result (search rules) c.in_err-raise.ensures.puts)),
-    search rules)
+    let more = rest members c.args.self.now.me n (given_at c.args.now) p t a old c.raise.new.d c.raise.new.self c.from_residual.result in (
+      term_failed members c.args.self.now.me n (given_at c.args.now) p t a old c.raise.new.d c.raise.new.self _ c.in_err-raise.field-0.0 (search rules)
+          (subst (λ (z : Store). DoesPuts (term_puts z a.term ++ more) old c.raise.new.d c.from_residual.result) (sym st.store)
+          (c.puts_in_turn.ensures.cut_off (term_puts (store_of (durable_state old)) a.term) more old _ c.in_err-raise.field-0.0 c.from_residual.result (search rules) c.in_err-raise.ensures.puts)),
+      search rules,
+    )
 
 pub returns-then-not-counts-clause-refused : goal.returns-then-not-counts-clause-refused
 returns-then-not-counts-clause-refused g c = λ members p t st not.
@@ -45,10 +44,11 @@ returns-then-not-counts-clause-moves g c = λ members n p t st awaited step r is
     let st2 = c.in_ok-raise.ensures.stands members p1 t1 st1 in
     let none = λ (low : nat_lt p.store.term a.term ≡ false).
     let st3 = unraised c.raise.new.self members (durable_state c.raise.new.d) p1 t1 c.args.now a.term low st2 in
-    sym (c.counts.ensures.counts p1 a st3.role (ap (λ (z : Store). z.term) st3.store ∙ sym c.term.ensures) refl refl) ∙ c.if-not-counts.true in
-    (no_vote_counted members c.args.self.now.me n (given_at c.args.now) p t a old c.raise.new.d c.raise.new.self _ none
-    (subst (λ (z : Store). DoesPuts (term_puts z a.term) old c.raise.new.d (Ok true)) (sym st.store) (answers _ old _ _ true c.in_ok-raise.ensures.puts)) st2,
-    refl)
+    sym (c.counts.ensures.counts p1 a st3.role (ap (λ (z : Store). z.term) st3.store ∙ sym c.term.ensures) refl refl) ∙ c.if-not-counts.true in (
+      no_vote_counted members c.args.self.now.me n (given_at c.args.now) p t a old c.raise.new.d c.raise.new.self _ none
+          (subst (λ (z : Store). DoesPuts (term_puts z a.term) old c.raise.new.d (Ok true)) (sym st.store) (answers _ old _ _ true c.in_ok-raise.ensures.puts)) st2,
+      refl,
+    )
 
 pub returns-then-not-counts-clause-fits : goal.returns-then-not-counts-clause-fits
 returns-then-not-counts-clause-fits g c = c.in_ok-raise.ensures.fits (c.note_answer.ensures.fits (durable_state c.args.d.now) (c.end_call.ensures.fits (durable_state c.args.d.now) c.requires.fits))
@@ -74,13 +74,14 @@ returns-in_err-count_vote-clause-moves g c = λ members n p t st awaited step r 
     let low = not_higher p1 a.term c.raise.new.self.role st2.role (λ h. cc (sym stands ∙ h)) in
     let st3 = unraised c.raise.new.self members (durable_state mid) p1 t1 c.args.now a.term low st2 in
     let so = sym (c.counts.ensures.counts p1 a st3.role (ap (λ (z : Store). z.term) st3.store ∙ sym c.term.ensures) refl refl) ∙ c.if-not-counts.false in
-    let votes = votes_puts members p1 t (counted p.memory a) old c.count_vote.new.d c.count_vote.new.self in
-    (count_failed members c.args.self.now.me n (given_at c.args.now) p t a old c.count_vote.new.d c.count_vote.new.self result c.in_err-count_vote.field-0.0 (search rules) low so
-    (subst (λ l. DoesPuts l old c.count_vote.new.d result) (low_puts p.store a.term votes low)
-    (subst (λ (z : Store). DoesPuts (term_puts z a.term ++ votes) old c.count_vote.new.d result) (sym st.store)
-    (c.puts_in_turn.ensures.joined (term_puts (store_of (durable_state old)) a.term) votes old mid c.count_vote.new.d _ result c.in_ok-raise.ensures.puts
-    (fails votes mid c.count_vote.new.d c.in_err-count_vote.field-0.0 result (search rules) (c.in_err-count_vote.ensures.puts members p1 t1 st3))))),
-    search rules)
+    let votes = votes_puts members p1 t (counted p.memory a) old c.count_vote.new.d c.count_vote.new.self in (
+      count_failed members c.args.self.now.me n (given_at c.args.now) p t a old c.count_vote.new.d c.count_vote.new.self result c.in_err-count_vote.field-0.0 (search rules) low so
+          (subst (λ l. DoesPuts l old c.count_vote.new.d result) (low_puts p.store a.term votes low)
+          (subst (λ (z : Store). DoesPuts (term_puts z a.term ++ votes) old c.count_vote.new.d result) (sym st.store)
+          (c.puts_in_turn.ensures.joined (term_puts (store_of (durable_state old)) a.term) votes old mid c.count_vote.new.d _ result c.in_ok-raise.ensures.puts
+          (fails votes mid c.count_vote.new.d c.in_err-count_vote.field-0.0 result (search rules) (c.in_err-count_vote.ensures.puts members p1 t1 st3))))),
+      search rules,
+    )
 
 pub returns-clause-refused : goal.returns-clause-refused
 returns-clause-refused g c = λ members p t st not.
@@ -99,11 +100,12 @@ returns-clause-moves g c = λ members n p t st awaited step r is.
     let low = not_higher p1 a.term c.raise.new.self.role st2.role (λ h. cc (sym stands ∙ h)) in
     let st3 = unraised c.raise.new.self members (durable_state mid) p1 t1 c.args.now a.term low st2 in
     let so = sym (c.counts.ensures.counts p1 a st3.role (ap (λ (z : Store). z.term) st3.store ∙ sym c.term.ensures) refl refl) ∙ c.if-not-counts.false in
-    let votes = votes_puts members p1 t (counted p.memory a) old c.count_vote.new.d c.count_vote.new.self in
-    (vote_counted members c.args.self.now.me n (given_at c.args.now) p t a old c.count_vote.new.d c.count_vote.new.self _ low so
-    (subst (λ l. DoesPuts l old c.count_vote.new.d (Ok true)) (low_puts p.store a.term votes low)
-    (subst (λ (z : Store). DoesPuts (term_puts z a.term ++ votes) old c.count_vote.new.d (Ok true)) (sym st.store)
-    (c.puts_in_turn.ensures.joined (term_puts (store_of (durable_state old)) a.term) votes old mid c.count_vote.new.d _ (Ok true) c.in_ok-raise.ensures.puts
-    (answers votes mid c.count_vote.new.d _ true (c.in_ok-count_vote.ensures.puts members p1 t1 st3)))))
-    (c.in_ok-count_vote.ensures.stands members p1 t1 st3),
-    refl)
+    let votes = votes_puts members p1 t (counted p.memory a) old c.count_vote.new.d c.count_vote.new.self in (
+      vote_counted members c.args.self.now.me n (given_at c.args.now) p t a old c.count_vote.new.d c.count_vote.new.self _ low so
+          (subst (λ l. DoesPuts l old c.count_vote.new.d (Ok true)) (low_puts p.store a.term votes low)
+          (subst (λ (z : Store). DoesPuts (term_puts z a.term ++ votes) old c.count_vote.new.d (Ok true)) (sym st.store)
+          (c.puts_in_turn.ensures.joined (term_puts (store_of (durable_state old)) a.term) votes old mid c.count_vote.new.d _ (Ok true) c.in_ok-raise.ensures.puts
+          (answers votes mid c.count_vote.new.d _ true (c.in_ok-count_vote.ensures.puts members p1 t1 st3)))))
+          (c.in_ok-count_vote.ensures.stands members p1 t1 st3),
+      refl,
+    )

@@ -1,12 +1,10 @@
-use Rattle.std.proofs.Common.{rules, ◌≡◌, ◌+◌, [], ◌∷◌, ◌++◌, ◌∙◌, sym, ap, subst, length, arith}
+use Rattle.std.proofs.Common.{rules, [], ◌∷◌, ◌∙◌, sym, ap, subst, length, arith}
 use Rattle.std.proofs.lemmas.List.{length-append}
-use Rattle.std.specs.Prelude.{Ok}
 use Rattle.raft_log.specs.DurableViews.{durable_state}
 use Rattle.raft_log.specs.Stored.{Stored}
 use Rattle.raft_model.specs.Moves.Move.{ProposeEntry}
 use Rattle.raft_model.specs.Server.{Store}
 use Rattle.raft_model.specs.Server.Put.{PutEntry, PutLonger}
-use Rattle.raft_core.specs.StoredPuts.{DoesPuts}
 use Rattle.raft_core.specs.Taken.{IsTaken, proposal}
 use Rattle.raft_core.proofs.Moving.{one_move_failed}
 use Rattle.raft_core.proofs.Proposing.{fits_longer, not_taken, proposed, same_proposal, same_puts}
@@ -21,9 +19,11 @@ returns-then-is_taken-clause-moves g c = λ members n p t st given may.
 
 pub returns-then-is_taken-clause-added : goal.returns-then-is_taken-clause-added
 returns-then-is_taken-clause-added g c = λ members p t st.
-    let taken : IsTaken (durable_state c.args.d.now).log c.args.uid.now c.args.node = search rules in
-    (λ e. absurd (cc e), λ may. absurd (not_taken p.store.log (proposal p.store.term c.args.uid.now c.args.node) may.injective may.not_blank c.requires.uid (search rules)
-    (subst (λ (z : Store). IsTaken z.log c.args.uid.now c.args.node) (sym st.store) taken)))
+    let taken : IsTaken (durable_state c.args.d.now).log c.args.uid.now c.args.node = search rules in (
+      λ e. absurd (cc e),
+      λ may. absurd (not_taken p.store.log (proposal p.store.term c.args.uid.now c.args.node) may.injective may.not_blank c.requires.uid (search rules)
+          (subst (λ (z : Store). IsTaken z.log c.args.uid.now c.args.node) (sym st.store) taken)),
+    )
 
 pub returns-in_err-append-clause-moves : goal.returns-in_err-append-clause-moves
 returns-in_err-append-clause-moves g c = λ members n p t st given may.

@@ -1,7 +1,5 @@
-use Rattle.std.proofs.Common.{rules, ◌≡◌, replicate, refl, ap}
-use Rattle.std.specs.Prelude.{slice_set}
+use Rattle.std.proofs.Common.{rules, refl}
 use Rattle.raft_log.specs.DurableViews.{durable_state}
-use Rattle.raft_core.specs.Peers.{fresh, voter}
 use Rattle.raft_core.specs.Times.{given_tick}
 use Rattle.raft_core.proofs.Standing.{stood_stands}
 use Rattle.raft_core.proofs.raft.Raft.stand.Goals as goal

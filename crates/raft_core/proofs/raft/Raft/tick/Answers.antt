@@ -1,4 +1,4 @@
-use Rattle.std.proofs.Common.{rules, ◌≡◌, ◌++◌, ◌∷◌, [], Bool, true, false, sym, subst, ap, ◌∙◌}
+use Rattle.std.proofs.Common.{rules, ◌≡◌, ◌++◌, [], Bool, true, false, sym, subst, ap, ◌∙◌}
 use Rattle.std.specs.Prelude.{Ok, if◌then◌else◌}
 use Rattle.raft_log.specs.DurableViews.{durable_state}
 use Rattle.raft_model.specs.Moves.{has_quorum, own_vote, stand_memory, stand_puts, win_memory, win_puts}
@@ -8,7 +8,7 @@ use Rattle.raft_core.specs.StoredPuts.{DoesPuts, store_of}
 use Rattle.raft_core.specs.Times.{given_tick, stand, stands, win}
 use Rattle.raft_core.proofs.Moving.{put_then}
 use Rattle.raft_core.proofs.Puts.{fails}
-use Rattle.raft_core.proofs.Ticking.{counted_as, rest, stand_failed, stays, stood}
+use Rattle.raft_core.proofs.Ticking.{counted_as, stand_failed, stays, stood}
 use Rattle.raft_core.proofs.raft.Raft.tick.Goals as goal
 
 pub returns-then-not-may_stand-clause-moves : goal.returns-then-not-may_stand-clause-moves
