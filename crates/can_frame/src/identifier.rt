@@ -1,4 +1,4 @@
-ghost use Rattle.std.specs.Prelude.{◌≡◌, ◌<◌, ◌^◌, Some, IfSome, IsNone};
+ghost use Rattle.std.specs.Prelude.{◌≡◌, ◌<◌, ◌^◌, Some, IfSome};
 ghost use Rattle.can_frame.specs.declared.identifier.Ident.{Ident};
 ghost use Rattle.can_frame.specs.Identifier.{IsIdentifier, Spells, identifier_number, identifier_of, service_of, message_of};
 

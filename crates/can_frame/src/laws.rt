@@ -1,6 +1,6 @@
 //! Laws of the definitions, each the contract of a function that does nothing.
 
-ghost use Rattle.std.specs.Prelude.{◌≡◌, ◌-◌, ◌*◌, ◌/◌, ◌<◌, ◌^◌, ℕ, suc, true, false, Some, List, length, take, drop, get_or};
+ghost use Rattle.std.specs.Prelude.{◌≡◌, ◌*◌, ◌/◌, ◌<◌, ◌^◌, ℕ, suc, true, false, Some, List, length, take, drop, get_or};
 ghost use Rattle.can_frame.specs.declared.identifier.Ident.{Ident};
 ghost use Rattle.can_frame.specs.declared.tail.Tail.{Tail};
 ghost use Rattle.can_frame.specs.Identifier.{Spells, IsIdentifier, identifier_number, identifier_of};

@@ -1,4 +1,4 @@
-ghost use Rattle.std.specs.Prelude.{◌≡◌, ◌<◌, ◌^◌};
+ghost use Rattle.std.specs.Prelude.{◌≡◌, ◌^◌};
 ghost use Rattle.can_frame.specs.TransferCrc.{bits_of, message_bits, transfer_crc};
 ghost use Rattle.can_frame.specs.Register.{shift, run};
 

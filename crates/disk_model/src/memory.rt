@@ -1,4 +1,4 @@
-ghost use Rattle.std.specs.Prelude.{◌≡◌, ◌≤◌, ◌<◌, ℕ, length, Bool, true, false, slice_index, slice_index_or};
+ghost use Rattle.std.specs.Prelude.{◌≡◌, ◌≤◌, ◌<◌, ℕ, length, true, false, slice_index, slice_index_or};
 ghost use Rattle.disk_model.specs.Contents.{image_size};
 ghost use Rattle.disk_model.specs.Pattern.{IsUsable};
 

@@ -1,4 +1,4 @@
-ghost use Rattle.std.specs.Prelude.{◌≡◌, ◌<◌, ◌+◌, Some, IfSome, IsNone, MatchOption};
+ghost use Rattle.std.specs.Prelude.{◌≡◌, ◌<◌, Some, IfSome, IsNone, MatchOption};
 ghost use Rattle.arrayvec.specs.ArrayVec.{array_vec_len};
 
 use crate::entry::{append_entry, read_optional_entry};

@@ -1,4 +1,4 @@
-ghost use Rattle.std.specs.Prelude.{◌<◌, ⊤, [], length, false};
+ghost use Rattle.std.specs.Prelude.{◌<◌, ⊤, [], false};
 ghost use Rattle.std.proofs.lemmas.Bool.{false≢true};
 
 use crate::{Fault, OpenFault, Store, value_of};

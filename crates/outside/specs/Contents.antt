@@ -1,5 +1,5 @@
 -- What objects of the outside tell, and what the forms in memory are seen as.
-use Rattle.std.specs.Prelude.{◌≡◌, ℕ, ◌+◌, ◌-◌, ◌^◌, min, List, Option, Some, is_some}
+use Rattle.std.specs.Prelude.{◌≡◌, ℕ, ◌+◌, ◌-◌, ◌^◌, min, List, Option, is_some}
 
 -- whether an object tells its contents stays as it is
 abbrev pub TellsAsBefore : {A : Type 0} → Option A → Option A → Type 0

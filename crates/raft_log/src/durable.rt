@@ -1,4 +1,4 @@
-ghost use Rattle.std.specs.Prelude.{◌≡◌, ◌≤◌, ◌<◌, ◌+◌, ◌++◌, ◌∷◌, [], ℕ, true, Some, None, Err, OnOk, IfOk, IfErr, length, take};
+ghost use Rattle.std.specs.Prelude.{◌≡◌, ◌≤◌, ◌<◌, ◌+◌, ◌++◌, ◌∷◌, [], ℕ, true, None, Err, OnOk, IfOk, IfErr, length, take};
 ghost use Rattle.can_frame.specs.Log.{entry_at, log_limit};
 ghost use Rattle.disk_model.specs.Contents.{AddsNoImage};
 ghost use Rattle.disk_model.specs.Device.{Makes};

@@ -1,6 +1,6 @@
 //! Laws of the definitions, each the contract of a function that does nothing.
 
-ghost use Rattle.std.specs.Prelude.{◌≡◌, ℕ, ◌<◌, ◌++◌, [], Bool, List, true, None, Some, Result, Ok, Err, slice_index};
+ghost use Rattle.std.specs.Prelude.{◌≡◌, ℕ, ◌<◌, ◌++◌, [], Bool, List, true, None, Result, Ok, Err, slice_index};
 ghost use Rattle.disk_model.specs.declared.calls.Calls.{Calls};
 ghost use Rattle.disk_model.specs.declared.memory.MemoryDisk.{MemoryDisk};
 ghost use Rattle.disk_model.specs.Contents.{IsSettled};

@@ -1,6 +1,6 @@
 //! The values of the keys.
 
-ghost use Rattle.std.specs.Prelude.{◌≡◌, ◌<◌, ◌≤◌, IfSome, IsNone, IsTrue, ◌↔◌, length, slice_index};
+ghost use Rattle.std.specs.Prelude.{◌≡◌, ◌<◌, IfSome, IsNone, IsTrue, ◌↔◌, length, slice_index};
 ghost use Rattle.std.specs.Int.{to_le_bytes, w32};
 ghost use Rattle.raft_log.specs.DeviceCalls.{entry_bytes};
 ghost use Rattle.raft_log.specs.Rules.{IsByteUpTo, IsVersion, IsTerm, number_of, entry_of};

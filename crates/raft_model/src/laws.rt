@@ -3,7 +3,7 @@
 //! A run is any list of events that may come, from empty stores on: openings, whole steps, and stops between
 //! any two puts of a step. A law of every run holds after each event of it, stops included.
 
-ghost use Rattle.std.specs.Prelude.{ℕ, Bool, true, false, List, [], ◌++◌, ◌∷◌, ◌≡◌, ◌≢◌, ◌<◌, ◌≤◌, ◌⊎◌, length, take, get_or, Some, None};
+ghost use Rattle.std.specs.Prelude.{ℕ, Bool, true, false, List, [], ◌++◌, ◌∷◌, ◌≡◌, ◌≢◌, ◌<◌, ◌≤◌, length, get_or, Some, None};
 ghost use Rattle.can_frame.specs.declared.entry.Entry.{Entry};
 ghost use Rattle.can_frame.specs.Log.{blank, log_limit};
 ghost use Rattle.can_frame.specs.Zeros.{zeros};

@@ -1,10 +1,10 @@
-ghost use Rattle.std.specs.Prelude.{◌≡◌, ◌<◌, ◌≤◌, ◌^◌, ◌∷◌, [], ℕ, List, Some, IfSome, IsNone, codes, decimal};
+ghost use Rattle.std.specs.Prelude.{◌≡◌, ◌<◌, ◌≤◌, ◌^◌, ◌∷◌, [], ℕ, Some, IfSome, IsNone, codes, decimal};
 ghost use Rattle.arrayvec.specs.ArrayVec.{ArrayVec as Items};
 ghost use Rattle.hex.specs.Hex.{IsBytes};
 ghost use Rattle.can_frame.specs.declared.frame.Frame.{Frame as FrameValue};
 ghost use Rattle.outside.specs.declared.pattern.Pattern.{Pattern as PatternValue};
 ghost use Rattle.replay_text.specs.declared.row.Row.{Row as RowValue};
-ghost use Rattle.replay_text.specs.Schedule.{Reads, ReadsWords, IsPattern, IsRepeated, SpellsPattern, last_call, last_moment};
+ghost use Rattle.replay_text.specs.Schedule.{Reads, ReadsWords, IsPattern, IsRepeated, SpellsPattern, last_moment};
 ghost use Rattle.replay_text.specs.Words.{IsHex, identifier_bytes, words};
 
 use crate::Row;

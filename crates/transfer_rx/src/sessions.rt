@@ -3,7 +3,7 @@ ghost use Rattle.can_frame.specs.Cutting.{Piece, tail_at};
 ghost use Rattle.can_frame.specs.Piece.{piece_of};
 ghost use Rattle.transfer_rx.specs.Keys.{key_of};
 ghost use Rattle.transfer_rx.specs.Outcome.{blocks_used, lacks_blocks, out_of_turn, outcome};
-ghost use Rattle.transfer_rx.specs.Places.{Arranged, Finds, FindsAs, FindsOwn, IsAt, IsPlaceFor, Places, Stand, StandFor, blocks_at, has_key, is_free, kept, left};
+ghost use Rattle.transfer_rx.specs.Places.{Arranged, Finds, FindsAs, FindsOwn, IsAt, IsPlaceFor, Places, Stand, StandFor, blocks_at, has_key, kept, left};
 ghost use Rattle.transfer_rx.specs.Reassembly.{answer_of, grown, session_after, session_step};
 ghost use Rattle.transfer_rx.specs.Sessions.{Session, others, session_for, session_of};
 ghost use Rattle.transfer_rx.specs.Stands.{Holds, Keeps};

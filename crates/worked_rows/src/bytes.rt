@@ -1,4 +1,4 @@
-ghost use Rattle.std.specs.Prelude.{ℕ, List, Option, Some};
+ghost use Rattle.std.specs.Prelude.{Option, Some};
 
 use outside::{Failed, MemorySink, MemorySource, Sink, Source};
 
