@@ -1,4 +1,4 @@
-ghost use Rattle.std.specs.Prelude.{◌≡◌, ◌≢◌, ◌↔◌, ◌≤◌, ◌<◌, ◌∷◌, [], ℕ, List, IsTrue, OnOk, IfOk, Ok, length};
+ghost use Rattle.std.specs.Prelude.{◌≡◌, ◌≢◌, ◌↔◌, ◌≤◌, ◌<◌, ◌∷◌, [], ℕ, List, IsTrue, OnOk, Ok, length};
 ghost use Rattle.can_frame.specs.declared.step.Role.TheVariants.{Leader};
 ghost use Rattle.can_frame.specs.Log.{log_limit};
 ghost use Rattle.can_frame.specs.Zeros.{zeros};

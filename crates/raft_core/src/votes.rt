@@ -1,4 +1,4 @@
-ghost use Rattle.std.specs.Prelude.{◌≡◌, ◌==◌, ◌↔◌, ◌≤◌, ◌∷◌, [], ℕ, List, Bool, true, false, IsTrue, OnOk, IfOk, Some, Ok, length, if◌then◌else◌};
+ghost use Rattle.std.specs.Prelude.{◌≡◌, ◌==◌, ◌↔◌, ◌≤◌, ◌∷◌, [], ℕ, List, true, false, IsTrue, OnOk, IfOk, Some, Ok, length, if◌then◌else◌};
 ghost use Rattle.can_frame.specs.declared.step.Role.TheVariants.{Candidate};
 ghost use Rattle.can_frame.specs.Log.{last_term};
 ghost use Rattle.raft_log.specs.DurableViews.{durable_state};

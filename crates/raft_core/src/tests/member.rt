@@ -1,6 +1,6 @@
 //! Member 1 of a cluster with what it has stored, for the tests.
 
-ghost use Rattle.std.specs.Prelude.{◌≡◌, ◌<◌, ◌≤◌, ℕ, length, slice_index_or};
+ghost use Rattle.std.specs.Prelude.{◌<◌, ◌≤◌};
 ghost use Rattle.std.proofs.Props.{props};
 ghost use Rattle.raft_core.specs.Fits.{Fits};
 ghost use Rattle.raft_core.specs.OneFit.{ReachesUpTo-prop};
