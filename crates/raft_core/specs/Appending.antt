@@ -6,11 +6,11 @@ use Rattle.raft_model.specs.Server.Put.{PutEntry, PutLonger, PutShorter, PutComm
 
 -- the commit index, where it is above
 abbrev pub commit_puts : Store → ℕ → List Put
-commit_puts s place = if nat_lt s.commit place then PutCommit place ∷ [] else []
+commit_puts store place = if nat_lt store.commit place then PutCommit place ∷ [] else []
 
 -- last cut to the previous place, where there is more
 abbrev pub cut_to : Store → ℕ → List Put
-cut_to s previous = if nat_lt previous (length s.log) then PutShorter previous ∷ [] else []
+cut_to store previous = if nat_lt previous (length store.log) then PutShorter previous ∷ [] else []
 
 abbrev pub write_puts : Store → ℕ → Entry → List Put
-write_puts s previous entry = cut_to s previous ++ (PutEntry entry ∷ PutLonger entry ∷ [])
+write_puts store previous entry = cut_to store previous ++ (PutEntry entry ∷ PutLonger entry ∷ [])

@@ -28,4 +28,4 @@ pub record Fits (raft : Raft) (state : Stored) : Type 0 where
   pub told : raft.told ≤ state.commit
   -- a Candidate or Leader is itself the stored vote
   pub vote : raft.role ≢ Follower → state.vote ≡ raft.me
-  pub peers : raft.role ≡ Leader → (q : ℕ) (d : Peer) → q < 128 → IsWithin (slice_index_or raft.peers q d) (length state.log)
+  pub peers : raft.role ≡ Leader → (node : ℕ) (none : Peer) → node < 128 → IsWithin (slice_index_or raft.peers node none) (length state.log)

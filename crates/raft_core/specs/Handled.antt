@@ -17,12 +17,12 @@ use Rattle.raft_core.specs.Stands.{StandsFor}
 use Rattle.raft_core.specs.StoredPuts.{DoesPuts}
 use Rattle.raft_core.specs.Times.{Given, Times, times_after_all}
 
--- the member m makes these moves in its step n: their puts in order, up to the first that fails; and
+-- the member makes these moves in a step: their puts in order, up to the first that fails; and
 -- where none does, it stands for the server and the times after them
-pub record MakesMoves {D T : Type 0} {disk : Ghosts D} (members : List ℕ) (m n : ℕ) (given : Given) (moves : List Move) (p : Plain) (t : Times)
+pub record MakesMoves {D T : Type 0} {disk : Ghosts D} (members : List ℕ) (member step : ℕ) (given : Given) (moves : List Move) (server : Plain) (times : Times)
     (old new : Durable D disk) (raft : Raft) (result : Result T Fault) : Type 0 where
-  pub puts : DoesPuts (puts_of_all members m n p moves) old new result
-  pub after : OnOk result (StandsFor raft members (durable_state new) (plain_after_all members m n p moves) (times_after_all members m n given p moves t))
+  pub puts : DoesPuts (puts_of_all members member step server moves) old new result
+  pub after : OnOk result (StandsFor raft members (durable_state new) (plain_after_all members member step server moves) (times_after_all members member step given server moves times))
 
 -- the request of the machine that a vote request carries, which the node `from` made in a step for the node `to`
 abbrev pub vote_request_of : VoteRequest → ℕ → ℕ → ℕ → Request
@@ -34,7 +34,7 @@ append_request_of request step from to = record { step = step; from = from; to =
 
 -- the answer of the machine that the node `from` made in a step to this request
 abbrev pub answer_of : ℕ → ℕ → Request → ℕ → Bool → Answer
-answer_of step from r term success = record { step = step; from = from; request = r; term = term; success = success }
+answer_of step from request term success = record { step = step; from = from; request = request; term = term; success = success }
 
 -- a leader commits to an index, where there is one
 abbrev pub commits_to : Option ℕ → List Move
@@ -42,7 +42,7 @@ commits_to None = []
 commits_to (Some index) = CommitTo index ∷ []
 
 abbrev pub moves_of_commit : List ℕ → ℕ → Plain → List Move
-moves_of_commit members m p = if is_leader p.memory.role then commits_to (commit_index members m p) else []
+moves_of_commit members member server = if is_leader server.memory.role then commits_to (commit_index members member server) else []
 
 -- the calls to these nodes are given up
 abbrev pub moves_of_expire : List ℕ → List Move

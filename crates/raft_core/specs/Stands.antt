@@ -20,12 +20,12 @@ role_of Leader = MachineRole.Leader
 
 -- the request asks for this
 abbrev pub Asks : Asked → Request → Type 0
-Asks Vote r = r.append ≡ false
-Asks (Append place) r = (r.append ≡ true) × (reach r ≡ place)
+Asks Vote request = request.append ≡ false
+Asks (Append place) request = (request.append ≡ true) × (reach request ≡ place)
 
-pub record IsWaiting (call : Waiting) (r : Request) (sending : Sending) : Type 0 where
-  pub asks : Asks call.asked r
-  pub step : r.step ≡ call.step
+pub record IsWaiting (call : Waiting) (request : Request) (sending : Sending) : Type 0 where
+  pub asks : Asks call.asked request
+  pub step : request.step ≡ call.step
   pub id : sending.id ≡ call.id
   pub moment : sending.moment ≡ call.sent
 
@@ -33,26 +33,26 @@ pub record IsWaiting (call : Waiting) (r : Request) (sending : Sending) : Type 0
 abbrev pub Waits : Option Waiting → Option Request → Option Sending → Type 0
 Waits None None None = ⊤
 Waits None None (Some sending) = ⊥
-Waits None (Some r) sending = ⊥
+Waits None (Some request) sending = ⊥
 Waits (Some call) None sending = ⊥
-Waits (Some call) (Some r) None = ⊥
-Waits (Some call) (Some r) (Some sending) = IsWaiting call r sending
+Waits (Some call) (Some request) None = ⊥
+Waits (Some call) (Some request) (Some sending) = IsWaiting call request sending
 
--- what is kept of the peer q: votes and answers are a Candidate's, places of the log a Leader's
-pub record Tells (peer : Peer) (p : Plain) (t : Times) (q : ℕ) : Type 0 where
-  pub call : Waits peer.call (p.memory.pending q) (t.sending q)
-  pub voted : p.memory.role ≡ MachineRole.Candidate → p.memory.votes q ≡ peer.voted
-  pub answered : p.memory.role ≡ MachineRole.Candidate → t.answered q ≡ peer.answered
-  pub next : p.memory.role ≡ MachineRole.Leader → p.memory.next q ≡ peer.next
-  pub matched : p.memory.role ≡ MachineRole.Leader → p.memory.matched q ≡ peer.matched
-  pub appended : p.memory.role ≡ MachineRole.Leader → t.appended q ≡ peer.appended
+-- what is kept of a peer: votes and answers are a Candidate's, places of the log a Leader's
+pub record Tells (peer : Peer) (server : Plain) (times : Times) (node : ℕ) : Type 0 where
+  pub call : Waits peer.call (server.memory.pending node) (times.sending node)
+  pub voted : server.memory.role ≡ MachineRole.Candidate → server.memory.votes node ≡ peer.voted
+  pub answered : server.memory.role ≡ MachineRole.Candidate → times.answered node ≡ peer.answered
+  pub next : server.memory.role ≡ MachineRole.Leader → server.memory.next node ≡ peer.next
+  pub matched : server.memory.role ≡ MachineRole.Leader → server.memory.matched node ≡ peer.matched
+  pub appended : server.memory.role ≡ MachineRole.Leader → times.appended node ≡ peer.appended
 
 -- the member with what it has stored; a Candidate or Leader counts these members
-pub record StandsFor (raft : Raft) (members : List ℕ) (state : Stored) (p : Plain) (t : Times) : Type 0 where
-  pub store : p.store ≡ store_of state
-  pub role : p.memory.role ≡ role_of raft.role
-  pub told : p.memory.told ≡ raft.told
+pub record StandsFor (raft : Raft) (members : List ℕ) (state : Stored) (server : Plain) (times : Times) : Type 0 where
+  pub store : server.store ≡ store_of state
+  pub role : server.memory.role ≡ role_of raft.role
+  pub told : server.memory.told ≡ raft.told
   pub known : raft.role ≢ Follower → raft.members.items ≡ members
-  pub since : t.since ≡ raft.since
-  pub word : t.word ≡ raft.word
-  pub peers : (q : ℕ) (d : Peer) → q < 128 → Tells (slice_index_or raft.peers q d) p t q
+  pub since : times.since ≡ raft.since
+  pub word : times.word ≡ raft.word
+  pub peers : (node : ℕ) (none : Peer) → node < 128 → Tells (slice_index_or raft.peers node none) server times node

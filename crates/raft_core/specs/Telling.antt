@@ -10,21 +10,21 @@ use Rattle.raft_core.specs.declared.tell.Telling.{Telling}
 use Rattle.raft_core.specs.declared.tell.Telling.TheVariants.{Nothing, Skip, Pair}
 
 -- it is a leader that has something committed to tell
-pub record HasToTell (p : Plain) : Type 0 where
-  pub leads : p.memory.role ≡ Leader
-  pub below : p.memory.told < p.store.commit
+pub record HasToTell (server : Plain) : Type 0 where
+  pub leads : server.memory.role ≡ Leader
+  pub below : server.memory.told < server.store.commit
 
 -- the unique ID of the place after the last that was told
 abbrev pub IsZeroNext : Plain → Type 0
-IsZeroNext p = (slice_index_or p.store.log p.memory.told (blank 0)).uid ≡ zeros
+IsZeroNext server = (slice_index_or server.store.log server.memory.told (blank 0)).uid ≡ zeros
 
 -- what it tells: nothing; a place without a unique ID, which is passed over; or the pair of the place
 abbrev pub IsToTell : Plain → Telling → Type 0
-IsToTell p Nothing = HasToTell p → ⊥
-IsToTell p (Skip place) = HasToTell p × (place ≡ p.memory.told + 1) × IsZeroNext p
-IsToTell p (Pair place uid node) = HasToTell p × (place ≡ p.memory.told + 1) × (IsZeroNext p → ⊥) ×
-    ((m n : ℕ) → ((pair_at m n p.store p.memory.told).uid ≡ uid) × ((pair_at m n p.store p.memory.told).node ≡ node))
+IsToTell server Nothing = HasToTell server → ⊥
+IsToTell server (Skip place) = HasToTell server × (place ≡ server.memory.told + 1) × IsZeroNext server
+IsToTell server (Pair place uid node) = HasToTell server × (place ≡ server.memory.told + 1) × (IsZeroNext server → ⊥) ×
+    ((member step : ℕ) → ((pair_at member step server.store server.memory.told).uid ≡ uid) × ((pair_at member step server.store server.memory.told).node ≡ node))
 
 -- the move that tells it
 abbrev pub IsTelling : Plain → Move → Type 0
-IsTelling p move = (IsZeroNext p × (move ≡ TellNothing)) ⊎ ((IsZeroNext p → ⊥) × (move ≡ TellPair))
+IsTelling server move = (IsZeroNext server × (move ≡ TellNothing)) ⊎ ((IsZeroNext server → ⊥) × (move ≡ TellPair))

@@ -45,7 +45,7 @@ given_call now id = record { now = now; word = 0; id = id }
 
 -- a member that opens
 abbrev pub opened_times : ℕ → ℕ → Times
-opened_times now word = record { since = now; word = word; answered = λ q. false; appended = λ q. None; sending = λ q. None }
+opened_times now word = record { since = now; word = word; answered = λ node. false; appended = λ node. None; sending = λ node. None }
 
 -- ---- how long
 
@@ -58,11 +58,11 @@ abbrev pub wait : ℕ → ℕ
 wait word = 2000 + word % 2001
 
 abbrev pub has_waited : Times → ℕ → Bool
-has_waited t now = nat_le (wait t.word) (age t.since now)
+has_waited times now = nat_le (wait times.word) (age times.since now)
 
 -- a member that is no Leader, has waited and has not the highest term stands for election, once it knows all members
 abbrev pub stands : Bool → ℕ → Plain → Times → Bool
-stands complete now p t = complete && (not (is_leader p.memory.role) && (nat_lt p.store.term term_limit && has_waited t now))
+stands complete now server times = complete && (not (is_leader server.memory.role) && (nat_lt server.store.term term_limit && has_waited times now))
 
 -- a Leader sends the next append request 400 ms after the last
 abbrev pub is_silent : Option ℕ → ℕ → Bool
@@ -76,69 +76,69 @@ is_overdue (Some call) now = nat_le 1000 (age call.moment now)
 
 -- those of these nodes whose call is given up
 abbrev pub overdue : Times → ℕ → List ℕ → List ℕ
-overdue t now [] = []
-overdue t now (q ∷ qs) = if is_overdue (t.sending q) now then q ∷ overdue t now qs else overdue t now qs
+overdue times now [] = []
+overdue times now (node ∷ nodes) = if is_overdue (times.sending node) now then node ∷ overdue times now nodes else overdue times now nodes
 
--- an answer from the node q under a transfer ID is awaited: the pending call to it, of this service, has this transfer ID
+-- an answer from a node under a transfer ID is awaited: the pending call to it, of this service, has this transfer ID
 abbrev pub awaits : Option Request → Option Sending → Bool → ℕ → Bool
 awaits None sending append id = false
-awaits (Some r) None append id = false
-awaits (Some r) (Some call) append id = (if append then r.append else not r.append) && (call.id == id)
+awaits (Some request) None append id = false
+awaits (Some request) (Some call) append id = (if append then request.append else not request.append) && (call.id == id)
 
 abbrev pub is_awaited : Plain → Times → ℕ → Bool → ℕ → Bool
-is_awaited p t q append id = awaits (p.memory.pending q) (t.sending q) append id
+is_awaited server times node append id = awaits (server.memory.pending node) (times.sending node) append id
 
 -- ---- what a move changes
 
 abbrev pub begin_wait : ℕ → Times → Times
-begin_wait now t = record t { since = now }
+begin_wait now times = record times { since = now }
 
 -- the wait begins where the role becomes Follower from another
 abbrev pub step_down : ℕ → Role → Times → Times
-step_down now Follower t = t
-step_down now Candidate t = begin_wait now t
-step_down now Leader t = begin_wait now t
+step_down now Follower times = times
+step_down now Candidate times = begin_wait now times
+step_down now Leader times = begin_wait now times
 
 abbrev pub raise : ℕ → ℕ → Plain → Times → Times
-raise now term p t = if nat_lt p.store.term term then step_down now p.memory.role t else t
+raise now term server times = if nat_lt server.store.term term then step_down now server.memory.role times else times
 
 abbrev pub stand : Given → Times → Times
-stand given t = record t { since = given.now; word = given.word; answered = λ q. false; sending = λ q. None }
+stand given times = record times { since = given.now; word = given.word; answered = λ node. false; sending = λ node. None }
 
 abbrev pub win : Times → Times
-win t = record t { appended = λ q. None; sending = λ q. None }
+win times = record times { appended = λ node. None; sending = λ node. None }
 
 abbrev pub end_call : ℕ → Times → Times
-end_call q t = record t { sending = at t.sending q None }
+end_call node times = record times { sending = at times.sending node None }
 
 abbrev pub begin_call : ℕ → Given → Times → Times
-begin_call q given t = record t { sending = at t.sending q (Some (record { id = given.id; moment = given.now })) }
+begin_call node given times = record times { sending = at times.sending node (Some (record { id = given.id; moment = given.now })) }
 
 -- the peer answered a vote request
 abbrev pub end_vote_call : ℕ → Times → Times
-end_vote_call q t = record (end_call q t) { answered = at t.answered q true }
+end_vote_call node times = record (end_call node times) { answered = at times.answered node true }
 
--- the times after a move of the member m, in a cluster of these members
+-- the times after a move of a member, in a cluster of these members
 abbrev pub times_after : List ℕ → ℕ → Given → Plain → Move → Times → Times
-times_after members m given p TimeOut t = if has_quorum members (own_vote m) then win (stand given t) else stand given t
-times_after members m given p (TakeVoteRequest r granted) t = if granted then begin_wait given.now t else raise given.now r.term p t
-times_after members m given p (TakeVoteAnswer a) t = if nat_lt p.store.term a.term then step_down given.now p.memory.role (end_vote_call a.from t)
-    else (if counts p a && has_quorum members (counted p.memory a) then win (end_vote_call a.from t) else end_vote_call a.from t)
-times_after members m given p (TakeAppendRequest r Outdated) t = t
-times_after members m given p (TakeAppendRequest r Refused) t = begin_wait given.now t
-times_after members m given p (TakeAppendRequest r Held) t = begin_wait given.now t
-times_after members m given p (TakeAppendRequest r (Added e)) t = begin_wait given.now t
-times_after members m given p (TakeAppendAnswer a) t = raise given.now a.term p (end_call a.from t)
-times_after members m given p (ProposeEntry e) t = t
-times_after members m given p (CommitTo k) t = t
-times_after members m given p TellPair t = t
-times_after members m given p TellNothing t = t
-times_after members m given p (CallForVote q) t = begin_call q given t
-times_after members m given p (CallToAppend q previous with_entry) t = record (begin_call q given t) { appended = at t.appended q (Some given.now) }
-times_after members m given p (AnswerAgain i) t = t
-times_after members m given p (GiveUp q) t = end_call q t
+times_after members member given server TimeOut times = if has_quorum members (own_vote member) then win (stand given times) else stand given times
+times_after members member given server (TakeVoteRequest request granted) times = if granted then begin_wait given.now times else raise given.now request.term server times
+times_after members member given server (TakeVoteAnswer answer) times = if nat_lt server.store.term answer.term then step_down given.now server.memory.role (end_vote_call answer.from times)
+    else (if counts server answer && has_quorum members (counted server.memory answer) then win (end_vote_call answer.from times) else end_vote_call answer.from times)
+times_after members member given server (TakeAppendRequest request Outdated) times = times
+times_after members member given server (TakeAppendRequest request Refused) times = begin_wait given.now times
+times_after members member given server (TakeAppendRequest request Held) times = begin_wait given.now times
+times_after members member given server (TakeAppendRequest request (Added entry)) times = begin_wait given.now times
+times_after members member given server (TakeAppendAnswer answer) times = raise given.now answer.term server (end_call answer.from times)
+times_after members member given server (ProposeEntry entry) times = times
+times_after members member given server (CommitTo index) times = times
+times_after members member given server TellPair times = times
+times_after members member given server TellNothing times = times
+times_after members member given server (CallForVote node) times = begin_call node given times
+times_after members member given server (CallToAppend node previous with_entry) times = record (begin_call node given times) { appended = at times.appended node (Some given.now) }
+times_after members member given server (AnswerAgain place) times = times
+times_after members member given server (GiveUp node) times = end_call node times
 
--- after these moves of a step with number n
+-- after these moves of a step with a number
 abbrev pub times_after_all : List ℕ → ℕ → ℕ → Given → Plain → List Move → Times → Times
-times_after_all members m n given p [] t = t
-times_after_all members m n given p (move ∷ moves) t = times_after_all members m n given (plain_after members m n p move) moves (times_after members m given p move t)
+times_after_all members member step given server [] times = times
+times_after_all members member step given server (move ∷ moves) times = times_after_all members member step given (plain_after members member step server move) moves (times_after members member given server move times)

@@ -43,10 +43,10 @@ impl Raft {
         now: u64,
     ) -> Result<AppendAnswer, Fault>
         requires fits { Fits self.old (durable_state d.old) }
-        ensures moves { (members : List ℕ) (n : ℕ) (p : Plain) (t : Times) → StandsFor self.old members (durable_state d.old) p t →
-            (step : ℕ) → let r = append_request_of req.now step from self.old.me in let v = judges p r in
-            MakesMoves members self.old.me n (given_at now) (TakeAppendRequest r v ∷ []) p t d.old d.new self.new result ×
-            IfOk result (λ answer. (answer.term ≡ (with_term p.store r.term).term) × (answer.success ≡ is_accepted v)) }
+        ensures moves { (members : List ℕ) (step : ℕ) (server : Plain) (times : Times) → StandsFor self.old members (durable_state d.old) server times →
+            (made_in : ℕ) → let request = append_request_of req.now made_in from self.old.me in let verdict = judges server request in
+            MakesMoves members self.old.me step (given_at now) (TakeAppendRequest request verdict ∷ []) server times d.old d.new self.new result ×
+            IfOk result (λ answer. (answer.term ≡ (with_term server.store request.term).term) × (answer.success ≡ is_accepted verdict)) }
         ensures fits { OnOk result (Fits self.new (durable_state d.new)) }
         ensures me { self.new.me ≡ self.old.me }
         ensures size { self.new.size ≡ self.old.size }
@@ -81,11 +81,11 @@ impl Raft {
     ) -> Result<bool, Fault>
         requires most { from ≤ 125 }
         requires fits { Fits self.old (durable_state d.old) }
-        ensures refused { (members : List ℕ) (p : Plain) (t : Times) → StandsFor self.old members (durable_state d.old) p t →
-            is_awaited p t from true id ≡ false → (result ≡ Ok false) × (self.new ≡ self.old) × (d.new ≡ d.old) }
-        ensures moves { (members : List ℕ) (n : ℕ) (p : Plain) (t : Times) → StandsFor self.old members (durable_state d.old) p t →
-            is_awaited p t from true id ≡ true → (step : ℕ) (r : Request) → p.memory.pending from ≡ Some r →
-            MakesMoves members self.old.me n (given_at now) (TakeAppendAnswer (answer_of step from r ans.now.term ans.now.success) ∷ []) p t d.old d.new self.new result ×
+        ensures refused { (members : List ℕ) (server : Plain) (times : Times) → StandsFor self.old members (durable_state d.old) server times →
+            is_awaited server times from true id ≡ false → (result ≡ Ok false) × (self.new ≡ self.old) × (d.new ≡ d.old) }
+        ensures moves { (members : List ℕ) (step : ℕ) (server : Plain) (times : Times) → StandsFor self.old members (durable_state d.old) server times →
+            is_awaited server times from true id ≡ true → (made_in : ℕ) (request : Request) → server.memory.pending from ≡ Some request →
+            MakesMoves members self.old.me step (given_at now) (TakeAppendAnswer (answer_of made_in from request ans.now.term ans.now.success) ∷ []) server times d.old d.new self.new result ×
             IfOk result (λ taken. IsTrue taken) }
         ensures fits { OnOk result (Fits self.new (durable_state d.new)) }
         ensures me { self.new.me ≡ self.old.me }
@@ -106,8 +106,8 @@ impl Raft {
 
     /// Whether the answer is to a leader of this term.
     fn leads(&self, term: u32, ans: &AppendAnswer) -> bool
-        ensures leads { (p : Plain) (a : Answer) → p.memory.role ≡ role_of self.now.role → p.store.term ≡ term → a.term ≡ ans.now.term →
-            result ≡ (is_leader p.memory.role && (a.term == p.store.term)) }
+        ensures leads { (server : Plain) (answer : Answer) → server.memory.role ≡ role_of self.now.role → server.store.term ≡ term → answer.term ≡ ans.now.term →
+            result ≡ (is_leader server.memory.role && (answer.term == server.store.term)) }
         ensures leader { result ≡ true → self.now.role ≡ Leader }
     {
         self.role == Role::Leader && ans.term == term
@@ -117,10 +117,10 @@ impl Raft {
     fn move_on(&mut self, from: u8, reach: u8, success: bool)
         requires most { from ≤ 125 }
         requires reach { reach ≤ 127 }
-        requires matched { (d : Peer) → (slice_index_or self.old.peers from d).matched ≤ 127 }
-        ensures stands { (members : List ℕ) (state : Stored) (p : Plain) (t : Times) → StandsFor self.old members state p t → self.old.role ≡ Leader →
-            (a : Answer) → a.from ≡ from → a.success ≡ success → messages.reach a.request ≡ reach →
-            StandsFor self.new members state (record p { memory = record p.memory { matched = at p.memory.matched from (matched_after p.memory a); next = at p.memory.next from (next_after p.memory a) } }) t }
+        requires matched { (none : Peer) → (slice_index_or self.old.peers from none).matched ≤ 127 }
+        ensures stands { (members : List ℕ) (state : Stored) (server : Plain) (times : Times) → StandsFor self.old members state server times → self.old.role ≡ Leader →
+            (answer : Answer) → answer.from ≡ from → answer.success ≡ success → messages.reach answer.request ≡ reach →
+            StandsFor self.new members state (record server { memory = record server.memory { matched = at server.memory.matched from (matched_after server.memory answer); next = at server.memory.next from (next_after server.memory answer) } }) times }
         ensures fits { (state : Stored) → Fits self.old state → reach ≤ length state.log → Fits self.new state }
         ensures me { self.new.me ≡ self.old.me }
         ensures size { self.new.size ≡ self.old.size }
@@ -139,8 +139,8 @@ impl Raft {
 /// The rules on the log and the entry, with the puts of what they say; whether they accept the request.
 fn accept<D: Disk>(d: &mut Durable<D>, req: &AppendRequest) -> Result<bool, Fault>
     requires { req.now.term ≡ (durable_state d.old).term }
-    ensures puts { (step from to : ℕ) (v : Verdict) → let r = append_request_of req.now step from to in IsRuled (store_of (durable_state d.old)) r v →
-        DoesPuts (append_puts (store_of (durable_state d.old)) r v) d.old d.new result × IfOk result (λ success. success ≡ is_accepted v) }
+    ensures puts { (step from to : ℕ) (verdict : Verdict) → let request = append_request_of req.now step from to in IsRuled (store_of (durable_state d.old)) request verdict →
+        DoesPuts (append_puts (store_of (durable_state d.old)) request verdict) d.old d.new result × IfOk result (λ success. success ≡ is_accepted verdict) }
     ensures commit { OnOk result ((durable_state d.old).commit ≤ (durable_state d.new).commit) }
 {
     puts_in_turn::<D, (), bool>();
@@ -159,8 +159,8 @@ fn take_entry<D: Disk>(d: &mut Durable<D>, req: &AppendRequest, entry: Entry) ->
     requires entry { req.now.entry ≡ Some entry }
     requires previous { req.now.prev_index ≤ length (durable_state d.old).log }
     requires previous_term { term_at (durable_state d.old).log req.now.prev_index ≡ req.now.prev_term }
-    ensures puts { (step from to : ℕ) (v : Verdict) → let r = append_request_of req.now step from to in IsRuled (store_of (durable_state d.old)) r v →
-        DoesPuts (append_puts (store_of (durable_state d.old)) r v) d.old d.new result × IfOk result (λ success. success ≡ is_accepted v) }
+    ensures puts { (step from to : ℕ) (verdict : Verdict) → let request = append_request_of req.now step from to in IsRuled (store_of (durable_state d.old)) request verdict →
+        DoesPuts (append_puts (store_of (durable_state d.old)) request verdict) d.old d.new result × IfOk result (λ success. success ≡ is_accepted verdict) }
     ensures commit { OnOk result ((durable_state d.old).commit ≤ (durable_state d.new).commit) }
 {
     puts_in_turn::<D, (), bool>();

@@ -8,7 +8,7 @@ ghost use Rattle.raft_model.specs.Lists.{In};
 ghost use Rattle.raft_model.specs.Messages.{Request, items, reach};
 ghost use Rattle.raft_model.specs.Moves.{Move, ended};
 ghost use Rattle.raft_model.specs.Server.{Plain};
-ghost use Rattle.raft_core.specs.Times as times;
+ghost use Rattle.raft_core.specs.Times as clock;
 ghost use Rattle.raft_core.specs.Times.{Sending, Times, given_at, given_call, is_awaited, overdue, times_after_all};
 ghost use Rattle.can_frame.specs.declared.step.Role.TheVariants.{Leader};
 
@@ -50,9 +50,9 @@ impl Raft {
 
     /// Calls that were made 1,000 ms ago, or earlier, are given up.
     pub fn expire(&mut self, now: u64)
-        ensures moves { (members : List ℕ) (n : ℕ) (state : Stored) (p : Plain) (t : Times) → StandsFor self.old members state p t →
-            (nodes : List ℕ) → ((q : ℕ) → q < 128 → p.memory.pending q ≢ None → In q nodes) → let moves = moves_of_expire (overdue t now nodes) in
-            StandsFor self.new members state (plain_after_all members self.old.me n p moves) (times_after_all members self.old.me n (given_at now) p moves t) }
+        ensures moves { (members : List ℕ) (step : ℕ) (state : Stored) (server : Plain) (times : Times) → StandsFor self.old members state server times →
+            (nodes : List ℕ) → ((node : ℕ) → node < 128 → server.memory.pending node ≢ None → In node nodes) → let moves = moves_of_expire (overdue times now nodes) in
+            StandsFor self.new members state (plain_after_all members self.old.me step server moves) (times_after_all members self.old.me step (given_at now) server moves times) }
         ensures fits { (state : Stored) → Fits self.old state → Fits self.new state }
         ensures me { self.new.me ≡ self.old.me }
         ensures size { self.new.size ≡ self.old.size }
@@ -97,9 +97,9 @@ impl Raft {
         requires most { peer ≤ 125 }
         requires fits { Fits self.old (durable_state d.now) }
         requires owed { Owes self.old (durable_state d.now) peer now what.now }
-        ensures moves { (members : List ℕ) (p : Plain) (t : Times) → StandsFor self.old members (durable_state d.now) p t →
-            (move : Move) → owed p t peer now ≡ Some move →
-            StandsFor self.new members (durable_state d.now) (plain_after_all members self.old.me step p (move ∷ [])) (times_after_all members self.old.me step (given_call now id) p (move ∷ []) t) }
+        ensures moves { (members : List ℕ) (server : Plain) (times : Times) → StandsFor self.old members (durable_state d.now) server times →
+            (move : Move) → owed server times peer now ≡ Some move →
+            StandsFor self.new members (durable_state d.now) (plain_after_all members self.old.me step server (move ∷ [])) (times_after_all members self.old.me step (given_call now id) server (move ∷ []) times) }
         ensures fits { Fits self.new (durable_state d.now) }
         ensures me { self.new.me ≡ self.old.me }
         ensures size { self.new.size ≡ self.old.size }
@@ -123,9 +123,9 @@ impl Raft {
     /// The call to a peer that waits for its answer.
     pub fn pending(&self, peer: u8) -> Option<Pending>
         requires { peer ≤ 125 }
-        ensures some { IfSome result (λ pending. (members : List ℕ) (state : Stored) (p : Plain) (t : Times) → StandsFor self.now members state p t →
-            (r : Request) × (sending : Sending) × (p.memory.pending peer ≡ Some r) × (t.sending peer ≡ Some sending) × IsPending pending r sending) }
-        ensures none { IsNone result → (members : List ℕ) (state : Stored) (p : Plain) (t : Times) → StandsFor self.now members state p t → p.memory.pending peer ≡ None }
+        ensures some { IfSome result (λ pending. (members : List ℕ) (state : Stored) (server : Plain) (times : Times) → StandsFor self.now members state server times →
+            (request : Request) × (sending : Sending) × (server.memory.pending peer ≡ Some request) × (times.sending peer ≡ Some sending) × IsPending pending request sending) }
+        ensures none { IsNone result → (members : List ℕ) (state : Stored) (server : Plain) (times : Times) → StandsFor self.now members state server times → server.memory.pending peer ≡ None }
     {
         let call = self.peers[peer as usize].call?;
         Some(Pending {
@@ -142,7 +142,7 @@ impl Raft {
     /// Whether the call to a node that waits under a transfer ID asks for its vote.
     pub(crate) fn awaits_vote(&self, from: u8, id: u8) -> bool
         requires { from ≤ 125 }
-        ensures { (members : List ℕ) (state : Stored) (p : Plain) (t : Times) → StandsFor self.now members state p t → result ≡ is_awaited p t from false id }
+        ensures { (members : List ℕ) (state : Stored) (server : Plain) (times : Times) → StandsFor self.now members state server times → result ≡ is_awaited server times from false id }
     {
         matches!(self.peers[from as usize].asked_under(id), Some(Asked::Vote))
     }
@@ -150,9 +150,9 @@ impl Raft {
     /// The place up to which the append call to a node goes that waits under a transfer ID.
     pub(crate) fn awaited_reach(&self, from: u8, id: u8) -> Option<u8>
         requires { from ≤ 125 }
-        ensures some { IfSome result (λ place. (members : List ℕ) (state : Stored) (p : Plain) (t : Times) → StandsFor self.now members state p t →
-            (is_awaited p t from true id ≡ true) × ((r : Request) → p.memory.pending from ≡ Some r → reach r ≡ place)) }
-        ensures none { IsNone result → (members : List ℕ) (state : Stored) (p : Plain) (t : Times) → StandsFor self.now members state p t → is_awaited p t from true id ≡ false }
+        ensures some { IfSome result (λ place. (members : List ℕ) (state : Stored) (server : Plain) (times : Times) → StandsFor self.now members state server times →
+            (is_awaited server times from true id ≡ true) × ((request : Request) → server.memory.pending from ≡ Some request → reach request ≡ place)) }
+        ensures none { IsNone result → (members : List ℕ) (state : Stored) (server : Plain) (times : Times) → StandsFor self.now members state server times → is_awaited server times from true id ≡ false }
         ensures within { IfSome result (λ place. (state : Stored) → Fits self.now state → self.now.role ≡ Leader → place ≤ length state.log) }
     {
         match self.peers[from as usize].asked_under(id) {
@@ -164,8 +164,8 @@ impl Raft {
     /// The call to a node waits no more.
     pub(crate) fn end_call(&mut self, from: u8)
         requires { from ≤ 125 }
-        ensures stands { (members : List ℕ) (state : Stored) (p : Plain) (t : Times) → StandsFor self.old members state p t →
-            StandsFor self.new members state (record p { memory = ended p.memory from }) (times.end_call from t) }
+        ensures stands { (members : List ℕ) (state : Stored) (server : Plain) (times : Times) → StandsFor self.old members state server times →
+            StandsFor self.new members state (record server { memory = ended server.memory from }) (clock.end_call from times) }
         ensures fits { (state : Stored) → Fits self.old state → Fits self.new state }
         ensures me { self.new.me ≡ self.old.me }
         ensures size { self.new.size ≡ self.old.size }

@@ -23,9 +23,9 @@ impl Raft {
     /// which a quorum has, itself included. Others, and a leader without such a place, change nothing.
     pub fn commit<D: Disk>(&mut self, d: &mut Durable<D>) -> Result<(), Fault>
         requires fits { Fits self.old (durable_state d.old) }
-        ensures moves { (members : List ℕ) (n : ℕ) (p : Plain) (t : Times) → StandsFor self.old members (durable_state d.old) p t →
+        ensures moves { (members : List ℕ) (step : ℕ) (server : Plain) (times : Times) → StandsFor self.old members (durable_state d.old) server times →
             (given : Given) →
-            MakesMoves members self.old.me n given (moves_of_commit members self.old.me p) p t d.old d.new self.new result }
+            MakesMoves members self.old.me step given (moves_of_commit members self.old.me server) server times d.old d.new self.new result }
         ensures fits { OnOk result (Fits self.new (durable_state d.new)) }
         ensures same { self.new ≡ self.old }
     {
@@ -39,12 +39,12 @@ impl Raft {
 
     /// The place that is to be committed.
     fn commit_index<D: Disk>(&self, d: &Durable<D>) -> Option<u8>
-        ensures found { IfSome result (λ place. (members : List ℕ) (p : Plain) (t : Times) → StandsFor self.now members (durable_state d.now) p t →
-            (self.now.role ≡ Leader) × IsCommitIndex members self.now.me p place) }
+        ensures found { IfSome result (λ place. (members : List ℕ) (server : Plain) (times : Times) → StandsFor self.now members (durable_state d.now) server times →
+            (self.now.role ≡ Leader) × IsCommitIndex members self.now.me server place) }
         ensures above { IfSome result (λ place. (durable_state d.now).commit < place) }
         ensures inside { IfSome result (λ place. place ≤ length (durable_state d.now).log) }
-        ensures none { IsNone result → (members : List ℕ) (p : Plain) (t : Times) → StandsFor self.now members (durable_state d.now) p t →
-            self.now.role ≡ Leader → (place : ℕ) → CanCommit members self.now.me p place → ⊥ }
+        ensures none { IsNone result → (members : List ℕ) (server : Plain) (times : Times) → StandsFor self.now members (durable_state d.now) server times →
+            self.now.role ≡ Leader → (place : ℕ) → CanCommit members self.now.me server place → ⊥ }
     {
         if self.role != Role::Leader {
             return None;
@@ -64,7 +64,7 @@ impl Raft {
         requires role { self.now.role ≡ Leader }
         requires above { (durable_state d.now).commit < place }
         requires inside { place ≤ length (durable_state d.now).log }
-        ensures { (members : List ℕ) (p : Plain) (t : Times) → StandsFor self.now members (durable_state d.now) p t → IsTrue result ↔ CanCommit members self.now.me p place }
+        ensures { (members : List ℕ) (server : Plain) (times : Times) → StandsFor self.now members (durable_state d.now) server times → IsTrue result ↔ CanCommit members self.now.me server place }
     {
         d.entry(place).term == d.term() && self.has_quorum(Cause::Place(place))
     }

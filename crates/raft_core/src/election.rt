@@ -8,7 +8,7 @@ ghost use Rattle.raft_model.specs.Moves.Move.{TimeOut};
 ghost use Rattle.raft_model.specs.Server.{Plain, put_all};
 ghost use Rattle.raft_core.specs.Peers.{fresh, voter};
 ghost use Rattle.raft_core.specs.StoredPuts.{DoesPuts, store_of};
-ghost use Rattle.raft_core.specs.Times as times;
+ghost use Rattle.raft_core.specs.Times as clock;
 ghost use Rattle.raft_core.specs.Times.{Times, given_tick};
 
 use crate::laws::puts_in_turn;
@@ -39,9 +39,9 @@ impl Raft {
         requires peers { (i : ℕ) → i < length peers.now → slice_index_or peers.now i 0 ≤ 125 }
         requires complete { complete ≡ true → length peers.now + 1 ≡ self.old.size }
         requires fits { Fits self.old (durable_state d.old) }
-        ensures moves { (members : List ℕ) (n : ℕ) (p : Plain) (t : Times) → StandsFor self.old members (durable_state d.old) p t →
+        ensures moves { (members : List ℕ) (step : ℕ) (server : Plain) (times : Times) → StandsFor self.old members (durable_state d.old) server times →
             (complete ≡ true → members ≡ self.old.me ∷ peers.now) →
-            MakesMoves members self.old.me n (given_tick now word) (if times.stands complete now p t then TimeOut ∷ [] else []) p t d.old d.new self.new result }
+            MakesMoves members self.old.me step (given_tick now word) (if clock.stands complete now server times then TimeOut ∷ [] else []) server times d.old d.new self.new result }
         ensures fits { OnOk result (Fits self.new (durable_state d.new)) }
         ensures me { self.new.me ≡ self.old.me }
         ensures size { self.new.size ≡ self.old.size }
@@ -60,8 +60,8 @@ impl Raft {
     /// Whether the wait for an election has passed, of one that knows all members, is no leader and is
     /// below the highest term.
     fn may_stand(&self, complete: bool, term: u32, now: u64) -> bool
-        ensures stands { (p : Plain) (t : Times) → p.memory.role ≡ role_of self.now.role → p.store.term ≡ term → t.since ≡ self.now.since → t.word ≡ self.now.word →
-            result ≡ times.stands complete now p t }
+        ensures stands { (server : Plain) (times : Times) → server.memory.role ≡ role_of self.now.role → server.store.term ≡ term → times.since ≡ self.now.since → times.word ≡ self.now.word →
+            result ≡ clock.stands complete now server times }
         ensures complete { result ≡ true → complete ≡ true }
         ensures term { result ≡ true → term < 4294967295 }
     {
@@ -85,10 +85,10 @@ impl Raft {
         requires complete { length peers.now + 1 ≡ self.old.size }
         requires fits { Fits self.old (durable_state d.old) }
         ensures puts { DoesPuts (stand_puts self.old.me (store_of (durable_state d.old))) d.old d.new result }
-        ensures stands { (members : List ℕ) (p : Plain) (t : Times) → StandsFor self.old members (durable_state d.old) p t →
+        ensures stands { (members : List ℕ) (server : Plain) (times : Times) → StandsFor self.old members (durable_state d.old) server times →
             OnOk result (StandsFor self.new (self.old.me ∷ peers.now) (durable_state d.new)
-            (record { store = put_all p.store (stand_puts self.old.me p.store); memory = stand_memory self.old.me p.memory })
-            (times.stand (given_tick now word) t)) }
+            (record { store = put_all server.store (stand_puts self.old.me server.store); memory = stand_memory self.old.me server.memory })
+            (clock.stand (given_tick now word) times)) }
         ensures fits { OnOk result (Fits self.new (durable_state d.new)) }
         ensures role { OnOk result (self.new.role ≡ Candidate) }
         ensures me { self.new.me ≡ self.old.me }
@@ -108,9 +108,9 @@ impl Raft {
         requires role { self.old.role ≢ Follower }
         requires fits { Fits self.old (durable_state d.old) }
         ensures puts { DoesPuts (win_puts (store_of (durable_state d.old))) d.old d.new result }
-        ensures stands { (members : List ℕ) (p : Plain) (t : Times) → StandsFor self.old members (durable_state d.old) p t →
+        ensures stands { (members : List ℕ) (server : Plain) (times : Times) → StandsFor self.old members (durable_state d.old) server times →
             OnOk result (StandsFor self.new members (durable_state d.new)
-            (record { store = put_all p.store (win_puts p.store); memory = win_memory p.store p.memory }) (times.win t)) }
+            (record { store = put_all server.store (win_puts server.store); memory = win_memory server.store server.memory }) (clock.win times)) }
         ensures fits { OnOk result (Fits self.new (durable_state d.new)) }
         ensures me { self.new.me ≡ self.old.me }
         ensures size { self.new.size ≡ self.old.size }

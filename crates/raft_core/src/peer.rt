@@ -1,5 +1,5 @@
 ghost use Rattle.std.specs.Prelude.{◌≡◌, ◌≤◌, ◌+◌, ◌-◌, true, false, None};
-ghost use Rattle.raft_core.specs.Times as times;
+ghost use Rattle.raft_core.specs.Times as clock;
 
 /// What a call asks a peer for.
 #[derive(Clone, Copy)]
@@ -87,7 +87,7 @@ impl Peer {
 
     /// Whether 400 ms have passed since the last append request, or there was none.
     pub fn is_silent(&self, now: u64) -> bool
-        ensures { result ≡ times.is_silent self.now.appended now }
+        ensures { result ≡ clock.is_silent self.now.appended now }
     {
         match self.appended {
             Some(moment) => now.saturating_sub(moment) >= 400,

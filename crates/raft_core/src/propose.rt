@@ -48,11 +48,11 @@ impl Raft {
         requires uid { uid.now ≢ zeros }
         requires node { node ≤ 125 }
         requires fits { Fits self.old (durable_state d.old) }
-        ensures moves { (members : List ℕ) (n : ℕ) (p : Plain) (t : Times) → StandsFor self.old members (durable_state d.old) p t →
-            (given : Given) → let entry = proposal p.store.term uid.now node in MayPropose p entry →
-            MakesMoves members self.old.me n given (ProposeEntry entry ∷ []) p t d.old d.new self.new result }
-        ensures added { OnOk result ((members : List ℕ) (p : Plain) (t : Times) → StandsFor self.old members (durable_state d.old) p t →
-            (result ≡ Ok Added) ↔ MayPropose p (proposal p.store.term uid.now node)) }
+        ensures moves { (members : List ℕ) (step : ℕ) (server : Plain) (times : Times) → StandsFor self.old members (durable_state d.old) server times →
+            (given : Given) → let entry = proposal server.store.term uid.now node in MayPropose server entry →
+            MakesMoves members self.old.me step given (ProposeEntry entry ∷ []) server times d.old d.new self.new result }
+        ensures added { OnOk result ((members : List ℕ) (server : Plain) (times : Times) → StandsFor self.old members (durable_state d.old) server times →
+            (result ≡ Ok Added) ↔ MayPropose server (proposal server.store.term uid.now node)) }
         ensures not_leader { OnOk result ((result ≡ Ok NotLeader) ↔ (self.old.role ≢ Leader)) }
         ensures full { OnOk result ((result ≡ Ok LogFull) ↔ ((self.old.role ≡ Leader) × (length (durable_state d.old).log ≡ log_limit))) }
         ensures taken { OnOk result ((result ≡ Ok Taken) ↔ ((self.old.role ≡ Leader) × (length (durable_state d.old).log < log_limit) × IsTaken (durable_state d.old).log uid.now node)) }

@@ -65,7 +65,7 @@ impl Raft {
     ghost use Rattle.raft_core.specs.Roles.{StepsDown};
     ghost use Rattle.raft_core.specs.Stands.{StandsFor, role_of};
     ghost use Rattle.raft_core.specs.StoredPuts.{DoesPuts, store_of};
-    ghost use Rattle.raft_core.specs.Times as times;
+    ghost use Rattle.raft_core.specs.Times as clock;
     ghost use Rattle.raft_core.specs.Times.{Times, opened_times};
 
     /// A member that opens now, in a cluster of 1 to 5 members. The word makes its wait for an election
@@ -94,7 +94,7 @@ impl Raft {
 
     pub fn role(&self) -> Role
         ensures role { result ≡ self.now.role }
-        ensures stands { (members : List ℕ) (state : Stored) (p : Plain) (t : Times) → StandsFor self.now members state p t → p.memory.role ≡ role_of result }
+        ensures stands { (members : List ℕ) (state : Stored) (server : Plain) (times : Times) → StandsFor self.now members state server times → server.memory.role ≡ role_of result }
     {
         self.role
     }
@@ -117,8 +117,8 @@ impl Raft {
         now: u64,
     ) -> Result<(), Fault>
         ensures puts { DoesPuts (term_puts (store_of (durable_state d.old)) term) d.old d.new result }
-        ensures stands { (members : List ℕ) (p : Plain) (t : Times) → StandsFor self.old members (durable_state d.old) p t →
-            OnOk result (StandsFor self.new members (durable_state d.new) (record { store = with_term p.store term; memory = term_memory p term }) (times.raise now term p t)) }
+        ensures stands { (members : List ℕ) (server : Plain) (times : Times) → StandsFor self.old members (durable_state d.old) server times →
+            OnOk result (StandsFor self.new members (durable_state d.new) (record { store = with_term server.store term; memory = term_memory server term }) (clock.raise now term server times)) }
         ensures fits { Fits self.old (durable_state d.old) → OnOk result (Fits self.new (durable_state d.new)) }
         ensures me { self.new.me ≡ self.old.me }
         ensures size { self.new.size ≡ self.old.size }

@@ -32,7 +32,7 @@ impl Raft {
     /// What is to be told next: the entry after the last that was told, where it is committed.
     pub fn tell<D: Disk>(&self, d: &Durable<D>) -> Telling
         requires fits { Fits self.now (durable_state d.now) }
-        ensures { (members : List ℕ) (p : Plain) (t : Times) → StandsFor self.now members (durable_state d.now) p t → IsToTell p result }
+        ensures { (members : List ℕ) (server : Plain) (times : Times) → StandsFor self.now members (durable_state d.now) server times → IsToTell server result }
     {
         if self.role != Role::Leader || self.told >= d.commit() {
             return Telling::Nothing;
@@ -48,9 +48,9 @@ impl Raft {
     /// The entry at the place after the last was told, or passed over.
     pub fn told(&mut self, place: u8)
         requires { place ≡ self.old.told + 1 }
-        ensures moves { (members : List ℕ) (n : ℕ) (state : Stored) (p : Plain) (t : Times) → StandsFor self.old members state p t →
-            (given : Given) (move : Move) → IsTelling p move →
-            StandsFor self.new members state (plain_after_all members self.old.me n p (move ∷ [])) (times_after_all members self.old.me n given p (move ∷ []) t) }
+        ensures moves { (members : List ℕ) (step : ℕ) (state : Stored) (server : Plain) (times : Times) → StandsFor self.old members state server times →
+            (given : Given) (move : Move) → IsTelling server move →
+            StandsFor self.new members state (plain_after_all members self.old.me step server (move ∷ [])) (times_after_all members self.old.me step given server (move ∷ []) times) }
         ensures fits { (state : Stored) → Fits self.old state → self.old.told < state.commit → Fits self.new state }
         ensures me { self.new.me ≡ self.old.me }
         ensures size { self.new.size ≡ self.old.size }

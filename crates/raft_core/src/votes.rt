@@ -12,7 +12,7 @@ ghost use Rattle.raft_model.specs.Moves.Move.{TakeVoteRequest, TakeVoteAnswer};
 ghost use Rattle.raft_model.specs.Server.{Plain, put_all};
 ghost use Rattle.raft_core.specs.Handled.{answer_of, vote_request_of};
 ghost use Rattle.raft_core.specs.StoredPuts.{DoesPuts, store_of};
-ghost use Rattle.raft_core.specs.Times as times;
+ghost use Rattle.raft_core.specs.Times as clock;
 ghost use Rattle.raft_core.specs.Times.{Times, given_at, is_awaited};
 
 use crate::laws::puts_in_turn;
@@ -42,10 +42,10 @@ impl Raft {
         requires least { 1 ≤ from }
         requires most { from ≤ 125 }
         requires fits { Fits self.old (durable_state d.old) }
-        ensures moves { (members : List ℕ) (n : ℕ) (p : Plain) (t : Times) → StandsFor self.old members (durable_state d.old) p t →
-            (step : ℕ) → let r = vote_request_of req.now step from self.old.me in let granted = grants (with_term p.store r.term) r in
-            MakesMoves members self.old.me n (given_at now) (TakeVoteRequest r granted ∷ []) p t d.old d.new self.new result ×
-            IfOk result (λ answer. (answer.term ≡ (with_term p.store r.term).term) × (answer.granted ≡ granted)) }
+        ensures moves { (members : List ℕ) (step : ℕ) (server : Plain) (times : Times) → StandsFor self.old members (durable_state d.old) server times →
+            (made_in : ℕ) → let request = vote_request_of req.now made_in from self.old.me in let granted = grants (with_term server.store request.term) request in
+            MakesMoves members self.old.me step (given_at now) (TakeVoteRequest request granted ∷ []) server times d.old d.new self.new result ×
+            IfOk result (λ answer. (answer.term ≡ (with_term server.store request.term).term) × (answer.granted ≡ granted)) }
         ensures fits { OnOk result (Fits self.new (durable_state d.new)) }
         ensures me { self.new.me ≡ self.old.me }
         ensures size { self.new.size ≡ self.old.size }
@@ -79,11 +79,11 @@ impl Raft {
     ) -> Result<bool, Fault>
         requires most { from ≤ 125 }
         requires fits { Fits self.old (durable_state d.old) }
-        ensures refused { (members : List ℕ) (p : Plain) (t : Times) → StandsFor self.old members (durable_state d.old) p t →
-            is_awaited p t from false id ≡ false → (result ≡ Ok false) × (self.new ≡ self.old) × (d.new ≡ d.old) }
-        ensures moves { (members : List ℕ) (n : ℕ) (p : Plain) (t : Times) → StandsFor self.old members (durable_state d.old) p t →
-            is_awaited p t from false id ≡ true → (step : ℕ) (r : Request) → p.memory.pending from ≡ Some r →
-            MakesMoves members self.old.me n (given_at now) (TakeVoteAnswer (answer_of step from r ans.now.term ans.now.granted) ∷ []) p t d.old d.new self.new result ×
+        ensures refused { (members : List ℕ) (server : Plain) (times : Times) → StandsFor self.old members (durable_state d.old) server times →
+            is_awaited server times from false id ≡ false → (result ≡ Ok false) × (self.new ≡ self.old) × (d.new ≡ d.old) }
+        ensures moves { (members : List ℕ) (step : ℕ) (server : Plain) (times : Times) → StandsFor self.old members (durable_state d.old) server times →
+            is_awaited server times from false id ≡ true → (made_in : ℕ) (request : Request) → server.memory.pending from ≡ Some request →
+            MakesMoves members self.old.me step (given_at now) (TakeVoteAnswer (answer_of made_in from request ans.now.term ans.now.granted) ∷ []) server times d.old d.new self.new result ×
             IfOk result (λ taken. IsTrue taken) }
         ensures fits { OnOk result (Fits self.new (durable_state d.new)) }
         ensures me { self.new.me ≡ self.old.me }
@@ -105,7 +105,7 @@ impl Raft {
 
     /// Whether an answer counts: a grant, for a candidate of this term.
     fn counts(&self, term: u32, ans: &VoteAnswer) -> bool
-        ensures counts { (p : Plain) (a : Answer) → p.memory.role ≡ role_of self.now.role → p.store.term ≡ term → a.term ≡ ans.now.term → a.success ≡ ans.now.granted → result ≡ counts p a }
+        ensures counts { (server : Plain) (answer : Answer) → server.memory.role ≡ role_of self.now.role → server.store.term ≡ term → answer.term ≡ ans.now.term → answer.success ≡ ans.now.granted → result ≡ counts server answer }
         ensures candidate { result ≡ true → self.now.role ≡ Candidate }
     {
         self.role == Role::Candidate && ans.term == term && ans.granted
@@ -114,8 +114,8 @@ impl Raft {
     /// A node answered the vote request of this term: it is not asked again.
     fn note_answer(&mut self, from: u8)
         requires { from ≤ 125 }
-        ensures stands { (members : List ℕ) (state : Stored) (p : Plain) (t : Times) → StandsFor self.old members state p t →
-            StandsFor self.new members state p (record t { answered = at t.answered from true }) }
+        ensures stands { (members : List ℕ) (state : Stored) (server : Plain) (times : Times) → StandsFor self.old members state server times →
+            StandsFor self.new members state server (record times { answered = at times.answered from true }) }
         ensures fits { (state : Stored) → Fits self.old state → Fits self.new state }
         ensures me { self.new.me ≡ self.old.me }
         ensures size { self.new.size ≡ self.old.size }
@@ -126,8 +126,8 @@ impl Raft {
     /// The vote of a node counts.
     fn count(&mut self, from: u8)
         requires { from ≤ 125 }
-        ensures stands { (members : List ℕ) (state : Stored) (p : Plain) (t : Times) → StandsFor self.old members state p t →
-            StandsFor self.new members state (record p { memory = record p.memory { votes = at p.memory.votes from true } }) t }
+        ensures stands { (members : List ℕ) (state : Stored) (server : Plain) (times : Times) → StandsFor self.old members state server times →
+            StandsFor self.new members state (record server { memory = record server.memory { votes = at server.memory.votes from true } }) times }
         ensures fits { (state : Stored) → Fits self.old state → Fits self.new state }
         ensures me { self.new.me ≡ self.old.me }
         ensures size { self.new.size ≡ self.old.size }
@@ -141,13 +141,13 @@ impl Raft {
         requires most { from ≤ 125 }
         requires role { self.old.role ≡ Candidate }
         requires fits { Fits self.old (durable_state d.old) }
-        ensures puts { (members : List ℕ) (p : Plain) (t : Times) → StandsFor self.old members (durable_state d.old) p t →
-            DoesPuts (if has_quorum members (at p.memory.votes from true) then win_puts p.store else []) d.old d.new result }
-        ensures stands { (members : List ℕ) (p : Plain) (t : Times) → StandsFor self.old members (durable_state d.old) p t →
-            let counted = record p.memory { votes = at p.memory.votes from true } in
+        ensures puts { (members : List ℕ) (server : Plain) (times : Times) → StandsFor self.old members (durable_state d.old) server times →
+            DoesPuts (if has_quorum members (at server.memory.votes from true) then win_puts server.store else []) d.old d.new result }
+        ensures stands { (members : List ℕ) (server : Plain) (times : Times) → StandsFor self.old members (durable_state d.old) server times →
+            let counted = record server.memory { votes = at server.memory.votes from true } in
             OnOk result (StandsFor self.new members (durable_state d.new)
-            (if has_quorum members counted.votes then record { store = put_all p.store (win_puts p.store); memory = win_memory p.store counted } else record p { memory = counted })
-            (if has_quorum members counted.votes then times.win t else t)) }
+            (if has_quorum members counted.votes then record { store = put_all server.store (win_puts server.store); memory = win_memory server.store counted } else record server { memory = counted })
+            (if has_quorum members counted.votes then clock.win times else times)) }
         ensures fits { OnOk result (Fits self.new (durable_state d.new)) }
         ensures me { self.new.me ≡ self.old.me }
         ensures size { self.new.size ≡ self.old.size }
