@@ -1,9 +1,11 @@
 -- What cutting loses: nothing.
-use Rattle.std.proofs.Common.{◌≡◌, ℕ, zero, suc, ◌+◌, ◌-◌, ◌*◌, ◌/◌, ◌≤◌, ◌<◌, true, false, List, ◌++◌, length, take, drop, get_or, refl, ap, ◌∙◌, arith, nat_le, append-nil, drop-drop, zero-add, inl, inr}
-use Rattle.std.proofs.lemmas.List.{take-append-drop}
+use Rattle.std.proofs.Common.{◌≡◌, ℕ, zero, suc, ◌+◌, ◌-◌, ◌*◌, ◌/◌, ◌≤◌, ◌<◌, true, false, List, ◌++◌, length, sum, min, take, drop, get_or, refl, sym, ap, ◌∙◌, arith, nat_le, append-nil, drop-drop, length-append, length-drop, length-take, zero-add, inl, inr}
+use Rattle.std.proofs.lemmas.List.{take-append-drop, length-map}
+use Rattle.std.proofs.lemmas.List.Concat.{length-flat_map}
+use Rattle.std.proofs.lemmas.List.Sums.{sum-map}
 use Rattle.std.proofs.lemmas.Bool.{le-leb, lt-leb}
 use Rattle.std.proofs.lemmas.Bool.Decides.{leb_tells}
-use Rattle.can_frame.specs.Cutting.{Piece, cut, joined, bytes_cut, crc_bytes, frames_before_last, frames_of, payload_of, tail_at}
+use Rattle.can_frame.specs.Cutting.{Piece, cut, cut_length, joined, bytes_cut, crc_bytes, frame_count, frame_lengths, frames_before_last, frames_of, payload_of, tail_at}
 
 joined-more : (bytes rest : List ℕ) → rest ≡ drop 7 bytes → take 7 bytes ++ rest ≡ bytes
 joined-more bytes rest e = rw e (take-append-drop 7 bytes)
@@ -104,3 +106,48 @@ frame-last signature id payload d =
     let k = frames_before_last signature payload in
     last-cut id 0 k (bytes_cut signature payload) d
     ∙ ap (λ p. record { bytes = drop (7 * k) (bytes_cut signature payload); tail = tail_at id p true }) (zero-add k)
+
+-- ---- lengths
+
+pub length-cut_bytes : (signature : ℕ) (payload : List ℕ) → length (bytes_cut signature payload) ≡ cut_length (length payload)
+length-cut_bytes signature payload = elim (leb_tells (length payload) 7) [
+  | inl short ↦ let t : nat_le (length payload) 7 ≡ true = short.0 in rw t refl
+  | inr long ↦ let t : nat_le (length payload) 7 ≡ false = long.0 in rw t (length-append (crc_bytes signature payload) payload)
+]
+
+-- one frame, and one for each seven further bytes
+pub count-frames : (signature id : ℕ) (payload : List ℕ) → length (frames_of signature id payload) ≡ frame_count (length payload)
+count-frames signature id payload = length-frames signature id payload ∙ elim (leb_tells (length payload) 7) [
+  | inl short ↦ let t : nat_le (length payload) 7 ≡ true = short.0 in let h : length payload ≤ 7 = short.1 in rw t (omega arith)
+  | inr long ↦ let t : nat_le (length payload) 7 ≡ false = long.0 in let h : 7 < length payload = long.1 in rw t (omega arith)
+]
+
+pub length-joined : (pieces : List Piece) → length (joined pieces) ≡ sum (frame_lengths pieces)
+length-joined pieces = length-flat_map (λ (x : Piece). x.bytes) pieces ∙ sym (sum-map (λ (x : Piece). length x.bytes) pieces)
+
+cut_alike : (id place more : ℕ) (a b : List ℕ) → length a ≡ length b → frame_lengths (cut id place more a) ≡ frame_lengths (cut id place more b)
+cut_alike id place zero a b e = rw e refl
+cut_alike id place (suc more) a b e =
+    let d : length (drop 7 a) ≡ length (drop 7 b) = length-drop 7 a ∙ ap (λ n. n - 7) e ∙ sym (length-drop 7 b) in
+    let t : length (take 7 a) ≡ length (take 7 b) = length-take 7 a ∙ ap (min 7) e ∙ sym (length-take 7 b) in
+    let r : frame_lengths (cut id (suc place) more (drop 7 a)) ≡ frame_lengths (cut id (suc place) more (drop 7 b)) = cut_alike id (suc place) more (drop 7 a) (drop 7 b) d in
+    rw (t, r) refl
+
+pub frames_alike : (signature id : ℕ) (a b : List ℕ) → length a ≡ length b → frame_lengths (frames_of signature id a) ≡ frame_lengths (frames_of signature id b)
+unfolding frames_of
+frames_alike signature id a b e =
+    let l : length (bytes_cut signature a) ≡ length (bytes_cut signature b) =
+    length-cut_bytes signature a ∙ ap cut_length e ∙ sym (length-cut_bytes signature b) in
+    ap (λ n. frame_lengths (cut id 0 ((n - 1) / 7) (bytes_cut signature a))) l ∙ cut_alike id 0 _ _ _ l
+
+pub payloads_alike : (a b : List Piece) → frame_lengths a ≡ frame_lengths b → length (payload_of a) ≡ length (payload_of b)
+payloads_alike a b e =
+    let n : length a ≡ length b =
+    sym (length-map a (λ (x : Piece). length x.bytes)) ∙ ap length e ∙ length-map b (λ (x : Piece). length x.bytes) in
+    let j : length (joined a) ≡ length (joined b) = length-joined a ∙ ap sum e ∙ sym (length-joined b) in
+    elim (leb_tells (length a) 1) [
+      | inl one ↦ ap length (one_piece a one.1) ∙ j ∙ sym (ap length (one_piece b (omega (arith, one.1))))
+      | inr several ↦
+          ap length (several_pieces a several.1) ∙ length-drop 2 (joined a) ∙ ap (λ k. k - 2) j
+          ∙ sym (ap length (several_pieces b (omega (arith, several.1))) ∙ length-drop 2 (joined b))
+    ]

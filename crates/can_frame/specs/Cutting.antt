@@ -1,5 +1,5 @@
 -- Cutting a transfer into frames (UAVCAN v0 specification, "Transfer payload"). Sending and receiving both mean this.
-use Rattle.std.specs.Prelude.{◌≡◌, ◌≤◌, ℕ, zero, suc, ◌-◌, ◌/◌, ◌%◌, nat_eq, nat_le, cond, Bool, true, false, List, [], ◌∷◌, ◌++◌, length, take, drop, get_or, flat_map}
+use Rattle.std.specs.Prelude.{◌≡◌, ◌≤◌, ℕ, zero, suc, ◌+◌, ◌-◌, ◌/◌, ◌%◌, nat_eq, nat_le, cond, if◌then◌else◌, Bool, true, false, List, [], ◌∷◌, ◌++◌, length, map, take, drop, get_or, flat_map}
 use Rattle.can_frame.specs.declared.tail.Tail.{Tail}
 use Rattle.can_frame.specs.Tail.{tail_byte, tail_of}
 use Rattle.can_frame.specs.TransferCrc.{transfer_crc}
@@ -53,6 +53,18 @@ joined pieces = flat_map (λ piece. piece.bytes) pieces
 -- the only payload that frames can be the cutting of: behind the CRC where they are several
 unfoldable pub payload_of : List Piece → List ℕ
 payload_of pieces = cond (nat_le (length pieces) 1) (joined pieces) (drop 2 (joined pieces))
+
+-- how many bytes are cut for a payload of so many: itself, or behind the two bytes of the CRC
+abbrev pub cut_length : ℕ → ℕ
+cut_length bytes = if nat_le bytes 7 then bytes else 2 + bytes
+
+-- how many frames a payload of so many bytes has
+abbrev pub frame_count : ℕ → ℕ
+frame_count bytes = if nat_le bytes 7 then 1 else (bytes + 8) / 7
+
+-- how many bytes each frame has before its tail
+abbrev pub frame_lengths : List Piece → List ℕ
+frame_lengths pieces = map (λ piece. length piece.bytes) pieces
 
 -- the frames are the cutting of a payload, under a signature and with a transfer ID
 pub record IsCutting (signature id : ℕ) (payload : List ℕ) (pieces : List Piece) : Type 0 where

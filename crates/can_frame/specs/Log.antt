@@ -1,4 +1,5 @@
--- Entries and logs (uavcan.protocol.dynamic_node_id.server.Entry; the log of the Raft paper).
+-- Entries and logs (uavcan.protocol.dynamic_node_id.server.Entry; the log of the Raft paper). An entry is a blank,
+-- a reservation or a pair.
 -- Places are counted from 1, and place 0 stands for the blank of term 0.
 use Rattle.std.specs.Prelude.{◌≡◌, ◌≢◌, ℕ, zero, suc, ◌<◌, ◌≤◌, List, length, take, slice_index_or}
 use Rattle.can_frame.specs.declared.entry.Entry.{Entry}
@@ -12,7 +13,11 @@ log_limit = 127
 abbrev pub blank : ℕ → Entry
 blank term = record { term = term; uid = zeros; node = 0 }
 
--- an entry that gives nothing to anyone
+-- the entry that keeps a node ID back
+abbrev pub reservation : ℕ → ℕ → Entry
+reservation term node = record { term = term; uid = zeros; node = node }
+
+-- an entry that gives nothing to anyone and keeps nothing back
 abbrev pub IsBlank : Entry → Type 0
 IsBlank entry = (entry.node ≡ 0) × (entry.uid ≡ zeros)
 
@@ -22,9 +27,15 @@ pub record IsPair (entry : Entry) : Type 0 where
   pub least : 1 ≤ entry.node
   pub most : entry.node ≤ 125
 
--- an entry is a pair, unless it is a blank
+-- a node ID of 1 to 125 that is kept back: a unique ID of zeros, so that no device is given it
+pub record IsReservation (entry : Entry) : Type 0 where
+  pub uid : entry.uid ≡ zeros
+  pub least : 1 ≤ entry.node
+  pub most : entry.node ≤ 125
+
+-- an entry is a pair, unless it is a blank or a reservation
 abbrev pub IsWellFormed : Entry → Type 0
-IsWellFormed entry = (IsBlank entry → ⊥) → IsPair entry
+IsWellFormed entry = (IsBlank entry → ⊥) → (IsReservation entry → ⊥) → IsPair entry
 
 -- two entries that are no blanks differ in node ID, and in unique ID unless both are zeros
 pub record AreDistinct (a b : Entry) : Type 0 where
@@ -47,6 +58,18 @@ IsInjective log = (i j : ℕ) → i < j → j < length log → AreDistinct (slic
 -- the entry is distinct from each of the log
 abbrev pub IsDistinctFromAll : List Entry → Entry → Type 0
 IsDistinctFromAll log entry = (i : ℕ) → i < length log → AreDistinct (slice_index_or log i (blank 0)) entry
+
+-- an entry of the log has this unique ID
+pub record HasUid (log : List Entry) (uid : List ℕ) : Type 0 where
+  pub place : ℕ
+  pub within : place < length log
+  pub same : (slice_index_or log place (blank 0)).uid ≡ uid
+
+-- an entry of the log has this node ID: it is given to a device, or kept back
+pub record HasNodeId (log : List Entry) (node : ℕ) : Type 0 where
+  pub place : ℕ
+  pub within : place < length log
+  pub same : (slice_index_or log place (blank 0)).node ≡ node
 
 -- the second list begins with the first
 abbrev pub IsPrefix : {A : Type 0} → List A → List A → Type 0

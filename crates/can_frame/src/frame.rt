@@ -1,4 +1,4 @@
-ghost use Rattle.std.specs.Prelude.{◌≡◌, ◌<◌, ◌≤◌, ◌^◌, ◌↔◌, IfOk, IsErrOf, length};
+ghost use Rattle.std.specs.Prelude.{◌≡◌, ◌<◌, ◌≤◌, ◌^◌, ◌↔◌, [], ◌∷◌, IfOk, IsErrOf, length};
 ghost use Rattle.arrayvec.specs.ArrayVec.{array_vec_len};
 
 use crate::Tail;
@@ -28,8 +28,10 @@ pub enum BadFrame {
     Long = 3,
 }
 
-/// A blank for the unused places of a list of fixed capacity.
+/// A blank for the unused places of a list of fixed capacity: identifier 0 and one byte, 0.
 impl Default for Frame {
+    ghost is_default = { λ frame. (frame.id ≡ 0) × (frame.bytes.items ≡ 0 ∷ []) };
+
     fn default() -> Frame {
         let mut bytes = ArrayVec::new();
         bytes.push(0);
@@ -92,11 +94,26 @@ impl Frame {
 #[cfg(test)]
 mod tests {
     use super::*;
+    use std::test::Fail;
 
     #[test]
     fn frames_that_are_none(rt: HostRuntime) {
         assert_eq!(rt; Frame::from_parts(536870912, &[0]), Err(BadFrame::Wide));
         assert_eq!(rt; Frame::from_parts(0, &[]), Err(BadFrame::Empty));
         assert_eq!(rt; Frame::from_parts(0, &[0; 9]), Err(BadFrame::Long));
+    }
+
+    #[test]
+    fn frames_that_are_none_are_told_why(rt: HostRuntime) -> Result<(), Fail> {
+        let rows = [
+            (BadFrame::Wide, "the identifier is wider than 29 bits"),
+            (BadFrame::Empty, "a frame has one byte at least"),
+            (BadFrame::Long, "a frame has eight bytes at most"),
+        ];
+        for (error, text) in rows {
+            let told = error.to_string(rt.alloc())?;
+            assert_eq!(rt; told.as_str(), text);
+        }
+        Ok(())
     }
 }

@@ -1,11 +1,14 @@
-//! Laws of the definitions, each the contract of a function that does nothing.
+//! Laws of the definitions, each the contract of a function that does nothing: what a crate above wants
+//! to know of identifiers, tails, cuttings, entries and logs without proving it again.
 
-ghost use Rattle.std.specs.Prelude.{◌≡◌, ◌*◌, ◌/◌, ◌<◌, ◌^◌, ℕ, suc, true, false, Some, List, length, take, drop, get_or};
+ghost use Rattle.std.specs.Prelude.{◌≡◌, ◌≢◌, ◌⊎◌, ◌↔◌, ◌*◌, ◌/◌, ◌<◌, ◌≤◌, ◌^◌, ℕ, suc, true, false, Some, List, [], ◌∷◌, ◌++◌, length, sum, take, drop, get_or, slice_index_or};
+ghost use Rattle.can_frame.specs.declared.entry.Entry.{Entry};
 ghost use Rattle.can_frame.specs.declared.identifier.Ident.{Ident};
 ghost use Rattle.can_frame.specs.declared.tail.Tail.{Tail};
 ghost use Rattle.can_frame.specs.Identifier.{Spells, IsIdentifier, identifier_number, identifier_of};
 ghost use Rattle.can_frame.specs.Tail.{tail_byte, tail_of};
-ghost use Rattle.can_frame.specs.Cutting.{Piece, IsCutting, bytes_cut, frame_bytes, frames_before_last, frames_of, payload_of, piece_from, tail_at};
+ghost use Rattle.can_frame.specs.Cutting.{Piece, IsCutting, bytes_cut, crc_bytes, cut_length, frame_bytes, frame_count, frame_lengths, frames_before_last, frames_of, joined, payload_of, piece_from, tail_at};
+ghost use Rattle.can_frame.specs.Log.{HasNodeId, HasUid, IsBlank, IsDistinctFromAll, IsInjective, IsPair, IsReservation, IsWellFormed, blank};
 
 /// Identifiers: what is read is in the table, what is in the table is read, and reading and writing
 /// undo each other.
@@ -43,4 +46,58 @@ pub fn frames_give_the_payload()
 /// A frame that was made of a piece is that piece to who receives it.
 pub fn frames_read_as_their_pieces()
     ensures { (piece : Piece) → piece.tail.id < 32 → piece_from (frame_bytes piece) ≡ piece }
+{}
+
+/// What frames carry, joined, and what of it is the payload: a payload of at most seven bytes is cut
+/// as it is, into one frame, and a longer one behind the two bytes of its CRC.
+pub fn frames_carry_what_is_cut()
+    ensures carried { (signature id : ℕ) (payload : List ℕ) → joined (frames_of signature id payload) ≡ bytes_cut signature payload }
+    ensures short { (signature : ℕ) (payload : List ℕ) → length payload ≤ 7 → bytes_cut signature payload ≡ payload }
+    ensures long { (signature : ℕ) (payload : List ℕ) → 7 < length payload → bytes_cut signature payload ≡ crc_bytes signature payload ++ payload }
+    ensures one_frame { (pieces : List Piece) → length pieces ≤ 1 → payload_of pieces ≡ joined pieces }
+    ensures several_frames { (pieces : List Piece) → 1 < length pieces → payload_of pieces ≡ drop 2 (joined pieces) }
+{}
+
+/// The lengths of a cutting: those of the frames follow from that of the payload, and that of the
+/// payload from those of the frames.
+pub fn lengths_of_cuttings()
+    ensures cut { (signature : ℕ) (payload : List ℕ) → length (bytes_cut signature payload) ≡ cut_length (length payload) }
+    ensures count { (signature id : ℕ) (payload : List ℕ) → length (frames_of signature id payload) ≡ frame_count (length payload) }
+    ensures carried { (pieces : List Piece) → length (joined pieces) ≡ sum (frame_lengths pieces) }
+    ensures frames { (signature id : ℕ) (a b : List ℕ) → length a ≡ length b →
+        frame_lengths (frames_of signature id a) ≡ frame_lengths (frames_of signature id b) }
+    ensures payload { (a b : List Piece) → frame_lengths a ≡ frame_lengths b → length (payload_of a) ≡ length (payload_of b) }
+{}
+
+/// A well-formed entry is a blank, a reservation or a pair, and no entry is two of these.
+pub fn entries_are_of_three_kinds()
+    ensures one { (entry : Entry) → IsWellFormed entry → IsBlank entry ⊎ (IsReservation entry ⊎ IsPair entry) }
+    ensures each { (entry : Entry) → IsBlank entry ⊎ (IsReservation entry ⊎ IsPair entry) → IsWellFormed entry }
+    ensures blank { (entry : Entry) → IsBlank entry → (IsReservation entry → ⊥) × (IsPair entry → ⊥) }
+    ensures reservation { (entry : Entry) → IsReservation entry → IsPair entry → ⊥ }
+{}
+
+/// When a log stays injective as it grows: always by a blank, by a reservation where it has not the
+/// node ID, by a pair where it has neither the node ID nor the unique ID. And as it is cut: always.
+pub fn logs_stay_injective()
+    ensures entry { (log : List Entry) (entry : Entry) →
+        IsInjective (log ++ entry ∷ []) ↔ (IsInjective log × IsDistinctFromAll log entry) }
+    ensures blank { (log : List Entry) (entry : Entry) → IsBlank entry →
+        IsInjective (log ++ entry ∷ []) ↔ IsInjective log }
+    ensures reservation { (log : List Entry) (entry : Entry) → IsReservation entry →
+        IsInjective (log ++ entry ∷ []) ↔ (IsInjective log × (HasNodeId log entry.node → ⊥)) }
+    ensures pair { (log : List Entry) (entry : Entry) → IsPair entry →
+        IsInjective (log ++ entry ∷ []) ↔ (IsInjective log × (HasUid log entry.uid → ⊥) × (HasNodeId log entry.node → ⊥)) }
+    ensures front { (log : List Entry) (count : ℕ) → IsInjective log → IsInjective (take count log) }
+{}
+
+/// In an injective log no two pairs have one node ID or one unique ID, and no pair has a node ID that
+/// is reserved.
+pub fn node_ids_are_given_once()
+    ensures pairs { (log : List Entry) (i j : ℕ) → IsInjective log → i < length log → j < length log → i ≢ j →
+        let a = slice_index_or log i (blank 0) in let b = slice_index_or log j (blank 0) in
+        IsPair a → IsPair b → (a.node ≢ b.node) × (a.uid ≢ b.uid) }
+    ensures reserved { (log : List Entry) (i j : ℕ) → IsInjective log → i < length log → j < length log →
+        let a = slice_index_or log i (blank 0) in let b = slice_index_or log j (blank 0) in
+        IsReservation a → IsPair b → a.node ≢ b.node }
 {}

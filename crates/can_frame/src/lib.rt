@@ -5,7 +5,8 @@
 //! read and written here, both ways. A transfer is a payload cut into frames (`specs/Cutting.antt`):
 //! what is sent is such a cutting, and what is received is the payload of which the frames are one.
 //! Its CRC is the remainder of a division of polynomials (`specs/TransferCrc.antt`). `specs/Log.antt`
-//! has entries and logs, which give node IDs to unique IDs.
+//! has entries and logs: an entry is a blank, a reservation or a pair, and a log gives node IDs to unique
+//! IDs, none of them twice, and never one that it reserves. [`laws`] has what follows from the definitions.
 //!
 //! The rules are those of the UAVCAN v0 specification, "CAN bus transport layer".
 #![tactic(auto)]
@@ -20,7 +21,7 @@ mod step;
 mod tail;
 mod transfer_crc;
 
-pub use entry::{Entry, Uid, is_zero};
+pub use entry::{Entry, Uid, has_node_id, has_uid, is_zero};
 pub use frame::{BadFrame, Frame};
 pub use identifier::{Ident, Kind};
 pub use mark::Mark;

@@ -16,6 +16,15 @@ impl Model for NodeId {
     ghost inverse = { λ number. record { 0 = number } };
 }
 
+/// A blank for the unused places of a list of fixed capacity: node 1.
+impl Default for NodeId {
+    ghost is_default = { λ node. node ≡ 1 };
+
+    fn default() -> NodeId {
+        NodeId(1)
+    }
+}
+
 impl NodeId {
     /// The node ID of a number; `None` where the number is 0 or above 127.
     pub fn new(number: u8) -> Option<NodeId>

@@ -1,3 +1,5 @@
+ghost use Rattle.std.specs.Prelude.{◌≡◌, false};
+
 /// What a member of the cluster is to the others (Raft paper, figure 2).
 #[derive(Clone, Copy, Debug, PartialEq, Eq)]
 pub enum Role {
@@ -88,8 +90,12 @@ pub struct Sent {
     pub fitted: bool,
 }
 
-/// A blank for the unused places of a list of fixed capacity.
+/// A blank for the unused places of a list of fixed capacity: an Allocation that did not fit.
 impl Default for Sent {
+    ghost use Rattle.can_frame.specs.declared.step.What.TheVariants.{Alloc};
+
+    ghost is_default = { λ sent. sent ≡ record { what = Alloc; to = 0; fitted = false } };
+
     fn default() -> Sent {
         Sent {
             what: What::Alloc,
