@@ -1,7 +1,7 @@
 -- Which device calls on a disk in memory fail.
 use Rattle.std.specs.Prelude.{◌-◌, Bool, not, ◌||◌, ◌==◌, if◌then◌else◌}
 use Rattle.disk_model.specs.declared.calls.Calls.{Calls}
-use Rattle.outside.specs.Contents.{one_more}
+use Rattle.outside.specs.Faults.{one_more}
 
 -- whether the next device call stops the disk, or finds it stopped
 abbrev pub stops : Calls → Bool

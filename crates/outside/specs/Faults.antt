@@ -1,5 +1,9 @@
--- When a call on an object of the outside may answer that it failed.
-use Rattle.std.specs.Prelude.{◌≡◌, ℕ, ◌+◌, ◌-◌, ◌^◌, ◌≤◌, ◌<◌, min, List, length, OnErr, IfOk, Result}
+-- When a call on an object of the outside may answer that it failed, and what its count of faults is then.
+use Rattle.std.specs.Prelude.{◌≡◌, ℕ, ◌+◌, ◌-◌, ◌^◌, ◌≤◌, ◌<◌, min, List, length, OnErr, IfOk, Result, Ok, Err}
+
+-- a count of 64 bits, one more; it stands still at its last value
+abbrev pub one_more : ℕ → ℕ
+one_more count = min (count + 1) (2 ^ 64 - 1)
 
 -- a count of faults has 64 bits: it rose, or stands at its last value
 abbrev pub Rose : ℕ → ℕ → Type 0
@@ -15,3 +19,8 @@ pub record HasWriteCause {E : Type 0} (before now : ℕ) (piece : List ℕ) (res
   pub later : before ≤ now
   pub failed : OnErr result (Rose before now)
   pub nothing : IfOk result (λ count. count ≡ 0 → 0 < length piece → Rose before now)
+
+-- a count of faults after a call that counts itself where it fails, and nowhere else
+abbrev pub counted : {T E : Type 0} → Result T E → ℕ → ℕ
+counted (Ok value) faults = faults
+counted (Err error) faults = one_more faults

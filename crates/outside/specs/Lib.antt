@@ -1,2 +1,4 @@
-pub mod Faults
 pub mod Contents
+pub mod Faults
+pub mod Readings
+pub mod Traffic

@@ -1,8 +1,8 @@
-ghost use Rattle.std.specs.Prelude.{◌≡◌, ℕ, ◌+◌, ◌≤◌, ◌<◌, ◌⊎◌, length, List, [], Option, Some, None, IfOk, IsErr, vec_len, vec_capacity};
+ghost use Rattle.std.specs.Prelude.{◌≡◌, ◌↔◌, ℕ, ◌≤◌, ◌<◌, ◌⊎◌, length, List, [], Option, Some, None, IfOk, OnOk, IsErr, vec_len, vec_capacity};
 ghost use Rattle.std.specs.Io.{WritesAtMost};
 ghost use Rattle.std.specs.Io.KnownBytes.{WriteAppends};
-ghost use Rattle.outside.specs.Faults.{HasWriteCause};
-ghost use Rattle.outside.specs.Contents.{TellsAsBefore, one_more, MemoryOutput};
+ghost use Rattle.outside.specs.Faults.{HasWriteCause, one_more};
+ghost use Rattle.outside.specs.Contents.{TellsAsBefore, MemoryOutput, KeepsSettings, IsToFail, IsToTake, IsToTakeNothing, IsTooMuchFor};
 
 use crate::Failed;
 use std::alloc::{AllocError, Global};
@@ -18,12 +18,13 @@ pub trait Sink {
     ghost faults: { Self → ℕ };
 
     /// Takes leading bytes of the piece, and answers how many. Nothing, of a piece that is not empty,
-    /// is a fault of the sink, and is counted.
+    /// is a fault of the sink, and is counted; where it takes something, the count stays.
     fn write(&mut self, piece: &[u8]) -> Result<usize, Failed>
         ensures bound { WritesAtMost result piece.now }
         ensures bytes { WriteAppends (written self.old) (written self.new) result piece.now }
         ensures tells { TellsAsBefore (written self.old) (written self.new) }
-        ensures cause { HasWriteCause (faults self.old) (faults self.new) piece.now result };
+        ensures cause { HasWriteCause (faults self.old) (faults self.new) piece.now result }
+        ensures kept { IfOk result (λ count. 0 < count → faults self.new ≡ faults self.old) };
 }
 
 /// Keeps what is written, up to its capacity. One write can be made to fail and one to take nothing,
@@ -47,9 +48,10 @@ impl Model for MemorySink {
 }
 
 impl MemorySink {
-    /// An empty sink for `capacity` bytes; it takes its memory here, once. Writes are numbered from 1:
-    /// the one with the number `fail_at` fails, and the one with the number `zero_at`, if it is
-    /// another, takes nothing. A write that does not fit fails too.
+    /// An empty sink for `capacity` bytes; it takes its memory here, once. Writes are numbered from 1.
+    /// The one with the number `fail_at` fails. The one with the number `zero_at`, if it is another,
+    /// takes nothing, whether it fits or not, and counts as a fault. Any other that does not fit fails
+    /// too, and takes nothing.
     pub fn new(
         alloc: Global,
         capacity: usize,
@@ -86,11 +88,15 @@ impl Sink for MemorySink {
         ensures bytes { WriteAppends (Some self.old.written) (Some self.new.written) result piece.now }
         ensures tells { TellsAsBefore (Some self.old.written) (Some self.new.written) }
         ensures cause { HasWriteCause self.old.faults self.new.faults piece.now result }
+        ensures kept { IfOk result (λ count. 0 < count → self.new.faults ≡ self.old.faults) }
         ensures calls { self.new.calls ≡ one_more self.old.calls }
-        ensures takes_nothing { self.old.zero_at ≡ Some self.new.calls → IfOk result (λ count. count ≡ 0) }
-        ensures takes_all { IfOk result (λ count. (self.old.zero_at ≡ Some self.new.calls) ⊎ (count ≡ length piece.now)) }
-        ensures fails_at { self.old.fail_at ≡ Some self.new.calls → IsErr result }
-        ensures fails { IsErr result → (self.old.fail_at ≡ Some self.new.calls) ⊎ (self.old.capacity < length self.old.written + length piece.now) }
+        ensures settings { KeepsSettings self.old self.new }
+        ensures fails { IsErr result ↔ (IsToFail self.old ⊎
+            IsToTake self.old × IsTooMuchFor self.old (length piece.now)) }
+        ensures takes_nothing { IsToTakeNothing self.old → IfOk result (λ count. count ≡ 0) }
+        ensures takes_all { IsToTake self.old → IfOk result (λ count. count ≡ length piece.now) }
+        ensures counted { IsErr result ⊎ IsToTakeNothing self.old → self.new.faults ≡ one_more self.old.faults }
+        ensures uncounted { OnOk result (IsToTake self.old → self.new.faults ≡ self.old.faults) }
     {
         self.calls = self.calls.saturating_add(1);
         if self.fail_at == Some(self.calls) {
@@ -120,6 +126,7 @@ pub struct StdSink<W> {
 }
 
 impl<W: Write> StdSink<W> {
+    /// A sink into this writer. No fault is counted yet.
     pub fn new(writer: W) -> StdSink<W> {
         StdSink { writer, faults: 0 }
     }
@@ -156,7 +163,7 @@ mod tests {
         let mut sink = MemorySink::new(rt.alloc(), 4, Some(2), Some(3))?;
         assert_eq!(rt; sink.write(b"ab"), Ok(2));
         assert_eq!(rt; sink.write(b"cd"), Err(Failed));
-        assert_eq!(rt; sink.write(b"cd"), Ok(0));
+        assert_eq!(rt; sink.write(b"cdefg"), Ok(0));
         assert_eq!(rt; sink.write(b"cde"), Err(Failed));
         assert_eq!(rt; sink.write(b"cd"), Ok(2));
         assert_eq!(rt; sink.written(), b"abcd".as_slice());

@@ -1,8 +1,8 @@
-ghost use Rattle.std.specs.Prelude.{◌≡◌, ◌↔◌, ℕ, ◌<◌, min, length, List, Option, Some, None, IfOk, IsErr};
+ghost use Rattle.std.specs.Prelude.{◌≡◌, ◌↔◌, ℕ, ◌<◌, min, length, List, Option, Some, None, IfOk, IsErr, OnOk};
 ghost use Rattle.std.specs.Io.{ReadsAtMost};
 ghost use Rattle.std.specs.Io.KnownBytes.{ReadConsumes};
-ghost use Rattle.outside.specs.Faults.{HasCause};
-ghost use Rattle.outside.specs.Contents.{TellsAsBefore, one_more, MemoryInput};
+ghost use Rattle.outside.specs.Faults.{HasCause, counted, one_more};
+ghost use Rattle.outside.specs.Contents.{TellsAsBefore, MemoryInput};
 
 use crate::Failed;
 use std::io::Read;
@@ -17,12 +17,14 @@ pub trait Source {
     ghost faults: { Self → ℕ };
 
     /// Takes bytes from the front into the start of `buf`, and answers how many: at most as many as
-    /// `buf` has. Nothing, for a buffer that is not empty, is the end of the input.
+    /// `buf` has. Nothing, for a buffer that is not empty, is the end of the input. What `buf` holds
+    /// behind those bytes, or after a call that failed, is not said.
     fn read(&mut self, buf: &mut [u8]) -> Result<usize, Failed>
         ensures bound { ReadsAtMost result buf.new }
         ensures bytes { ReadConsumes (left self.old) (left self.new) result buf.new }
         ensures tells { TellsAsBefore (left self.old) (left self.new) }
-        ensures cause { HasCause (faults self.old) (faults self.new) result };
+        ensures cause { HasCause (faults self.old) (faults self.new) result }
+        ensures kept { OnOk result (faults self.new ≡ faults self.old) };
 }
 
 /// The bytes of a slice. One call can be made to fail, for tests.
@@ -66,6 +68,9 @@ impl Source for MemorySource<'_> {
         ensures bytes { ReadConsumes (Some self.old.left) (Some self.new.left) result buf.new }
         ensures tells { TellsAsBefore (Some self.old.left) (Some self.new.left) }
         ensures cause { HasCause self.old.faults self.new.faults result }
+        ensures kept { OnOk result (self.new.faults ≡ self.old.faults) }
+        ensures faults { self.new.faults ≡ counted result self.old.faults }
+        ensures setting { self.new.fail_at ≡ self.old.fail_at }
         ensures calls { self.new.calls ≡ one_more self.old.calls }
         ensures fails { IsErr result ↔ (self.old.fail_at ≡ Some self.new.calls) }
         ensures count { IfOk result (λ count. count ≡ min (length self.old.left) (length buf.old)) }
@@ -91,6 +96,7 @@ pub struct StdSource<R> {
 }
 
 impl<R: Read> StdSource<R> {
+    /// A source of what this reader gives. No fault is counted yet.
     pub fn new(reader: R) -> StdSource<R> {
         StdSource { reader, faults: 0 }
     }

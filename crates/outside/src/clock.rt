@@ -1,0 +1,142 @@
+ghost use Rattle.std.specs.Prelude.{◌≡◌, ℕ, List, Option, Some, None};
+ghost use Rattle.outside.specs.Contents.{WhereTold};
+ghost use Rattle.outside.specs.Readings.{Reads};
+
+use std::marker::Model;
+use std::time;
+
+/// Tells the moment, in milliseconds from a moment of its own. Readings may fall. It cannot fail.
+pub trait Clock {
+    /// The readings still to come, where the clock tells them: the last one is repeated for ever, and
+    /// without any it gives 0.
+    ghost readings: { Self → Option (List ℕ) };
+
+    /// The next reading, in milliseconds.
+    fn now(&mut self) -> u64
+        ensures { WhereTold (Reads result) (readings self.old) (readings self.new) };
+}
+
+/// The readings of a slice; the last is repeated for ever, and without any it is 0.
+#[derive(Drop)]
+pub struct MemoryClock<'a> {
+    readings: &'a [u64],
+}
+
+impl<'a> Model for MemoryClock<'a> {
+    ghost Value = { List ℕ };
+
+    ghost view = { λ c. c.readings.now };
+}
+
+impl<'a> MemoryClock<'a> {
+    /// A clock of these readings, in milliseconds.
+    pub fn new(readings: &'a [u64]) -> MemoryClock<'a>
+        ensures { result ≡ readings.entry.now }
+    {
+        MemoryClock { readings }
+    }
+}
+
+impl Clock for MemoryClock<'_> {
+    ghost readings = { λ c. Some c };
+
+    fn now(&mut self) -> u64
+        ensures { Reads result self.old self.new }
+    {
+        match self.readings {
+            [] => 0,
+            [last] => *last,
+            [first, rest @ ..] => {
+                self.readings = rest;
+                *first
+            }
+        }
+    }
+}
+
+/// The system's monotonic clock. Where it cannot be read, its last reading is given again, or 0 where
+/// there is none. It tells no readings.
+#[derive(Drop)]
+pub struct StdClock<C> {
+    system: C,
+    last: u64,
+}
+
+impl<'a, R: time::Clock> StdClock<&'a R> {
+    /// The clock of the system that runs the program.
+    pub fn new(rt: &'a R) -> StdClock<&'a R> {
+        StdClock {
+            system: rt,
+            last: 0,
+        }
+    }
+}
+
+impl<C: time::Clock> Clock for StdClock<C> {
+    ghost readings = { λ _. None };
+
+    fn now(&mut self) -> u64 {
+        if let Ok(time) = self.system.monotonic() {
+            self.last = time
+                .as_secs()
+                .saturating_mul(1000)
+                .saturating_add(u64::from(time.subsec_millis()));
+        }
+        self.last
+    }
+}
+
+#[cfg(test)]
+mod tests {
+    use super::*;
+    use std::cell::Cell;
+    use std::io;
+    use std::time::Duration;
+
+    /// A system's clock that can be read once.
+    #[derive(Drop)]
+    struct Once {
+        was_read: Cell<bool>,
+    }
+
+    impl time::Clock for Once {
+        fn monotonic(&self) -> io::Result<Duration> {
+            if self.was_read.replace(true) {
+                return Err(io::Error::from(io::ErrorKind::Other));
+            }
+            Ok(Duration::new(1234, 567_999_999))
+        }
+
+        fn since_1970(&self) -> io::Result<Duration> {
+            Err(io::Error::from(io::ErrorKind::Other))
+        }
+    }
+
+    #[test]
+    fn the_last_reading_is_repeated(rt: HostRuntime) {
+        let mut clock = MemoryClock::new(&[5, 3]);
+        assert_eq!(rt; clock.now(), 5);
+        assert_eq!(rt; clock.now(), 3);
+        assert_eq!(rt; clock.now(), 3);
+        assert_eq!(rt; MemoryClock::new(&[]).now(), 0);
+    }
+
+    #[test]
+    fn a_system_clock_that_cannot_be_read_gives_its_last_reading(rt: HostRuntime) {
+        let system = Once {
+            was_read: Cell::new(false),
+        };
+        let mut clock = StdClock::new(&system);
+        assert_eq!(rt; clock.now(), 1_234_567);
+        assert_eq!(rt; clock.now(), 1_234_567);
+        assert_eq!(rt; StdClock::new(&system).now(), 0);
+    }
+
+    #[test]
+    fn the_system_has_a_clock(rt: HostRuntime) {
+        let mut clock = StdClock::new(&rt);
+        let first = clock.now();
+        assert!(rt; 0 < first);
+        assert!(rt; first <= clock.now());
+    }
+}
