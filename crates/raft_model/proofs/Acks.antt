@@ -7,13 +7,13 @@ use Rattle.can_frame.specs.declared.entry.Entry.{Entry}
 use Rattle.can_frame.specs.Log.{blank}
 use Rattle.raft_model.specs.Log.{Same, term_at}
 use Rattle.raft_model.specs.Messages.{Request, Answer, reach}
-use Rattle.raft_model.specs.Lists.{at}
+use Rattle.raft_model.specs.Lists.{at, at_here, at_other}
 use Rattle.raft_model.specs.History.{KeptVote}
 use Rattle.raft_model.proofs.Micro.{State, Holds, Micro, did, May, MayGrant, MayCut, MayWin, MayPropose, log_won, answer_of}
 use Rattle.raft_model.proofs.Micro.Micro.{Raise, Stand, Grant, Deny, Win, Cut, Grow, Accept, Propose}
 use Rattle.raft_model.proofs.Facts.{Facts, Acked, Off, Acks}
 use Rattle.raft_model.proofs.Lists.{same_less, same_get, same_length, same_append, term_at_less}
-use Rattle.raft_model.proofs.At.{at_here, at_other, at_each}
+use Rattle.raft_model.proofs.At.{at_each}
 use Rattle.raft_model.proofs.Alone.{alone}
 use Rattle.raft_model.proofs.Agree.{agree}
 use Rattle.raft_model.proofs.Complete.{less_or}

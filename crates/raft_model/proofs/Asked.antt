@@ -6,7 +6,7 @@ use Rattle.can_frame.specs.declared.entry.Entry.{Entry}
 use Rattle.can_frame.specs.Log.{blank, last_term}
 use Rattle.raft_model.specs.Log.{term_at}
 use Rattle.raft_model.specs.Messages.{Request}
-use Rattle.raft_model.specs.Lists.{In, at}
+use Rattle.raft_model.specs.Lists.{In, at, at_other}
 use Rattle.raft_model.specs.History.{Candidacy}
 use Rattle.raft_model.specs.Moves.{entry_after}
 use Rattle.raft_model.proofs.Micro.{State, Micro, did, May, log_won}
@@ -14,7 +14,7 @@ use Rattle.raft_model.proofs.Micro.Micro.{Stand, Win, Propose, CallVote, CallApp
 use Rattle.raft_model.proofs.Facts.{Facts, Asked}
 use Rattle.raft_model.proofs.Quorum.{tell}
 use Rattle.raft_model.proofs.Lists.{same_get, same_append}
-use Rattle.raft_model.proofs.At.{at_other, at_each}
+use Rattle.raft_model.proofs.At.{at_each}
 use Rattle.raft_model.proofs.Apart.{clash}
 use Rattle.raft_model.proofs.Votes.{led_more}
 use Rattle.raft_model.proofs.Led.{not_first}

@@ -10,7 +10,7 @@ use Rattle.can_frame.specs.declared.entry.Entry.{Entry}
 use Rattle.can_frame.specs.Log.{blank}
 use Rattle.raft_model.specs.Log.{Same, term_at}
 use Rattle.raft_model.specs.Messages.{Request, Answer, reach, Message}
-use Rattle.raft_model.specs.Lists.{at, any, how_many}
+use Rattle.raft_model.specs.Lists.{at, any, how_many, at_other}
 use Rattle.raft_model.specs.Messages.Message.{Answers}
 use Rattle.raft_model.proofs.Micro.{State, Micro, did, May, MayWin, MayCommit, MayAdvance, log_won}
 use Rattle.raft_model.specs.Ledger.{ledger_after, stamps_after}
@@ -18,7 +18,7 @@ use Rattle.raft_model.proofs.Micro.Micro.{Raise, Win, Cut, Grow, Advance, Propos
 use Rattle.raft_model.proofs.Facts.{Facts, Committed, IsSettled, Firm, has_acked, is_ack}
 use Rattle.raft_model.proofs.Quorum.{tell, any_there, count_grows}
 use Rattle.raft_model.proofs.Lists.{same_less, same_get, same_append, term_at_less}
-use Rattle.raft_model.proofs.At.{at_other, at_each}
+use Rattle.raft_model.proofs.At.{at_each}
 use Rattle.raft_model.proofs.Alone.{alone}
 use Rattle.raft_model.proofs.Agree.{agree}
 use Rattle.raft_model.proofs.Firm.{settled_same}

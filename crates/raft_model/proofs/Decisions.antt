@@ -1,6 +1,6 @@
 -- The decisions are what the relations of the moves say.
 use Rattle.std.proofs.Common.{◌≡◌, ◌≢◌, ℕ, zero, suc, ◌+◌, ◌<◌, ◌≤◌, Bool, true, false, List, [], ◌∷◌, ◌++◌, length, refl, arith, sym, ◌∙◌, ap, subst, inl, inr, ◌⊎◌, Option, Some, None, take, get_or, Decides, ◌&&◌, ◌||◌, not}
-use Rattle.std.specs.Prelude.{◌==◌, nat_le, nat_lt}
+use Rattle.std.specs.Prelude.{◌==◌, ◌↔◌, nat_le, nat_lt}
 use Rattle.std.specs.Str.{bytes_eq}
 use Rattle.std.proofs.lemmas.Bool.Decides.{eqb_tells}
 use Rattle.std.proofs.lemmas.Slice.Eq.{bytes_eq-Decides}
@@ -12,9 +12,9 @@ use Rattle.raft_model.specs.Log.{term_at}
 use Rattle.raft_model.specs.Messages.{Request}
 use Rattle.raft_model.specs.Server.{Role, Store, Plain, quorum}
 use Rattle.raft_model.specs.Server.Role.{Follower, Candidate, Leader}
-use Rattle.raft_model.specs.Moves.{Verdict, MayGrant, IsGranted, HasPrevious, Adds, IsThere, IsRuled, IsCurrent, IsOutdated, IsJudged, with_term, CanCommit, IsCommitIndex, has_matched, is_leader}
+use Rattle.raft_model.specs.Moves.{Verdict, MayGrant, IsGranted, HasPrevious, Adds, IsThere, IsRuled, IsCurrent, IsOutdated, IsJudged, with_term, MayPropose, CanCommit, IsCommitIndex, has_matched, is_leader}
 use Rattle.raft_model.specs.Moves.Verdict.{Outdated, Refused, Held, Added}
-use Rattle.raft_model.specs.Decisions.{is_blank, is_well_formed, are_distinct, is_distinct_from_all, is_injective, is_free, grants, has_previous, is_there, may_add, rule_on_entry, is_current, judges, can_commit, greatest_to, commit_index}
+use Rattle.raft_model.specs.Decisions.{is_blank, is_well_formed, are_distinct, is_distinct_from_all, is_injective, is_free, grants, has_previous, is_there, may_add, rule_on_entry, is_current, judges, may_propose, can_commit, greatest_to, commit_index}
 use Rattle.raft_model.proofs.Apart.{some_same}
 use Rattle.raft_model.proofs.Quorum.{tell}
 use Rattle.raft_model.proofs.Whole.{lt_tells, le_tells}
@@ -275,6 +275,28 @@ judged server request = elim (tell (is_current server request)) [
         ((previous_decided (with_term server.store request.term) request).0 b)))
   ])
 ]
+
+-- Proposals.
+
+propose_decided : (server : Plain) (entry : Entry) → Decides (may_propose server entry) (MayPropose server entry)
+propose_decided server entry = told
+    (λ h. record {
+      leads = h.0;
+      room = h.1.0;
+      own_term = h.1.1.0;
+      well_formed = h.1.1.1.0;
+      not_blank = h.1.1.1.1.0;
+      injective = h.1.1.1.1.1;
+    })
+    (λ h. (h.leads, (h.room, (h.own_term, (h.well_formed, (h.not_blank, h.injective))))))
+    (both (leader_decided server.memory.role)
+    (both (less (length server.store.log) log_limit)
+    (both (equal entry.term server.store.term)
+    (both (well_formed_decided entry)
+    (both (never (blank_decided entry)) (injective_decided (server.store.log ++ (entry ∷ []))))))))
+
+pub proposal : (server : Plain) (entry : Entry) → (may_propose server entry ≡ true) ↔ MayPropose server entry
+proposal server entry = propose_decided server entry
 
 -- Commit.
 

@@ -1,7 +1,7 @@
 -- One server and what is shared: micro moves of one server, without the others.
 use Rattle.std.proofs.Common.{◌≡◌, ℕ, ◌+◌, Bool, true, false, List, [], ◌∷◌, ◌++◌, refl, sym, ◌∙◌, ap, inl, inr, take, length, Some, None, min, if◌then◌else◌}
 use Rattle.std.proofs.lemmas.Bool.Decides.{eqb_tells}
-use Rattle.raft_model.specs.Lists.{at}
+use Rattle.raft_model.specs.Lists.{at, at_here}
 use Rattle.can_frame.specs.declared.entry.Entry.{Entry}
 use Rattle.can_frame.specs.Log.{blank}
 use Rattle.raft_model.specs.Messages.{Request, reach, Answer, Pair, Message}
@@ -11,7 +11,6 @@ use Rattle.raft_model.specs.Server.Put.{PutTerm, PutVote, PutLonger, PutShorter,
 use Rattle.raft_model.specs.History.{History, voted, stood, elected, lengthened}
 use Rattle.raft_model.specs.Ledger.{Ledger, ledger_after, stamps_after, ledger_with}
 use Rattle.raft_model.specs.Moves.{stand_memory, win_memory, matched_memory, ended, counted, vote_request, append_request, answer_to, pair_at, own_vote}
-use Rattle.raft_model.proofs.At.{at_here}
 use Rattle.raft_model.proofs.Micro.{State, Micro, did}
 use Rattle.raft_model.proofs.Micro.Micro.{Open, Halt, Raise, Clear, Stand, Grant, Deny, Count, Drop, Win, Yield, Write, Cut, Grow, Advance, Accept, Taken, Propose, Commit, Tell, Pass, Again, CallVote, CallAppend, Post}
 

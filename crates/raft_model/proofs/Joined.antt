@@ -49,3 +49,10 @@ pub joined_come : (members : List ℕ) (member step : ℕ) (bag : List Message) 
 joined_come members member step bag [] second site a b = b
 joined_come members member step bag (move ∷ first) second site a b =
     (a.0, joined_come members member step bag first second (moved members member step site move) a.1 b)
+
+pub come_apart : (members : List ℕ) (member step : ℕ) (bag : List Message) (first second : List Move) (site : Site)
+    → AllCome members member step bag site (first ++ second)
+    → AllCome members member step bag site first × AllCome members member step bag (all_moved members member step site first) second
+come_apart members member step bag [] second site a = (tt, a)
+come_apart members member step bag (move ∷ first) second site a =
+    let rest = come_apart members member step bag first second (moved members member step site move) a.1 in ((a.0, rest.0), rest.1)

@@ -5,6 +5,7 @@ use Rattle.std.proofs.Math.Nat.{min-le_left}
 use Rattle.std.proofs.lemmas.List.{take-take, take_all, length-take-le}
 use Rattle.can_frame.specs.declared.entry.Entry.{Entry}
 use Rattle.can_frame.specs.Log.{blank}
+use Rattle.raft_model.specs.Lists.{at_other}
 use Rattle.raft_model.specs.Log.{Same}
 use Rattle.raft_model.specs.Messages.{reach}
 use Rattle.raft_model.proofs.Micro.{State, Micro, did, May, MayCommit, run, Lawful, log_won}
@@ -13,7 +14,7 @@ use Rattle.raft_model.proofs.Micro.Micro.{Win, Cut, Grow, Advance, Propose, Comm
 use Rattle.raft_model.proofs.Facts.{Facts, IsSettled, Later}
 use Rattle.raft_model.proofs.Lists.{same_less, same_append}
 use Rattle.raft_model.proofs.Complete.{less_or}
-use Rattle.raft_model.proofs.At.{at_other, at_each}
+use Rattle.raft_model.proofs.At.{at_each}
 use Rattle.raft_model.proofs.Votes.{led_more}
 use Rattle.raft_model.proofs.Led.{not_first}
 use Rattle.raft_model.proofs.Keeps.{keeps}

@@ -6,7 +6,7 @@ use Rattle.std.proofs.lemmas.List.{append-nil, append_assoc}
 use Rattle.can_frame.specs.declared.entry.Entry.{Entry}
 use Rattle.can_frame.specs.Log.{IsInjective, IsWellFormed, blank, log_limit}
 use Rattle.raft_model.specs.Log.{IsRising}
-use Rattle.raft_model.specs.Lists.{In, at, any, how_many}
+use Rattle.raft_model.specs.Lists.{In, at, any, how_many, at_here}
 use Rattle.raft_model.specs.Server.{quorum}
 use Rattle.raft_model.specs.History.{KeptVote, Candidacy}
 use Rattle.raft_model.proofs.Micro.{State, Micro, did, May, MayWin, MayPropose, log_won}
@@ -14,7 +14,7 @@ use Rattle.raft_model.proofs.Micro.Micro.{Stand, Grant, Win, Propose}
 use Rattle.raft_model.specs.Invariants.{is_vote}
 use Rattle.raft_model.proofs.Facts.{Facts, Led}
 use Rattle.raft_model.proofs.Quorum.{tell, any_there, count_grows}
-use Rattle.raft_model.proofs.At.{at_here, at_each, at2_each, at3_each}
+use Rattle.raft_model.proofs.At.{at_each, at2_each, at3_each}
 use Rattle.raft_model.proofs.Alone.{alone}
 use Rattle.raft_model.proofs.Committed.{and_both}
 use Rattle.raft_model.proofs.Stored.{stored_keeps, each_snoc}

@@ -6,13 +6,13 @@ use Rattle.can_frame.specs.declared.entry.Entry.{Entry}
 use Rattle.can_frame.specs.Log.{blank}
 use Rattle.raft_model.specs.Log.{Same}
 use Rattle.raft_model.specs.Messages.{Request}
-use Rattle.raft_model.specs.Lists.{at}
+use Rattle.raft_model.specs.Lists.{at, at_here, at_other}
 use Rattle.raft_model.specs.History.{KeptVote, Candidacy}
 use Rattle.raft_model.proofs.Micro.{State, Micro, did, May, MayGrow, MayWin, MayPropose, log_won}
 use Rattle.raft_model.proofs.Micro.Micro.{Stand, Grant, Win, Cut, Grow, Propose}
 use Rattle.raft_model.proofs.Facts.{Facts, Matching, IsMatching}
 use Rattle.raft_model.proofs.Lists.{same_append}
-use Rattle.raft_model.proofs.At.{at_here, at_other, at_each}
+use Rattle.raft_model.proofs.At.{at_each}
 use Rattle.raft_model.proofs.Alone.{alone}
 use Rattle.raft_model.proofs.Agree.{fits_same}
 use Rattle.raft_model.proofs.Complete.{less_or}

@@ -3,13 +3,13 @@ use Rattle.std.proofs.Common.{◌≡◌, ◌≢◌, ℕ, ◌≤◌, Bool, true, 
 use Rattle.std.proofs.lemmas.Bool.Decides.{eqb_tells}
 use Rattle.can_frame.specs.declared.entry.Entry.{Entry}
 use Rattle.raft_model.specs.Messages.{Request}
-use Rattle.raft_model.specs.Lists.{at}
+use Rattle.raft_model.specs.Lists.{at, at_here, at_other}
 use Rattle.raft_model.specs.Server.{Role}
 use Rattle.raft_model.specs.Server.Role.{Follower, Candidate, Leader}
 use Rattle.raft_model.proofs.Micro.{State, Micro, did, May, HasPrevious, log_won}
 use Rattle.raft_model.proofs.Micro.Micro.{Open, Halt, Raise, Stand, Win, Yield, Cut, Grow, Propose}
 use Rattle.raft_model.proofs.Facts.{Facts, Place}
-use Rattle.raft_model.proofs.At.{at_here, at_other, at_each, at2_each}
+use Rattle.raft_model.proofs.At.{at_each, at2_each}
 
 -- the place of one leader
 abbrev pub Stands : (list : ℕ → List Entry) → ℕ → ℕ → Role → List Entry → Type 0

@@ -3,14 +3,14 @@ use Rattle.std.proofs.Common.{◌≡◌, ℕ, Bool, true, false, List, [], ◌�
 use Rattle.std.specs.Prelude.{◌==◌}
 use Rattle.std.proofs.lemmas.Bool.{eqb-true}
 use Rattle.can_frame.specs.declared.entry.Entry.{Entry}
-use Rattle.raft_model.specs.Lists.{In, at}
+use Rattle.raft_model.specs.Lists.{In, at, at_here, at_other}
 use Rattle.raft_model.specs.Server.{Role}
 use Rattle.raft_model.specs.History.{KeptVote, Candidacy}
 use Rattle.raft_model.specs.Server.Role.{Follower, Candidate, Leader}
 use Rattle.raft_model.proofs.Micro.{State, Micro, did, May, log_won}
 use Rattle.raft_model.proofs.Micro.Micro.{Open, Halt, Raise, Stand, Grant, Count, Win, Yield, Cut, Grow, Propose}
 use Rattle.raft_model.proofs.Facts.{Facts, Running}
-use Rattle.raft_model.proofs.At.{at_here, at_other, at_each, at2_each}
+use Rattle.raft_model.proofs.At.{at_each, at2_each}
 use Rattle.raft_model.proofs.Apart.{f_no_l, f_no_c, c_no_l, l_no_c, candidate_no_follower, leader_no_follower}
 use Rattle.raft_model.proofs.Votes.{led_more}
 use Rattle.raft_model.proofs.Led.{not_first}

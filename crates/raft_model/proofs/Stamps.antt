@@ -1,6 +1,6 @@
 -- Only a Leader's commit makes the ledger longer.
 use Rattle.std.proofs.Common.{◌≡◌, ◌≢◌, ℕ, ◌≤◌, true, Bool, false, Option, Some, None, List, [], ◌∷◌, ◌++◌, length, min, refl, arith, ◌∙◌, ap, subst, inl, inr, length-take}
-use Rattle.raft_model.specs.Lists.{In}
+use Rattle.raft_model.specs.Lists.{In, at_here}
 use Rattle.raft_model.specs.Messages.{Message, Request, reach}
 use Rattle.raft_model.specs.Messages.Message.{Requests}
 use Rattle.raft_model.specs.Server.{Store, Plain, Put, put, put_all, committed, lost}
@@ -14,7 +14,6 @@ use Rattle.raft_model.specs.Runs.{World, Event, beginning, site_of, site_after, 
 use Rattle.raft_model.specs.Runs.Event.{Steps, Stops}
 use Rattle.raft_model.specs.Invariants.{Invariants}
 use Rattle.raft_model.specs.Safety.{IsSafe}
-use Rattle.raft_model.proofs.At.{at_here}
 use Rattle.raft_model.proofs.Joined.{joined_moves}
 use Rattle.raft_model.proofs.Prefixes.{come_before, lawful_then_one, run_then_one}
 use Rattle.raft_model.proofs.Quorum.{tell}

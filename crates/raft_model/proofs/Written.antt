@@ -1,7 +1,10 @@
 -- Each move writes an entry just before it raises last.
-use Rattle.std.proofs.Common.{ℕ, Bool, true, false, List, ◌++◌, length, min, refl, inl, inr, Option, Some, None}
+use Rattle.std.proofs.Common.{◌≡◌, ℕ, Bool, true, false, List, [], ◌∷◌, ◌++◌, length, min, refl, inl, inr, Option, Some, None}
 use Rattle.raft_model.specs.Messages.{Request, reach}
+use Rattle.can_frame.specs.declared.entry.Entry.{Entry}
 use Rattle.raft_model.specs.Server.{Store, Plain, Put, AreWritten, put_all}
+use Rattle.raft_model.specs.Server.Put.{PutTerm, PutVote, PutEntry, PutLonger, PutShorter, PutCommit}
+use Rattle.raft_model.specs.Handlers.{plain_after, puts_of_all}
 use Rattle.raft_model.specs.Moves.{Move, Verdict, puts, term_puts, with_term, win_puts, adds_blank, has_quorum, own_vote, counts, counted, stand_puts, grant_puts, vote_puts, append_puts, advance_puts}
 use Rattle.raft_model.specs.Moves.Move.{TimeOut, TakeVoteRequest, TakeVoteAnswer, TakeAppendRequest, TakeAppendAnswer, ProposeEntry, CommitTo, TellPair, TellNothing, CallForVote, CallToAppend, AnswerAgain, GiveUp}
 use Rattle.raft_model.specs.Moves.Verdict.{Outdated, Refused, Held, Added}
@@ -66,3 +69,29 @@ puts_written members member server (CallForVote peer) = tt
 puts_written members member server (CallToAppend peer previous with_entry) = tt
 puts_written members member server (AnswerAgain place) = tt
 puts_written members member server (GiveUp peer) = tt
+
+-- what may follow nothing may follow whatever was put before
+written_later : (written : Option Entry) (xs : List Put) → AreWritten None xs → AreWritten written xs
+written_later written [] h = tt
+written_later written (PutTerm term ∷ rest) h = h
+written_later written (PutVote vote ∷ rest) h = h
+written_later written (PutEntry entry ∷ rest) h = h
+written_later written (PutLonger entry ∷ rest) h = absurd (let e : None ≡ Some entry = h.0 in cc)
+written_later written (PutShorter place ∷ rest) h = h
+written_later written (PutCommit place ∷ rest) h = h
+
+both_written : (written : Option Entry) (xs ys : List Put) → AreWritten written xs → AreWritten None ys → AreWritten written (xs ++ ys)
+both_written written [] ys a b = written_later written ys b
+both_written written (PutTerm term ∷ xs) ys a b = both_written None xs ys a b
+both_written written (PutVote vote ∷ xs) ys a b = both_written None xs ys a b
+both_written written (PutEntry entry ∷ xs) ys a b = both_written (Some entry) xs ys a b
+both_written written (PutLonger entry ∷ xs) ys a b = (a.0, both_written None xs ys a.1 b)
+both_written written (PutShorter place ∷ xs) ys a b = both_written None xs ys a b
+both_written written (PutCommit place ∷ xs) ys a b = both_written None xs ys a b
+
+pub step_written : (members : List ℕ) (member step : ℕ) (server : Plain) (moves : List Move)
+    → AreWritten None (puts_of_all members member step server moves)
+step_written members member step server [] = tt
+step_written members member step server (move ∷ moves) = both_written None (puts members member server move)
+    (puts_of_all members member step (plain_after members member step server move) moves) (puts_written members member server move)
+    (step_written members member step (plain_after members member step server move) moves)

@@ -79,6 +79,15 @@ is_current server request =
 abbrev pub judges : Plain → Request → Verdict
 judges server request = if is_current server request then rule (with_term server.store request.term) request else Outdated
 
+-- Proposals.
+
+-- whether an entry may be proposed
+abbrev pub may_propose : Plain → Entry → Bool
+may_propose server entry = is_leader server.memory.role
+    && (nat_lt (length server.store.log) log_limit
+    && ((entry.term == server.store.term)
+    && (is_well_formed entry && (not (is_blank entry) && is_injective (server.store.log ++ (entry ∷ []))))))
+
 -- Commit.
 
 abbrev pub can_commit : List ℕ → ℕ → Plain → ℕ → Bool

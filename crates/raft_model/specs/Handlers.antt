@@ -2,7 +2,7 @@
 use Rattle.std.specs.Prelude.{◌≡◌, ℕ, List, [], ◌∷◌, ◌++◌, take}
 use Rattle.raft_model.specs.Messages.{Message}
 use Rattle.raft_model.specs.Server.{Plain, Put, put_all}
-use Rattle.raft_model.specs.Moves.{Move, puts, memory_after, offers}
+use Rattle.raft_model.specs.Moves.{Move, puts, memory_after, offers, calls}
 
 -- the server after one move, and after these
 abbrev pub plain_after : List ℕ → ℕ → ℕ → Plain → Move → Plain
@@ -26,6 +26,11 @@ offers_of_all members member step server [] = []
 offers_of_all members member step server (move ∷ moves) = offers_of_all members member step
     (plain_after members member step server move) moves
     ++ offers member step server move
+
+-- the peers that they call, the latest first
+abbrev pub calls_of_all : List Move → List ℕ
+calls_of_all [] = []
+calls_of_all (move ∷ moves) = calls_of_all moves ++ calls move
 
 -- where so many puts of a step end: all puts of the moves before one of them, and some of that one's
 pub record IsCut (members : List ℕ) (member step : ℕ) (server : Plain) (moves : List Move) (count : ℕ) : Type 0 where

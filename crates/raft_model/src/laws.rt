@@ -3,7 +3,7 @@
 //! A run is any list of events that may come, from empty stores on: openings, whole steps, and stops between
 //! any two puts of a step. A law of every run holds after each event of it, stops included.
 
-ghost use Rattle.std.specs.Prelude.{ℕ, Bool, true, false, List, [], ◌++◌, ◌∷◌, ◌≡◌, ◌≢◌, ◌<◌, ◌≤◌, length, get_or, Some, None};
+ghost use Rattle.std.specs.Prelude.{ℕ, Bool, true, false, List, [], ◌++◌, ◌∷◌, ◌≡◌, ◌≢◌, ◌↔◌, ◌<◌, ◌≤◌, length, get_or, Some, None};
 ghost use Rattle.can_frame.specs.declared.entry.Entry.{Entry};
 ghost use Rattle.can_frame.specs.Log.{blank, log_limit};
 ghost use Rattle.can_frame.specs.Zeros.{zeros};
@@ -15,9 +15,9 @@ ghost use Rattle.raft_model.specs.Server.{AreWritten, Plain, Store, opened, put_
 ghost use Rattle.raft_model.specs.Server.Role.{Candidate, Follower, Leader};
 ghost use Rattle.raft_model.specs.Moves.{CanCommit, Comes, IsCommitIndex, IsGranted, IsJudged, MayCall, MayPropose, Move, Verdict, memory_after, puts, term_limit, with_term};
 ghost use Rattle.raft_model.specs.Moves.Move.{AnswerAgain, CallForVote, CallToAppend, CommitTo, GiveUp, ProposeEntry, TakeAppendAnswer, TakeAppendRequest, TakeVoteAnswer, TakeVoteRequest, TellNothing, TellPair, TimeOut};
-ghost use Rattle.raft_model.specs.Decisions.{commit_index, grants, judges};
+ghost use Rattle.raft_model.specs.Decisions.{commit_index, grants, judges, may_propose};
 ghost use Rattle.raft_model.specs.Members.{IsAll, counts_votes};
-ghost use Rattle.raft_model.specs.Handlers.{IsCut, offers_of_all, plain_after, plain_after_all, puts_of_all};
+ghost use Rattle.raft_model.specs.Handlers.{IsCut, calls_of_all, offers_of_all, plain_after, plain_after_all, puts_of_all};
 ghost use Rattle.raft_model.specs.Fit.{IsFit};
 ghost use Rattle.raft_model.specs.Duty.{CommitDuty, TellDuty, TickDuty, WinDuty, commit_phase, tell_phase, tick_phase};
 ghost use Rattle.raft_model.specs.Stops.{AllCome, Site, all_moved};
@@ -116,9 +116,11 @@ pub fn law_stops()
         → count < length (puts_of_all members member step server moves) → IsCut members member step server moves count }
 {}
 
-/// Each move puts an entry just before it raises last by it.
+/// Each move puts an entry just before it raises last by it, and so does a step of many moves.
 pub fn law_puts()
-    ensures { (members : List ℕ) (member : ℕ) (server : Plain) (move : Move) → AreWritten None (puts members member server move) }
+    ensures of_move { (members : List ℕ) (member : ℕ) (server : Plain) (move : Move) → AreWritten None (puts members member server move) }
+    ensures of_step { (members : List ℕ) (member step : ℕ) (server : Plain) (moves : List Move)
+        → AreWritten None (puts_of_all members member step server moves) }
 {}
 
 /// A run grows by one event at its end.
@@ -130,7 +132,7 @@ pub fn law_one_more()
 {}
 
 /// Moves told of the plain server alone are those of its step: the server after them, what is stored then,
-/// and the messages that they offer.
+/// the messages that they offer, and the peers that they call.
 pub fn law_handlers()
     ensures plain { (members : List ℕ) (member step : ℕ) (moves : List Move) (site : Site)
         → (all_moved members member step site moves).plain ≡ plain_after_all members member step site.plain moves }
@@ -140,10 +142,12 @@ pub fn law_handlers()
     ensures offers { (members : List ℕ) (member step : ℕ) (moves : List Move) (site : Site)
         → (all_moved members member step site moves).offered
         ≡ offers_of_all members member step site.plain moves ++ site.offered }
+    ensures calls { (members : List ℕ) (member step : ℕ) (moves : List Move) (site : Site)
+        → (all_moved members member step site moves).called ≡ calls_of_all moves ++ site.called }
 {}
 
 /// Two lists of moves, one after the other, are one: the server after them, their puts and offers; and they
-/// may come together where each may come in its turn.
+/// may come together exactly where each may come in its turn.
 pub fn law_joined()
     ensures server { (members : List ℕ) (member step : ℕ) (first second : List Move) (server : Plain)
         → plain_after_all members member step server (first ++ second)
@@ -161,16 +165,21 @@ pub fn law_joined()
     ensures come { (members : List ℕ) (member step : ℕ) (bag : List Message) (first second : List Move) (site : Site)
         → AllCome members member step bag site first → AllCome members member step bag (all_moved members member step site first) second
         → AllCome members member step bag site (first ++ second) }
+    ensures apart { (members : List ℕ) (member step : ℕ) (bag : List Message) (first second : List Move) (site : Site)
+        → AllCome members member step bag site (first ++ second)
+        → AllCome members member step bag site first × AllCome members member step bag (all_moved members member step site first) second }
 {}
 
 /// What a server decides is what the moves ask for, and they ask for nothing else: whether a vote is
-/// granted, what becomes of an append request, and the index to which a leader commits.
+/// granted, what becomes of an append request, whether an entry may be proposed, and the index to which a
+/// leader commits.
 pub fn law_decisions()
     ensures granted { (store : Store) (request : Request) → IsGranted store request (grants store request) }
     ensures one_grant { (store : Store) (request : Request) (granted : Bool) → IsGranted store request granted → granted ≡ grants store request }
     ensures judged { (server : Plain) (request : Request) → IsJudged server request (judges server request) }
     ensures one_verdict { (server : Plain) (request : Request) (verdict : Verdict) → IsJudged server request verdict
         → verdict ≡ judges server request }
+    ensures proposal { (server : Plain) (entry : Entry) → (may_propose server entry ≡ true) ↔ MayPropose server entry }
     ensures commit { (members : List ℕ) (member : ℕ) (server : Plain) (index : ℕ) → commit_index members member server ≡ Some index
         → IsCommitIndex members member server index }
     ensures one_commit { (members : List ℕ) (member : ℕ) (server : Plain) (index : ℕ) → IsCommitIndex members member server index

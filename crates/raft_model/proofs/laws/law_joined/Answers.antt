@@ -1,5 +1,12 @@
-use Rattle.raft_model.proofs.Joined.{joined_moves, joined_server, joined_puts, joined_offers, joined_come}
+use Rattle.raft_model.proofs.Joined.{joined_moves, joined_server, joined_puts, joined_offers, joined_come, come_apart}
 use Rattle.raft_model.proofs.laws.law_joined.Goals as goal
 
 pub returns : goal.returns
-returns c = record { server = joined_server; puts = joined_puts; offers = joined_offers; site = joined_moves; come = joined_come }
+returns c = record {
+  server = joined_server;
+  puts = joined_puts;
+  offers = joined_offers;
+  site = joined_moves;
+  come = joined_come;
+  apart = come_apart;
+}

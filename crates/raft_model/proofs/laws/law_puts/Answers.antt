@@ -1,5 +1,5 @@
-use Rattle.raft_model.proofs.Written.{puts_written}
+use Rattle.raft_model.proofs.Written.{puts_written, step_written}
 use Rattle.raft_model.proofs.laws.law_puts.Goals as goal
 
 pub returns : goal.returns
-returns c = puts_written
+returns c = record { of_move = puts_written; of_step = step_written }
