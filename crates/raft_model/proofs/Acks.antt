@@ -12,7 +12,7 @@ use Rattle.raft_model.specs.History.{KeptVote}
 use Rattle.raft_model.proofs.Micro.{State, Holds, Micro, did, May, MayGrant, MayCut, MayWin, MayPropose, log_won, answer_of}
 use Rattle.raft_model.proofs.Micro.Micro.{Raise, Stand, Grant, Deny, Win, Cut, Grow, Accept, Propose}
 use Rattle.raft_model.proofs.Facts.{Facts, Acked, Off, Acks}
-use Rattle.raft_model.proofs.Lists.{same_less, same_get, same_length, same_append, term_at_less}
+use Rattle.raft_model.proofs.Lists.{same_less, same_get, same_length, same_append, term_at_less, list_more, longer}
 use Rattle.raft_model.proofs.At.{at_each}
 use Rattle.raft_model.proofs.Alone.{alone}
 use Rattle.raft_model.proofs.Agree.{agree}
@@ -229,10 +229,10 @@ acks_propose s m e h f = record {
     | inr b ↦
         let k = f.acks.own_log i t j b in (
           k.0,
-          omega (arith, k.1, longer t),
+          omega (arith, k.1, longer s.list (s.term m) e t),
           k.2,
           elim k.3 [
-            | inl same ↦ inl (log_more i j (same_length j (s.log i) (s.list t) k.1 same) ∙ (same ∙ sym (list_more t j k.1)))
+            | inl same ↦ inl (list_more s.log m e i j (same_length j (s.log i) (s.list t) k.1 same) ∙ (same ∙ sym (list_more s.list (s.term m) e t j k.1)))
             | inr o ↦ inr (off_lasts t j (s.term i + 1) k.1 o)
           ],
         )
@@ -243,7 +243,7 @@ acks_propose s m e h f = record {
     | inr old ↦
         let g = f.acks.own_log k.voter t j old in
         elim (f.acks.voted k t j i none old b) [
-          | inl same ↦ inl (same ∙ sym (list_more t j g.1))
+          | inl same ↦ inl (same ∙ sym (list_more s.list (s.term m) e t j g.1))
           | inr o ↦ inr (off_lasts t j k.term g.1 o)
         ]
   ];
@@ -251,18 +251,6 @@ acks_propose s m e h f = record {
   where
     leads : (s.led (s.term m) ≡ true) × (s.leader (s.term m) ≡ m) × (s.log m ≡ s.list (s.term m))
     leads = f.running.leads m h.role
-
-    list_more : (t j : ℕ) → j ≤ length (s.list t) → Same j (at s.list (s.term m) (s.list (s.term m) ++ (e ∷ [])) t) (s.list t)
-    list_more t j b = at_each (λ i l. j ≤ length (s.list i) → Same j l (s.list i)) s.list (s.term m) (s.list (s.term m) ++ (e ∷ []))
-        (λ c. same_append j (s.list (s.term m)) (e ∷ []) c) (λ i n c. refl) t b
-
-    log_more : (i j : ℕ) → j ≤ length (s.log i) → Same j (at s.log m (s.log m ++ (e ∷ [])) i) (s.log i)
-    log_more i j b = at_each (λ i l. j ≤ length (s.log i) → Same j l (s.log i)) s.log m (s.log m ++ (e ∷ []))
-        (λ c. same_append j (s.log m) (e ∷ []) c) (λ i n c. refl) i b
-
-    longer : (t : ℕ) → length (s.list t) ≤ length (at s.list (s.term m) (s.list (s.term m) ++ (e ∷ [])) t)
-    longer t = at_each (λ i l. length (s.list i) ≤ length l) s.list (s.term m) (s.list (s.term m) ++ (e ∷ []))
-        (omega (arith, length-append (s.list (s.term m)) (e ∷ []))) (λ i n. omega arith) t
 
     split : (i t j : ℕ) → Acked s.led s.leader (at s.list (s.term m) (s.list (s.term m) ++ (e ∷ []))) s.answers i t j
         → ((t ≡ s.term m) × (i ≡ m) × (j ≤ length (at s.list (s.term m) (s.list (s.term m) ++ (e ∷ [])) t)))
@@ -282,7 +270,7 @@ acks_propose s m e h f = record {
 
     off_lasts : (t j u : ℕ) → j ≤ length (s.list t) → Off s.led s.list t j u
         → Off s.led (at s.list (s.term m) (s.list (s.term m) ++ (e ∷ []))) t j u
-    off_lasts t j u b o = (o.0, o.1, o.2, o.3, λ z. o.4 (back t j o.0 o.1 b (z ∙ list_more t j b)))
+    off_lasts t j u b o = (o.0, o.1, o.2, o.3, λ z. o.4 (back t j o.0 o.1 b (z ∙ list_more s.list (s.term m) e t j b)))
       where
         back : (t j w : ℕ) → t < w → j ≤ length (s.list t) → Same j (at s.list (s.term m) (s.list (s.term m) ++ (e ∷ [])) w) (s.list t)
             → Same j (s.list w) (s.list t)

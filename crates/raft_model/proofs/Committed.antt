@@ -17,7 +17,7 @@ use Rattle.raft_model.specs.Ledger.{ledger_after, stamps_after}
 use Rattle.raft_model.proofs.Micro.Micro.{Raise, Win, Cut, Grow, Advance, Propose, Commit, CallVote, CallAppend, Post}
 use Rattle.raft_model.proofs.Facts.{Facts, Committed, IsSettled, Firm, has_acked, is_ack}
 use Rattle.raft_model.proofs.Quorum.{tell, any_there, count_grows}
-use Rattle.raft_model.proofs.Lists.{same_less, same_get, same_append, term_at_less}
+use Rattle.raft_model.proofs.Lists.{same_less, same_get, same_append, term_at_less, list_more, longer}
 use Rattle.raft_model.proofs.At.{at_each}
 use Rattle.raft_model.proofs.Alone.{alone}
 use Rattle.raft_model.proofs.Agree.{agree}
@@ -145,26 +145,17 @@ committed_propose s m e f = committed_move s f s.led s.leader (at s.list (s.term
     (λ t k a. record {
       there = a.there;
       low = a.low;
-      inside = omega (arith, a.inside, longer t);
+      inside = omega (arith, a.inside, longer s.list (s.term m) e t);
       own_term =
           let one : get_or (at s.list (s.term m) (s.list (s.term m) ++ (e ∷ [])) t) (k - 1) (blank 0) ≡ get_or (s.list t) (k - 1) (blank 0)
           = same_get k (k - 1) (at s.list (s.term m) (s.list (s.term m) ++ (e ∷ [])) t) (s.list t) (omega (arith, a.low))
-          (list_more t k a.inside) in
+          (list_more s.list (s.term m) e t k a.inside) in
           term_at_less (at s.list (s.term m) (s.list (s.term m) ++ (e ∷ [])) t) k a.low
           ∙ (ap (λ (x : Entry). x.term) one ∙ (sym (term_at_less (s.list t) k a.low) ∙ a.own_term));
       held = a.held;
     })
-    (λ t j l c. list_more t j c) (λ t l. longer t) (λ i. omega arith)
-    (at_each (λ i x. Same (s.commit i) x (s.log i)) s.log m (s.log m ++ (e ∷ []))
-    (same_append (s.commit m) (s.log m) (e ∷ []) (f.stored.within m)) (λ i n. refl))
-  where
-    list_more : (t j : ℕ) → j ≤ length (s.list t) → Same j (at s.list (s.term m) (s.list (s.term m) ++ (e ∷ [])) t) (s.list t)
-    list_more t j b = at_each (λ i l. j ≤ length (s.list i) → Same j l (s.list i)) s.list (s.term m) (s.list (s.term m) ++ (e ∷ []))
-        (λ c. same_append j (s.list (s.term m)) (e ∷ []) c) (λ i n c. refl) t b
-
-    longer : (t : ℕ) → length (s.list t) ≤ length (at s.list (s.term m) (s.list (s.term m) ++ (e ∷ [])) t)
-    longer t = at_each (λ i l. length (s.list i) ≤ length l) s.list (s.term m) (s.list (s.term m) ++ (e ∷ []))
-        (omega (arith, length-append (s.list (s.term m)) (e ∷ []))) (λ i n. omega arith) t
+    (λ t j l c. list_more s.list (s.term m) e t j c) (λ t l. longer s.list (s.term m) e t) (λ i. omega arith)
+    (λ i. list_more s.log m e i (s.commit i) (f.stored.within i))
 
 pub committed_log : (s : State) → Facts s → (m : ℕ) (l : List Entry) → Same (s.commit m) l (s.log m)
     → Committed s.members s.led s.leader s.list s.bag s.term s.commit (at s.log m l) s.requests s.ledger s.stamps

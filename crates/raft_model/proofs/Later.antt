@@ -12,7 +12,7 @@ use Rattle.raft_model.proofs.Micro.{State, Micro, did, May, MayCommit, run, Lawf
 use Rattle.raft_model.specs.Ledger.{ledger_after}
 use Rattle.raft_model.proofs.Micro.Micro.{Win, Cut, Grow, Advance, Propose, Commit}
 use Rattle.raft_model.proofs.Facts.{Facts, IsSettled, Later}
-use Rattle.raft_model.proofs.Lists.{same_less, same_append}
+use Rattle.raft_model.proofs.Lists.{same_less, same_get, same_append, list_more, longer}
 use Rattle.raft_model.proofs.Complete.{less_or}
 use Rattle.raft_model.proofs.At.{at_each}
 use Rattle.raft_model.proofs.Votes.{led_more}
@@ -33,12 +33,8 @@ pub list_later : (s : State) (e : Micro) → May s e → Facts s → (t : ℕ) �
     → (length (s.list t) ≤ length ((did s e).list t)) × Same (length (s.list t)) ((did s e).list t) (s.list t)
 list_later s (Win m b) may f t h = let q = at_other s.list (s.term m) t (log_won s m b) (not_first s f m b may t h) in
     (subst (λ (x : List Entry). length (s.list t) ≤ length x) (sym q) (omega arith), ap (take (length (s.list t))) q)
-list_later s (Propose m e) may f t h = at_each (λ i x. (length (s.list i) ≤ length x) × Same (length (s.list i)) x (s.list i)) s.list
-    (s.term m) (s.list (s.term m) ++ (e ∷ [])) (
-      omega (arith, length-append (s.list (s.term m)) (e ∷ [])),
-      same_append (length (s.list (s.term m))) (s.list (s.term m)) (e ∷ []) (omega arith),
-    )
-    (λ i n. (omega arith, refl)) t
+list_later s (Propose m e) may f t h =
+    (longer s.list (s.term m) e t, list_more s.list (s.term m) e t (length (s.list t)) (omega arith))
 list_later s _ may f t h = (omega arith, refl)
 
 pub commit_later : (s : State) (e : Micro) → May s e → Facts s → (m : ℕ) → s.commit m ≤ (did s e).commit m
@@ -55,10 +51,8 @@ log_later s (Win m b) may f = at_each (λ i x. Same (s.commit i) x (s.log i)) s.
     won false = refl
 log_later s (Cut m r e) may f = at_each (λ i x. Same (s.commit i) x (s.log i)) s.log m (take r.previous (s.log m))
     (take-take (s.commit m) r.previous (s.log m) may.after_commit) (λ i n. refl)
-log_later s (Grow m r e) may f = at_each (λ i x. Same (s.commit i) x (s.log i)) s.log m (s.log m ++ (e ∷ []))
-    (same_append (s.commit m) (s.log m) (e ∷ []) (f.stored.within m)) (λ i n. refl)
-log_later s (Propose m e) may f = at_each (λ i x. Same (s.commit i) x (s.log i)) s.log m (s.log m ++ (e ∷ []))
-    (same_append (s.commit m) (s.log m) (e ∷ []) (f.stored.within m)) (λ i n. refl)
+log_later s (Grow m r e) may f = λ i. list_more s.log m e i (s.commit i) (f.stored.within i)
+log_later s (Propose m e) may f = λ i. list_more s.log m e i (s.commit i) (f.stored.within i)
 log_later s _ may f = λ i. refl
 
 pub ledger_commit : (s : State) (m k : ℕ) → MayCommit s m k → Facts s

@@ -1,9 +1,11 @@
 -- Prefixes: `Same k l m` is `take k l ≡ take k m`.
-use Rattle.std.proofs.Common.{◌≡◌, ℕ, zero, suc, ◌+◌, ◌-◌, ◌<◌, ◌≤◌, Bool, true, List, ◌++◌, length, arith, sym, ◌∙◌, ap, subst, take, get_or, length-take, get_or-take}
+use Rattle.std.proofs.Common.{◌≡◌, ℕ, zero, suc, ◌+◌, ◌-◌, ◌<◌, ◌≤◌, Bool, true, List, [], ◌∷◌, ◌++◌, length, refl, arith, sym, ◌∙◌, ap, subst, take, get_or, length-append, length-take, get_or-take}
 use Rattle.std.proofs.lemmas.List.{take-append-le, take-take}
 use Rattle.can_frame.specs.declared.entry.Entry.{Entry}
 use Rattle.can_frame.specs.Log.{blank, last_term}
 use Rattle.raft_model.specs.Log.{Same, term_at}
+use Rattle.raft_model.specs.Lists.{at}
+use Rattle.raft_model.proofs.At.{at_each}
 use Rattle.raft_model.proofs.Facts.{IsMatching}
 
 pub same_less : (i k : ℕ) (l m : List Entry) → i ≤ k → Same k l m → Same i l m
@@ -19,6 +21,16 @@ same_length k l m h s = let e : length (take k l) ≡ length (take k m) = ap len
 
 pub same_append : (k : ℕ) (l rest : List Entry) → k ≤ length l → Same k (l ++ rest) l
 same_append k l rest h = take-append-le k l rest h
+
+-- of lists of which one gained an entry, each begins with what it was, and is as long or longer
+pub list_more : (list : ℕ → List Entry) (place : ℕ) (e : Entry) (t j : ℕ) → j ≤ length (list t)
+    → Same j (at list place (list place ++ (e ∷ [])) t) (list t)
+list_more list place e t j b = at_each (λ i l. j ≤ length (list i) → Same j l (list i)) list place (list place ++ (e ∷ []))
+    (λ c. same_append j (list place) (e ∷ []) c) (λ i n c. refl) t b
+
+pub longer : (list : ℕ → List Entry) (place : ℕ) (e : Entry) (t : ℕ) → length (list t) ≤ length (at list place (list place ++ (e ∷ [])) t)
+longer list place e t = at_each (λ i l. length (list i) ≤ length l) list place (list place ++ (e ∷ []))
+    (omega (arith, length-append (list place) (e ∷ []))) (λ i n. omega arith) t
 
 pub term_at_less : (l : List Entry) (i : ℕ) → 1 ≤ i → term_at l i ≡ (get_or l (i - 1) (blank 0)).term
 term_at_less l zero h = absurd (omega arith)

@@ -11,7 +11,7 @@ use Rattle.raft_model.specs.History.{KeptVote, Candidacy}
 use Rattle.raft_model.proofs.Micro.{State, Micro, did, May, MayGrow, MayWin, MayPropose, log_won}
 use Rattle.raft_model.proofs.Micro.Micro.{Stand, Grant, Win, Cut, Grow, Propose}
 use Rattle.raft_model.proofs.Facts.{Facts, Matching, IsMatching}
-use Rattle.raft_model.proofs.Lists.{same_append}
+use Rattle.raft_model.proofs.Lists.{same_append, list_more, longer}
 use Rattle.raft_model.proofs.At.{at_each}
 use Rattle.raft_model.proofs.Alone.{alone}
 use Rattle.raft_model.proofs.Agree.{fits_same}
@@ -115,20 +115,12 @@ matching_propose s m e h f = record {
     leads : (s.led (s.term m) ≡ true) × (s.leader (s.term m) ≡ m) × (s.log m ≡ s.list (s.term m))
     leads = f.running.leads m h.role
 
-    list_more : (t j : ℕ) → j ≤ length (s.list t) → Same j (at s.list (s.term m) (s.list (s.term m) ++ (e ∷ [])) t) (s.list t)
-    list_more t j b = at_each (λ i l. j ≤ length (s.list i) → Same j l (s.list i)) s.list (s.term m) (s.list (s.term m) ++ (e ∷ []))
-        (λ c. same_append j (s.list (s.term m)) (e ∷ []) c) (λ i n c. refl) t b
-
-    longer : (t : ℕ) → length (s.list t) ≤ length (at s.list (s.term m) (s.list (s.term m) ++ (e ∷ [])) t)
-    longer t = at_each (λ i l. length (s.list i) ≤ length l) s.list (s.term m) (s.list (s.term m) ++ (e ∷ []))
-        (omega (arith, length-append (s.list (s.term m)) (e ∷ []))) (λ i n. omega arith) t
-
     more : (l : List Entry) → IsMatching s.led s.list l → IsMatching s.led (at s.list (s.term m) (s.list (s.term m) ++ (e ∷ []))) l
     more l g i c = let k = g i c in (
       k.0,
-      omega (arith, k.1, longer (get_or l i (blank 0)).term),
+      omega (arith, k.1, longer s.list (s.term m) e (get_or l i (blank 0)).term),
       k.2
-          ∙ sym (list_more (get_or l i (blank 0)).term (i + 1) (omega (arith, k.1))),
+          ∙ sym (list_more s.list (s.term m) e (get_or l i (blank 0)).term (i + 1) (omega (arith, k.1))),
     )
 
     grown : IsMatching s.led (at s.list (s.term m) (s.list (s.term m) ++ (e ∷ []))) (s.list (s.term m) ++ (e ∷ []))

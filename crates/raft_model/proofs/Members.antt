@@ -54,7 +54,7 @@ same_count (x ∷ xs) members test h = omega (arith, same_count xs (without x me
       as_many = omega (arith, h.as_many, without_length x members here);
     }
 
-same_quorum : (list members : List ℕ) (votes : ℕ → Bool) → IsAll list members → has_quorum list votes ≡ has_quorum members votes
+pub same_quorum : (list members : List ℕ) (votes : ℕ → Bool) → IsAll list members → has_quorum list votes ≡ has_quorum members votes
 same_quorum list members votes h = ap (λ (n : ℕ). nat_le (n / 2 + 1) (how_many votes list)) h.as_many
     ∙ ap (λ (n : ℕ). nat_le (quorum members) n) (same_count list members votes h)
 

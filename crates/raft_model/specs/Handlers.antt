@@ -1,5 +1,5 @@
 -- The plain server after moves, their puts and the messages that they offer: a step without the model's memory.
-use Rattle.std.specs.Prelude.{◌≡◌, ℕ, List, [], ◌∷◌, ◌++◌, take}
+use Rattle.std.specs.Prelude.{◌≡◌, ℕ, ◌+◌, ◌<◌, ◌≤◌, List, [], ◌∷◌, ◌++◌, length, take}
 use Rattle.raft_model.specs.Messages.{Message}
 use Rattle.raft_model.specs.Server.{Plain, Put, put_all}
 use Rattle.raft_model.specs.Moves.{Move, puts, memory_after, offers, calls}
@@ -32,13 +32,28 @@ abbrev pub calls_of_all : List Move → List ℕ
 calls_of_all [] = []
 calls_of_all (move ∷ moves) = calls_of_all moves ++ calls move
 
--- where so many puts of a step end: all puts of the moves before one of them, and some of that one's
+-- where so many puts of a step end: behind all puts of the moves before one of them, and so many of that one's, at most all
 pub record IsCut (members : List ℕ) (member step : ℕ) (server : Plain) (moves : List Move) (count : ℕ) : Type 0 where
   pub before : List Move
   pub next : Move
   pub rest : List Move
   pub within : ℕ
   pub split : moves ≡ before ++ (next ∷ rest)
+  pub inside : within ≤ length (puts members member (plain_after_all members member step server before) next)
   pub done : take count (puts_of_all members member step server moves)
       ≡ puts_of_all members member step server before
       ++ take within (puts members member (plain_after_all members member step server before) next)
+
+-- where the put stands that failed after so many others: in one of the moves, behind so many puts of it; whether it is found undone or
+-- done, the puts that are done end within this move
+pub record IsBreak (members : List ℕ) (member step : ℕ) (server : Plain) (moves : List Move) (done : ℕ) : Type 0 where
+  pub before : List Move
+  pub next : Move
+  pub rest : List Move
+  pub within : ℕ
+  pub split : moves ≡ before ++ (next ∷ rest)
+  pub inside : within < length (puts members member (plain_after_all members member step server before) next)
+  pub ends : (more : ℕ) → more ≤ 1
+      → take (done + more) (puts_of_all members member step server moves)
+      ≡ puts_of_all members member step server before
+      ++ take (within + more) (puts members member (plain_after_all members member step server before) next)

@@ -3,7 +3,7 @@
 //! A run is any list of events that may come, from empty stores on: openings, whole steps, and stops between
 //! any two puts of a step. A law of every run holds after each event of it, stops included.
 
-ghost use Rattle.std.specs.Prelude.{ℕ, Bool, true, false, List, [], ◌++◌, ◌∷◌, ◌≡◌, ◌≢◌, ◌↔◌, ◌<◌, ◌≤◌, length, get_or, Some, None};
+ghost use Rattle.std.specs.Prelude.{ℕ, Bool, true, false, List, [], ◌++◌, ◌∷◌, ◌≡◌, ◌≢◌, ◌↔◌, ◌<◌, ◌≤◌, length, take, get_or, Some, None};
 ghost use Rattle.can_frame.specs.declared.entry.Entry.{Entry};
 ghost use Rattle.can_frame.specs.Log.{blank, log_limit};
 ghost use Rattle.can_frame.specs.Zeros.{zeros};
@@ -16,8 +16,8 @@ ghost use Rattle.raft_model.specs.Server.Role.{Candidate, Follower, Leader};
 ghost use Rattle.raft_model.specs.Moves.{CanCommit, Comes, IsCommitIndex, IsGranted, IsJudged, MayCall, MayPropose, Move, Verdict, memory_after, puts, term_limit, with_term};
 ghost use Rattle.raft_model.specs.Moves.Move.{AnswerAgain, CallForVote, CallToAppend, CommitTo, GiveUp, ProposeEntry, TakeAppendAnswer, TakeAppendRequest, TakeVoteAnswer, TakeVoteRequest, TellNothing, TellPair, TimeOut};
 ghost use Rattle.raft_model.specs.Decisions.{commit_index, grants, judges, may_propose};
-ghost use Rattle.raft_model.specs.Members.{IsAll, counts_votes};
-ghost use Rattle.raft_model.specs.Handlers.{IsCut, calls_of_all, offers_of_all, plain_after, plain_after_all, puts_of_all};
+ghost use Rattle.raft_model.specs.Members.{IsAll, KnowsEnough, counts_votes};
+ghost use Rattle.raft_model.specs.Handlers.{IsBreak, IsCut, calls_of_all, offers_of_all, plain_after, plain_after_all, puts_of_all};
 ghost use Rattle.raft_model.specs.Fit.{IsFit};
 ghost use Rattle.raft_model.specs.Duty.{CommitDuty, TellDuty, TickDuty, WinDuty, commit_phase, tell_phase, tick_phase};
 ghost use Rattle.raft_model.specs.Stops.{AllCome, Site, all_moved};
@@ -104,7 +104,9 @@ pub fn law_ledger()
 {}
 
 /// A step that may come may also be stopped: after any of its moves, and after any number of the puts of
-/// the next one. Any number of all the puts of a step ends within one of its moves.
+/// the next one. Any number of the puts of a step, up to all of them, ends within one of its moves; a put
+/// that failed stands in one of them, and whether a stop finds it undone or done, it is a stop within this
+/// move. What is stored then is what was stored before the step, with these puts.
 pub fn law_stops()
     ensures stop { (world : World) (member step : ℕ) (moves : List Move) (next : Move) (rest : List Move) (fitted : List Message)
         (count : ℕ)
@@ -113,7 +115,15 @@ pub fn law_stops()
     ensures between { (world : World) (member step : ℕ) (moves rest : List Move) (fitted : List Message)
         → MayCome world (Steps member step (moves ++ rest) fitted) → MayCome world (Stops member step moves) }
     ensures cut { (members : List ℕ) (member step : ℕ) (server : Plain) (moves : List Move) (count : ℕ)
-        → count < length (puts_of_all members member step server moves) → IsCut members member step server moves count }
+        → 0 < length (puts_of_all members member step server moves) → count ≤ length (puts_of_all members member step server moves)
+        → IsCut members member step server moves count }
+    ensures failed { (members : List ℕ) (member step : ℕ) (server : Plain) (moves : List Move) (done : ℕ)
+        → done < length (puts_of_all members member step server moves) → IsBreak members member step server moves done }
+    ensures stored { (world : World) (member step : ℕ) (moves : List Move) (next : Move) (count : ℕ)
+        → let server = world.server member in
+        ((after world (StopsWithin member step moves next count)).server member).store
+        ≡ put_all server.store (puts_of_all world.members member step server moves
+        ++ take count (puts world.members member (plain_after_all world.members member step server moves) next)) }
 {}
 
 /// Each move puts an entry just before it raises last by it, and so does a step of many moves.
@@ -190,6 +200,9 @@ pub fn law_decisions()
 
 /// A server that knows all members counts over its own list what the machine counts over all of them, and a
 /// move that may come by this list may come. A move that counts no votes needs no list, nor does a Follower.
+/// So the moves of a step told over its own list are those over all members: the same server after them, the
+/// same puts, messages and memory of the model, and they may come. A Follower that does not stand for election
+/// needs no list of all for it.
 pub fn law_members()
     ensures count { (list members : List ℕ) (test : ℕ → Bool) → IsAll list members → how_many test list ≡ how_many test members }
     ensures puts { (list members : List ℕ) (member : ℕ) (server : Plain) (move : Move)
@@ -203,6 +216,18 @@ pub fn law_members()
     ensures come { (list members : List ℕ) (member : ℕ) (bag : List Message) (called : List ℕ) (server : Plain) (move : Move)
         → (server.memory.role ≢ Follower → IsAll list members)
         → Comes list member bag called server move → Comes members member bag called server move }
+    ensures all_after { (list members : List ℕ) (member step : ℕ) (server : Plain) (moves : List Move) → KnowsEnough list members server moves
+        → plain_after_all list member step server moves ≡ plain_after_all members member step server moves }
+    ensures all_puts { (list members : List ℕ) (member step : ℕ) (server : Plain) (moves : List Move) → KnowsEnough list members server moves
+        → puts_of_all list member step server moves ≡ puts_of_all members member step server moves }
+    ensures all_offers { (list members : List ℕ) (member step : ℕ) (server : Plain) (moves : List Move)
+        → KnowsEnough list members server moves
+        → offers_of_all list member step server moves ≡ offers_of_all members member step server moves }
+    ensures all_site { (list members : List ℕ) (member step : ℕ) (site : Site) (moves : List Move) → KnowsEnough list members site.plain moves
+        → all_moved list member step site moves ≡ all_moved members member step site moves }
+    ensures all_come { (list members : List ℕ) (member step : ℕ) (bag : List Message) (site : Site) (moves : List Move)
+        → KnowsEnough list members site.plain moves
+        → AllCome list member step bag site moves → AllCome members member step bag site moves }
 {}
 
 /// A server that opens is fit, every move that may come keeps it fit, and so is each server of every run.

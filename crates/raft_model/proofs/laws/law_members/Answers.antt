@@ -1,5 +1,17 @@
+use Rattle.raft_model.proofs.Listed.{all_after, all_puts, all_offers, all_site, all_come}
 use Rattle.raft_model.proofs.Members.{same_count, same_puts, same_memory, same_commit, same_come}
 use Rattle.raft_model.proofs.laws.law_members.Goals as goal
 
 pub returns : goal.returns
-returns c = record { count = same_count; puts = same_puts; memory = same_memory; commit = same_commit; come = same_come }
+returns c = record {
+  count = same_count;
+  puts = same_puts;
+  memory = same_memory;
+  commit = same_commit;
+  come = same_come;
+  all_after = all_after;
+  all_puts = all_puts;
+  all_offers = all_offers;
+  all_site = all_site;
+  all_come = all_come;
+}
