@@ -218,6 +218,7 @@ pub record Later (s u : State) : Type 0 where
   pub led : (t : ℕ) → s.led t ≡ true → u.led t ≡ true
   pub leader : (t : ℕ) → s.led t ≡ true → u.leader t ≡ s.leader t
   pub list : (t : ℕ) → s.led t ≡ true → (length (s.list t) ≤ length (u.list t)) × Same (length (s.list t)) (u.list t) (s.list t)
+  pub gains : (t i : ℕ) → s.led t ≡ true → length (s.list t) ≤ i → i < length (u.list t) → (get_or (u.list t) i (blank 0)).term ≡ t
   -- a committed list begins every later one of its member, and a ledger every later ledger
   pub commit : (m : ℕ) → s.commit m ≤ u.commit m
   pub committed : (m : ℕ) → Same (s.commit m) (u.log m) (s.log m)

@@ -2,10 +2,11 @@
 use Rattle.std.proofs.Common.{◌≡◌, ℕ, suc, ◌+◌, ◌-◌, ◌<◌, ◌≤◌, Bool, true, false, List, [], ◌∷◌, ◌++◌, length, refl, arith, sym, ◌∙◌, ap, subst, inl, inr, take, get_or, length-append, if◌then◌else◌, min}
 use Rattle.std.proofs.lemmas.Bool.{le-leb}
 use Rattle.std.proofs.Math.Nat.{min-le_left}
+use Rattle.std.proofs.Math.Seq.{get_or-append_seam}
 use Rattle.std.proofs.lemmas.List.{take-take, take_all, length-take-le}
 use Rattle.can_frame.specs.declared.entry.Entry.{Entry}
 use Rattle.can_frame.specs.Log.{blank}
-use Rattle.raft_model.specs.Lists.{at_other}
+use Rattle.raft_model.specs.Lists.{at, at_other}
 use Rattle.raft_model.specs.Log.{Same}
 use Rattle.raft_model.specs.Messages.{reach}
 use Rattle.raft_model.proofs.Micro.{State, Micro, did, May, MayCommit, run, Lawful, log_won}
@@ -36,6 +37,22 @@ list_later s (Win m b) may f t h = let q = at_other s.list (s.term m) t (log_won
 list_later s (Propose m e) may f t h =
     (longer s.list (s.term m) e t, list_more s.list (s.term m) e t (length (s.list t)) (omega arith))
 list_later s _ may f t h = (omega arith, refl)
+
+-- an entry that a list gains has its term
+pub gains_later : (s : State) (e : Micro) → May s e → Facts s → (t i : ℕ) → s.led t ≡ true → length (s.list t) ≤ i
+    → i < length ((did s e).list t) → (get_or ((did s e).list t) i (blank 0)).term ≡ t
+gains_later s (Win m b) may f t i h above below =
+    let q = at_other s.list (s.term m) t (log_won s m b) (not_first s f m b may t h) in
+    let n : length (at s.list (s.term m) (log_won s m b) t) ≡ length (s.list t) = ap length q in
+    absurd (omega (arith, above, below, n))
+gains_later s (Propose m e) may f t i h above below = at_each
+    (λ u l. length (s.list u) ≤ i → i < length l → (get_or l i (blank 0)).term ≡ u) s.list (s.term m) (s.list (s.term m) ++ (e ∷ []))
+    (λ a b.
+    let n : length (s.list (s.term m)) ≡ i = omega (arith, a, b, length-append (s.list (s.term m)) (e ∷ [])) in
+    ap (λ (j : ℕ). (get_or (s.list (s.term m) ++ (e ∷ [])) j (blank 0)).term) (sym n)
+    ∙ (ap (λ (x : Entry). x.term) (get_or-append_seam (s.list (s.term m)) e [] (blank 0)) ∙ may.own_term))
+    (λ u n a b. absurd (omega (arith, a, b))) t above below
+gains_later s _ may f t i h above below = absurd (omega (arith, above, below))
 
 pub commit_later : (s : State) (e : Micro) → May s e → Facts s → (m : ℕ) → s.commit m ≤ (did s e).commit m
 commit_later s (Advance m r) may f = at_each (λ i c. s.commit i ≤ c) s.commit m (min r.commit (reach r)) (omega (arith, may.above))
@@ -113,6 +130,7 @@ step_later s e may f = record {
   led = led_later s e may f;
   leader = leader_later s e may f;
   list = list_later s e may f;
+  gains = gains_later s e may f;
   commit = commit_later s e may f;
   committed = log_later s e may f;
   ledger = ledger_later s e may f;
@@ -125,6 +143,12 @@ later_joined s u v a b = record {
   list = λ t h. let x = a.list t h in
       let y = b.list t (a.led t h) in
       (omega (arith, x.0, y.0), same_less (length (s.list t)) (length (u.list t)) (v.list t) (u.list t) x.0 y.1 ∙ x.1);
+  gains = λ t i h above below. elim (less_or (length (u.list t)) i) [
+    | inl high ↦ b.gains t i (a.led t h) high below
+    | inr low ↦
+        ap (λ (x : Entry). x.term) (same_get (length (u.list t)) i (v.list t) (u.list t) low (b.list t (a.led t h)).1)
+        ∙ a.gains t i h above low
+  ];
   commit = λ m. let x = a.commit m in let y = b.commit m in omega (arith, x, y);
   committed = λ m. same_less (s.commit m) (u.commit m) (v.log m) (u.log m) (a.commit m) (b.committed m) ∙ a.committed m;
   ledger = let x = a.ledger in
@@ -137,6 +161,7 @@ later_same s = record {
   led = λ t h. h;
   leader = λ t h. refl;
   list = λ t h. (omega arith, refl);
+  gains = λ t i h above below. absurd (omega (arith, above, below));
   commit = λ m. omega arith;
   committed = λ m. refl;
   ledger = (omega arith, refl);

@@ -166,6 +166,6 @@ module _ (list members : List ℕ) (member step : ℕ) where
   all_come bag site (move ∷ moves) knows come = (
     same_come list members member bag site.called site.plain move knows.counting come.0,
     subst (λ (x : Site). AllCome members member step bag x moves)
-    (same_moved site move (counted_over_all site.plain move moves knows))
-    (all_come bag (moved list member step site move) moves (knows_later site.plain move moves knows) come.1),
+        (same_moved site move (counted_over_all site.plain move moves knows))
+        (all_come bag (moved list member step site move) moves (knows_later site.plain move moves knows) come.1),
   )

@@ -70,4 +70,5 @@ lasts_shown y z k n f g h = record {
   led = h.led;
   leader = h.leader;
   list = λ t l. (h.list t l).1 ∙ take_all (length (y.list t)) (y.list t) (omega arith);
+  gains = h.gains;
 }

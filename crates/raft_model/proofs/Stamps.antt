@@ -1,5 +1,5 @@
 -- Only a Leader's commit makes the ledger longer.
-use Rattle.std.proofs.Common.{◌≡◌, ◌≢◌, ℕ, ◌≤◌, true, Bool, false, Option, Some, None, List, [], ◌∷◌, ◌++◌, length, min, refl, arith, ◌∙◌, ap, subst, inl, inr, length-take}
+use Rattle.std.proofs.Common.{◌≡◌, ◌≢◌, ℕ, zero, suc, ◌≤◌, true, Bool, false, Option, Some, None, List, [], ◌∷◌, ◌++◌, length, min, refl, arith, ◌∙◌, ap, subst, inl, inr, take, length-take}
 use Rattle.raft_model.specs.Lists.{In, at_here}
 use Rattle.raft_model.specs.Messages.{Message, Request, reach}
 use Rattle.raft_model.specs.Messages.Message.{Requests}
@@ -9,13 +9,13 @@ use Rattle.raft_model.specs.Ledger.{Ledger, ledger_through}
 use Rattle.raft_model.specs.Moves.{Move, Verdict, Comes, puts, term_puts, with_term, win_puts, adds_blank, has_quorum, own_vote, counts, counted, stand_puts, grant_puts, vote_puts, append_puts, advance_puts, cut_puts}
 use Rattle.raft_model.specs.Moves.Move.{TimeOut, TakeVoteRequest, TakeVoteAnswer, TakeAppendRequest, TakeAppendAnswer, ProposeEntry, CommitTo, TellPair, TellNothing, CallForVote, CallToAppend, AnswerAgain, GiveUp}
 use Rattle.raft_model.specs.Moves.Verdict.{Outdated, Refused, Held, Added}
-use Rattle.raft_model.specs.Stops.{Site, AllCome}
+use Rattle.raft_model.specs.Stops.{Site, moved, AllCome}
 use Rattle.raft_model.specs.Runs.{World, Event, beginning, site_of, site_after, after, MayCome, run, Lawful}
-use Rattle.raft_model.specs.Runs.Event.{Steps, Stops}
+use Rattle.raft_model.specs.Runs.Event.{Steps, Stops, StopsWithin}
 use Rattle.raft_model.specs.Invariants.{Invariants}
 use Rattle.raft_model.specs.Safety.{IsSafe}
 use Rattle.raft_model.proofs.Joined.{joined_moves}
-use Rattle.raft_model.proofs.Prefixes.{come_before, lawful_then_one, run_then_one}
+use Rattle.raft_model.proofs.Prefixes.{stop_comes, lawful_then_one, run_then_one}
 use Rattle.raft_model.proofs.Quorum.{tell}
 use Rattle.raft_model.proofs.Run.{keeps_invariants, is_safe}
 use Rattle.raft_model.proofs.Terms.{same_commit}
@@ -69,6 +69,16 @@ both_low top (PutEntry entry ∷ xs) ys a b = both_low top xs ys a b
 both_low top (PutLonger entry ∷ xs) ys a b = both_low top xs ys a b
 both_low top (PutShorter place ∷ xs) ys a b = both_low top xs ys a b
 both_low top (PutCommit place ∷ xs) ys a b = (a.0, both_low top xs ys a.1 b)
+
+take_low : (top count : ℕ) (xs : List Put) → EachLow top xs → EachLow top (take count xs)
+take_low top zero xs low = tt
+take_low top (suc count) [] low = tt
+take_low top (suc count) (PutTerm term ∷ xs) low = take_low top count xs low
+take_low top (suc count) (PutVote vote ∷ xs) low = take_low top count xs low
+take_low top (suc count) (PutEntry entry ∷ xs) low = take_low top count xs low
+take_low top (suc count) (PutLonger entry ∷ xs) low = take_low top count xs low
+take_low top (suc count) (PutShorter place ∷ xs) low = take_low top count xs low
+take_low top (suc count) (PutCommit place ∷ xs) low = (low.0, take_low top count xs low.1)
 
 term_low : (top : ℕ) (store : Store) (term : ℕ) → EachLow top (term_puts store term)
 term_low top store term = elim (lt_tells store.term term) [ inl h ↦ rw (h.0) tt | inr h ↦ rw (h.0) tt ]
@@ -151,43 +161,65 @@ covered world member holds safe = record {
     store : Store
     store = (world.server member).store
 
+-- after some moves of a step, puts that are no commit of a Leader leave the ledger
+module _ (members : List ℕ) (events : List Event) (member step : ℕ) (moves : List Move) (next : Move) (lawful : Lawful (beginning members) events)
+    (may : (((run (beginning members) events).server member).memory.up ≡ true)
+    × AllCome (run (beginning members) events).members member step (run (beginning members) events).bag
+    (site_of (run (beginning members) events) member) moves
+    × Comes (run (beginning members) events).members member (run (beginning members) events).bag
+    (site_after (run (beginning members) events) member step moves).called (site_after (run (beginning members) events) member step moves).plain
+    next)
+    (other : (index : ℕ) → next ≢ CommitTo index) where
+  abbrev world : World
+  world = run (beginning members) events
+
+  abbrev site : Site
+  site = site_after world member step moves
+
+  stop : Lawful (beginning members) (events ++ (Stops member step moves ∷ []))
+  stop = lawful_then_one events (Stops member step moves) (beginning members) lawful (may.0, may.1)
+
+  holds : Invariants (after world (Stops member step moves))
+  holds = subst Invariants (run_then_one events (Stops member step moves) (beginning members))
+      (keeps_invariants members (events ++ (Stops member step moves ∷ [])) stop)
+
+  safe : IsSafe (after world (Stops member step moves))
+  safe = subst IsSafe (run_then_one events (Stops member step moves) (beginning members))
+      (is_safe members (events ++ (Stops member step moves ∷ [])) stop)
+
+  here : Covered site.ledger site.plain.store
+  here = subst (Covered site.ledger)
+      (ap (λ (p : Plain). p.store) (at_here world.server member member (record { store = site.plain.store; memory = lost }) refl))
+      (covered (after world (Stops member step moves)) member holds safe)
+
+  low : EachLow (length site.ledger.entries) (puts world.members member site.plain next)
+  low = puts_low world.members member world.bag site.called site.plain next (length site.ledger.entries) may.2
+      (λ request i append. (holds.commits.requests request i append).0) other
+
+  move_waits : (moved world.members member step site next).ledger ≡ site.ledger
+  move_waits = stays site.ledger site.plain.store (puts world.members member site.plain next) here low
+
+  pub cut_waits : (count : ℕ) → (after world (StopsWithin member step moves next count)).ledger ≡ site.ledger
+  cut_waits count = stays site.ledger site.plain.store (take count (puts world.members member site.plain next)) here
+      (take_low (length site.ledger.entries) count (puts world.members member site.plain next) low)
+
 pub ledger_waits : (members : List ℕ) (events : List Event) (member step : ℕ) (moves : List Move) (next : Move) (rest : List Move)
     (fitted : List Message)
     → Lawful (beginning members) events →
     MayCome (run (beginning members) events) (Steps member step (moves ++ (next ∷ rest)) fitted) → ((index : ℕ) → next ≢ CommitTo index) →
     (site_after (run (beginning members) events) member step (moves ++ (next ∷ []))).ledger
     ≡ (site_after (run (beginning members) events) member step moves).ledger
-ledger_waits members events member step moves next rest fitted lawful may other = split
-    ∙ stays site.ledger site.plain.store (puts world.members member site.plain next) here
-    (puts_low world.members member world.bag site.called site.plain next (length site.ledger.entries) come.1
-    (λ request i append. (holds.commits.requests request i append).0) other)
+ledger_waits members events member step moves next rest fitted lawful may other =
+    ap (λ (x : Site). x.ledger) (joined_moves world.members member step moves (next ∷ []) (site_of world member))
+    ∙ move_waits members events member step moves next lawful (stop_comes world member step moves next rest fitted 0 may) other
   where
     world : World
     world = run (beginning members) events
 
-    site : Site
-    site = site_after world member step moves
-
-    come : AllCome world.members member step world.bag (site_of world member) moves
-        × Comes world.members member world.bag site.called site.plain next
-    come = come_before world.members member step world.bag moves next rest (site_of world member) may.2
-
-    stop : Lawful (beginning members) (events ++ (Stops member step moves ∷ []))
-    stop = lawful_then_one events (Stops member step moves) (beginning members) lawful (may.0, come.0)
-
-    holds : Invariants (after world (Stops member step moves))
-    holds = subst Invariants (run_then_one events (Stops member step moves) (beginning members))
-        (keeps_invariants members (events ++ (Stops member step moves ∷ [])) stop)
-
-    safe : IsSafe (after world (Stops member step moves))
-    safe = subst IsSafe (run_then_one events (Stops member step moves) (beginning members))
-        (is_safe members (events ++ (Stops member step moves ∷ [])) stop)
-
-    here : Covered site.ledger site.plain.store
-    here = subst (Covered site.ledger)
-        (ap (λ (p : Plain). p.store) (at_here world.server member member (record { store = site.plain.store; memory = lost }) refl))
-        (covered (after world (Stops member step moves)) member holds safe)
-
-    split : (site_after world member step (moves ++ (next ∷ []))).ledger
-        ≡ ledger_through site.ledger site.plain.store (puts world.members member site.plain next)
-    split = ap (λ (x : Site). x.ledger) (joined_moves world.members member step moves (next ∷ []) (site_of world member))
+pub ledger_cut : (members : List ℕ) (events : List Event) (member step : ℕ) (moves : List Move) (next : Move) (count : ℕ)
+    → Lawful (beginning members) events → MayCome (run (beginning members) events) (StopsWithin member step moves next count)
+    → ((index : ℕ) → next ≢ CommitTo index) →
+    (after (run (beginning members) events) (StopsWithin member step moves next count)).ledger
+    ≡ (site_after (run (beginning members) events) member step moves).ledger
+ledger_cut members events member step moves next count lawful may other = cut_waits members events member step moves next lawful may other
+    count

@@ -31,7 +31,9 @@ pub record Lasts (early late : World) : Type 0 where
   pub committed_here : (member : ℕ) → IsPrefix (committed (early.server member).store) (committed (late.server member).store)
   -- the ledger is a prefix of every later ledger
   pub ledger : IsPrefix early.ledger.entries late.ledger.entries
-  -- a term has at most one leader for good, and its list only grows
+  -- a term has at most one leader for good, and its list only grows, by entries of this term alone
   pub led : (term : ℕ) → early.history.led term ≡ true → late.history.led term ≡ true
   pub leader : (term : ℕ) → early.history.led term ≡ true → late.history.leader term ≡ early.history.leader term
   pub list : (term : ℕ) → early.history.led term ≡ true → IsPrefix (early.history.list term) (late.history.list term)
+  pub gains : (term place : ℕ) → early.history.led term ≡ true → length (early.history.list term) ≤ place
+      → place < length (late.history.list term) → (get_or (late.history.list term) place (blank 0)).term ≡ term

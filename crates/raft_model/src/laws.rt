@@ -24,7 +24,7 @@ ghost use Rattle.raft_model.specs.Stops.{AllCome, Site, all_moved};
 ghost use Rattle.raft_model.specs.Runs.{Event, Lawful, MayCome, World, after, beginning, run, site_after};
 ghost use Rattle.raft_model.specs.Runs.Event.{Steps, Stops, StopsWithin};
 ghost use Rattle.raft_model.specs.Rows.{IsReady, MayTake};
-ghost use Rattle.raft_model.specs.Invariants.{AcknowledgedExactly, AcknowledgedKept, AcknowledgedVoted, HasKept, HasVotedWith, CallsSound, CommitsSettled, Invariants, LeadersComplete, LeadersElected, LogsMatch, StoresSound, VotesBound};
+ghost use Rattle.raft_model.specs.Invariants.{AcknowledgedExactly, AcknowledgedKept, AcknowledgedVoted, HasKept, HasVotedWith, IsSettled, CallsSound, CommitsSettled, Invariants, LeadersComplete, LeadersElected, LogsMatch, StoresSound, VotesBound};
 ghost use Rattle.raft_model.specs.Safety.{IsSafe, Lasts};
 
 /// Every run keeps the nine invariants and is safe: at each moment, after any number of the puts of a step
@@ -82,16 +82,21 @@ pub fn law_acknowledged()
         → HasVotedWith (run (beginning members) events) kept term count }
 {}
 
-/// What a quorum acknowledged stands in the list of every later leader, and only that is committed.
+/// What a quorum acknowledged stands in the list of every later leader, and only that is committed. It stays
+/// so through the run.
 pub fn law_commit()
     ensures complete { (members : List ℕ) (events : List Event) → Lawful (beginning members) events
         → LeadersComplete (run (beginning members) events) }
     ensures commits { (members : List ℕ) (events : List Event) → Lawful (beginning members) events
         → CommitsSettled (run (beginning members) events) }
     ensures safe { (members : List ℕ) (events : List Event) → Lawful (beginning members) events → IsSafe (run (beginning members) events) }
+    ensures settled { (members : List ℕ) (early late : List Event) (log : List Entry) (term : ℕ) → Lawful (beginning members) early
+        → Lawful (run (beginning members) early) late → IsSettled (run (beginning members) early) log term
+        → IsSettled (run (run (beginning members) early) late) log term }
 {}
 
-/// Only a Leader's commit makes the ledger longer, so a stamp is always the term of a leader.
+/// Only a Leader's commit makes the ledger longer, so a stamp is always the term of a leader. Any other move
+/// leaves it, whole or cut.
 pub fn law_ledger()
     ensures waits { (members : List ℕ) (events : List Event) (member step : ℕ) (moves : List Move) (next : Move) (rest : List Move)
         (fitted : List Message)
@@ -99,6 +104,11 @@ pub fn law_ledger()
         Lawful (beginning members) events → MayCome world (Steps member step (moves ++ (next ∷ rest)) fitted)
         → ((index : ℕ) → next ≢ CommitTo index)
         → (site_after world member step (moves ++ (next ∷ []))).ledger ≡ (site_after world member step moves).ledger }
+    ensures cut { (members : List ℕ) (events : List Event) (member step : ℕ) (moves : List Move) (next : Move) (count : ℕ)
+        → let world = run (beginning members) events in
+        Lawful (beginning members) events → MayCome world (StopsWithin member step moves next count)
+        → ((index : ℕ) → next ≢ CommitTo index)
+        → (after world (StopsWithin member step moves next count)).ledger ≡ (site_after world member step moves).ledger }
     ensures leader { (members : List ℕ) (member : ℕ) (bag : List Message) (called : List ℕ) (server : Plain) (index : ℕ)
         → Comes members member bag called server (CommitTo index) → server.memory.role ≡ Leader }
 {}
