@@ -5,7 +5,7 @@ use Rattle.std.specs.Str.{bytes_eq}
 use Rattle.std.proofs.lemmas.Bool.Decides.{eqb_tells}
 use Rattle.std.proofs.lemmas.Slice.Eq.{bytes_eq-Decides}
 use Rattle.can_frame.specs.declared.entry.Entry.{Entry}
-use Rattle.can_frame.specs.Log.{AreDistinct, IsBlank, IsInjective, IsWellFormed, blank, last_term, log_limit}
+use Rattle.can_frame.specs.Log.{AreDistinct, IsBlank, IsInjective, IsPair, IsReservation, IsWellFormed, blank, last_term, log_limit}
 use Rattle.can_frame.specs.Zeros.{zeros}
 use Rattle.raft_model.specs.Lists.{how_many}
 use Rattle.raft_model.specs.Log.{term_at}
@@ -14,7 +14,7 @@ use Rattle.raft_model.specs.Server.{Role, Store, Plain, quorum}
 use Rattle.raft_model.specs.Server.Role.{Follower, Candidate, Leader}
 use Rattle.raft_model.specs.Moves.{Verdict, MayGrant, IsGranted, HasPrevious, Adds, IsThere, IsRuled, IsCurrent, IsOutdated, IsJudged, with_term, MayPropose, CanCommit, IsCommitIndex, has_matched, is_leader}
 use Rattle.raft_model.specs.Moves.Verdict.{Outdated, Refused, Held, Added}
-use Rattle.raft_model.specs.Decisions.{is_blank, is_well_formed, are_distinct, is_distinct_from_all, is_injective, is_free, grants, has_previous, is_there, may_add, rule_on_entry, is_current, judges, may_propose, can_commit, greatest_to, commit_index}
+use Rattle.raft_model.specs.Decisions.{is_blank, is_pair, is_reservation, is_well_formed, are_distinct, is_distinct_from_all, is_injective, is_free, grants, has_previous, is_there, may_add, rule_on_entry, is_current, judges, may_propose, can_commit, greatest_to, commit_index}
 use Rattle.raft_model.proofs.Apart.{some_same}
 use Rattle.raft_model.proofs.Quorum.{tell}
 use Rattle.raft_model.proofs.Whole.{lt_tells, le_tells}
@@ -63,10 +63,16 @@ equal a b = elim (eqb_tells a b) [ inl z ↦ (λ e. z.1, λ h. z.0) | inr z ↦ 
 blank_decided : (entry : Entry) → Decides (is_blank entry) (IsBlank entry)
 blank_decided entry = both (equal entry.node 0) (bytes_eq-Decides entry.uid zeros)
 
+reservation_decided : (entry : Entry) → Decides (is_reservation entry) (IsReservation entry)
+reservation_decided entry = told (λ h. record { uid = h.0; least = h.1.0; most = h.1.1 }) (λ h. (h.uid, (h.least, h.most)))
+    (both (bytes_eq-Decides entry.uid zeros) (both (at_most 1 entry.node) (at_most entry.node 125)))
+
+pair_decided : (entry : Entry) → Decides (is_pair entry) (IsPair entry)
+pair_decided entry = told (λ h. record { uid = h.0; least = h.1.0; most = h.1.1 }) (λ h. (h.uid, (h.least, h.most)))
+    (both (never (bytes_eq-Decides entry.uid zeros)) (both (at_most 1 entry.node) (at_most entry.node 125)))
+
 well_formed_decided : (entry : Entry) → Decides (is_well_formed entry) (IsWellFormed entry)
-well_formed_decided entry = unless (blank_decided entry)
-    (told (λ h. record { uid = h.0; least = h.1.0; most = h.1.1 }) (λ h. (h.uid, (h.least, h.most)))
-    (both (never (bytes_eq-Decides entry.uid zeros)) (both (at_most 1 entry.node) (at_most entry.node 125))))
+well_formed_decided entry = unless (blank_decided entry) (unless (reservation_decided entry) (pair_decided entry))
 
 distinct_decided : (a b : Entry) → Decides (are_distinct a b) (AreDistinct a b)
 distinct_decided a b = told to from (unless (either (blank_decided a) (blank_decided b))
@@ -284,16 +290,14 @@ propose_decided server entry = told
       leads = h.0;
       room = h.1.0;
       own_term = h.1.1.0;
-      well_formed = h.1.1.1.0;
-      not_blank = h.1.1.1.1.0;
-      injective = h.1.1.1.1.1;
+      kind = h.1.1.1.0;
+      injective = h.1.1.1.1;
     })
-    (λ h. (h.leads, (h.room, (h.own_term, (h.well_formed, (h.not_blank, h.injective))))))
+    (λ h. (h.leads, (h.room, (h.own_term, (h.kind, h.injective)))))
     (both (leader_decided server.memory.role)
     (both (less (length server.store.log) log_limit)
     (both (equal entry.term server.store.term)
-    (both (well_formed_decided entry)
-    (both (never (blank_decided entry)) (injective_decided (server.store.log ++ (entry ∷ []))))))))
+    (both (either (pair_decided entry) (reservation_decided entry)) (injective_decided (server.store.log ++ (entry ∷ [])))))))
 
 pub proposal : (server : Plain) (entry : Entry) → (may_propose server entry ≡ true) ↔ MayPropose server entry
 proposal server entry = propose_decided server entry

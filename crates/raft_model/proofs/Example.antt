@@ -3,7 +3,7 @@ use Rattle.std.proofs.Common.{◌≡◌, ◌≢◌, ℕ, true, List, [], ◌∷�
 use Rattle.std.specs.Prelude.{replicate}
 use Rattle.raft_model.specs.Lists.{In}
 use Rattle.can_frame.specs.declared.entry.Entry.{Entry}
-use Rattle.can_frame.specs.Log.{IsInjective, IsWellFormed}
+use Rattle.can_frame.specs.Log.{IsInjective, IsPair}
 use Rattle.can_frame.specs.Zeros.{zeros}
 use Rattle.raft_model.specs.Messages.{Request, Answer, Pair}
 use Rattle.raft_model.specs.Messages.Message.{Requests, Answers, Pairs}
@@ -59,8 +59,8 @@ not_zeros e = cc
 pub one_injective : (e : Entry) → IsInjective (e ∷ [])
 one_injective e = λ i j b c. absurd (omega (arith, b, c))
 
-pub well_formed : IsWellFormed entry
-well_formed = λ no_blank. record { uid = not_zeros; least = omega arith; most = omega arith }
+pub is_pair : IsPair entry
+is_pair = record { uid = not_zeros; least = omega arith; most = omega arith }
 
 pub lawful : Lawful (beginning three) example
 lawful = (
@@ -92,8 +92,7 @@ lawful = (
                   leads = refl;
                   room = omega arith;
                   own_term = refl;
-                  well_formed = well_formed;
-                  not_blank = λ b. not_zeros b.1;
+                  kind = inl is_pair;
                   injective = one_injective entry;
                 },
                 tt,
@@ -125,7 +124,7 @@ lawful = (
                         room = omega arith;
                         not_there = λ t. absurd (omega (arith, t.0));
                         after_commit = omega arith;
-                        well_formed = well_formed;
+                        well_formed = λ no_blank no_reservation. is_pair;
                         rises = omega arith;
                         below = omega arith;
                         injective = one_injective entry;

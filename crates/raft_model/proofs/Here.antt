@@ -100,7 +100,6 @@ may_here z m (Propose _ e) h = record {
   room = h.room;
   own_term = h.own_term;
   well_formed = h.well_formed;
-  no_blank = h.no_blank;
   injective = h.injective;
 }
 may_here z m (Commit _ k) h = record { up = h.up; role = h.role; above = h.above; inside = h.inside; own_term = h.own_term; held = h.held }

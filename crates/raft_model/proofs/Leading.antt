@@ -126,8 +126,7 @@ move_lawful members m n f called (ProposeEntry e) up c h = record {
           role = h.leads;
           room = h.room;
           own_term = h.own_term;
-          well_formed = h.well_formed;
-          no_blank = h.not_blank;
+          well_formed = λ no_blank no_reservation. elim h.kind [ inl pair ↦ pair | inr reservation ↦ absurd (no_reservation reservation) ];
           injective = h.injective;
         },
         refl,

@@ -1,13 +1,12 @@
 -- A list of moves over a server's own list of members, and over the members.
-use Rattle.std.proofs.Common.{◌≡◌, ◌≢◌, ℕ, Bool, true, List, [], ◌∷◌, ◌++◌, refl, sym, ◌∙◌, ap, subst, inl, inr, ◌⊎◌}
+use Rattle.std.proofs.Common.{◌≡◌, ◌≢◌, ℕ, true, List, [], ◌∷◌, ◌++◌, refl, sym, ◌∙◌, ap, subst, inl, inr, ◌⊎◌}
 use Rattle.std.specs.Prelude.{◌&&◌, ◌==◌}
-use Rattle.raft_model.specs.Lists.{In}
 use Rattle.raft_model.specs.Messages.{Message, Answer, Request}
-use Rattle.raft_model.specs.Server.{Role, Store, Memory, Plain, Put, put_all}
+use Rattle.raft_model.specs.Server.{Role, Plain, Put, put_all}
 use Rattle.raft_model.specs.Server.Role.{Follower, Candidate, Leader}
 use Rattle.raft_model.specs.History.{History}
 use Rattle.raft_model.specs.Ledger.{ledger_through}
-use Rattle.raft_model.specs.Moves.{Move, Verdict, acknowledges, append_memory, calls, counted, counts, has_quorum, is_candidate, memory_after, move_history, offers, own_vote, puts, puts_history}
+use Rattle.raft_model.specs.Moves.{Move, Verdict, acknowledges, append_memory, calls, counted, counts, is_candidate, memory_after, move_history, offers, own_vote, puts, puts_history}
 use Rattle.raft_model.specs.Moves.Move.{TimeOut, TakeVoteRequest, TakeVoteAnswer, TakeAppendRequest, TakeAppendAnswer, ProposeEntry, CommitTo, TellPair, TellNothing, CallForVote, CallToAppend, AnswerAgain, GiveUp}
 use Rattle.raft_model.specs.Moves.Verdict.{Outdated, Refused, Held, Added}
 use Rattle.raft_model.specs.Handlers.{plain_after, plain_after_all, puts_of_all, offers_of_all}

@@ -1,7 +1,7 @@
 -- A device of the proof: small moves with one put at most each, of which every move of the table is a list.
 use Rattle.std.specs.Prelude.{◌≡◌, ◌≢◌, ℕ, ◌+◌, ◌-◌, ◌<◌, ◌≤◌, Bool, true, false, List, [], ◌∷◌, ◌++◌, length, ◌==◌, if◌then◌else◌, ◌⊎◌, take, get_or, Option, Some, None, min, max, nat_le}
 use Rattle.can_frame.specs.declared.entry.Entry.{Entry}
-use Rattle.can_frame.specs.Log.{IsBlank, IsInjective, IsWellFormed, blank, last_term, log_limit}
+use Rattle.can_frame.specs.Log.{IsInjective, IsWellFormed, blank, last_term, log_limit}
 use Rattle.can_frame.specs.Zeros.{zeros}
 use Rattle.raft_model.specs.Log.{NotAbove, term_at}
 use Rattle.raft_model.specs.Messages.{Request, reach, Answer, Pair, Message}
@@ -267,7 +267,6 @@ pub record MayPropose (s : State) (m : ℕ) (e : Entry) : Type 0 where
   pub room : length (s.log m) < log_limit
   pub own_term : e.term ≡ s.term m
   pub well_formed : IsWellFormed e
-  pub no_blank : IsBlank e → ⊥
   pub injective : IsInjective (s.log m ++ (e ∷ []))
 
 pub record MayCommit (s : State) (m k : ℕ) : Type 0 where

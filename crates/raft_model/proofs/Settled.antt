@@ -1,12 +1,12 @@
 -- What is settled in a run stays settled.
 use Rattle.std.proofs.Common.{◌≡◌, ℕ, ◌-◌, ◌≤◌, Bool, true, false, List, [], ◌∷◌, length, take, refl, sym, ap, subst, ◌∙◌, arith, length-take}
-use Rattle.std.specs.Prelude.{◌==◌, if◌then◌else◌, get_or}
+use Rattle.std.specs.Prelude.{◌==◌, if◌then◌else◌}
 use Rattle.std.proofs.lemmas.List.{take-take}
 use Rattle.can_frame.specs.declared.entry.Entry.{Entry}
-use Rattle.can_frame.specs.Log.{IsPrefix, blank}
+use Rattle.can_frame.specs.Log.{IsPrefix}
 use Rattle.raft_model.specs.Invariants.{IsFirm, IsSettled, has_acknowledged, is_acknowledgement}
 use Rattle.raft_model.specs.Lists.{any, how_many}
-use Rattle.raft_model.specs.Log.{Same, term_at}
+use Rattle.raft_model.specs.Log.{Same}
 use Rattle.raft_model.specs.Messages.{Message}
 use Rattle.raft_model.specs.Runs.{Event, World, Lawful, after, beginning, posted, run}
 use Rattle.raft_model.specs.Runs.Event.{Opens, Steps, Stops, StopsWithin}

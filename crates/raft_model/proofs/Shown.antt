@@ -2,7 +2,7 @@
 use Rattle.std.proofs.Common.{◌≢◌, ◌≡◌, ℕ, ◌≤◌, List, length, arith, sym, ◌∙◌, subst, take, get_or, length-take}
 use Rattle.std.proofs.lemmas.List.{take-take, take_all}
 use Rattle.can_frame.specs.declared.entry.Entry.{Entry}
-use Rattle.can_frame.specs.Log.{IsPrefix, IsWellFormed, blank}
+use Rattle.can_frame.specs.Log.{IsPair, IsPrefix, IsWellFormed, blank}
 use Rattle.can_frame.specs.Zeros.{zeros}
 use Rattle.raft_model.specs.Log.{Same}
 use Rattle.raft_model.specs.Invariants.{Invariants}
@@ -40,9 +40,12 @@ prefix_take k l m a b s =
     let n : length (take k l) ≡ k = omega (arith, length-take k l, a) in
     subst (λ (j : ℕ). take j m ≡ take k l) (sym n) (sym s)
 
--- a well-formed entry whose unique ID is not zeros has a node ID
+-- a well-formed entry whose unique ID is not zeros is a pair, and has a node ID
+pub is_given : (e : Entry) → IsWellFormed e → e.uid ≢ zeros → IsPair e
+is_given e h n = h (λ b. n b.1) (λ r. n r.uid)
+
 pub node_low : (e : Entry) → IsWellFormed e → e.uid ≢ zeros → 1 ≤ e.node
-node_low e h n = (h (λ b. n b.1)).least
+node_low e h n = (is_given e h n).least
 
 pub safe_shown : (z : State) (n : ℕ) → Facts z → IsSafe (world_of z n)
 safe_shown z n f =

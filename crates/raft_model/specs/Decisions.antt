@@ -15,8 +15,14 @@ use Rattle.raft_model.specs.Moves.Verdict.{Outdated, Refused, Held, Added}
 abbrev pub is_blank : Entry → Bool
 is_blank entry = (entry.node == 0) && bytes_eq entry.uid zeros
 
+abbrev pub is_reservation : Entry → Bool
+is_reservation entry = bytes_eq entry.uid zeros && (nat_le 1 entry.node && nat_le entry.node 125)
+
+abbrev pub is_pair : Entry → Bool
+is_pair entry = not (bytes_eq entry.uid zeros) && (nat_le 1 entry.node && nat_le entry.node 125)
+
 abbrev pub is_well_formed : Entry → Bool
-is_well_formed entry = is_blank entry || (not (bytes_eq entry.uid zeros) && (nat_le 1 entry.node && nat_le entry.node 125))
+is_well_formed entry = is_blank entry || (is_reservation entry || is_pair entry)
 
 abbrev pub are_distinct : Entry → Entry → Bool
 are_distinct a b = (is_blank a || is_blank b) || (not (a.node == b.node) && (bytes_eq a.uid zeros || not (bytes_eq a.uid b.uid)))
@@ -86,7 +92,7 @@ abbrev pub may_propose : Plain → Entry → Bool
 may_propose server entry = is_leader server.memory.role
     && (nat_lt (length server.store.log) log_limit
     && ((entry.term == server.store.term)
-    && (is_well_formed entry && (not (is_blank entry) && is_injective (server.store.log ++ (entry ∷ []))))))
+    && ((is_pair entry || is_reservation entry) && is_injective (server.store.log ++ (entry ∷ [])))))
 
 -- Commit.
 

@@ -4,7 +4,7 @@
 use Rattle.std.specs.Prelude.{◌≡◌, ◌≢◌, ℕ, ◌+◌, ◌-◌, ◌<◌, ◌≤◌, Bool, true, false, List, [], ◌∷◌, ◌++◌, length, ◌==◌, ◌&&◌, if◌then◌else◌, ◌⊎◌, take, get_or, Option, Some, None, min, max, nat_le, nat_lt}
 use Rattle.raft_model.specs.Lists.{In, at, how_many}
 use Rattle.can_frame.specs.declared.entry.Entry.{Entry}
-use Rattle.can_frame.specs.Log.{IsBlank, IsInjective, IsWellFormed, blank, last_term, log_limit}
+use Rattle.can_frame.specs.Log.{IsInjective, IsPair, IsReservation, IsWellFormed, blank, last_term, log_limit}
 use Rattle.can_frame.specs.Zeros.{zeros}
 use Rattle.raft_model.specs.Log.{NotAbove, term_at}
 use Rattle.raft_model.specs.Messages.{Request, reach, Answer, Pair, Message}
@@ -269,13 +269,12 @@ matched_memory memory answer = record memory {
 
 -- Entries and commit of a leader.
 
--- an entry of its term, no blank, for which there is room and which keeps the log injective
+-- a pair or a reservation of its term, for which there is room and which keeps the log injective
 pub record MayPropose (server : Plain) (entry : Entry) : Type 0 where
   pub leads : server.memory.role ≡ Leader
   pub room : length server.store.log < log_limit
   pub own_term : entry.term ≡ server.store.term
-  pub well_formed : IsWellFormed entry
-  pub not_blank : IsBlank entry → ⊥
+  pub kind : IsPair entry ⊎ IsReservation entry
   pub injective : IsInjective (server.store.log ++ (entry ∷ []))
 
 -- the leader itself, and each peer whose matched index is as high

@@ -25,7 +25,9 @@ ghost use Rattle.raft_model.specs.Runs.{Event, Lawful, MayCome, World, after, be
 ghost use Rattle.raft_model.specs.Runs.Event.{Steps, Stops, StopsWithin};
 ghost use Rattle.raft_model.specs.Rows.{IsReady, MayTake};
 ghost use Rattle.raft_model.specs.Invariants.{AcknowledgedExactly, AcknowledgedKept, AcknowledgedVoted, HasKept, HasVotedWith, IsSettled, CallsSound, CommitsSettled, Invariants, LeadersComplete, LeadersElected, LogsMatch, StoresSound, VotesBound};
-ghost use Rattle.raft_model.specs.Safety.{IsSafe, Lasts};
+ghost use Rattle.raft_model.specs.Safety.{IsGivenOnce, IsSafe, Lasts};
+
+use can_frame::laws::node_ids_are_given_once;
 
 /// Every run keeps the nine invariants and is safe: at each moment, after any number of the puts of a step
 /// that may come, and from each moment to every later one.
@@ -94,6 +96,16 @@ pub fn law_commit()
         → Lawful (run (beginning members) early) late → IsSettled (run (beginning members) early) log term
         → IsSettled (run (run (beginning members) early) late) log term }
 {}
+
+/// What a reservation is for. Two pairs of the ledger have different node IDs and different unique IDs, and
+/// no pair has a reserved node ID. Whoever is told a node ID is told a pair of the ledger: a reservation is
+/// told to nobody, and nobody is told the node ID that it keeps back.
+pub fn law_reservations()
+    ensures { (members : List ℕ) (events : List Event) → Lawful (beginning members) events
+        → IsGivenOnce (run (beginning members) events) }
+{
+    node_ids_are_given_once();
+}
 
 /// Only a Leader's commit makes the ledger longer, so a stamp is always the term of a leader. Any other move
 /// leaves it, whole or cut.
