@@ -1,17 +1,20 @@
 -- Puts that were made by two calls, one after the other.
 use Rattle.std.proofs.Common.{◌≡◌, ◌⊎◌, inl, inr, ℕ, ◌-◌, ◌≤◌, List, [], ◌∷◌, ◌++◌, Bool, true, false, refl, sym, ap, subst, ◌∙◌, arith}
-use Rattle.std.specs.Prelude.{Option, None, Some, Result, Ok, Err, is_ok, OnOk, OnErr, IfErr, IfSome}
+use Rattle.std.specs.Prelude.{Option, None, Some, IfSome, Result, Err, is_ok}
 use Rattle.disk_model.specs.declared.disk.Disk.{Ghosts}
 use Rattle.disk_model.specs.Device.{DeviceCall, Makes}
 use Rattle.kv_store.specs.declared.fault.Fault.{Fault}
 use Rattle.kv_store.specs.Image.{put_calls, turned}
 use Rattle.outside.specs.Faults.{Rose}
 use Rattle.raft_log.specs.declared.durable.Durable.{Durable}
-use Rattle.raft_log.specs.Calls.{IsCutAt, KeepsFault, MakesPuts}
+use Rattle.can_frame.specs.declared.entry.Entry.{Entry}
+use Rattle.raft_log.specs.Allowed.{AreAllowed, nexts_after}
+use Rattle.raft_log.specs.Calls.{FailsAllowed, IsCutAt, KeepsFault, MakesPuts, MakesPutsAfter}
 use Rattle.raft_log.specs.DeviceCalls.{bytes_of, copies_after, device_calls, key_of}
 use Rattle.raft_log.specs.DurableViews.{durable_copies, durable_disk, durable_fault, durable_state}
 use Rattle.raft_log.specs.Rules.{AlwaysStandsForState, StandsForState}
 use Rattle.raft_log.specs.Stored.{AfterSome, AtOne, Put, Stored, after_put, after_puts}
+use Rattle.raft_log.proofs.AllowedPuts.{allowed_then}
 
 -- the states and device calls of two lists of puts
 after_both : (xs ys : List Put) (s : Stored) → after_puts (xs ++ ys) s ≡ after_puts ys (after_puts xs s)
@@ -70,90 +73,112 @@ module _ {D : Type 0} (does : D → DeviceCall → Bool → D → Type 0) where
   calls_cut (x ∷ xs) ys old new (inl failed) = inl failed
   calls_cut (x ∷ xs) ys old new (inr first) = inr (first.0, first.1, calls_cut xs ys first.0 new first.2)
 
-map_err : {T E P Q : Type 0} (r : Result T E) → (P → Q) → OnErr r P → OnErr r Q
-map_err (Ok v) f p = tt
-map_err (Err e) f p = f p
+joined_lists : (xs ys zs : List Put) → xs ++ (ys ++ zs) ≡ (xs ++ ys) ++ zs
+joined_lists [] ys zs = refl
+joined_lists (x ∷ xs) ys zs = ap (λ (l : List Put). x ∷ l) (joined_lists xs ys zs)
 
-closed_still : (fault : Option Fault) (P Q : Fault → Type 0) → ((f : Fault) → P f → ⊥) → IfSome fault P → IfSome fault Q
-closed_still None P Q never none = tt
-closed_still (Some f) P Q never some = absurd (never f some)
+cause_still : (before between now : ℕ) (failed : Option Fault) → before ≤ between → IfSome failed (λ f. (f.count ≡ now) × Rose between now) → IfSome failed (λ f. (f.count ≡ now) × Rose before now)
+cause_still before between now None later none = tt
+cause_still before between now (Some f) later some = (some.0, omega (arith, later, some.1))
 
 open_yet : (fault : Option Fault) (P : Fault → Type 0) → fault ≡ None → IfSome fault P
 open_yet None P works = tt
-open_yet (Some f) P works = absurd (cc (works))
+open_yet (Some f) P works = absurd (cc works)
 
-cause_still : {U : Type 0} (before between now : ℕ) (result : Result U Fault) → before ≤ between → IfErr result (λ f. (f.count ≡ now) × Rose between now) → IfErr result (λ f. (f.count ≡ now) × Rose before now)
-cause_still before between now (Ok value) later none = tt
-cause_still before between now (Err f) later some = (some.0, omega (arith, later, some.1))
+-- a store that had failed answers its fault
+was_open : (fault : Option Fault) (P Q : Type 0) → IfSome fault (λ f. (None ≡ Some f) × P × Q) → fault ≡ None
+was_open None P Q closed = refl
+was_open (Some f) P Q closed = let none : None ≡ Some f = closed.0 in absurd (cc none)
 
 module _ {D : Type 0} {disk : Ghosts D} where
   -- the first puts failed
-  pub cut_short : {T U : Type 0} (xs ys : List Put) (old new : Durable D disk) (fault : Fault) (result : Result U Fault) → result ≡ Err fault → MakesPuts {T = T} xs old new (Err fault) → MakesPuts (xs ++ ys) old new result
-  cut_short {T} {U} xs ys old new fault result is first = subst (λ (r : Result U Fault). MakesPuts (xs ++ ys) old new r) (sym is) (record {
-    state = tt;
-    durable = λ works. tt;
-    cut = λ works. one_of_first (IsCutAt new) xs ys (durable_state old) (first.cut works);
+  pub cut_short : (next : Option Entry) (xs ys : List Put) (old new : Durable D disk) → MakesPutsAfter next xs old new false → MakesPutsAfter next (xs ++ ys) old new false
+  cut_short next xs ys old new first = record {
+    state = λ done. absurd (cc done);
+    durable = λ works done. absurd (cc done);
+    cut = λ works failed. one_of_first (IsCutAt new) xs ys (durable_state old) (first.cut works refl);
     stop = λ works told image left. some_of_first (StandsForState image) xs ys (durable_state old) (first.stop works told image left);
     made = λ works. subst (λ (calls : List DeviceCall). Makes disk.does calls false (durable_disk old) (durable_disk new)) (sym (calls_both xs ys (durable_state old) (durable_copies old)))
         (calls_cut disk.does (device_calls xs (durable_state old) (durable_copies old)) (device_calls ys (after_puts xs (durable_state old)) (copies_after xs (durable_state old) (durable_copies old))) (durable_disk old) (durable_disk new) (first.made works));
-    copies = tt;
-  })
+    copies = λ done. absurd (cc done);
+    allowed = λ done. absurd (cc done);
+    tried = λ failed. let t = first.tried refl in record { tried = t.tried; others = t.others ++ ys; are = ap (λ (l : List Put). l ++ ys) t.are ∙ sym (joined_lists t.tried t.others ys); allowed = t.allowed; made = t.made };
+  }
+
+  pub cut_by : {T : Type 0} (next : Option Entry) (xs ys : List Put) (old new : Durable D disk) (result : Result T Fault) (fault : Fault) → result ≡ Err fault
+      → MakesPutsAfter next xs old new false → MakesPutsAfter next (xs ++ ys) old new (is_ok result)
+  cut_by {T} next xs ys old new result fault is first = subst (λ (r : Result T Fault). MakesPutsAfter next (xs ++ ys) old new (is_ok r)) (sym is) (cut_short next xs ys old new first)
 
   -- the first puts were done, and then the others were made
-  module _ {T U : Type 0} (xs ys : List Put) (old mid new : Durable D disk) (value : T) (result : Result U Fault) (first : MakesPuts {T = T} xs old mid (Ok value)) (keeps : KeepsFault {T = T} old mid (Ok value)) where
+  module _ (next then : Option Entry) (xs ys : List Put) (old mid new : Durable D disk) (ok : Bool) (first : MakesPutsAfter next xs old mid true) (keeps : durable_fault old ≡ None → KeepsFault old mid None) where
     abbrev between : Stored
     between = after_puts xs (durable_state old)
 
     abbrev copied : ℕ → ℕ
     copied = copies_after xs (durable_state old) (durable_copies old)
 
-    pub puts_after : MakesPuts ys mid new result → MakesPuts (xs ++ ys) old new result
-    puts_after rest = record {
-      state = subst (λ s. OnOk result (durable_state new ≡ s)) (sym (after_both xs ys (durable_state old))) (subst (λ s. OnOk result (durable_state new ≡ after_puts ys s)) first.state rest.state);
-      durable = λ works. subst (λ b. OnOk result (b ≡ true → AlwaysStandsForState (disk.contents (durable_disk new)) (durable_state new))) keeps.tells (rest.durable keeps.works);
-      cut = λ works. map_err result (λ at. one_of_second (IsCutAt new) xs ys (durable_state old) (subst (λ s. AtOne (IsCutAt new) ys s) first.state at)) (rest.cut keeps.works);
-      stop = λ works told image left. some_of_second (StandsForState image) xs ys (durable_state old) (subst (λ s. AfterSome (StandsForState image) ys s) first.state (rest.stop keeps.works (keeps.tells ∙ told) image left));
-      made = λ works. subst (λ (calls : List DeviceCall). Makes disk.does calls (is_ok result) (durable_disk old) (durable_disk new)) (sym (calls_both xs ys (durable_state old) (durable_copies old)))
-          (calls_joined disk.does (device_calls xs (durable_state old) (durable_copies old)) (device_calls ys between copied) (is_ok result) (durable_disk old) (durable_disk mid) (durable_disk new) (first.made works)
-          (subst (λ s. Makes disk.does (device_calls ys s copied) (is_ok result) (durable_disk mid) (durable_disk new)) first.state
-          (subst (λ c. Makes disk.does (device_calls ys (durable_state mid) c) (is_ok result) (durable_disk mid) (durable_disk new)) first.copies (rest.made keeps.works))));
-      copies = subst (λ c. OnOk result (durable_copies new ≡ c)) (sym (copies_both xs ys (durable_state old) (durable_copies old)))
-          (subst (λ s. OnOk result (durable_copies new ≡ copies_after ys s copied)) first.state
-          (subst (λ c. OnOk result (durable_copies new ≡ copies_after ys (durable_state mid) c)) first.copies rest.copies));
-    }
+    -- the device calls of both
+    calls_made : (zs : List Put) (ok : Bool) → durable_fault old ≡ None → Makes disk.does (device_calls zs (durable_state mid) (durable_copies mid)) ok (durable_disk mid) (durable_disk new)
+        → Makes disk.does (device_calls (xs ++ zs) (durable_state old) (durable_copies old)) ok (durable_disk old) (durable_disk new)
+    calls_made zs ok works made = subst (λ (calls : List DeviceCall). Makes disk.does calls ok (durable_disk old) (durable_disk new)) (sym (calls_both xs zs (durable_state old) (durable_copies old)))
+        (calls_joined disk.does (device_calls xs (durable_state old) (durable_copies old)) (device_calls zs between copied) ok (durable_disk old) (durable_disk mid) (durable_disk new) (first.made works)
+        (subst (λ s. Makes disk.does (device_calls zs s copied) ok (durable_disk mid) (durable_disk new)) (first.state refl)
+        (subst (λ c. Makes disk.does (device_calls zs (durable_state mid) c) ok (durable_disk mid) (durable_disk new)) (first.copies refl) made)))
 
-    pub fault_after : KeepsFault mid new result → KeepsFault old new result
-    fault_after rest = let done : Result T Fault = Ok value in record {
-      closed = closed_still (durable_fault old)
-          (λ f. (done ≡ Err f) × (durable_disk mid ≡ durable_disk old) × (durable_state mid ≡ durable_state old))
-          (λ f. (result ≡ Err f) × (durable_disk new ≡ durable_disk old) × (durable_state new ≡ durable_state old))
-          (λ f closed. cc (closed.0)) keeps.closed;
-      kept = rest.kept;
-      cause = λ works. cause_still _ _ _ result keeps.later (rest.cause keeps.works);
-      works = rest.works;
-      tells = rest.tells ∙ keeps.tells;
-      later = omega (arith, keeps.later, rest.later);
-    }
+    -- the second puts are allowed after the first
+    module _ (still : (zs : List Put) (s : Stored) → AreAllowed zs s then → AreAllowed zs s (nexts_after xs next)) where
+      both_allowed : (zs : List Put) → AreAllowed zs (durable_state mid) then → AreAllowed (xs ++ zs) (durable_state old) next
+      both_allowed zs allowed = allowed_then xs zs (durable_state old) next (first.allowed refl) (subst (λ s. AreAllowed zs s (nexts_after xs next)) (first.state refl) (still zs (durable_state mid) allowed))
+
+      pub puts_after : MakesPutsAfter then ys mid new ok → MakesPutsAfter next (xs ++ ys) old new ok
+      puts_after rest = record {
+        state = λ done. rest.state done ∙ (ap (after_puts ys) (first.state refl) ∙ sym (after_both xs ys (durable_state old)));
+        durable = λ works done told. rest.durable (keeps works).kept done ((keeps works).tells ∙ told);
+        cut = λ works failed. one_of_second (IsCutAt new) xs ys (durable_state old) (subst (λ s. AtOne (IsCutAt new) ys s) (first.state refl) (rest.cut (keeps works).kept failed));
+        stop = λ works told image left. some_of_second (StandsForState image) xs ys (durable_state old)
+            (subst (λ s. AfterSome (StandsForState image) ys s) (first.state refl) (rest.stop (keeps works).kept ((keeps works).tells ∙ told) image left));
+        made = λ works. calls_made ys ok works (rest.made (keeps works).kept);
+        copies = λ done. rest.copies done
+            ∙ (ap (λ s. copies_after ys s (durable_copies mid)) (first.state refl) ∙ (ap (copies_after ys between) (first.copies refl) ∙ sym (copies_both xs ys (durable_state old) (durable_copies old))));
+        allowed = λ done. both_allowed ys (rest.allowed done);
+        tried = λ failed. let t = rest.tried failed in record {
+          tried = xs ++ t.tried;
+          others = t.others;
+          are = ap (λ (l : List Put). xs ++ l) t.are ∙ joined_lists xs t.tried t.others;
+          allowed = both_allowed t.tried t.allowed;
+          made = λ works. calls_made t.tried false works (t.made (keeps works).kept);
+        };
+      }
+
+  pub fault_after : (old mid new : Durable D disk) (failed : Option Fault) → KeepsFault old mid None → (durable_fault mid ≡ None → KeepsFault mid new failed) → KeepsFault old new failed
+  fault_after old mid new failed keeps then =
+      let rest = then keeps.kept in record {
+        closed = open_yet (durable_fault old) _ (was_open (durable_fault old) (durable_disk mid ≡ durable_disk old) (durable_state mid ≡ durable_state old) keeps.closed);
+        kept = rest.kept;
+        cause = λ works. cause_still _ _ _ failed keeps.later (rest.cause keeps.kept);
+        tells = rest.tells ∙ keeps.tells;
+        later = omega (arith, keeps.later, rest.later);
+      }
 
   -- no put at all
-  module _ {T : Type 0} (durable : Durable D disk) (value : T) (works : durable_fault durable ≡ None) where
-    pub without_puts : (disk.tells (durable_disk durable) ≡ true → AlwaysStandsForState (disk.contents (durable_disk durable)) (durable_state durable)) → MakesPuts [] durable durable (Ok value)
-    without_puts always = record {
-      state = refl;
-      durable = λ w. always;
-      cut = λ w. tt;
-      stop = λ w told image left. always told image left;
-      made = λ w. (refl, refl);
-      copies = refl;
-    }
+  pub without_puts : (durable : Durable D disk)
+      → (durable_fault durable ≡ None → disk.tells (durable_disk durable) ≡ true → AlwaysStandsForState (disk.contents (durable_disk durable)) (durable_state durable)) → MakesPuts [] durable durable true
+  without_puts durable always = record {
+    state = λ done. refl;
+    durable = λ works done. always works;
+    cut = λ works failed. absurd (cc failed);
+    stop = always;
+    made = λ works. (refl, refl);
+    copies = λ done. refl;
+    allowed = λ done. tt;
+    tried = λ failed. absurd (cc failed);
+  }
 
-    pub unchanged : KeepsFault durable durable (Ok value)
-    unchanged = record {
-      closed = let done : Result T Fault = Ok value in
-          open_yet (durable_fault durable) (λ f. (done ≡ Err f) × (durable_disk durable ≡ durable_disk durable) × (durable_state durable ≡ durable_state durable)) works;
-      kept = tt;
-      cause = λ w. tt;
-      works = works;
-      tells = refl;
-      later = omega arith;
-    }
+  pub unchanged : (durable : Durable D disk) → durable_fault durable ≡ None → KeepsFault durable durable None
+  unchanged durable works = record {
+    closed = open_yet (durable_fault durable) _ works;
+    kept = works;
+    cause = λ w. tt;
+    tells = refl;
+    later = omega arith;
+  }

@@ -11,12 +11,12 @@ use Rattle.disk_model.specs.Memory.{DoesInMemory, memory_contents, nothing_set}
 use Rattle.kv_store.specs.Image.{chosen_copy, key_count, put_calls, put_in, turned, value_in, value_limit}
 use Rattle.kv_store.specs.Shelf.{IsOn as IsOnKeys, IsReady as IsReadyKeys, Loose, Shelf, Shows, after_three, after_two, is_put, keeps, opened_on, put_on, restarted_on, turned_to}
 use Rattle.outside.specs.declared.pattern.Pattern.{Pattern}
-use Rattle.raft_log.specs.Allowed.{AreAllowed, next_after}
+use Rattle.raft_log.specs.Allowed.{AreAllowed, IsNext, next_after}
 use Rattle.raft_log.specs.DeviceCalls.{bytes_of, copies_after, device_calls, key_of}
 use Rattle.raft_log.specs.Rules.{StandsForState, Stores}
 use Rattle.raft_log.specs.Shelf.{IsOn, IsReady, SameLoose, are_put, put_state_on, puts_on}
 use Rattle.raft_log.specs.Stored.{Put, Stored, after_put, after_puts}
-use Rattle.raft_log.proofs.AllowedPuts.{NextAt, NextFits, key_exists, next_fits, step, value_short}
+use Rattle.raft_log.proofs.AllowedPuts.{key_exists, step, value_short}
 use Rattle.raft_log.proofs.InTurn.{calls_parted}
 use Rattle.raft_log.proofs.States.{image_stands}
 
@@ -240,17 +240,16 @@ module _ (keys_put : (old new : MemoryDisk) (shelf : Shelf Map) (key : ℕ) (val
           )
 
   pub puts_made : (puts : List Put) (old new : MemoryDisk) (m : Map) (s : Stored) (next : Option Entry) (copies : ℕ → ℕ) (calls : Calls) (ok : Bool)
-      → IsReadyKeys old (record { store = m; copies = copies; loose = None; calls = calls }) → Stores m s → NextAt m s next → NextFits next → AreAllowed puts s next
+      → IsReadyKeys old (record { store = m; copies = copies; loose = None; calls = calls }) → Stores m s → IsNext m s next → AreAllowed puts s next
       → Makes DoesInMemory (device_calls puts s copies) ok old new → Made puts new s copies calls ok
-  puts_made [] old new m s next copies calls ok ready has at fits allowed made =
+  puts_made [] old new m s next copies calls ok ready has at allowed made =
       let same : Fit (record { store = m; copies = copies; loose = None; calls = calls }) (record { store = s; copies = copies; loose = None; calls = calls }) = record { store = has; loose = tt; copies = refl; calls = refl } in
       let here = subst (λ disk. IsReady disk (record { store = s; copies = copies; loose = None; calls = calls })) (sym made.1) (ready_by_keys old (record { store = m; copies = copies; loose = None; calls = calls }) (record { store = s; copies = copies; loose = None; calls = calls }) same ready) in
       (here.on, made.0, λ good. here)
-  puts_made (put ∷ puts) old new m s next copies calls ok ready has at fits allowed made =
-      let stepped = step m s next put has at fits allowed.0 in
+  puts_made (put ∷ puts) old new m s next copies calls ok ready has at allowed made =
+      let stepped = step m s next put has at allowed.0 in
       by_part put puts old new m s next copies calls ok ready has stepped.0 (key_exists s next put allowed.0) (value_short s next put allowed.0)
-      (λ between then_ready rest. puts_made puts between new (put_in m (key_of put s) (bytes_of put)) (after_put put s) (next_after put next) (turned (key_of put s) copies) (after_call (after_three calls)) ok then_ready stepped.0 stepped.1
-      (next_fits s next put fits allowed.0) allowed.1 rest)
+      (λ between then_ready rest. puts_made puts between new (put_in m (key_of put s) (bytes_of put)) (after_put put s) (next_after put next) (turned (key_of put s) copies) (after_call (after_three calls)) ok then_ready stepped.0 stepped.1 allowed.1 rest)
       (calls_parted DoesInMemory (put_calls (key_of put s) (1 - copies (key_of put s)) (bytes_of put)) (device_calls puts (after_put put s) (turned (key_of put s) copies)) ok old new made)
 
   pub puts_on_shelf : (old new : MemoryDisk) (shelf : Shelf Stored) (copies : ℕ → ℕ) (puts : List Put) (ok : Bool) → IsReady old shelf → ((key : ℕ) → key < 132 → copies key ≡ shelf.copies key) → AreAllowed puts shelf.store None
@@ -264,5 +263,5 @@ module _ (keys_put : (old new : MemoryDisk) (shelf : Shelf Map) (key : ℕ) (val
       } in
       subst (λ (loose : Option (Loose Stored)). IsOn new (puts_on puts (record { store = shelf.store; copies = shelf.copies; loose = loose; calls = shelf.calls })) × (ok ≡ are_put puts shelf.calls)
       × (ok ≡ true → IsReady new (puts_on puts (record { store = shelf.store; copies = shelf.copies; loose = loose; calls = shelf.calls })))) (sym ready.firm)
-      (puts_made puts old new ready.on.map shelf.store None shelf.copies shelf.calls ok keys ready.on.stores tt tt allowed
+      (puts_made puts old new ready.on.map shelf.store None shelf.copies shelf.calls ok keys ready.on.stores tt allowed
       (subst (λ (calls : List DeviceCall). Makes DoesInMemory calls ok old new) (same_calls puts shelf.store None copies shelf.copies agree allowed) made))

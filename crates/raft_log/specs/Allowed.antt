@@ -1,5 +1,5 @@
 -- Puts after which the state is stored as it was put.
-use Rattle.std.specs.Prelude.{◌≡◌, ◌⊎◌, ⊤, ℕ, ◌<◌, ◌≤◌, ◌^◌, List, [], ◌∷◌, ◌++◌, Option, None, Some, length, take}
+use Rattle.std.specs.Prelude.{◌≡◌, ◌⊎◌, ⊤, ℕ, ◌+◌, ◌<◌, ◌≤◌, ◌^◌, List, [], ◌∷◌, ◌++◌, Option, None, Some, IfSome, length, take}
 use Rattle.can_frame.specs.declared.entry.Entry.{Entry}
 use Rattle.can_frame.specs.Log.{log_limit}
 use Rattle.raft_log.specs.DeviceCalls.{entry_bytes}
@@ -43,6 +43,15 @@ next_after (PutVote node) next = next
 next_after (PutEntry entry) next = Some entry
 next_after (PutLast log) next = None
 next_after (PutCommit index) next = next
+
+-- after all of these puts
+abbrev pub nexts_after : List Put → Option Entry → Option Entry
+nexts_after [] next = next
+nexts_after (put ∷ puts) next = nexts_after puts (next_after put next)
+
+-- the map has the entry after the last, which is read again from its bytes
+abbrev pub IsNext : (ℕ → List ℕ) → Stored → Option Entry → Type 0
+IsNext map state next = IfSome next (λ entry. (map (5 + length state.log) ≡ entry_bytes entry) × Fits entry)
 
 abbrev pub AreAllowed : List Put → Stored → Option Entry → Type 0
 AreAllowed [] state next = ⊤

@@ -1,5 +1,6 @@
 pub mod Allowed
 pub mod Calls
+pub mod Changes
 pub mod DeviceCalls
 pub mod DurableViews
 pub mod MayFollow

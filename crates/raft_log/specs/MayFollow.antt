@@ -1,5 +1,5 @@
 -- The logs that are stored.
-use Rattle.std.specs.Prelude.{ℕ, ◌<◌, ◌≤◌, List, length, take, slice_index_or}
+use Rattle.std.specs.Prelude.{ℕ, ◌<◌, ◌≤◌, ◌^◌, List, length, take, slice_index_or}
 use Rattle.can_frame.specs.declared.entry.Entry.{Entry}
 use Rattle.can_frame.specs.Log.{IsDistinctFromAll, IsInjective, IsWellFormed, blank, last_term, log_limit}
 use Rattle.raft_log.specs.Stored.{Stored}
@@ -19,3 +19,8 @@ pub record IsStorable (state : Stored) : Type 0 where
   pub commit : state.commit ≤ length state.log
   pub follows : (i : ℕ) → i < length state.log → MayFollow (take i state.log) state.term (slice_index_or state.log i (blank 0))
   pub injective : IsInjective state.log
+
+-- and its term has 32 bits
+pub record IsKept (state : Stored) : Type 0 where
+  pub storable : IsStorable state
+  pub term : state.term < 2 ^ 32

@@ -1,23 +1,22 @@
-ghost use Rattle.std.specs.Prelude.{◌≡◌, ◌≤◌, ◌<◌, ◌+◌, ◌++◌, ◌∷◌, [], ℕ, true, None, Err, OnOk, IfOk, IfErr, length, take};
+ghost use Rattle.std.specs.Prelude.{◌≡◌, ◌≤◌, ◌<◌, ◌+◌, ◌++◌, ◌∷◌, [], ℕ, true, None, is_ok, OnOk, IfOk, IfErr, length, take};
+ghost use Rattle.std.specs.Result.{result_err};
 ghost use Rattle.can_frame.specs.Log.{entry_at, log_limit};
 ghost use Rattle.disk_model.specs.Contents.{AddsNoImage};
 ghost use Rattle.disk_model.specs.Device.{Makes};
 ghost use Rattle.kv_store.specs.Image.{chosen_copy, key_count, open_calls};
 ghost use Rattle.kv_store.specs.StoreViews.{store_map};
 ghost use Rattle.outside.specs.Faults.{Rose};
-ghost use Rattle.raft_log.specs.Allowed.{AreAllowed, Fits};
-ghost use Rattle.raft_log.specs.DeviceCalls.{entry_bytes};
+ghost use Rattle.raft_log.specs.Allowed.{AreAllowed, IsNext, next_after};
 ghost use Rattle.raft_log.specs.MayFollow.{IsStorable, MayFollow};
 ghost use Rattle.raft_log.specs.Rules.{AlwaysStandsForState, IsDamagedAt, StandsForState, Stores};
 ghost use Rattle.raft_log.specs.StateViews.{stored_of};
 ghost use Rattle.raft_log.specs.Stored.Put.{PutTerm, PutVote, PutEntry, PutLast, PutCommit};
 
-use crate::keys::{COMMIT, FIRST_ENTRY, LAST, TERM, VOTE};
+use crate::change::Change;
 use crate::state::State;
-use crate::values::{write_entry, write_term};
 use can_frame::Entry;
 use disk_model::{Disk, MemoryDisk};
-use kv_store::{Fault, OpenFault, OpenRefused, Store, value_of};
+use kv_store::{Fault, OpenFault, OpenRefused, Store};
 
 /// The stored state of a member, on a disk.
 #[derive(Drop)]
@@ -33,7 +32,8 @@ impl<D: Disk> Durable<D> {
     ghost use Rattle.kv_store.specs.declared.fault.Fault.{Fault};
     ghost use Rattle.kv_store.specs.declared.fault.OpenFault.TheVariants.{Fault as DiskFault, Damaged};
     ghost use Rattle.raft_log.specs.DurableViews.{durable_state, durable_disk, durable_fault, durable_copies};
-    ghost use Rattle.raft_log.specs.Calls.{MakesPuts, KeepsFault};
+    ghost use Rattle.raft_log.specs.Calls.{KeepsFault, MakesPuts, MakesPutsAfter};
+    ghost use Rattle.raft_log.specs.Changes.{FitsBytes, MayMake, next_for, put_of};
 
     /// The state that the disk stands for, found by a sync and one read.
     pub fn open(disk: D) -> Result<Durable<D>, OpenRefused<D>>
@@ -126,11 +126,11 @@ impl<D: Disk> Durable<D> {
     pub fn set_term(&mut self, term: u32) -> Result<(), Fault>
         requires { (durable_state self.old).term < term }
         ensures allowed { AreAllowed (PutTerm term ∷ PutVote 0 ∷ []) (durable_state self.old) None }
-        ensures puts { MakesPuts (PutTerm term ∷ PutVote 0 ∷ []) self.old self.new result }
-        ensures fault { KeepsFault self.old self.new result }
+        ensures puts { MakesPuts (PutTerm term ∷ PutVote 0 ∷ []) self.old self.new (is_ok result) }
+        ensures fault { KeepsFault self.old self.new (result_err result) }
     {
-        self.put_term(term)?;
-        self.put_vote(0)
+        self.make(Change::Term(term))?;
+        self.make(Change::Vote(0))
     }
 
     /// Votes, where it has not voted in this term.
@@ -139,10 +139,10 @@ impl<D: Disk> Durable<D> {
         requires least { 1 ≤ node }
         requires most { node ≤ 125 }
         ensures allowed { AreAllowed (PutVote node ∷ []) (durable_state self.old) None }
-        ensures puts { MakesPuts (PutVote node ∷ []) self.old self.new result }
-        ensures fault { KeepsFault self.old self.new result }
+        ensures puts { MakesPuts (PutVote node ∷ []) self.old self.new (is_ok result) }
+        ensures fault { KeepsFault self.old self.new (result_err result) }
     {
-        self.put_vote(node)
+        self.make(Change::Vote(node))
     }
 
     /// Appends an entry that may follow the log. It puts the entry, and then last.
@@ -150,11 +150,11 @@ impl<D: Disk> Durable<D> {
         requires room { length (durable_state self.old).log < log_limit }
         requires follows { MayFollow (durable_state self.old).log (durable_state self.old).term entry }
         ensures allowed { AreAllowed (PutEntry entry ∷ PutLast ((durable_state self.old).log ++ entry ∷ []) ∷ []) (durable_state self.old) None }
-        ensures puts { MakesPuts (PutEntry entry ∷ PutLast ((durable_state self.old).log ++ entry ∷ []) ∷ []) self.old self.new result }
-        ensures fault { KeepsFault self.old self.new result }
+        ensures puts { MakesPuts (PutEntry entry ∷ PutLast ((durable_state self.old).log ++ entry ∷ []) ∷ []) self.old self.new (is_ok result) }
+        ensures fault { KeepsFault self.old self.new (result_err result) }
     {
-        self.put_entry(&entry)?;
-        self.put_last_up(entry)
+        self.make(Change::Next(entry))?;
+        self.make(Change::Longer(entry))
     }
 
     /// Keeps the entries up to a place, the committed ones among them.
@@ -162,12 +162,10 @@ impl<D: Disk> Durable<D> {
         requires kept { (durable_state self.old).commit ≤ place }
         requires shorter { place < length (durable_state self.old).log }
         ensures allowed { AreAllowed (PutLast (take place (durable_state self.old).log) ∷ []) (durable_state self.old) None }
-        ensures puts { MakesPuts (PutLast (take place (durable_state self.old).log) ∷ []) self.old self.new result }
-        ensures fault { KeepsFault self.old self.new result }
+        ensures puts { MakesPuts (PutLast (take place (durable_state self.old).log) ∷ []) self.old self.new (is_ok result) }
+        ensures fault { KeepsFault self.old self.new (result_err result) }
     {
-        self.store.put(LAST, &value_of(&[place]))?;
-        self.state.truncate(place);
-        Ok(())
+        self.make(Change::Shorter(place))
     }
 
     /// Commits the entries up to a place.
@@ -175,12 +173,10 @@ impl<D: Disk> Durable<D> {
         requires later { (durable_state self.old).commit < place }
         requires there { place ≤ length (durable_state self.old).log }
         ensures allowed { AreAllowed (PutCommit place ∷ []) (durable_state self.old) None }
-        ensures puts { MakesPuts (PutCommit place ∷ []) self.old self.new result }
-        ensures fault { KeepsFault self.old self.new result }
+        ensures puts { MakesPuts (PutCommit place ∷ []) self.old self.new (is_ok result) }
+        ensures fault { KeepsFault self.old self.new (result_err result) }
     {
-        self.store.put(COMMIT, &value_of(&[place]))?;
-        self.state.commit = place;
-        Ok(())
+        self.make(Change::Commit(place))
     }
 
     /// The disk as it stands.
@@ -190,53 +186,19 @@ impl<D: Disk> Durable<D> {
         self.store.into_disk()
     }
 
-    fn put_term(&mut self, term: u32) -> Result<(), Fault>
-        requires { (durable_state self.old).term ≤ term }
-        ensures puts { MakesPuts (PutTerm term ∷ []) self.old self.new result }
-        ensures fault { KeepsFault self.old self.new result }
+    /// Makes a change by one put.
+    fn make(&mut self, change: Change) -> Result<(), Fault>
+        requires may { MayMake change (durable_state self.old) }
+        requires next { IsNext (store_map self.old.store) (durable_state self.old) (next_for change) }
+        ensures puts { MakesPutsAfter (next_for change) (put_of change (durable_state self.old) ∷ []) self.old self.new (is_ok result) }
+        ensures fault { KeepsFault self.old self.new (result_err result) }
+        ensures fits { FitsBytes change }
+        ensures next { OnOk result (IsNext (store_map self.new.store) (durable_state self.new)
+            (next_after (put_of change (durable_state self.old)) None)) }
     {
-        self.store.put(TERM, &value_of(&write_term(term)))?;
-        self.state.term = term;
-        Ok(())
-    }
-
-    fn put_vote(&mut self, node: u8) -> Result<(), Fault>
-        requires { node ≤ 125 }
-        ensures puts { MakesPuts (PutVote node ∷ []) self.old self.new result }
-        ensures fault { KeepsFault self.old self.new result }
-    {
-        self.store.put(VOTE, &value_of(&[node]))?;
-        self.state.vote = node;
-        Ok(())
-    }
-
-    /// Puts an entry at the place after the last, where nothing reads it yet.
-    fn put_entry(&mut self, entry: &Entry) -> Result<(), Fault>
-        requires room { length (durable_state self.old).log < log_limit }
-        requires node { entry.now.node < 128 }
-        ensures puts { MakesPuts (PutEntry entry.now ∷ []) self.old self.new result }
-        ensures fault { KeepsFault self.old self.new result }
-        ensures there { OnOk result (store_map self.new.store (5 + length (durable_state self.old).log) ≡ entry_bytes entry.now) }
-        ensures fits { Fits entry.now }
-    {
-        let place = self.state.log.len() as u8;
-        self.store
-            .put(FIRST_ENTRY + place, &value_of(&write_entry(entry)))?;
-        Ok(())
-    }
-
-    /// Takes the entry that was put after the last into the log.
-    fn put_last_up(&mut self, entry: Entry) -> Result<(), Fault>
-        requires room { length (durable_state self.old).log < log_limit }
-        requires follows { MayFollow (durable_state self.old).log (durable_state self.old).term entry }
-        requires there { store_map self.old.store (5 + length (durable_state self.old).log) ≡ entry_bytes entry }
-        requires fits { Fits entry }
-        ensures puts { MakesPuts (PutLast ((durable_state self.old).log ++ entry ∷ []) ∷ []) self.old self.new result }
-        ensures fault { KeepsFault self.old self.new result }
-    {
-        let place = self.state.log.len() as u8;
-        self.store.put(LAST, &value_of(&[place + 1]))?;
-        self.state.append(entry);
+        let value = change.value(&self.state);
+        self.store.put(change.key(&self.state), &value)?;
+        self.state.make(change);
         Ok(())
     }
 }

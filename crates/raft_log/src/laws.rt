@@ -1,6 +1,6 @@
 //! Laws of the definitions, each the contract of a function that does nothing.
 
-ghost use Rattle.std.specs.Prelude.{◌≡◌, ℕ, ◌<◌, ◌++◌, [], Bool, List, true, None, Result, Ok, Err, slice_index};
+ghost use Rattle.std.specs.Prelude.{◌≡◌, ℕ, ◌<◌, ◌++◌, [], Bool, List, true, false, Option, None, slice_index};
 ghost use Rattle.disk_model.specs.declared.calls.Calls.{Calls};
 ghost use Rattle.disk_model.specs.declared.memory.MemoryDisk.{MemoryDisk};
 ghost use Rattle.disk_model.specs.Contents.{IsSettled};
@@ -14,10 +14,10 @@ ghost use Rattle.raft_log.specs.DeviceCalls.{copies_after, device_calls};
 ghost use Rattle.raft_log.specs.Shelf.{IsOn, IsReady, are_put, puts_on};
 ghost use Rattle.kv_store.specs.declared.fault.Fault.{Fault};
 ghost use Rattle.raft_log.specs.Allowed.{AreAllowed};
-ghost use Rattle.raft_log.specs.Calls.{MakesPuts, KeepsFault};
+ghost use Rattle.raft_log.specs.Calls.{KeepsFault, MakesPuts};
 ghost use Rattle.raft_log.specs.declared.durable.Durable.{Durable};
 ghost use Rattle.raft_log.specs.DurableViews.{durable_disk, durable_fault, durable_state};
-ghost use Rattle.raft_log.specs.MayFollow.{IsStorable};
+ghost use Rattle.raft_log.specs.MayFollow.{IsKept, IsStorable};
 ghost use Rattle.raft_log.specs.Rules.{AlwaysStandsForState, IsDamagedAt, StandsForState};
 ghost use Rattle.raft_log.specs.Stored.{Put, Stored, after_puts};
 
@@ -49,19 +49,25 @@ pub fn a_state_is_durable<D: Disk>()
     kv_store::laws::a_store_is_durable::<D>();
 }
 
+/// What a member has stored is storable, and its term has 32 bits.
+pub fn a_durable_state_is_kept<D: Disk>()
+    ensures { (durable : Durable D D.Disk) → IsKept (durable_state durable) }
+{}
+
 /// Puts that were made by two calls, one after the other, are those of both. Where the first call failed
 /// there is no second, and a call without puts changes nothing.
-pub fn puts_in_turn<D: Disk, T, U>()
-    ensures nothing { (durable : Durable D D.Disk) (value : T) → durable_fault durable ≡ None →
-        MakesPuts [] durable durable (Ok value) × KeepsFault durable durable (Ok value) }
-    ensures joined { (xs ys : List Put) (old mid new : Durable D D.Disk) (value : T) (result : Result U Fault) →
-        MakesPuts xs old mid (Ok value) → KeepsFault old mid (Ok value) →
-        MakesPuts ys mid new result → KeepsFault mid new result →
-        MakesPuts (xs ++ ys) old new result × KeepsFault old new result }
+pub fn puts_in_turn<D: Disk>()
+    ensures nothing { (durable : Durable D D.Disk) → MakesPuts [] durable durable true }
+    ensures still { (durable : Durable D D.Disk) → durable_fault durable ≡ None → KeepsFault durable durable None }
+    ensures joined { (xs ys : List Put) (old mid new : Durable D D.Disk) (ok : Bool) →
+        MakesPuts xs old mid true → (durable_fault old ≡ None → KeepsFault old mid None) →
+        MakesPuts ys mid new ok → MakesPuts (xs ++ ys) old new ok }
+    ensures kept { (old mid new : Durable D D.Disk) (failed : Option Fault) →
+        KeepsFault old mid None → (durable_fault mid ≡ None → KeepsFault mid new failed) → KeepsFault old new failed }
+    ensures cut_off { (xs ys : List Put) (old new : Durable D D.Disk) →
+        MakesPuts xs old new false → MakesPuts (xs ++ ys) old new false }
     ensures allowed { (xs ys : List Put) (state : Stored) →
         AreAllowed xs state None → AreAllowed ys (after_puts xs state) None → AreAllowed (xs ++ ys) state None }
-    ensures cut_off { (xs ys : List Put) (old new : Durable D D.Disk) (result : Result T Fault) (fault : Fault) →
-        result ≡ Err fault → MakesPuts xs old new result → MakesPuts (xs ++ ys) old new result }
 {
     a_state_is_durable::<D>();
 }

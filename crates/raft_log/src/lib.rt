@@ -14,6 +14,7 @@
 //! memory; the keys are those of libuavcan's distributed server in a form of our own.
 #![tactic(auto)]
 
+mod change;
 mod durable;
 mod follow;
 mod keys;

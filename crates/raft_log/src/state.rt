@@ -1,10 +1,11 @@
-ghost use Rattle.std.specs.Prelude.{◌≡◌, ◌≤◌, ◌<◌, ◌++◌, ◌∷◌, [], IfOk, IfErr, IfSome, IsNone, length, take};
+ghost use Rattle.std.specs.Prelude.{◌≡◌, ◌≤◌, ◌<◌, ◌^◌, IfOk, IfErr, IfSome, IsNone, length};
 ghost use Rattle.arrayvec.specs.ArrayVec.{array_vec_len};
 ghost use Rattle.can_frame.specs.Log.{log_limit};
 ghost use Rattle.kv_store.specs.StoreViews.{store_map};
 ghost use Rattle.raft_log.specs.MayFollow.{MayFollow};
 ghost use Rattle.raft_log.specs.Rules.{Stores, IsFirstBroken, entry_of};
 
+use crate::change::Change;
 use crate::keys::{COMMIT, FIRST_ENTRY, LAST, TERM, VERSION, VOTE};
 use crate::may_follow;
 use crate::values::{is_version, read_byte, read_entry, read_term};
@@ -23,11 +24,14 @@ pub struct State {
     pub vote: u8,
     pub log: ArrayVec<Entry, 127>,
     pub commit: u8,
+    pub ghost narrow: { term < 2 ^ 32 },
     pub ghost short: { array_vec_len log ≤ log_limit },
 }
 
 impl State {
+    ghost use Rattle.raft_log.specs.Changes.{MayMake, put_of};
     ghost use Rattle.raft_log.specs.StateViews.{stored_of};
+    ghost use Rattle.raft_log.specs.Stored.{after_put};
 
     /// The state that a store has. The error is the first key whose rule does not hold.
     pub fn read<D: Disk>(store: &Store<D>) -> Result<State, u8>
@@ -64,18 +68,20 @@ impl State {
         })
     }
 
-    pub fn append(&mut self, entry: Entry)
-        requires { array_vec_len self.old.log < log_limit }
-        ensures { stored_of self.new ≡ record (stored_of self.old) { log = (stored_of self.old).log ++ entry ∷ [] } }
+    /// The state after a change.
+    pub fn make(&mut self, change: Change)
+        requires { MayMake change (stored_of self.old) }
+        ensures { stored_of self.new ≡ after_put (put_of change (stored_of self.old)) (stored_of self.old) }
     {
-        self.log.push(entry);
-    }
-
-    /// Keeps the entries up to a place.
-    pub fn truncate(&mut self, place: u8)
-        ensures { stored_of self.new ≡ record (stored_of self.old) { log = take place (stored_of self.old).log } }
-    {
-        self.log.truncate(place as usize);
+        match change {
+            Change::Term(term) => self.term = term,
+            Change::Vote(node) => self.vote = node,
+            // Nothing reads it yet.
+            Change::Next(_) => {}
+            Change::Longer(entry) => self.log.push(entry),
+            Change::Shorter(place) => self.log.truncate(place as usize),
+            Change::Commit(place) => self.commit = place,
+        }
     }
 }
 

@@ -1,0 +1,61 @@
+ghost use Rattle.std.specs.Prelude.{◌≡◌, ◌≤◌};
+ghost use Rattle.arrayvec.specs.ArrayVec.{array_vec_len};
+ghost use Rattle.kv_store.specs.Image.{value_limit};
+
+use crate::keys::{COMMIT, FIRST_ENTRY, LAST, TERM, VOTE};
+use crate::state::State;
+use crate::values::{write_entry, write_term};
+use can_frame::Entry;
+use kv_store::{Value, value_of};
+
+/// A change of the stored state that one put makes.
+#[derive(Clone, Copy)]
+pub enum Change {
+    Term(u32),
+    Vote(u8),
+
+    /// The entry after the last, which is not read until last counts it.
+    Next(Entry),
+
+    /// Last counts the entry after it.
+    Longer(Entry),
+
+    /// Last counts the entries up to this place alone.
+    Shorter(u8),
+    Commit(u8),
+}
+
+impl Change {
+    ghost use Rattle.raft_log.specs.Changes.{FitsBytes, MayMake, put_of};
+    ghost use Rattle.raft_log.specs.DeviceCalls.{bytes_of, key_of};
+    ghost use Rattle.raft_log.specs.StateViews.{stored_of};
+
+    /// The key that it puts.
+    pub fn key(&self, state: &State) -> u8
+        requires { MayMake self.now (stored_of state.now) }
+        ensures { result ≡ key_of (put_of self.now (stored_of state.now)) (stored_of state.now) }
+    {
+        match self {
+            Change::Term(_) => TERM,
+            Change::Vote(_) => VOTE,
+            Change::Next(_) => FIRST_ENTRY + state.log.len() as u8,
+            Change::Longer(_) | Change::Shorter(_) => LAST,
+            Change::Commit(_) => COMMIT,
+        }
+    }
+
+    /// The value that it puts there.
+    pub fn value(&self, state: &State) -> Value
+        requires { MayMake self.now (stored_of state.now) }
+        ensures fits { FitsBytes self.now }
+        ensures bytes { result.items ≡ bytes_of (put_of self.now (stored_of state.now)) }
+        ensures short { array_vec_len result ≤ value_limit }
+    {
+        match self {
+            Change::Term(term) => value_of(&write_term(*term)),
+            Change::Next(entry) => value_of(&write_entry(entry)),
+            Change::Longer(_) => value_of(&[state.log.len() as u8 + 1]),
+            Change::Vote(byte) | Change::Shorter(byte) | Change::Commit(byte) => value_of(&[*byte]),
+        }
+    }
+}
