@@ -9,7 +9,7 @@ use Rattle.outside.specs.Faults.{Rose}
 use Rattle.raft_log.specs.declared.durable.Durable.{Durable}
 use Rattle.can_frame.specs.declared.entry.Entry.{Entry}
 use Rattle.raft_log.specs.Allowed.{AreAllowed, nexts_after}
-use Rattle.raft_log.specs.Calls.{FailsAllowed, IsCutAt, KeepsFault, MakesPuts, MakesPutsAfter}
+use Rattle.raft_log.specs.Calls.{IsCutAt, KeepsFault, MakesPuts, MakesPutsAfter}
 use Rattle.raft_log.specs.DeviceCalls.{bytes_of, copies_after, device_calls, key_of}
 use Rattle.raft_log.specs.DurableViews.{durable_copies, durable_disk, durable_fault, durable_state}
 use Rattle.raft_log.specs.Rules.{AlwaysStandsForState, StandsForState}

@@ -3,6 +3,8 @@ pub mod Entries
 pub mod InTurn
 pub mod OnePut
 pub mod Puts
+pub mod Restarting
 pub mod Rules
+pub mod Running
 pub mod States
 pub mod StatesOnShelf

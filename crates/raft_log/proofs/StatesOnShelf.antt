@@ -136,11 +136,11 @@ restarted_fits m s copies (Some b) None calls pattern has same = elim same [ ]
 restarted_fits m s copies (Some b) (Some l) calls pattern has same = kept_fits m b.before s l.before copies l.key calls has same.1 pattern b.key same.0
 
 -- all device calls of a put act
-both_true : (a b : Bool) → (a && b) ≡ true → (a ≡ true) × (b ≡ true)
+pub both_true : (a b : Bool) → (a && b) ≡ true → (a ≡ true) × (b ≡ true)
 both_true true b e = (refl, e)
 both_true false b e = absurd (cc (e))
 
-put_done : {S : Type 0} (key : ℕ) (after : S) (shelf : Shelf S) → is_put shelf.calls ≡ true → put_on key after shelf ≡ turned_to key after shelf None (after_call (after_three shelf.calls))
+pub put_done : {S : Type 0} (key : ℕ) (after : S) (shelf : Shelf S) → is_put shelf.calls ≡ true → put_on key after shelf ≡ turned_to key after shelf None (after_call (after_three shelf.calls))
 put_done {S} key after shelf e =
     let first = both_true (acts shelf.calls) (acts (after_call shelf.calls) && (acts (after_two shelf.calls) && acts (after_three shelf.calls))) e in
     let second = both_true (acts (after_call shelf.calls)) (acts (after_two shelf.calls) && acts (after_three shelf.calls)) first.1 in
@@ -185,6 +185,36 @@ puts_done (put ∷ puts) shelf e =
     chosen_true (is_put shelf.calls) (puts_on puts (put_state_on put shelf)) (put_state_on put shelf) tests.0 ∙ ap (λ x. puts_on puts x) (put_done (key_of put shelf.store) (after_put put shelf.store) shelf tests.0) in
     let rest = puts_done puts next tests.1 in
     (ap (λ (x : Shelf Stored). x.store) is ∙ rest.0, ap (λ (x : Shelf Stored). x.copies) is ∙ rest.1)
+
+-- of puts of which one fails, those behind it are not tried
+abbrev pub NoneBehind : List Put → List Put → Shelf Stored → Type 0
+NoneBehind tried others shelf = are_put tried shelf.calls ≡ false
+    → (puts_on (tried ++ others) shelf ≡ puts_on tried shelf) × (are_put (tried ++ others) shelf.calls ≡ false)
+
+module _ (put : Put) (tried others : List Put) (shelf : Shelf Stored) where
+  abbrev here : Shelf Stored
+  here = put_state_on put shelf
+
+  abbrev done_shelf : Shelf Stored
+  done_shelf = turned_to (key_of put shelf.store) (after_put put shelf.store) shelf None (after_call (after_three shelf.calls))
+
+  none_behind_by : NoneBehind tried others done_shelf → (b : Bool) → is_put shelf.calls ≡ b → NoneBehind (put ∷ tried) others shelf
+  none_behind_by later false is e = (
+    chosen_false (is_put shelf.calls) (puts_on (tried ++ others) here) here is ∙ sym (chosen_false (is_put shelf.calls) (puts_on tried here) here is),
+    and_false (is_put shelf.calls) (are_put (tried ++ others) (after_call (after_three shelf.calls))) is,
+  )
+  none_behind_by later true is e =
+      let done : here ≡ done_shelf = put_done (key_of put shelf.store) (after_put put shelf.store) shelf is in
+      let rest = later (sym (and_true (is_put shelf.calls) (are_put tried (after_call (after_three shelf.calls))) is) ∙ e) in (
+        chosen_true (is_put shelf.calls) (puts_on (tried ++ others) here) here is
+            ∙ (subst (λ x. puts_on (tried ++ others) x ≡ puts_on tried x) (sym done) rest.0 ∙ sym (chosen_true (is_put shelf.calls) (puts_on tried here) here is)),
+        and_true (is_put shelf.calls) (are_put (tried ++ others) (after_call (after_three shelf.calls))) is ∙ rest.1,
+      )
+
+pub none_behind : (tried others : List Put) (shelf : Shelf Stored) → NoneBehind tried others shelf
+none_behind [] others shelf e = absurd (cc e)
+none_behind (put ∷ tried) others shelf e =
+    none_behind_by put tried others shelf (none_behind tried others (turned_to (key_of put shelf.store) (after_put put shelf.store) shelf None (after_call (after_three shelf.calls)))) (is_put shelf.calls) refl e
 
 module _ (keys_put : (old new : MemoryDisk) (shelf : Shelf Map) (key : ℕ) (value : List ℕ) (ok : Bool) → IsReadyKeys old shelf → key < key_count → length value ≤ value_limit
     → Makes DoesInMemory (put_calls key (1 - shelf.copies key) value) ok old new

@@ -1,5 +1,5 @@
 -- The put that each change makes.
-use Rattle.std.specs.Prelude.{⊤, ℕ, ◌<◌, ◌≤◌, ◌^◌, [], ◌∷◌, ◌++◌, Option, None, Some, length, take}
+use Rattle.std.specs.Prelude.{⊤, ◌<◌, ◌≤◌, ◌^◌, [], ◌∷◌, ◌++◌, Option, None, Some, length, take}
 use Rattle.can_frame.specs.declared.entry.Entry.{Entry}
 use Rattle.can_frame.specs.Log.{log_limit}
 use Rattle.raft_log.specs.declared.change.Change.{Change}

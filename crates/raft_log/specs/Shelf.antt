@@ -1,12 +1,17 @@
 -- The disk by keys, with the stored state in place of the map.
-use Rattle.std.specs.Prelude.{◌≡◌, ⊤, ℕ, ◌&&◌, Bool, true, List, [], ◌∷◌, Option, None, Some, if◌then◌else◌}
+use Rattle.std.specs.Prelude.{◌≡◌, ⊤, ℕ, ◌+◌, ◌<◌, ◌&&◌, Bool, true, List, [], ◌∷◌, Option, None, Some, if◌then◌else◌}
 use Rattle.disk_model.specs.declared.calls.Calls.{Calls}
+use Rattle.disk_model.specs.declared.disk.Disk.{Ghosts}
 use Rattle.disk_model.specs.declared.memory.MemoryDisk.{MemoryDisk}
 use Rattle.disk_model.specs.Calls.{after_call}
 use Rattle.disk_model.specs.Contents.{IsSettled}
 use Rattle.disk_model.specs.Memory.{memory_contents}
-use Rattle.kv_store.specs.Shelf.{IsOn as IsOnKeys, Loose, Shelf, after_three, is_put, put_on}
+use Rattle.kv_store.specs.Image.{key_count}
+use Rattle.kv_store.specs.Shelf.{IsOn as IsOnKeys, Loose, Shelf, after_three, is_put, keeps, put_on}
+use Rattle.outside.specs.declared.pattern.Pattern.{Pattern}
+use Rattle.raft_log.specs.declared.durable.Durable.{Durable}
 use Rattle.raft_log.specs.DeviceCalls.{key_of}
+use Rattle.raft_log.specs.DurableViews.{durable_copies, durable_disk, durable_fault, durable_state}
 use Rattle.raft_log.specs.Rules.{Stores}
 use Rattle.raft_log.specs.Stored.{Put, Stored, after_put}
 
@@ -23,6 +28,20 @@ puts_on (put ∷ puts) shelf = if is_put shelf.calls then puts_on puts (put_stat
 abbrev pub are_put : List Put → Calls → Bool
 are_put [] calls = true
 are_put (put ∷ puts) calls = is_put calls && are_put puts (after_call (after_three calls))
+
+-- how many of them are done: those before the first that fails
+abbrev pub done_on : List Put → Calls → ℕ
+done_on [] calls = 0
+done_on (put ∷ puts) calls = if is_put calls then 1 + done_on puts (after_call (after_three calls)) else 0
+
+-- whether a restart with this pattern finds the put done that failed: 1 where its selector was written and
+-- is kept, else 0
+abbrev pub kept_by : Pattern → Option (Loose Stored) → Shelf Stored → ℕ
+kept_by pattern None shelf = 0
+kept_by pattern (Some loose) shelf = if keeps pattern (shelf.copies loose.key) then 1 else 0
+
+abbrev pub found_by : Pattern → Shelf Stored → ℕ
+found_by pattern shelf = kept_by pattern shelf.loose shelf
 
 -- what a lost selector leaves
 abbrev pub SameLoose : Option (Loose (ℕ → List ℕ)) → Option (Loose Stored) → Type 0
@@ -44,3 +63,10 @@ pub record IsReady (disk : MemoryDisk) (shelf : Shelf Stored) : Type 0 where
   pub on : IsOn disk shelf
   pub settled : IsSettled (memory_contents disk)
   pub firm : shelf.loose ≡ None
+
+-- the stored state of a running member is that of the shelf, and its disk the one that the shelf tells of
+pub record IsOnShelf {ghosts : Ghosts MemoryDisk} (durable : Durable MemoryDisk ghosts) (shelf : Shelf Stored) : Type 0 where
+  pub works : durable_fault durable ≡ None
+  pub disk : IsReady (durable_disk durable) shelf
+  pub state : durable_state durable ≡ shelf.store
+  pub copies : (key : ℕ) → key < key_count → durable_copies durable key ≡ shelf.copies key

@@ -1,6 +1,6 @@
 //! Laws of the definitions, each the contract of a function that does nothing.
 
-ghost use Rattle.std.specs.Prelude.{◌≡◌, ℕ, ◌<◌, ◌++◌, [], Bool, List, true, false, Option, None, slice_index};
+ghost use Rattle.std.specs.Prelude.{◌≡◌, ℕ, ◌+◌, ◌<◌, ◌≤◌, ◌++◌, [], Bool, List, true, false, Option, None, length, slice_index, take};
 ghost use Rattle.disk_model.specs.declared.calls.Calls.{Calls};
 ghost use Rattle.disk_model.specs.declared.memory.MemoryDisk.{MemoryDisk};
 ghost use Rattle.disk_model.specs.Contents.{IsSettled};
@@ -11,17 +11,17 @@ ghost use Rattle.kv_store.specs.Image.{chosen_copy, key_count, open_calls};
 ghost use Rattle.kv_store.specs.Shelf.{Shelf, is_opened, opened_on, restarted_on};
 ghost use Rattle.outside.specs.declared.pattern.Pattern.{Pattern};
 ghost use Rattle.raft_log.specs.DeviceCalls.{copies_after, device_calls};
-ghost use Rattle.raft_log.specs.Shelf.{IsOn, IsReady, are_put, puts_on};
+ghost use Rattle.raft_log.specs.Shelf.{IsOn, IsOnShelf, IsReady, are_put, done_on, found_by, puts_on};
 ghost use Rattle.kv_store.specs.declared.fault.Fault.{Fault};
 ghost use Rattle.raft_log.specs.Allowed.{AreAllowed};
 ghost use Rattle.raft_log.specs.Calls.{KeepsFault, MakesPuts};
 ghost use Rattle.raft_log.specs.declared.durable.Durable.{Durable};
-ghost use Rattle.raft_log.specs.DurableViews.{durable_disk, durable_fault, durable_state};
+ghost use Rattle.raft_log.specs.DurableViews.{durable_copies, durable_disk, durable_fault, durable_state};
 ghost use Rattle.raft_log.specs.MayFollow.{IsKept, IsStorable};
 ghost use Rattle.raft_log.specs.Rules.{AlwaysStandsForState, IsDamagedAt, StandsForState};
 ghost use Rattle.raft_log.specs.Stored.{Put, Stored, after_puts};
 
-use disk_model::Disk;
+use disk_model::{Disk, MemoryDisk};
 
 /// An image stands for one state, or has one first damaged key.
 pub fn an_image_stands_for_one_state()
@@ -74,7 +74,8 @@ pub fn puts_in_turn<D: Disk>()
 
 /// The disk by keys with stored states: where a disk in memory is the one that a shelf tells of, it still
 /// is after puts, an opening, a restart and a change of its settings, and these device calls succeed
-/// exactly where the shelf says. An opening finds the state of the shelf.
+/// exactly where the shelf says. An opening finds the state of the shelf. A restart after puts finds those
+/// done that were, and the one that failed where its selector was written and is kept.
 pub fn the_disk_by_states()
     ensures found { (disk : MemoryDisk) (shelf : Shelf Stored) → IsOn disk shelf →
         StandsForState (memory_contents disk).seen shelf.store ×
@@ -86,6 +87,11 @@ pub fn the_disk_by_states()
     ensures done { (shelf : Shelf Stored) (puts : List Put) → are_put puts shelf.calls ≡ true →
         ((puts_on puts shelf).store ≡ after_puts puts shelf.store) ×
         ((puts_on puts shelf).copies ≡ copies_after puts shelf.store shelf.copies) }
+    ensures counted { (puts : List Put) (calls : Calls) → done_on puts calls ≤ length puts ×
+        (are_put puts calls ≡ true → done_on puts calls ≡ length puts) × (are_put puts calls ≡ false → done_on puts calls < length puts) }
+    ensures found_again { (puts : List Put) (shelf : Shelf Stored) (pattern : Pattern) → shelf.loose ≡ None →
+        let after = puts_on puts shelf in let count = done_on puts shelf.calls + found_by pattern after in
+        (restarted_on pattern after).store ≡ after_puts (take count puts) shelf.store }
     ensures opened { (old new : MemoryDisk) (shelf : Shelf Stored) (ok : Bool) → IsOn old shelf →
         Makes DoesInMemory open_calls ok old new →
         IsOn new (opened_on shelf) × (ok ≡ is_opened shelf.calls) × (ok ≡ true → IsReady new (opened_on shelf)) }
@@ -98,4 +104,19 @@ pub fn the_disk_by_states()
         IsReady disk (record { store = state; copies = λ key. chosen_copy (memory_contents disk).seen key; loose = None; calls = memory_calls disk }) }
 {
     kv_store::laws::the_disk_by_keys();
+}
+
+/// A running member whose disk in memory a shelf tells of: its calls do to the shelf what their puts do, and
+/// after success its state and its copies are those of the shelf again.
+pub fn a_member_on_the_disk_by_states()
+    ensures puts { (puts : List Put) (old new : Durable MemoryDisk ⟦<MemoryDisk as Disk>⟧) (shelf : Shelf Stored) (ok : Bool) →
+        IsOnShelf old shelf → MakesPuts puts old new ok → (ok ≡ true → durable_fault new ≡ None) →
+        let after = puts_on puts shelf in
+        IsOn (durable_disk new) after × (ok ≡ are_put puts shelf.calls) × (ok ≡ true → IsOnShelf new after) }
+    ensures set { (old new : Durable MemoryDisk ⟦<MemoryDisk as Disk>⟧) (shelf : Shelf Stored) (calls : Calls) → IsOnShelf old shelf →
+        durable_state new ≡ durable_state old → durable_copies new ≡ durable_copies old → durable_fault new ≡ durable_fault old →
+        memory_contents (durable_disk new) ≡ memory_contents (durable_disk old) → memory_calls (durable_disk new) ≡ calls →
+        IsOnShelf new (record shelf { calls = calls }) }
+{
+    the_disk_by_states();
 }

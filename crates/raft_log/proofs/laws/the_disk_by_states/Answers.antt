@@ -2,6 +2,7 @@ use Rattle.std.proofs.Common.{refl}
 use Rattle.disk_model.specs.Memory.{memory_contents}
 use Rattle.kv_store.specs.Image.{chosen_copy, value_in}
 use Rattle.kv_store.specs.Shelf.{opened_on, restarted_on}
+use Rattle.raft_log.proofs.Restarting.{all_done, done_most, restart_finds, some_left}
 use Rattle.raft_log.proofs.StatesOnShelf.{bits_of, by_keys, found, maps_of, opened_fits, puts_done, puts_on_shelf, ready_by_keys, restarted_fits, set_fits, shows_itself}
 use Rattle.raft_log.proofs.laws.the_disk_by_states.Goals as goal
 
@@ -38,3 +39,9 @@ returns-clause-begun c = λ disk state stands settled.
     let image = (memory_contents disk).seen in
     ready_by_keys disk _ _ (record { store = stands.stores; loose = tt; copies = refl; calls = refl })
     (c.the_disk_by_keys.ensures.begun disk (value_in image) (λ key. chosen_copy image key) (shows_itself image state stands) (bits_of image) settled)
+
+pub returns-clause-counted : goal.returns-clause-counted
+returns-clause-counted c = λ puts calls. (done_most puts calls, all_done puts calls, some_left puts calls)
+
+pub returns-clause-found_again : goal.returns-clause-found_again
+returns-clause-found_again c = restart_finds

@@ -1,4 +1,4 @@
-use Rattle.std.proofs.Common.{rules, ◌≡◌, refl, sym, subst, ◌∙◌}
+use Rattle.std.proofs.Common.{rules, refl, sym, subst}
 use Rattle.kv_store.specs.StoreViews.{store_map}
 use Rattle.raft_log.specs.Changes.{next_for, put_of}
 use Rattle.raft_log.specs.Rules.{Stores}

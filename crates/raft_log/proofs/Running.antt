@@ -1,0 +1,87 @@
+-- A running member on a disk in memory that a shelf tells of.
+use Rattle.std.proofs.Common.{◌≡◌, ℕ, ◌-◌, ◌<◌, Bool, true, false, List, [], ◌∷◌, ◌++◌, refl, sym, ap, subst, ◌∙◌}
+use Rattle.std.specs.Prelude.{None, ◌==◌, if◌then◌else◌}
+use Rattle.disk_model.specs.declared.calls.Calls.{Calls}
+use Rattle.disk_model.specs.declared.disk.Disk.{Ghosts}
+use Rattle.disk_model.specs.declared.memory.MemoryDisk.{MemoryDisk}
+use Rattle.disk_model.specs.Contents.{Contents, IsSettled}
+use Rattle.disk_model.specs.Device.{DeviceCall, Makes}
+use Rattle.disk_model.specs.Memory.{DoesInMemory, memory_calls, memory_contents}
+use Rattle.kv_store.specs.Image.{key_count, turned}
+use Rattle.kv_store.specs.Shelf.{Shelf}
+use Rattle.raft_log.specs.Allowed.{AreAllowed}
+use Rattle.raft_log.specs.Calls.{MakesPuts}
+use Rattle.raft_log.specs.declared.durable.Durable.{Durable}
+use Rattle.raft_log.specs.DeviceCalls.{copies_after, device_calls, key_of}
+use Rattle.raft_log.specs.DurableViews.{durable_copies, durable_disk, durable_fault, durable_state}
+use Rattle.raft_log.specs.Shelf.{IsOn, IsOnShelf, IsReady, are_put, puts_on}
+use Rattle.raft_log.specs.Stored.{Put, Stored, after_put, after_puts}
+use Rattle.raft_log.proofs.StatesOnShelf.{none_behind, puts_done}
+
+-- copies that agree at a key still do after puts
+agree : (puts : List Put) (s : Stored) (c d : ℕ → ℕ) (k : ℕ) → c k ≡ d k → copies_after puts s c k ≡ copies_after puts s d k
+agree [] s c d k e = e
+agree (put ∷ puts) s c d k e = agree puts (after_put put s) (turned (key_of put s) c) (turned (key_of put s) d) k (ap (λ n. if k == key_of put s then 1 - n else n) e)
+
+abbrev pub LawOfPuts : Type 0
+LawOfPuts = (old new : MemoryDisk) (shelf : Shelf Stored) (copies : ℕ → ℕ) (puts : List Put) (ok : Bool) →
+    IsReady old shelf → ((key : ℕ) → key < key_count → copies key ≡ shelf.copies key) → AreAllowed puts shelf.store None →
+    Makes DoesInMemory (device_calls puts shelf.store copies) ok old new →
+    IsOn new (puts_on puts shelf) × (ok ≡ are_put puts shelf.calls) × (ok ≡ true → IsReady new (puts_on puts shelf))
+
+module _ {ghosts : Ghosts MemoryDisk} (old new : Durable MemoryDisk ghosts) (shelf : Shelf Stored) (on : IsOnShelf old shelf) (law : LawOfPuts) where
+  -- puts that were all tried
+  tried_on : (puts : List Put) (ok : Bool) → AreAllowed puts (durable_state old) None → Makes DoesInMemory (device_calls puts (durable_state old) (durable_copies old)) ok (durable_disk old) (durable_disk new)
+      → IsOn (durable_disk new) (puts_on puts shelf) × (ok ≡ are_put puts shelf.calls) × (ok ≡ true → IsReady (durable_disk new) (puts_on puts shelf))
+  tried_on puts ok allowed made = law (durable_disk old) (durable_disk new) shelf (durable_copies old) puts ok on.disk on.copies
+      (subst (λ (s : Stored). AreAllowed puts s None) on.state allowed)
+      (subst (λ (s : Stored). Makes DoesInMemory (device_calls puts s (durable_copies old)) ok (durable_disk old) (durable_disk new)) on.state made)
+
+  abbrev Follows : List Put → Bool → Type 0
+  Follows puts ok = IsOn (durable_disk new) (puts_on puts shelf) × (ok ≡ are_put puts shelf.calls) × (ok ≡ true → IsOnShelf new (puts_on puts shelf))
+
+  module _ (in_memory : ghosts.does ≡ DoesInMemory) where
+    device : (puts : List Put) (ok : Bool) → Makes ghosts.does (device_calls puts (durable_state old) (durable_copies old)) ok (durable_disk old) (durable_disk new)
+        → Makes DoesInMemory (device_calls puts (durable_state old) (durable_copies old)) ok (durable_disk old) (durable_disk new)
+    device puts ok made = subst (λ (does : MemoryDisk → DeviceCall → Bool → MemoryDisk → Type 0). Makes does (device_calls puts (durable_state old) (durable_copies old)) ok (durable_disk old) (durable_disk new)) in_memory made
+
+    pub followed : (puts : List Put) (ok : Bool) → MakesPuts puts old new ok → (ok ≡ true → durable_fault new ≡ None) → Follows puts ok
+    followed puts true made works =
+        let m = tried_on puts true (made.allowed refl) (device puts true (made.made on.works)) in
+        let all = puts_done puts shelf (sym m.1) in (
+          m.0,
+          m.1,
+          λ done. record {
+            works = works refl;
+            disk = m.2 refl;
+            state = made.state refl ∙ (ap (after_puts puts) on.state ∙ sym all.0);
+            copies = λ k h. ap (λ (c : ℕ → ℕ). c k) (made.copies refl)
+                ∙ (ap (λ (s : Stored). copies_after puts s (durable_copies old) k) on.state
+                ∙ (agree puts shelf.store (durable_copies old) shelf.copies k (on.copies k h) ∙ sym (ap (λ (c : ℕ → ℕ). c k) all.1)));
+          },
+        )
+    followed puts false made works =
+        let t = made.tried refl in
+        let m = tried_on t.tried false t.allowed (device t.tried false (t.made on.works)) in
+        let none = none_behind t.tried t.others shelf (sym m.1) in
+        let behind : IsOn (durable_disk new) (puts_on (t.tried ++ t.others) shelf) = subst (λ x. IsOn (durable_disk new) x) (sym none.0) m.0 in (
+          subst (λ (l : List Put). IsOn (durable_disk new) (puts_on l shelf)) (sym t.are) behind,
+          subst (λ (l : List Put). false ≡ are_put l shelf.calls) (sym t.are) (sym none.1),
+          λ done. absurd (cc done),
+        )
+
+-- a change of the settings of its disk
+pub set_on : {ghosts : Ghosts MemoryDisk} (old new : Durable MemoryDisk ghosts) (shelf : Shelf Stored) (calls : Calls)
+    → ((old new : MemoryDisk) (shelf : Shelf Stored) (calls : Calls) → IsOn old shelf → memory_contents new ≡ memory_contents old → memory_calls new ≡ calls → IsOn new (record shelf { calls = calls }))
+    → IsOnShelf old shelf → durable_state new ≡ durable_state old → durable_copies new ≡ durable_copies old → durable_fault new ≡ durable_fault old
+    → memory_contents (durable_disk new) ≡ memory_contents (durable_disk old) → memory_calls (durable_disk new) ≡ calls → IsOnShelf new (record shelf { calls = calls })
+set_on old new shelf calls law on state copies fault contents now = record {
+  works = fault ∙ on.works;
+  disk = record {
+    on = law (durable_disk old) (durable_disk new) shelf calls on.disk.on contents now;
+    settled = subst (λ (c : Contents). IsSettled c) (sym contents) on.disk.settled;
+    firm = on.disk.firm;
+  };
+  state = state ∙ on.state;
+  copies = λ key h. ap (λ (c : ℕ → ℕ). c key) copies ∙ on.copies key h;
+}
