@@ -1,5 +1,5 @@
 -- What a disk holds, and the images that a stop may leave of it.
-use Rattle.std.specs.Prelude.{◌≡◌, ℕ, ◌+◌, ◌<◌, Bool, false, List, length, slice_index}
+use Rattle.std.specs.Prelude.{◌≡◌, ℕ, ◌+◌, ◌<◌, Bool, false, List, [], length, slice_index}
 
 -- the size of a disk in bytes
 abbrev pub image_size : ℕ
@@ -33,3 +33,7 @@ HasBytes image at bytes = (i : ℕ) → i < length bytes → slice_index image (
 pub record AddsNoImage (old new : Contents) : Type 0 where
   pub seen : new.seen ≡ old.seen
   pub images : (image : List ℕ) → MayLeave new image → MayLeave old image
+
+-- what stands for the contents of a disk that tells none
+abbrev pub untold : Contents
+untold = record { seen = []; stable = []; written = λ i. false }

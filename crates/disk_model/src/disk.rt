@@ -23,11 +23,12 @@ pub trait Disk: Drop {
     /// How many calls on it failed.
     ghost faults: { Self → ℕ };
 
-    /// Fills `buf` with the bytes from `at` on.
+    /// Fills `buf` with the bytes from `at` on. What `buf` holds after a read that failed is not said.
     fn read(&mut self, at: usize, buf: &mut [u8]) -> Result<(), Failed>
         requires fits { at + length buf.old ≤ image_size }
         ensures made { does self.old (Read at (length buf.old)) (is_ok result) self.new }
         ensures cause { HasCause (faults self.old) (faults self.new) result }
+        ensures no_fault { OnOk result (faults self.new ≡ faults self.old) }
         ensures tells { tells self.new ≡ tells self.old }
         ensures contents { tells self.old ≡ true → contents self.new ≡ contents self.old }
         ensures bytes { OnOk result (tells self.old ≡ true → HasBytes (contents self.old).seen at buf.new) };
@@ -37,6 +38,7 @@ pub trait Disk: Drop {
         requires fits { at + length bytes.now ≤ image_size }
         ensures made { does self.old (Write at bytes.now) (is_ok result) self.new }
         ensures cause { HasCause (faults self.old) (faults self.new) result }
+        ensures no_fault { OnOk result (faults self.new ≡ faults self.old) }
         ensures tells { tells self.new ≡ tells self.old }
         ensures outside { tells self.old ≡ true →
             ChangesOnly at (length bytes.now) (contents self.old) (contents self.new) }
@@ -46,6 +48,7 @@ pub trait Disk: Drop {
     fn sync(&mut self) -> Result<(), Failed>
         ensures made { does self.old Sync (is_ok result) self.new }
         ensures cause { HasCause (faults self.old) (faults self.new) result }
+        ensures no_fault { OnOk result (faults self.new ≡ faults self.old) }
         ensures tells { tells self.new ≡ tells self.old }
         ensures synced { OnOk result (tells self.old ≡ true → IsSynced (contents self.old) (contents self.new)) }
         ensures kept { OnErr result (tells self.old ≡ true → contents self.new ≡ contents self.old) };
@@ -56,4 +59,7 @@ pub trait Disk: Drop {
 
     /// It has its size, and a stop may leave what reads give.
     ghost sound: { (disk : Self) → tells disk ≡ true → IsSound (contents disk) };
+
+    /// A device call that succeeds counts no fault.
+    ghost counts: { (old new : Self) (call : DeviceCall) → does old call true new → faults new ≡ faults old };
 }

@@ -21,3 +21,8 @@ pub fn device_calls_in_turn<D: Disk>()
     ensures parted { (xs ys : List DeviceCall) (ok : Bool) (old new : D) → Makes D.does (xs ++ ys) ok old new →
         ((ok ≡ false) × Makes D.does xs false old new) ⊎ ((between : D) × Makes D.does xs true old between × Makes D.does ys ok between new) }
 {}
+
+/// Device calls of which none failed left the count of faults as it was.
+pub fn calls_that_succeed_count_no_fault<D: Disk>()
+    ensures { (calls : List DeviceCall) (old new : D) → Makes D.does calls true old new → D.faults new ≡ D.faults old }
+{}

@@ -11,14 +11,17 @@
 //!
 //! [`Disk`] says besides which device calls were made (`Makes` in `specs/Device.antt`), and the disk in
 //! memory, [`MemoryDisk`], exactly what each makes of it (`specs/Memory.antt`). So code that is generic
-//! over disks can be followed call by call on a disk in memory.
+//! over disks can be followed call by call on a disk in memory. [`FileDisk`] is a disk in a file, which
+//! tells nothing.
 #![tactic(auto)]
 
 mod calls;
 mod disk;
+mod file;
 pub mod laws;
 mod memory;
 mod ranges;
 
 pub use disk::{Disk, IMAGE};
+pub use file::FileDisk;
 pub use memory::MemoryDisk;

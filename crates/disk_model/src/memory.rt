@@ -97,6 +97,9 @@ impl MemoryDisk {
 
 impl Disk for MemoryDisk {
     ghost use Rattle.disk_model.specs.Memory.{memory_contents, DoesInMemory};
+    ghost use Rattle.std.specs.Prelude.{if◌then◌else◌};
+    ghost use Rattle.std.proofs.Common.{◌∙◌, ap, sym};
+    ghost use Rattle.outside.specs.Faults.{one_more};
 
     ghost tells = { λ d. true };
 
@@ -105,6 +108,10 @@ impl Disk for MemoryDisk {
     ghost does = { λ old call ok new. DoesInMemory old call ok new };
 
     ghost faults = { λ d. d.calls.faults };
+
+    ghost counts = { λ old new call done.
+        ap (λ calls. calls.faults) done.calls ∙
+        ap (λ ok. if ok then old.calls.faults else one_more old.calls.faults) (sym done.answer) };
 
     ghost sound = { λ d told. record { size = d.stable_size; current = record { size = d.seen_size; kept = d.agrees } } };
 

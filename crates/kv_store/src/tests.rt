@@ -1,4 +1,5 @@
 ghost use Rattle.std.specs.Prelude.{◌<◌, ⊤, [], false};
+ghost use Rattle.std.proofs.Common.{refl};
 ghost use Rattle.std.proofs.lemmas.Bool.{false≢true};
 
 use crate::{Fault, OpenFault, Store, value_of};
@@ -28,6 +29,8 @@ impl Disk for Recorder {
     ghost does = { λ old call ok new. ⊤ };
 
     ghost faults = { λ disk. 0 };
+
+    ghost counts = { λ old new call done. refl };
 
     ghost sound = { λ disk told. absurd (false≢true told) };
 

@@ -1,0 +1,200 @@
+ghost use Rattle.std.specs.Prelude.{◌≡◌, ℕ, true, false, OnOk};
+ghost use Rattle.outside.specs.Faults.{HasCause};
+
+use crate::{Disk, IMAGE};
+use outside::Failed;
+use std::fs;
+use std::fs::{File, OpenOptions};
+use std::io::ErrorKind;
+use std::os::unix::fs::FileExt;
+use std::path::Path;
+use std::rt::Files;
+
+/// A disk in a file of `IMAGE` bytes. It tells no contents.
+///
+/// It holds an advisory lock on the whole file (`flock`) as long as it lives, so a second disk on the
+/// same file is refused, in this process and in any other. A process that asks for no lock is not held
+/// off: what it writes comes between, and nothing here notices.
+#[derive(Drop)]
+pub struct FileDisk {
+    file: File,
+    faults: u64,
+}
+
+impl FileDisk {
+    /// The disk in the file at this path. A missing file is made, of zeros; it and its name are on the
+    /// device before the disk is handed out. A stop of the machine while it is made may leave a shorter
+    /// file, which is refused from then on until it is taken away.
+    ///
+    /// It fails, and changes nothing, where the file has another length, is locked, is a folder or may
+    /// not be read and written, and where a missing one cannot be made: its folder is missing, or the
+    /// device is full.
+    pub fn open<R: Files<File = File>>(rt: &R, path: &str) -> Result<FileDisk, Failed> {
+        match OpenOptions::new().read(true).write(true).open(rt, path) {
+            Ok(file) if is_free(&file) && has_size(&file) => Ok(FileDisk { file, faults: 0 }),
+            Err(error) if error.kind() == ErrorKind::NotFound => FileDisk::make(rt, path),
+            _ => Err(Failed),
+        }
+    }
+
+    /// Makes the file. Where that fails it is taken away again.
+    fn make<R: Files<File = File>>(rt: &R, path: &str) -> Result<FileDisk, Failed> {
+        let Ok(file) = File::create_new(rt, path) else {
+            return Err(Failed);
+        };
+        if is_free(&file) && is_zeroed(&file) && is_named(rt, path) {
+            return Ok(FileDisk { file, faults: 0 });
+        }
+        // Where it cannot be taken away either, it is refused by its length.
+        let _ = fs::remove_file(rt, path);
+        Err(Failed)
+    }
+
+    /// Counts a call that failed.
+    fn answer<E: Drop>(&mut self, done: Result<(), E>) -> Result<(), Failed>
+        ensures cause { HasCause self.old.faults self.new.faults result }
+        ensures no_fault { OnOk result (self.new.faults ≡ self.old.faults) }
+    {
+        match done {
+            Ok(()) => Ok(()),
+            Err(_) => {
+                self.faults = self.faults.saturating_add(1);
+                Err(Failed)
+            }
+        }
+    }
+}
+
+/// Takes the lock on a file, unless somebody else has it.
+fn is_free(file: &File) -> bool {
+    file.try_lock().is_ok()
+}
+
+fn has_size(file: &File) -> bool {
+    match file.metadata() {
+        Ok(metadata) => metadata.len() == IMAGE as u64,
+        Err(_) => false,
+    }
+}
+
+/// Fills an empty file with zeros, and syncs it.
+fn is_zeroed(file: &File) -> bool {
+    file.write_all_at(&[0; IMAGE], 0).is_ok() && file.sync_all().is_ok()
+}
+
+/// Syncs the folder of a file, so that a stop does not lose its name.
+fn is_named<R: Files<File = File>>(rt: &R, path: &str) -> bool {
+    let folder = match Path::new(path).parent() {
+        Some(folder) if !folder.as_str().is_empty() => folder,
+        _ => Path::new("."),
+    };
+    match File::open(rt, folder) {
+        Ok(folder) => folder.sync_all().is_ok(),
+        Err(_) => false,
+    }
+}
+
+impl Disk for FileDisk {
+    ghost use Rattle.disk_model.specs.Contents.{untold};
+    ghost use Rattle.std.proofs.Common.{refl};
+    ghost use Rattle.std.proofs.lemmas.Bool.{false≢true};
+
+    ghost tells = { λ d. false };
+
+    ghost contents = { λ d. untold };
+
+    ghost does = { λ old call ok new. ok ≡ true → new.faults ≡ old.faults };
+
+    ghost faults = { λ d. d.faults };
+
+    ghost counts = { λ old new call done. done refl };
+
+    ghost sound = { λ d told. absurd (false≢true told) };
+
+    fn read(&mut self, at: usize, buf: &mut [u8]) -> Result<(), Failed> {
+        let done = self.file.read_exact_at(buf, at as u64);
+        self.answer(done)
+    }
+
+    fn write(&mut self, at: usize, bytes: &[u8]) -> Result<(), Failed> {
+        let done = self.file.write_all_at(bytes, at as u64);
+        self.answer(done)
+    }
+
+    fn sync(&mut self) -> Result<(), Failed> {
+        let done = self.file.sync_data();
+        self.answer(done)
+    }
+
+    fn faults(&self) -> u64 {
+        self.faults
+    }
+}
+
+#[cfg(test)]
+mod tests {
+    use super::*;
+    use std::test::Fail;
+
+    #[test]
+    fn a_missing_file_is_made_and_keeps_what_was_written(rt: HostRuntime) -> Result<(), Fail> {
+        let path = "made.store";
+        let _ = fs::remove_file(&rt, path);
+        let mut disk = FileDisk::open(&rt, path)?;
+        let mut bytes = [9; 3];
+        disk.read(IMAGE - 3, &mut bytes)?;
+        assert_eq!(rt; bytes, [0, 0, 0]);
+        disk.write(4000, &[1, 2, 3])?;
+        disk.sync()?;
+        assert_eq!(rt; disk.faults(), 0);
+        drop(disk);
+        assert_eq!(rt; fs::metadata(&rt, path)?.len(), IMAGE as u64);
+        let mut disk = FileDisk::open(&rt, path)?;
+        disk.read(3999, &mut bytes)?;
+        assert_eq!(rt; bytes, [0, 1, 2]);
+        fs::remove_file(&rt, path)?;
+        Ok(())
+    }
+
+    #[test]
+    fn a_second_disk_on_a_file_is_refused(rt: HostRuntime) -> Result<(), Fail> {
+        let path = "locked.store";
+        let _ = fs::remove_file(&rt, path);
+        let disk = FileDisk::open(&rt, path)?;
+        assert!(rt; FileDisk::open(&rt, path).is_err());
+        drop(disk);
+        assert!(rt; FileDisk::open(&rt, path).is_ok());
+        fs::remove_file(&rt, path)?;
+        Ok(())
+    }
+
+    #[test]
+    fn another_length_is_refused_and_stays(rt: HostRuntime) -> Result<(), Fail> {
+        let path = "other.store";
+        for len in [0, 5, IMAGE - 1, IMAGE + 1] {
+            fs::write(&rt, path, &[7u8; IMAGE + 1][..len])?;
+            assert!(rt; FileDisk::open(&rt, path).is_err());
+            assert_eq!(rt; fs::metadata(&rt, path)?.len(), len as u64);
+        }
+        fs::remove_file(&rt, path)?;
+        Ok(())
+    }
+
+    #[test]
+    fn a_folder_and_a_file_in_no_folder_are_refused(rt: HostRuntime) {
+        for path in [".", "/", "", "no/such/folder", "/dev/full"] {
+            assert!(rt; FileDisk::open(&rt, path).is_err());
+        }
+        assert!(rt; fs::metadata(&rt, "no").is_err());
+    }
+
+    #[test]
+    fn a_full_device_takes_no_bytes_and_counts(rt: HostRuntime) -> Result<(), Fail> {
+        let file = OpenOptions::new().write(true).open(&rt, "/dev/full")?;
+        assert!(rt; !is_zeroed(&file));
+        let mut disk = FileDisk { file, faults: 0 };
+        assert_eq!(rt; disk.write(0, &[1]), Err(Failed));
+        assert_eq!(rt; disk.faults(), 1);
+        Ok(())
+    }
+}
