@@ -61,5 +61,6 @@ pub trait Disk: Drop {
     ghost sound: { (disk : Self) → tells disk ≡ true → IsSound (contents disk) };
 
     /// A device call that succeeds counts no fault.
-    ghost counts: { (old new : Self) (call : DeviceCall) → does old call true new → faults new ≡ faults old };
+    ghost counts: { (old new : Self) (call : DeviceCall) →
+        does old call true new → faults new ≡ faults old };
 }

@@ -24,5 +24,6 @@ pub fn device_calls_in_turn<D: Disk>()
 
 /// Device calls of which none failed left the count of faults as it was.
 pub fn calls_that_succeed_count_no_fault<D: Disk>()
-    ensures { (calls : List DeviceCall) (old new : D) → Makes D.does calls true old new → D.faults new ≡ D.faults old }
+    ensures { (calls : List DeviceCall) (old new : D) →
+        Makes D.does calls true old new → D.faults new ≡ D.faults old }
 {}
