@@ -1,5 +1,5 @@
 -- What happened with one node, newest event first, and what follows from it.
-use Rattle.std.specs.Prelude.{ℕ, ◌-◌, Bool, true, false, if◌then◌else◌, ◌&&◌, nat_le, nat_lt, nat_eq, List, [], ◌∷◌, Option, Some, None, is_none}
+use Rattle.std.specs.Prelude.{ℕ, suc, ◌-◌, ◌≡◌, ◌≤◌, Bool, true, false, if◌then◌else◌, ◌&&◌, nat_le, nat_lt, nat_eq, List, [], ◌∷◌, Option, Some, None, is_none}
 use Rattle.node_discovery.specs.declared.query.Query.{Query}
 
 pub data Event : Type 0 where
@@ -92,3 +92,26 @@ last_query (Taken uid moment ∷ events) = last_query events
 -- 1,000 ms or more have passed since the last query, or the node was never asked
 abbrev pub may_be_asked : List Event → ℕ → Bool
 may_be_asked events now = has_passed 1000 now (last_query events)
+
+-- ---- silence
+
+-- how many queries were asked
+abbrev pub query_count : List Event → ℕ
+query_count [] = 0
+query_count (Status moment ∷ events) = query_count events
+query_count (Asked transfer_id moment ∷ events) = suc (query_count events)
+query_count (Taken uid moment ∷ events) = query_count events
+
+-- silent: online, and in its spell it told no unique ID and was asked five times or more, the last time 1,000 ms ago or more
+pub record IsSilent (events : List Event) (now : ℕ) : Type 0 where
+  pub online : is_online events now ≡ true
+  pub untold : unique_id events ≡ None
+  pub asked : 5 ≤ query_count (spell events)
+  pub moment : ℕ
+  pub last : last_query (spell events) ≡ Some moment
+  pub waited : 1000 ≤ age moment now
+
+-- whether it is silent
+abbrev pub is_silent : List Event → ℕ → Bool
+is_silent events now = is_nameless events now
+    && (nat_le 5 (query_count (spell events)) && has_passed 1000 now (last_query (spell events)))

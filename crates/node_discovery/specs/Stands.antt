@@ -1,9 +1,9 @@
 -- Which events the table of the code stands for.
-use Rattle.std.specs.Prelude.{ℕ, ◌≡◌, ◌<◌, ◌≤◌, List, [], None, slice_index_or}
+use Rattle.std.specs.Prelude.{ℕ, ◌≡◌, ◌<◌, ◌≤◌, List, [], min, slice_index_or}
 use Rattle.node_discovery.specs.declared.node.Node.{Node}
 use Rattle.node_discovery.specs.declared.watch.Watch.{Watch}
-use Rattle.node_discovery.specs.History.{Event, last_query, last_status, spell, unanswered, unique_id}
-use Rattle.node_discovery.specs.Watch.{IsStranger, Watched, history}
+use Rattle.node_discovery.specs.History.{Event, last_query, last_status, query_count, spell, unanswered, unique_id}
+use Rattle.node_discovery.specs.Watch.{HearsDevicesAlone, Watched, history}
 
 -- what the code keeps of a node with these events
 pub record Tells (node : Node) (events : List Event) : Type 0 where
@@ -11,10 +11,11 @@ pub record Tells (node : Node) (events : List Event) : Type 0 where
   pub uid : node.uid ≡ unique_id events
   pub pending : node.pending ≡ unanswered (spell events)
   pub asked : node.asked ≡ last_query events
+  pub queries : node.queries ≡ min (query_count (spell events)) 255
 
 -- each node by its place in the table; a number that has no place has no event,
 -- and no status was taken but from 1 to 125
 pub record StandsFor (watch : Watch) (events : List Watched) : Type 0 where
   pub nodes : (node : ℕ) (d : Node) → node < 128 → Tells (slice_index_or watch.nodes node d) (history node events)
   pub others : (node : ℕ) → 128 ≤ node → history node events ≡ []
-  pub strangers : (node : ℕ) → IsStranger node → last_status (history node events) ≡ None
+  pub strangers : HearsDevicesAlone events

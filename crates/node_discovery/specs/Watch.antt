@@ -1,6 +1,7 @@
 -- What happened with all nodes, newest first, and what a watch of them answers.
-use Rattle.std.specs.Prelude.{ℕ, ◌≡◌, ◌<◌, ◌≤◌, ◌⊎◌, Bool, true, false, if◌then◌else◌, not, ◌&&◌, nat_le, nat_eq, List, [], ◌∷◌, slice_index_or, Option, Some, None}
-use Rattle.node_discovery.specs.History.{Event, Status, Taken, is_nameless, may_be_asked, takes}
+use Rattle.std.specs.Prelude.{ℕ, ◌≡◌, ◌<◌, ◌≤◌, ◌⊎◌, Bool, true, false, if◌then◌else◌, not, ◌&&◌, nat_le, nat_eq, List, [], ◌∷◌, slice_index_or, find, Option, Some, None}
+use Rattle.std.specs.List.{list_any, range_with_len}
+use Rattle.node_discovery.specs.History.{Event, Status, Taken, is_nameless, last_status, may_be_asked, takes}
 
 -- no node ID of a device
 abbrev pub IsStranger : ℕ → Type 0
@@ -59,3 +60,21 @@ pub record IsSomeUnknown (events : List Watched) (known : List Bool) (now : ℕ)
 
 abbrev pub NoneIsUnknown : List Watched → List Bool → ℕ → Type 0
 NoneIsUnknown events known now = (node : ℕ) → is_unknown events known node now ≡ false
+
+-- ---- both, computed
+
+-- the node IDs that are looked at
+abbrev pub devices : List ℕ
+devices = range_with_len 1 125
+
+-- the first that is due
+unfoldable pub next_query : List Watched → List Bool → ℕ → Option ℕ
+next_query events known now = find (λ node. is_due events known node now) devices
+
+-- whether one is unknown
+unfoldable pub some_unknown : List Watched → List Bool → ℕ → Bool
+some_unknown events known now = list_any (λ node. is_unknown events known node now) devices
+
+-- no status was taken of a number that is no device's
+abbrev pub HearsDevicesAlone : List Watched → Type 0
+HearsDevicesAlone events = (node : ℕ) → IsStranger node → last_status (history node events) ≡ None

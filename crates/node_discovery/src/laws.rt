@@ -1,15 +1,17 @@
 //! What the definitions mean for a node, in laws, each the contract of a function that does nothing.
 
-ghost use Rattle.std.specs.Prelude.{◌≡◌, ◌∷◌, ◌<◌, ◌+◌, [], ℕ, List, true, false, Some};
-ghost use Rattle.node_discovery.specs.History.{Event, Status, Asked, Taken, identity, is_nameless, is_online, may_be_asked, spell, takes, unique_id};
+ghost use Rattle.std.specs.Prelude.{◌≡◌, ◌∷◌, ◌<◌, ◌+◌, [], ℕ, List, Bool, true, false, Option, Some};
+ghost use Rattle.node_discovery.specs.History.{Event, Status, Asked, Taken, IsSilent, identity, is_nameless, is_online, is_silent, may_be_asked, query_count, spell, takes, unique_id};
+ghost use Rattle.node_discovery.specs.Watch.{HearsDevicesAlone, IsNextQuery, IsSomeUnknown, NoneIsUnknown, Watched, next_query, some_unknown};
 
 /// A spell begins with a status that comes while the node is not online; each other status belongs
-/// to the spell in which it comes. A spell begins with no unique ID, and with no query whose answer
-/// would be taken.
+/// to the spell in which it comes. A spell begins with no unique ID, and with no query: none is
+/// counted, and the answer to none would be taken.
 pub fn a_spell_begins_anew()
     ensures begins { (events : List Event) (moment : ℕ) → is_online events moment ≡ false → spell (Status moment ∷ events) ≡ Status moment ∷ [] }
     ensures goes_on { (events : List Event) (moment : ℕ) → is_online events moment ≡ true → spell (Status moment ∷ events) ≡ Status moment ∷ spell events }
     ensures nameless { (events : List Event) (moment : ℕ) → is_online events moment ≡ false → is_nameless (Status moment ∷ events) moment ≡ true }
+    ensures unasked { (events : List Event) (moment : ℕ) → is_online events moment ≡ false → query_count (spell (Status moment ∷ events)) ≡ 0 }
     ensures unanswered { (events : List Event) (moment transfer_id now : ℕ) → is_online events moment ≡ false → takes (Status moment ∷ events) transfer_id now ≡ false }
 {}
 
@@ -30,4 +32,24 @@ pub fn an_answer_ends_the_query()
 pub fn an_answer_is_the_identity()
     ensures told { (events : List Event) (uid : List ℕ) (moment now : ℕ) → is_online events now ≡ true → identity (Taken uid moment ∷ events) now ≡ Some uid }
     ensures stays { (events : List Event) (moment : ℕ) → is_online events moment ≡ true → unique_id (Status moment ∷ events) ≡ unique_id events }
+{}
+
+/// What is computed is what it is to be silent; and who told its unique ID is not silent.
+pub fn silence_is_computed()
+    ensures is { (events : List Event) (now : ℕ) → is_silent events now ≡ true → IsSilent events now }
+    ensures only { (events : List Event) (now : ℕ) → IsSilent events now → is_silent events now ≡ true }
+    ensures told { (events : List Event) (uid : List ℕ) (moment now : ℕ) → is_silent (Taken uid moment ∷ events) now ≡ false }
+{}
+
+/// The next query that is computed is the least node that is due, and nothing else is; and what is
+/// computed of the unknown is that there is one.
+pub fn what_is_computed_of_the_unknown()
+    ensures next { (events : List Watched) (known : List Bool) (now : ℕ) → HearsDevicesAlone events →
+        IsNextQuery events known now (next_query events known now) }
+    ensures only { (events : List Watched) (known : List Bool) (now : ℕ) (other : Option ℕ) → HearsDevicesAlone events →
+        IsNextQuery events known now other → other ≡ next_query events known now }
+    ensures some { (events : List Watched) (known : List Bool) (now : ℕ) →
+        some_unknown events known now ≡ true → IsSomeUnknown events known now }
+    ensures none { (events : List Watched) (known : List Bool) (now : ℕ) → HearsDevicesAlone events →
+        some_unknown events known now ≡ false → NoneIsUnknown events known now }
 {}

@@ -18,10 +18,13 @@ pub struct Node {
 
     /// When it was last asked, in whatever spell.
     asked: Option<u64>,
+
+    /// How many queries were asked in this spell; it stays at 255.
+    queries: u8,
 }
 
 impl Node {
-    ghost use Rattle.node_discovery.specs.History.{Event, Status, Asked, Taken, identity, is_nameless, is_online, may_be_asked, takes};
+    ghost use Rattle.node_discovery.specs.History.{Event, Status, Asked, Taken, identity, is_nameless, is_online, is_silent, may_be_asked, takes};
     ghost use Rattle.node_discovery.specs.Stands.{Tells};
 
     /// A node of which nothing is known.
@@ -33,6 +36,7 @@ impl Node {
             uid: None,
             pending: None,
             asked: None,
+            queries: 0,
         }
     }
 
@@ -43,6 +47,7 @@ impl Node {
         if !self.is_online(now) {
             self.uid = None;
             self.pending = None;
+            self.queries = 0;
         }
         self.heard = Some(now);
     }
@@ -56,6 +61,7 @@ impl Node {
             moment: now,
         });
         self.asked = Some(now);
+        self.queries = self.queries.saturating_add(1);
     }
 
     /// Whether an answer is taken: the last query of the spell waits for it.
@@ -92,6 +98,14 @@ impl Node {
         ensures { (events : List Event) → Tells self.now events → result ≡ is_nameless events now }
     {
         self.is_online(now) && self.uid.is_none()
+    }
+
+    /// Whether the node is online and did not tell its unique ID in its spell, though it was asked five
+    /// times or more, the last time 1,000 ms ago or more.
+    pub fn is_silent(&self, now: u64) -> bool
+        ensures { (events : List Event) → Tells self.now events → result ≡ is_silent events now }
+    {
+        self.is_nameless(now) && self.queries >= 5 && self.may_be_asked(now)
     }
 
     /// The unique ID that the node told, where it is online.

@@ -63,6 +63,65 @@ fn a_query_of_an_earlier_spell_counts(rt: HostRuntime) {
     assert!(rt; !watch.info(50, 0, &UID, 5003));
 }
 
+/// Node 50 was heard at 2,001 and asked so many times at 2,002.
+fn asked_times(times: u32) -> Watch {
+    let mut watch = Watch::new();
+    watch.status(50, 2001);
+    for _ in 0..times {
+        ask(&mut watch, 50, 2002);
+    }
+    watch
+}
+
+// It is silent 1,000 ms after the last of five queries, as long as it is online.
+#[test]
+fn is_silent_after_five_queries(rt: HostRuntime) {
+    let rows = [
+        (0, 3002, false),
+        (4, 3002, false),
+        (5, 3001, false),
+        (5, 3002, true),
+        (6, 3002, true),
+        (300, 3002, true),
+        (5, 5001, true),
+        (5, 5002, false),
+    ];
+    for (times, now, want) in rows {
+        let watch = asked_times(times);
+        assert_eq!(rt; watch.silent(50, now), want, "{times} at {now}");
+        assert!(rt; !watch.silent(51, now), "{times} at {now}");
+    }
+}
+
+#[test]
+fn is_not_silent_once_it_answered(rt: HostRuntime) {
+    let mut watch = asked_times(5);
+    assert!(rt; watch.info(50, 0, &UID, 2003));
+    assert!(rt; !watch.silent(50, 3002));
+
+    // The status at 5,002 begins another spell, and what was told before it does not count.
+    watch.status(50, 5002);
+    for _ in 0..5 {
+        ask(&mut watch, 50, 5003);
+    }
+    assert!(rt; !watch.silent(50, 6002));
+    assert!(rt; watch.silent(50, 6003));
+}
+
+// The status at 5,002 begins another spell; the four queries at 2,002 do not count.
+#[test]
+fn counts_the_queries_of_a_spell(rt: HostRuntime) {
+    let mut watch = asked_times(4);
+    watch.status(50, 5002);
+    ask(&mut watch, 50, 5002);
+    assert!(rt; !watch.silent(50, 6002));
+    for _ in 0..4 {
+        ask(&mut watch, 50, 5002);
+    }
+    assert!(rt; !watch.silent(50, 6001));
+    assert!(rt; watch.silent(50, 6002));
+}
+
 #[test]
 fn takes_no_status_of_a_tool(rt: HostRuntime) {
     for from in [0, 126, 127, 128, 255] {

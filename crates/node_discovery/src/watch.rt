@@ -1,5 +1,6 @@
-ghost use Rattle.std.specs.Prelude.{◌≡◌, ◌∷◌, ◌<◌, [], ℕ, List, true, false, slice_index_or};
+ghost use Rattle.std.specs.Prelude.{◌≡◌, ◌↔◌, ◌∷◌, ◌<◌, [], ℕ, IsTrue, List, true, false, slice_index_or};
 
+use crate::laws::silence_is_computed;
 use crate::node::Node;
 use can_frame::{NodeId, Uid};
 
@@ -12,8 +13,8 @@ pub struct Watch {
 }
 
 impl Watch {
-    ghost use Rattle.node_discovery.specs.History.{Asked, identity, is_online, takes};
-    ghost use Rattle.node_discovery.specs.Watch.{IsNextQuery, IsSomeUnknown, NoneIsUnknown, Watched, after_info, after_status, history, is_due, is_unknown, of_node};
+    ghost use Rattle.node_discovery.specs.History.{Asked, IsSilent, identity, is_online, is_silent, takes};
+    ghost use Rattle.node_discovery.specs.Watch.{IsNextQuery, IsSomeUnknown, NoneIsUnknown, Watched, after_info, after_status, history, is_due, is_unknown, next_query, of_node, some_unknown};
     ghost use Rattle.node_discovery.specs.Stands.{StandsFor};
 
     /// The watch of a bus on which nothing has happened.
@@ -75,6 +76,16 @@ impl Watch {
         seen
     }
 
+    /// Whether the node is silent: it is online, and in its spell it told no unique ID and was asked for
+    /// it five times or more, the last time 1,000 ms ago or more.
+    pub fn silent(&self, node: u8, now: u64) -> bool
+        ensures computed { (events : List Watched) → StandsFor self.now events → result ≡ is_silent (history node events) now }
+        ensures silent { (events : List Watched) → StandsFor self.now events → IsTrue result ↔ IsSilent (history node events) now }
+    {
+        silence_is_computed();
+        node < 128 && self.nodes[node as usize].is_silent(now)
+    }
+
     /// The unique ID that the node told in its spell; `None` where it told none, or is offline.
     pub fn identified(&self, node: u8, now: u64) -> Option<Uid>
         ensures { (events : List Watched) → StandsFor self.now events → result ≡ identity (history node events) now }
@@ -88,7 +99,8 @@ impl Watch {
     /// The least node that is to be asked for its unique ID: it is online, not known (`known` is by
     /// node ID), has not told it, and was not asked in the last 1,000 ms. `None` where there is none.
     pub fn next_query(&self, known: &[bool; 128], now: u64) -> Option<NodeId>
-        ensures { (events : List Watched) → StandsFor self.now events → IsNextQuery events known.now now result }
+        ensures computed { (events : List Watched) → StandsFor self.now events → result ≡ next_query events known.now now }
+        ensures least { (events : List Watched) → StandsFor self.now events → IsNextQuery events known.now now result }
     {
         for node in 1..126 {
             if self.is_due(known, node, now) {
@@ -100,6 +112,7 @@ impl Watch {
 
     /// Whether some node is online that is not known and has not told its unique ID.
     pub fn unknown(&self, known: &[bool; 128], now: u64) -> bool
+        ensures computed { (events : List Watched) → StandsFor self.now events → result ≡ some_unknown events known.now now }
         ensures some { (events : List Watched) → StandsFor self.now events → result ≡ true → IsSomeUnknown events known.now now }
         ensures none { (events : List Watched) → StandsFor self.now events → result ≡ false → NoneIsUnknown events known.now now }
     {
