@@ -13,6 +13,7 @@ pub mod InTurn
 pub mod Keeps
 pub mod Lengths
 pub mod Marks
+pub mod Origin
 pub mod Places
 pub mod Pointwise
 pub mod Soundness

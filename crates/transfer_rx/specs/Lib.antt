@@ -1,9 +1,12 @@
 pub mod Acceptance
 pub mod Keys
 pub mod Marks
+pub mod Memory
+pub mod Origin
 pub mod Outcome
 pub mod Parts
 pub mod Places
+pub mod Ranges
 pub mod Reassembly
 pub mod Run
 pub mod Sessions

@@ -1,3 +1,5 @@
+ghost use Rattle.std.specs.Prelude.{◌≡◌};
+
 use can_frame::{Ident, Kind};
 
 /// A kind and number of transfers that a receiver takes, and the signature of their data type.
@@ -8,9 +10,11 @@ pub struct AcceptRow {
     pub signature: u64,
 }
 
-/// A blank for the unused places of a list of fixed capacity.
+/// Message 0 with signature 0: a blank for the unused places of a list of fixed capacity.
 impl Default for AcceptRow {
-    fn default() -> AcceptRow {
+    fn default() -> AcceptRow
+        ensures { result ≡ record { kind = Kind.Message; number = 0; signature = 0 } }
+    {
         AcceptRow {
             kind: Kind::Message,
             number: 0,

@@ -1,14 +1,17 @@
 //! Laws of the definition, each the contract of a function that does nothing.
 
-ghost use Rattle.std.specs.Prelude.{◌≡◌, ◌≤◌, ℕ, true, false, List, [], length, map};
+ghost use Rattle.std.specs.Prelude.{◌≡◌, ◌≤◌, ◌++◌, ℕ, true, false, All, List, Ok, [], length, map};
 ghost use Rattle.can_frame.specs.Cutting.{Piece, frames_of};
+ghost use Rattle.can_frame.specs.declared.tail.Tail.{Tail};
 ghost use Rattle.transfer_rx.specs.declared.accept.Wanted.{Wanted};
+ghost use Rattle.transfer_rx.specs.declared.key.Key.{Key};
 ghost use Rattle.transfer_rx.specs.Keys.{key_of};
 ghost use Rattle.transfer_rx.specs.Marks.{is_whole};
+ghost use Rattle.transfer_rx.specs.Origin.{CameWithKey, IsIdleOrOf, IsKeptAfter};
 ghost use Rattle.transfer_rx.specs.Outcome.{Delivers, assembled, fits_no_payload, sizes};
 ghost use Rattle.transfer_rx.specs.Reassembly.{Arrival, Delivery, Gives, Setting, answer, next, piece_in};
 ghost use Rattle.transfer_rx.specs.Run.{ComesWhole, of_key, run};
-ghost use Rattle.transfer_rx.specs.Sessions.{Session};
+ghost use Rattle.transfer_rx.specs.Sessions.{Session, session_for};
 ghost use Rattle.transfer_rx.specs.Sound.{ArePossible, IsDelivered};
 ghost use Rattle.transfer_rx.specs.Unmarked.{unmarked, unmarked_answer, unmarked_arrival};
 
@@ -58,9 +61,24 @@ pub fn sessions_stay_possible()
     ensures step { (setting : Setting) (sessions : List Session) (arrival : Arrival) → ArePossible setting sessions → ArePossible setting (next setting sessions arrival) }
 {}
 
-/// What is delivered is the payload of whole frames: of an anonymous one alone, or of those that a
-/// session had taken and the one that completes them.
+/// What is delivered is the payload of whole frames: of an anonymous one alone, or of those that the
+/// session of its key had taken and the one that completes them, which are its cutting.
 pub fn deliveries_are_whole_transfers()
     ensures { (setting : Setting) (sessions : List Session) (arrival : Arrival) (delivery : Delivery) → answer setting sessions arrival ≡ Gives delivery →
         IsDelivered setting sessions arrival delivery }
+{}
+
+/// A frame comes to the session of its key, which has nothing in progress or is among the sessions.
+pub fn a_frame_comes_to_the_session_of_its_key()
+    ensures { (most now : ℕ) (key : Key) (tail : Tail) (sessions : List Session) (session : Session) →
+        session_for most key tail now sessions ≡ Ok session → IsIdleOrOf key sessions session }
+{}
+
+/// What a session keeps came with its key: each frame adds at most itself to the session of its key,
+/// and after any frames the sessions keep frames that came with their keys, in order.
+pub fn frames_are_kept_under_their_key()
+    ensures step { (setting : Setting) (sessions : List Session) (arrival : Arrival) →
+        All (IsKeptAfter setting sessions arrival) (next setting sessions arrival) }
+    ensures run { (setting : Setting) (before arrivals : List Arrival) (sessions : List Session) → All (CameWithKey setting before) sessions →
+        All (CameWithKey setting (before ++ arrivals)) (run setting sessions arrivals) }
 {}

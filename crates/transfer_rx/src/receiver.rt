@@ -1,7 +1,9 @@
-ghost use Rattle.std.specs.Prelude.{◌≡◌, ◌<◌, ◌≤◌, [], List, option_map};
+ghost use Rattle.std.specs.Prelude.{◌≡◌, ◌<◌, ◌≤◌, [], IfOk, IfSome, List, option_map};
+ghost use Rattle.can_frame.specs.Identifier.{IsIdentifier};
 ghost use Rattle.can_frame.specs.Piece.{piece_of};
 ghost use Rattle.transfer_rx.specs.Acceptance.{AnswersByRows, is_for, is_service, wanted};
 ghost use Rattle.transfer_rx.specs.Keys.{is_anonymous};
+ghost use Rattle.transfer_rx.specs.Ranges.{IfDelivered, IsInRange};
 ghost use Rattle.transfer_rx.specs.Reassembly.{alone, answer, arrival_of, delivered, next};
 ghost use Rattle.transfer_rx.specs.Sessions.{Session};
 ghost use Rattle.transfer_rx.specs.Told.{delivery_of, told};
@@ -55,6 +57,7 @@ impl<F: Fn(Kind, u16) -> Option<u64> + Copy, const S: usize, const N: usize> Rec
         requires answers { AnswersByRows (F.post (accept_of self.old)) (setting_of self.old).rows }
         ensures answer { (sessions : List Session) → StandsFor self.old sessions →
             told result ≡ answer (setting_of self.old) sessions (arrival_of frame.now mark now) }
+        ensures ranges { IfDelivered result IsInRange }
         ensures sessions { (sessions : List Session) → StandsFor self.old sessions →
             StandsFor self.new (next (setting_of self.old) sessions (arrival_of frame.now mark now)) }
         ensures setting { setting_of self.new ≡ setting_of self.old }
@@ -76,8 +79,9 @@ impl<F: Fn(Kind, u16) -> Option<u64> + Copy, const S: usize, const N: usize> Rec
     pub fn peek(&self, frame: &Frame, mark: Mark, now: u64) -> Option<Transfer>
         requires callable { F.IsAlwaysCallable (accept_of self.now) }
         requires answers { AnswersByRows (F.post (accept_of self.now)) (setting_of self.now).rows }
-        ensures { (sessions : List Session) → StandsFor self.now sessions →
+        ensures answer { (sessions : List Session) → StandsFor self.now sessions →
             option_map delivery_of result ≡ delivered (answer (setting_of self.now) sessions (arrival_of frame.now mark now)) }
+        ensures ranges { IfSome result IsInRange }
     {
         let wanted = match self.wanted(frame) {
             Ok(wanted) => wanted,
@@ -94,7 +98,8 @@ impl<F: Fn(Kind, u16) -> Option<u64> + Copy, const S: usize, const N: usize> Rec
     fn wanted(&self, frame: &Frame) -> Result<Wanted, Why>
         requires callable { F.IsAlwaysCallable self.now.accept }
         requires answers { AnswersByRows (F.post self.now.accept) self.now.rows.items }
-        ensures { result ≡ wanted self.now.rows.items self.now.me frame.now.id }
+        ensures wanted { result ≡ wanted self.now.rows.items self.now.me frame.now.id }
+        ensures ident { IfOk result (λ w. IsIdentifier w.ident) }
     {
         let Some(ident) = Ident::read(frame.id) else {
             return Err(Why::BadIdent);
@@ -140,7 +145,9 @@ fn is_anonymous(kind: Kind) -> bool
 
 /// An anonymous frame is a transfer of its own.
 fn alone(ident: Ident, frame: &Frame, mark: Mark) -> Took
-    ensures { told result ≡ alone ident (piece_of frame.now) mark }
+    requires { IsIdentifier ident }
+    ensures answer { told result ≡ alone ident (piece_of frame.now) mark }
+    ensures ranges { IfDelivered result IsInRange }
 {
     let tail = frame.tail();
     if !is_alone(&tail) {
@@ -159,7 +166,8 @@ fn alone(ident: Ident, frame: &Frame, mark: Mark) -> Took
 }
 
 fn delivered(took: Took) -> Option<Transfer>
-    ensures { option_map delivery_of result ≡ delivered (told took) }
+    ensures delivery { option_map delivery_of result ≡ delivered (told took) }
+    ensures ranges { IfDelivered took IsInRange → IfSome result IsInRange }
 {
     match took {
         Took::Delivered(transfer) => Some(transfer),

@@ -1,9 +1,11 @@
 ghost use Rattle.std.specs.Prelude.{◌≡◌, ℕ, ◌<◌, ◌≤◌, ◌+◌, ◌*◌, List, [], length, get_or, set, take, false, ◌++◌, Some, None, IfOk, IfSome, MatchOption, Option};
 ghost use Rattle.can_frame.specs.Cutting.{Piece, tail_at};
+ghost use Rattle.can_frame.specs.Identifier.{IsIdentifier};
 ghost use Rattle.can_frame.specs.Piece.{piece_of};
 ghost use Rattle.transfer_rx.specs.Keys.{key_of};
 ghost use Rattle.transfer_rx.specs.Outcome.{blocks_used, lacks_blocks, out_of_turn, outcome};
 ghost use Rattle.transfer_rx.specs.Places.{Arranged, Finds, FindsAs, FindsOwn, IsAt, IsPlaceFor, Places, Stand, StandFor, blocks_at, has_key, kept, left};
+ghost use Rattle.transfer_rx.specs.Ranges.{IfDelivered, IsInRange};
 ghost use Rattle.transfer_rx.specs.Reassembly.{answer_of, grown, session_after, session_step};
 ghost use Rattle.transfer_rx.specs.Sessions.{Session, others, session_for, session_of};
 ghost use Rattle.transfer_rx.specs.Stands.{Holds, Keeps};
@@ -244,7 +246,9 @@ impl<const S: usize> Sessions<S> {
 
     /// Does what a turn says, and tells it.
     pub fn settle(&mut self, turn: Turn, ident: Ident, frame: &Frame, mark: Mark, now: u64) -> Took
-        requires { IsRoomy S (piece_of frame.now) turn }
+        requires room { IsRoomy S (piece_of frame.now) turn }
+        requires ident { IsIdentifier ident }
+        ensures ranges { IfDelivered result IsInRange }
         ensures answer { (most blocks signature : ℕ) (places : Places) (sessions : List Session) →
             IsTurn most self.old.bytes blocks (key_of ident) signature (piece_of frame.now) now places sessions turn →
             told result ≡ (session_step most blocks (record { ident = ident; signature = signature }) (piece_of frame.now) mark now sessions).answer }
@@ -275,6 +279,8 @@ impl<const S: usize> Sessions<S> {
     ) -> Took
         requires place { found.place < S }
         requires room { IfPart verdict (GoesOn found (piece_of frame.now)) }
+        requires ident { IsIdentifier ident }
+        ensures ranges { IfDelivered result IsInRange }
         ensures answer { (bytes : List ℕ) (session : Session) → Keeps found.progress bytes session →
             told result ≡ answer_of ident (piece_of frame.now) mark session (says verdict) }
         ensures session { (places : Places) (session : Session) → Stand self.old.progress self.old.bytes places →

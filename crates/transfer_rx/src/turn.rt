@@ -1,7 +1,9 @@
-ghost use Rattle.std.specs.Prelude.{◌≡◌, ℕ, List, option_map};
+ghost use Rattle.std.specs.Prelude.{◌≡◌, ℕ, IfSome, List, option_map};
+ghost use Rattle.can_frame.specs.Identifier.{IsIdentifier};
 ghost use Rattle.can_frame.specs.Piece.{piece_of};
 ghost use Rattle.transfer_rx.specs.Keys.{key_of};
 ghost use Rattle.transfer_rx.specs.Places.{Places};
+ghost use Rattle.transfer_rx.specs.Ranges.{IsInRange};
 ghost use Rattle.transfer_rx.specs.Reassembly.{answer_of, delivered, session_step};
 ghost use Rattle.transfer_rx.specs.Sessions.{Session};
 ghost use Rattle.transfer_rx.specs.Stands.{Keeps};
@@ -24,7 +26,9 @@ pub enum Turn {
 
 /// What a turn delivers.
 pub fn foretell(turn: Turn, ident: Ident, frame: &Frame, mark: Mark) -> Option<Transfer>
-    ensures { (most blocks signature now : ℕ) (bytes : List (List ℕ)) (places : Places) (sessions : List Session) →
+    requires { IsIdentifier ident }
+    ensures ranges { IfSome result IsInRange }
+    ensures delivery { (most blocks signature now : ℕ) (bytes : List (List ℕ)) (places : Places) (sessions : List Session) →
         IsTurn most bytes blocks (key_of ident) signature (piece_of frame.now) now places sessions turn →
         option_map delivery_of result ≡ delivered (session_step most blocks (record { ident = ident; signature = signature }) (piece_of frame.now) mark now sessions).answer }
 {
@@ -42,7 +46,9 @@ fn foretell_next(
     frame: &Frame,
     mark: Mark,
 ) -> Option<Transfer>
-    ensures { (bytes : List ℕ) (session : Session) → Keeps found.progress bytes session →
+    requires { IsIdentifier ident }
+    ensures ranges { IfSome result IsInRange }
+    ensures delivery { (bytes : List ℕ) (session : Session) → Keeps found.progress bytes session →
         option_map delivery_of result ≡ delivered (answer_of ident (piece_of frame.now) mark session (says verdict)) }
 {
     match verdict {

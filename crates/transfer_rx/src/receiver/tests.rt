@@ -1,5 +1,6 @@
 ghost use Rattle.std.specs.Prelude.{◌≡◌, ◌∷◌, []};
 ghost use Rattle.transfer_rx.specs.Acceptance.{AnswersByRows, first_signature};
+ghost use Rattle.transfer_rx.specs.Memory.{ReceiverFitsInMemory};
 ghost use Rattle.transfer_rx.specs.declared.receiver.tests.TheConstants.{ALLOCATION, ANOTHER};
 ghost use Rattle.transfer_rx.specs.StandsFor.{accept_of, setting_of};
 
@@ -270,5 +271,36 @@ fn peek_tells_what_take_delivers(rt: HostRuntime) -> Result<(), Fail> {
     assert_eq!(rt; seen.payload.as_slice(), PAYLOAD.as_slice());
     assert_eq!(rt; seen.whole, true);
     assert_eq!(rt; receiver.take(&third, mark(2), 0), Took::Delivered(seen));
+    Ok(())
+}
+
+/// Whoever keeps a receiver and is generic in its closure.
+#[derive(Drop)]
+struct Listener<F> {
+    receiver: Receiver<F, 160, 128>,
+}
+
+impl<F: Fn(Kind, u16) -> Option<u64> + Copy> Listener<F> {
+    fn hears(&mut self, frame: &Frame, mark: Mark, now: u64) -> bool
+        requires callable { F.IsAlwaysCallable (accept_of self.old.receiver) }
+        requires answers { AnswersByRows (F.post (accept_of self.old.receiver)) (setting_of self.old.receiver).rows }
+        requires memory { ReceiverFitsInMemory F.row 160 128 }
+    {
+        matches!(self.receiver.take(frame, mark, now), Took::Part)
+    }
+}
+
+#[test]
+fn a_listener_keeps_any_closure(rt: HostRuntime) -> Result<(), Fail> {
+    let mut listener = Listener {
+        receiver: Receiver::new(2, accept_rows(Kind::Message, ALLOCATION), allocation),
+    };
+    let frame = Frame::from_parts(NODE_1, &A)?;
+    let mark = Mark {
+        step: 0,
+        re: 0,
+        place: 0,
+    };
+    assert_eq!(rt; listener.hears(&frame, mark, 0), true);
     Ok(())
 }

@@ -7,19 +7,19 @@ use Rattle.transfer_rx.specs.Verdicts.{says}
 use Rattle.transfer_rx.proofs.Steps.{next, out, refused}
 use Rattle.transfer_rx.proofs.turn.foretell.Goals as goal
 
-pub returns-in-Refused : goal.returns-in-Refused
-returns-in-Refused c = λ most blocks signature now bytes places sessions h.
+pub returns-in-Refused-clause-delivery : goal.returns-in-Refused-clause-delivery
+returns-in-Refused-clause-delivery c = λ most blocks signature now bytes places sessions h.
     let t = subst (λ t. IsTurn most bytes blocks (key_of c.args.ident) signature (piece_of c.args.frame.now) now places sessions t) c.in-Refused.is h in
     ap (λ (x : Step). delivered x.answer) (sym (refused most blocks (record { ident = c.args.ident; signature = signature }) (piece_of c.args.frame.now) c.args.mark now sessions c.in-Refused.field-0 t))
 
-pub returns-in-Out : goal.returns-in-Out
-returns-in-Out c = λ most blocks signature now bytes places sessions h.
+pub returns-in-Out-clause-delivery : goal.returns-in-Out-clause-delivery
+returns-in-Out-clause-delivery c = λ most blocks signature now bytes places sessions h.
     let t = subst (λ t. IsTurn most bytes blocks (key_of c.args.ident) signature (piece_of c.args.frame.now) now places sessions t) c.in-Out.is h in
     ap (λ (x : Step). delivered x.answer) (sym (out most blocks (record { ident = c.args.ident; signature = signature }) (piece_of c.args.frame.now) c.args.mark now sessions t.0.session c.in-Out.field-1 t.0.there t.1))
 
-pub returns-in-Next : goal.returns-in-Next
-returns-in-Next c = λ most blocks signature now bytes places sessions h.
+pub returns-in-Next-clause-delivery : goal.returns-in-Next-clause-delivery
+returns-in-Next-clause-delivery c = λ most blocks signature now bytes places sessions h.
     let t = subst (λ t. IsTurn most bytes blocks (key_of c.args.ident) signature (piece_of c.args.frame.now) now places sessions t) c.in-Next.is h in
-    c.foretell_next.ensures _ t.0.session t.0.finds.keeps
+    c.foretell_next.ensures.delivery _ t.0.session t.0.finds.keeps
     ∙ ap (λ (x : Step). delivered x.answer) (sym (next most blocks (record { ident = c.args.ident; signature = signature }) (piece_of c.args.frame.now) c.args.mark now sessions
     t.0.session (says c.in-Next.verdict) t.0.there t.1 t.2))

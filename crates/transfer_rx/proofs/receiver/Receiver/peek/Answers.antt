@@ -6,17 +6,17 @@ use Rattle.transfer_rx.proofs.Arrangement.{forget}
 use Rattle.transfer_rx.proofs.Steps.{anonymous, of_session, unwanted}
 use Rattle.transfer_rx.proofs.receiver.Receiver.peek.Goals as goal
 
-pub returns-in-Err : goal.returns-in-Err
-returns-in-Err g c = λ sessions s.
-    ap (λ (x : Step). delivered x.answer) (sym (unwanted (record { rows = c.args.self.now.rows.items; me = c.args.self.now.me; sessions = g.row.S; blocks = g.row.N }) sessions (arrival_of c.args.frame.now c.args.mark c.args.now) c.in-Err.field-0 (sym c.wanted.ensures ∙ c.in-Err.is)))
+pub returns-in-Err-clause-answer : goal.returns-in-Err-clause-answer
+returns-in-Err-clause-answer g c = λ sessions s.
+    ap (λ (x : Step). delivered x.answer) (sym (unwanted (record { rows = c.args.self.now.rows.items; me = c.args.self.now.me; sessions = g.row.S; blocks = g.row.N }) sessions (arrival_of c.args.frame.now c.args.mark c.args.now) c.in-Err.field-0 (sym c.wanted.ensures.wanted ∙ c.in-Err.is)))
 
-pub returns-then-is_anonymous : goal.returns-then-is_anonymous
-returns-then-is_anonymous g c = λ sessions s.
-    c.delivered.ensures ∙ ap delivered c.alone.ensures
-    ∙ ap (λ (x : Step). delivered x.answer) (sym (anonymous (record { rows = c.args.self.now.rows.items; me = c.args.self.now.me; sessions = g.row.S; blocks = g.row.N }) sessions (arrival_of c.args.frame.now c.args.mark c.args.now) c.in-Ok.wanted (sym c.wanted.ensures ∙ c.in-Ok.is) (sym c.is_anonymous.ensures ∙ c.if-is_anonymous.true)))
+pub returns-then-is_anonymous-clause-answer : goal.returns-then-is_anonymous-clause-answer
+returns-then-is_anonymous-clause-answer g c = λ sessions s.
+    c.delivered.ensures.delivery ∙ ap delivered c.alone.ensures.answer
+    ∙ ap (λ (x : Step). delivered x.answer) (sym (anonymous (record { rows = c.args.self.now.rows.items; me = c.args.self.now.me; sessions = g.row.S; blocks = g.row.N }) sessions (arrival_of c.args.frame.now c.args.mark c.args.now) c.in-Ok.wanted (sym c.wanted.ensures.wanted ∙ c.in-Ok.is) (sym c.is_anonymous.ensures ∙ c.if-is_anonymous.true)))
 
-pub returns : goal.returns
-returns g c = λ sessions s.
-    c.foretell.ensures g.row.S g.row.N c.in-Ok.wanted.signature c.args.now c.args.self.now.sessions.bytes (left c.args.now s.places) (remembered c.args.now sessions)
+pub returns-clause-answer : goal.returns-clause-answer
+returns-clause-answer g c = λ sessions s.
+    c.foretell.ensures.delivery g.row.S g.row.N c.in-Ok.wanted.signature c.args.now c.args.self.now.sessions.bytes (left c.args.now s.places) (remembered c.args.now sessions)
     (c.turn-turn.ensures.turn s.places (remembered c.args.now sessions) s.stand (forget c.args.now s.places sessions s.arranged))
-    ∙ ap (λ (x : Step). delivered x.answer) (sym (of_session (record { rows = c.args.self.now.rows.items; me = c.args.self.now.me; sessions = g.row.S; blocks = g.row.N }) sessions (arrival_of c.args.frame.now c.args.mark c.args.now) c.in-Ok.wanted (sym c.wanted.ensures ∙ c.in-Ok.is) (sym c.is_anonymous.ensures ∙ c.if-is_anonymous.false)))
+    ∙ ap (λ (x : Step). delivered x.answer) (sym (of_session (record { rows = c.args.self.now.rows.items; me = c.args.self.now.me; sessions = g.row.S; blocks = g.row.N }) sessions (arrival_of c.args.frame.now c.args.mark c.args.now) c.in-Ok.wanted (sym c.wanted.ensures.wanted ∙ c.in-Ok.is) (sym c.is_anonymous.ensures ∙ c.if-is_anonymous.false)))
