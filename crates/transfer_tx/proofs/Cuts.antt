@@ -1,7 +1,6 @@
 -- The frames of a transfer, one after the other.
-use Rattle.std.proofs.Common.{◌≡◌, ℕ, zero, suc, ◌+◌, ◌-◌, ◌/◌, ◌≤◌, ◌<◌, true, false, List, [], ◌∷◌, ◌++◌, length, take, drop, get_or, map, refl, ap, ◌∙◌, arith, nat_le, nat_eq, inl, inr, length-append, length-drop, append_assoc, add-one, eq-eqb}
+use Rattle.std.proofs.Common.{◌≡◌, ℕ, zero, suc, ◌+◌, ◌-◌, ◌/◌, ◌≤◌, ◌<◌, true, false, List, [], ◌∷◌, ◌++◌, length, take, drop, get_or, refl, ap, ◌∙◌, arith, nat_le, nat_eq, inl, inr, length-append, length-drop, append_assoc, add-one, eq-eqb}
 use Rattle.std.proofs.lemmas.Bool.{le-leb, lt-leb}
-use Rattle.std.proofs.lemmas.List.{map-append}
 use Rattle.std.proofs.lemmas.Bool.Decides.{leb_tells}
 use Rattle.can_frame.specs.Cutting.{Piece, bytes_cut, cut, frame_bytes, frames_of, tail_at}
 use Rattle.can_frame.specs.Identifier.{identifier_number}
@@ -79,14 +78,14 @@ fewer : (bytes : List ℕ) → 7 < length bytes → (length bytes - 1) / 7 ≡ s
 fewer bytes h = omega (arith, length-drop 7 bytes)
 
 -- seven bytes more
-pub one_more : (id step re tid place : ℕ) (rest piece more : List ℕ) (frames after : List Marked) (x : Marked) →
-    7 < length rest → piece ≡ take 7 rest → more ≡ drop 7 rest → after ≡ frames ++ x ∷ [] →
+pub one_more : (id step re tid place : ℕ) (rest piece more : List ℕ) (queue after : List Queued) (x : Marked) →
+    7 < length rest → piece ≡ take 7 rest → more ≡ drop 7 rest → after ≡ queue ++ queued_of x ∷ [] →
     queued_of x ≡ record { id = id; bytes = frame_bytes (record { bytes = piece; tail = tail_at tid place false }); mark = record { step = step; re = re; place = place } } →
-    map queued_of after ++ marked id step re (place + 1) (cut tid (place + 1) ((length more - 1) / 7) more)
-    ≡ map queued_of frames ++ marked id step re place (cut tid place ((length rest - 1) / 7) rest)
-one_more id step re tid place rest piece more frames after x h front back pushed made =
+    after ++ marked id step re (place + 1) (cut tid (place + 1) ((length more - 1) / 7) more)
+    ≡ queue ++ marked id step re place (cut tid place ((length rest - 1) / 7) rest)
+one_more id step re tid place rest piece more queue after x h front back pushed made =
     let n = fewer rest h in
-    rw (pushed, map-append queued_of frames (x ∷ []), add-one place, n, back, append_assoc (map queued_of frames) (queued_of x ∷ []))
+    rw (pushed, add-one place, n, back, append_assoc queue (queued_of x ∷ []))
     (rw (made, front) refl)
 
 -- what an offer puts at the end

@@ -1,10 +1,10 @@
 -- Which frame goes out next, and that those of one identifier stay in order.
-use Rattle.std.proofs.Common.{◌≡◌, ◌≢◌, ℕ, suc, ◌+◌, ◌≤◌, ◌<◌, true, false, Bool, List, [], ◌∷◌, ◌++◌, length, map, take, drop, get_or, refl, ap, sym, ◌∙◌, arith, nat_le, nat_eq, inl, inr, append_assoc, append-nil, cond, below_more, subst}
+use Rattle.std.proofs.Common.{◌≡◌, ◌≢◌, ℕ, suc, ◌+◌, ◌<◌, true, false, Bool, List, [], ◌∷◌, ◌++◌, length, map, get_or, refl, ap, sym, ◌∙◌, arith, nat_le, nat_eq, inl, inr, append_assoc, append-nil, cond}
 use Rattle.std.specs.Prelude.{Option, None, Some, find, remove, option_to_list, slice_get}
 use Rattle.std.specs.List.{list_all, position_or_len}
 use Rattle.std.proofs.lemmas.Bool.{cases_Bool, le-leb, lt-leb}
 use Rattle.std.proofs.lemmas.Bool.Decides.{eqb_tells}
-use Rattle.std.proofs.lemmas.List.{map-append, take-map, drop-map, get_or-map, length-map}
+use Rattle.std.proofs.lemmas.List.{get_or-map}
 use Rattle.std.proofs.lemmas.List.Elements.{filter-append}
 use Rattle.std.proofs.lemmas.List.Folds.{find_at, list_all_at}
 use Rattle.std.proofs.lemmas.List.Sums.{position_or_len_is}
@@ -40,45 +40,8 @@ rest_is frames place h = ap (remove frames) (place_is frames place h)
 
 -- ---- the same of the frames that the code keeps
 
-pub map-remove : (frames : List Marked) (place : ℕ) → map queued_of (remove frames place) ≡ remove (map queued_of frames) place
-map-remove frames place =
-    map-append queued_of (take place frames) (drop (suc place) frames)
-    ∙ sym (rw (take-map queued_of place frames, drop-map queued_of (suc place) frames) refl)
-
 pub id_at-map : (frames : List Marked) (place : ℕ) (x : Marked) → place < length frames → x ≡ get_or frames place x → id_at (map queued_of frames) place ≡ x.frame.id
 id_at-map frames place x h is = ap (λ q. q.id) (get_or-map queued_of frames place x blank h) ∙ sym (ap (λ m. m.frame.id) is)
-
-pub popped_next : (frames kept : List Marked) (now : List Queued) (place : ℕ) (x : Marked) →
-    map queued_of frames ≡ now → kept ≡ frames → GoesNext (map queued_of kept) place → x ≡ get_or frames place x → Some (queued_of x) ≡ next_out now
-popped_next frames kept now place x view same next is =
-    let e : map queued_of kept ≡ now = ap (map queued_of) same ∙ view in
-    let next' : GoesNext now place = subst (λ queued. GoesNext queued place) e next in
-    let lt : place < length frames = omega (arith, next'.present, ap length view, length-map frames queued_of) in
-    ap (λ m. Some (queued_of m)) is
-    ∙ sym (ap Some (get_or-map queued_of frames place x blank lt))
-    ∙ ap (λ queued. Some (get_or queued place blank)) view
-    ∙ sym (next_is now place blank next')
-
-pub popped_rest : (frames kept after : List Marked) (now : List Queued) (place : ℕ) →
-    map queued_of frames ≡ now → kept ≡ frames → GoesNext (map queued_of kept) place → after ≡ remove frames place → map queued_of after ≡ left_behind now
-popped_rest frames kept after now place view same next e =
-    let next' : GoesNext now place = subst (λ queued. GoesNext queued place) (ap (map queued_of) same ∙ view) next in
-    ap (map queued_of) e ∙ map-remove frames place ∙ ap (λ queued. remove queued place) view ∙ sym (rest_is now place next')
-
--- ---- the least one so far, of the frames below a place
-
-pub record IsLeastBelow (frames : List Queued) (least place : ℕ) : Type 0 where
-  pub below : (other : ℕ) → other < place → id_at frames least ≤ id_at frames other
-  pub first : (other : ℕ) → other < least → id_at frames least < id_at frames other
-
-pub lower : (frames : List Queued) (least place : ℕ) → IsLeastBelow frames least place → id_at frames place < id_at frames least → IsLeastBelow frames place (place + 1)
-lower frames least place so_far h = record {
-  below = below_more _ place (λ other before. let e = so_far.below other before in omega arith) (omega arith);
-  first = λ other before. let e = so_far.below other before in omega arith;
-}
-
-pub as_low : (frames : List Queued) (least place : ℕ) → IsLeastBelow frames least place → id_at frames least ≤ id_at frames place → IsLeastBelow frames least (place + 1)
-as_low frames least place so_far h = record { below = below_more _ place so_far.below h; first = so_far.first }
 
 -- ---- frames of one identifier
 

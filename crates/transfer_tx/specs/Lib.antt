@@ -1,3 +1,4 @@
+pub mod Kept
 pub mod Queue
 pub mod Run
 pub mod Views

@@ -1,5 +1,5 @@
 -- The queue of a sender: the frames that wait, in the order in which they were offered.
-use Rattle.std.specs.Prelude.{ℕ, suc, ◌+◌, ◌/◌, ◌<◌, ◌≤◌, nat_le, Bool, List, [], ◌∷◌, length, if◌then◌else◌, Option, find, remove, slice_index_or}
+use Rattle.std.specs.Prelude.{ℕ, suc, ◌+◌, ◌/◌, ◌<◌, ◌≤◌, ◌++◌, zero, nat_le, Bool, List, [], ◌∷◌, length, option_to_list, if◌then◌else◌, Option, find, remove, slice_index_or}
 use Rattle.std.specs.List.{list_all, position_or_len}
 use Rattle.can_frame.specs.declared.mark.Mark.{Mark}
 use Rattle.can_frame.specs.Cutting.{Piece, frame_bytes, frames_of}
@@ -41,6 +41,15 @@ next_out frames = find (is_least frames) frames
 -- the others, in their order
 unfoldable pub left_behind : List Queued → List Queued
 left_behind frames = remove frames (position_or_len (is_least frames) frames)
+
+-- the first n frames out, in the order of going out
+abbrev pub first_out : ℕ → List Queued → List Queued
+first_out zero frames = []
+first_out (suc n) frames = option_to_list (next_out frames) ++ first_out n (left_behind frames)
+
+-- all frames, in the order of going out
+unfoldable pub in_order_of_going : List Queued → List Queued
+in_order_of_going frames = first_out (length frames) frames
 
 -- what is read past the end
 abbrev pub blank : Queued

@@ -4,7 +4,7 @@ ghost use Rattle.can_frame.specs.Cutting.{bytes_cut, cut, frame_bytes, frames_of
 ghost use Rattle.transfer_tx.specs.Queue.{frame_count, marked};
 ghost use Rattle.transfer_tx.specs.Views.{queued_of};
 
-use crate::Marked;
+use crate::{Marked, Sender};
 use arrayvec::ArrayVec;
 use can_frame::{Frame, Mark, Tail, crc};
 
@@ -55,23 +55,22 @@ pub(crate) struct Stamp {
 }
 
 impl Stamp {
-    /// Puts the frames of these bytes at the end.
-    pub fn cut<const Q: usize>(&self, bytes: &[u8], frames: &mut ArrayVec<Marked, Q>)
+    /// Puts the frames of these bytes into a queue.
+    pub fn cut<const Q: usize>(&self, bytes: &[u8], queue: &mut Sender<Q>)
         requires size { length bytes.now ≤ 378 }
-        requires room { array_vec_len frames.old + (length bytes.now - 1) / 7 < Q }
-        ensures frames { map queued_of frames.new.items ≡ map queued_of frames.old.items ++
+        requires room { length queue.old + (length bytes.now - 1) / 7 < Q }
+        ensures { queue.new ≡ queue.old ++
             marked self.now.id self.now.step self.now.re 0 (cut self.now.transfer_id 0 ((length bytes.now - 1) / 7) bytes.now) }
-        ensures room { array_vec_len frames.new ≤ Q }
     {
         let mut rest = bytes;
         let mut place = 0;
         while rest.len() > 7 {
             let (piece, more) = rest.split_at(7);
-            frames.push(self.frame(piece, place, false));
+            queue.put(self.frame(piece, place, false));
             rest = more;
             place += 1;
         }
-        frames.push(self.frame(rest, place, true));
+        queue.put(self.frame(rest, place, true));
     }
 
     /// The frame at a place of the transfer.

@@ -1,6 +1,6 @@
-ghost use Rattle.std.specs.Prelude.{◌≡◌, ◌↔◌, ◌+◌, ◌<◌, ◌≤◌, [], ◌++◌, length, IfOk, IsErr, IsNone, OnErr, OnOk, map, option_map, option_to_list};
+ghost use Rattle.std.specs.Prelude.{◌≡◌, ◌↔◌, ◌+◌, ◌<◌, ◌≤◌, ℕ, [], ◌∷◌, ◌++◌, length, IfOk, IsErr, IsNone, OnErr, OnOk, map, option_map, option_to_list, reverse};
 ghost use Rattle.can_frame.specs.Identifier.{IsIdentifier};
-ghost use Rattle.transfer_tx.specs.Queue.{GoesNext, frame_count, left_behind, next_out, queued_frames};
+ghost use Rattle.transfer_tx.specs.Queue.{frame_count, id_at, in_order_of_going, left_behind, next_out, queued_frames};
 ghost use Rattle.transfer_tx.specs.Views.{queued_of};
 
 use crate::cutting::{Stamp, bytes_to_cut};
@@ -15,21 +15,25 @@ pub struct NoRoom;
 /// A queue of at most Q frames that wait for the bus.
 #[derive(Drop)]
 pub struct Sender<const Q: usize> {
-    /// In the order in which they were offered.
+    /// In the reverse of the order of going out: the next one out is the last.
     frames: ArrayVec<Marked, Q>,
+
+    /// How many of the frames that go out after each were offered before it. So the order of offering
+    /// can be told, of which contracts speak; no other code asks for it.
+    earlier: ArrayVec<u16, Q>,
 }
 
 impl<const Q: usize> Model for Sender<Q> {
-    ghost use Rattle.std.specs.Prelude.{◌≤◌, List, map};
-    ghost use Rattle.arrayvec.specs.ArrayVec.{array_vec_len};
+    ghost use Rattle.std.specs.Prelude.{List, map};
+    ghost use Rattle.transfer_tx.specs.Kept.{IsInOrder, in_order_of_offering};
     ghost use Rattle.transfer_tx.specs.Queue.{Queued};
     ghost use Rattle.transfer_tx.specs.Views.{queued_of};
 
     ghost Value = { List Queued };
 
-    ghost view = { λ s. map queued_of s.frames.items };
+    ghost view = { λ s. in_order_of_offering (map queued_of s.frames.items) s.earlier.items };
 
-    ghost invariant = { λ s. array_vec_len s.frames ≤ Q };
+    ghost invariant = { λ s. IsInOrder Q (map queued_of s.frames.items) s.earlier.items };
 }
 
 impl<const Q: usize> Sender<Q> {
@@ -40,6 +44,7 @@ impl<const Q: usize> Sender<Q> {
     {
         Sender {
             frames: ArrayVec::new(),
+            earlier: ArrayVec::new(),
         }
     }
 
@@ -55,6 +60,14 @@ impl<const Q: usize> Sender<Q> {
         ensures { self.new ≡ [] }
     {
         self.frames.clear();
+        self.earlier.clear();
+    }
+
+    /// All queued frames in the reverse of the order of going out: the next one out is the last.
+    pub fn in_order(&self) -> &[Marked]
+        ensures { map queued_of result.now ≡ reverse (in_order_of_going self.now) }
+    {
+        self.frames.as_slice()
     }
 
     /// Cuts a transfer into its frames and puts all of them at the end, or none where they do not fit.
@@ -79,8 +92,19 @@ impl<const Q: usize> Sender<Q> {
             step,
             re,
         };
-        stamp.cut(bytes.as_slice(), &mut self.frames);
+        stamp.cut(bytes.as_slice(), self);
         Ok(())
+    }
+
+    /// Puts a frame behind those that were offered before, at its place in the order of going out.
+    pub(crate) fn put(&mut self, marked: Marked)
+        requires { length self.old < Q }
+        ensures frames { self.new ≡ self.old ++ queued_of marked ∷ [] }
+        ensures count { length self.new ≡ length self.old + 1 }
+    {
+        let place = place_for(self.frames.as_slice(), marked.frame.id);
+        self.frames.insert(place, marked);
+        self.earlier.insert(place, place as u16);
     }
 
     /// Takes the next frame out: among those with the least identifier, the one that was offered
@@ -94,23 +118,24 @@ impl<const Q: usize> Sender<Q> {
         if self.frames.is_empty() {
             return None;
         }
-        let place = next_place(self.frames.as_slice());
-        Some(self.frames.remove(place))
+        self.earlier.pop();
+        self.frames.pop()
     }
 }
 
-/// The place of the first frame with the least identifier.
-fn next_place(frames: &[Marked]) -> usize
-    requires { 0 < length frames.now }
-    ensures { GoesNext (map queued_of frames.now) result }
+/// The place of a new frame: behind the frames of higher identifiers, which go out after it, and
+/// before all others.
+fn place_for(frames: &[Marked], id: u32) -> usize
+    ensures bound { result ≤ length frames.now }
+    ensures after { (k : ℕ) → k < result → id < id_at (map queued_of frames.now) k }
+    ensures before { result < length frames.now → id_at (map queued_of frames.now) result ≤ id }
 {
-    let mut least = 0;
     for (place, marked) in frames.iter().enumerate() {
-        if marked.frame.id < frames[least].frame.id {
-            least = place;
+        if marked.frame.id <= id {
+            return place;
         }
     }
-    least
+    frames.len()
 }
 
 #[cfg(test)]
@@ -156,6 +181,11 @@ mod tests {
             (0x1e00_0101, &[11, 0x41], 8, 5, 2),
             (0x1e01_5501, &[1, 0, 0, 0, 0x58, 0, 0, 0xc1], 7, 0, 0),
         ];
+        for (behind, (id, bytes, ..)) in rows.iter().rev().enumerate() {
+            let kept = sender.in_order().get(behind).ok_or("fewer")?;
+            assert_eq!(rt; kept.frame.id, *id);
+            assert_eq!(rt; kept.frame.bytes.as_slice(), *bytes);
+        }
         for (id, bytes, step, re, place) in rows {
             let out = sender.pop().ok_or("empty")?;
             assert_eq!(rt; out.frame.id, id);

@@ -8,7 +8,7 @@ loop-rest-preserved g c = record {
   room = omega arith;
   frames =
       one_more c.args.self.now.id c.args.self.now.step c.args.self.now.re c.args.self.now.transfer_id c.loop-rest.place
-      c.loop-rest.rest.now c.split_at.result.0.now c.split_at.result.1.now c.loop-rest.frames.items c.push.new.self.items c.frame.result
-      c.loop-rest-test.true c.split_at.ensures.front c.split_at.ensures.back c.push.ensures.items c.frame.ensures
+      c.loop-rest.rest.now c.split_at.result.0.now c.split_at.result.1.now c.loop-rest.queue c.put.new.self c.frame.result
+      c.loop-rest-test.true c.split_at.ensures.front c.split_at.ensures.back c.put.ensures.frames c.frame.ensures
       ∙ c.loop-rest.invariant.frames;
 }
