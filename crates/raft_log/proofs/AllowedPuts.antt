@@ -1,16 +1,18 @@
 -- A put that is allowed leaves a map that stores the state after it.
-use Rattle.std.proofs.Common.{◌≡◌, ◌⊎◌, inl, inr, ℕ, ◌+◌, ◌<◌, ◌≤◌, ◌^◌, List, [], ◌∷◌, ◌++◌, length, take, refl, sym, ap, subst, ◌∙◌, arith}
+use Rattle.std.proofs.Common.{◌≡◌, ◌⊎◌, inl, inr, ℕ, ◌+◌, ◌<◌, ◌≤◌, ◌^◌, List, [], ◌∷◌, ◌++◌, length, get_or, refl, sym, ap, subst, ◌∙◌, arith}
 use Rattle.std.specs.Prelude.{Option, None, Some}
 use Rattle.std.specs.Int.{to_le_bytes, w32}
-use Rattle.std.proofs.lemmas.Grind.{common_steps}
 use Rattle.can_frame.specs.declared.entry.Entry.{Entry}
+use Rattle.can_frame.specs.Log.{blank}
 use Rattle.kv_store.specs.Image.{put_in}
 use Rattle.raft_log.specs.Allowed.{AreAllowed, Fits, IsAllowed, IsCut, IsLonger, IsNext, next_after, nexts_after}
 use Rattle.raft_log.specs.DeviceCalls.{bytes_of, entry_bytes, key_of}
-use Rattle.raft_log.specs.Rules.{Stores, entry_of, last_of, number_of}
+use Rattle.raft_log.specs.MayFollow.{IsStorable}
+use Rattle.raft_log.specs.Rules.{HasEntry, Stores, entry_of, number_of}
 use Rattle.raft_log.specs.Stored.{Put, Stored, after_put, after_puts}
 use Rattle.raft_log.specs.Stored.Put.{PutTerm, PutVote, PutEntry, PutLast, PutCommit}
-use Rattle.raft_log.proofs.Puts.{Changes, log_length, put_changes, put_commit, put_entry, put_last_down, put_last_up, put_term, put_vote}
+use Rattle.raft_log.proofs.Kept.{storable_after}
+use Rattle.raft_log.proofs.Puts.{Changes, cut_there, longer_there, put_behind, put_changes, put_commit, put_last, put_term, put_vote}
 
 pub term_again : (term : ℕ) → term < 2 ^ 32 → number_of (to_le_bytes w32 term) ≡ term
 term_again term fits = omega arith
@@ -24,43 +26,38 @@ next_kept map s s' (Some entry) key value same low at =
 abbrev pub Step : (ℕ → List ℕ) → Stored → Option Entry → Put → Type 0
 Step map s next put = Stores (put_in map (key_of put s) (bytes_of put)) (after_put put s) × IsNext (put_in map (key_of put s) (bytes_of put)) (after_put put s) (next_after put next)
 
-cut_step : (map : ℕ → List ℕ) (s : Stored) (next : Option Entry) (log : List Entry) → Stores map s → IsCut log s → Step map s next (PutLast log)
-cut_step map s next log has cut =
-    let count : length log ≡ cut.place = ap length cut.is ∙ (let within : cut.place ≤ length s.log = cut.within in grind (arith, common_steps)) in
-    let down : cut.place ≤ last_of map = omega (arith, log_length map s has, cut.within) in
-    let stores : Stores (put_in map 3 (length log ∷ [])) (record s { log = take cut.place s.log }) =
-    put_last_down map (put_in map 3 (length log ∷ [])) s has cut.place cut.kept down (put_changes map 3 (length log ∷ []) (cut.place ∷ []) (ap (λ (n : ℕ). n ∷ []) count)) in
-    (subst (λ (l : List Entry). Stores (put_in map 3 (length log ∷ [])) (record s { log = l })) (sym cut.is) stores, tt)
+cut_step : (map : ℕ → List ℕ) (s : Stored) (next : Option Entry) (log : List Entry) → Stores map s → (cut : IsCut log s) → IsStorable (record s { log = log }) → Step map s next (PutLast log)
+cut_step map s next log has cut storable = (
+  put_last map s has 3 (length log ∷ []) log refl (record { size = omega arith; byte_is = refl }) storable
+      (subst (λ (l : List Entry). (i : ℕ) → i < length l → HasEntry (get_or l i (blank 0)) (map (5 + i))) (sym cut.is) (cut_there map s.log cut.place cut.within has.entries)),
+  tt,
+)
 
-longer_step : (map : ℕ → List ℕ) (s : Stored) (next : Option Entry) (log : List Entry) → Stores map s → IsNext map s next → (longer : IsLonger log s next) → Step map s next (PutLast log)
-longer_step map s next log has at longer =
-    let n = length s.log in
-    let stands : (map (5 + n) ≡ entry_bytes longer.entry) × Fits longer.entry = subst (λ o. IsNext map s o) longer.there at in
-    let there = stands.0 in
-    let fits = stands.1 in
-    let count : length log ≡ n + 1 = ap length longer.is ∙ (grind (arith, common_steps)) in
-    let past : last_of map ≡ n = sym (log_length map s has) in
-    let stores : Stores (put_in map 3 (length log ∷ [])) (record s { log = s.log ++ longer.entry ∷ [] }) =
-    put_last_up map (put_in map 3 (length log ∷ [])) s has n longer.entry past longer.room (ap length there ∙ fits.size) (ap entry_of there ∙ fits.again) longer.follows
-    (put_changes map 3 (length log ∷ []) ((n + 1) ∷ []) (ap (λ (m : ℕ). m ∷ []) count)) in
-    (subst (λ (l : List Entry). Stores (put_in map 3 (length log ∷ [])) (record s { log = l })) (sym longer.is) stores, tt)
+longer_step : (map : ℕ → List ℕ) (s : Stored) (next : Option Entry) (log : List Entry) → Stores map s → IsNext map s next → (longer : IsLonger log s next) → IsStorable (record s { log = log }) → Step map s next (PutLast log)
+longer_step map s next log has at longer storable =
+    let stands : (map (5 + length s.log) ≡ entry_bytes longer.entry) × Fits longer.entry = subst (λ o. IsNext map s o) longer.there at in
+    let there : HasEntry longer.entry (map (5 + length s.log)) = record { size = ap length stands.0 ∙ stands.1.size; entry_is = ap entry_of stands.0 ∙ stands.1.again } in (
+      put_last map s has 3 (length log ∷ []) log refl (record { size = omega arith; byte_is = refl }) storable
+          (subst (λ (l : List Entry). (i : ℕ) → i < length l → HasEntry (get_or l i (blank 0)) (map (5 + i))) (sym longer.is) (longer_there map s.log longer.entry has.entries there)),
+      tt,
+    )
 
-pub step : (map : ℕ → List ℕ) (s : Stored) (next : Option Entry) (put : Put) → Stores map s → IsNext map s next → IsAllowed put s next → Step map s next put
-step map s next (PutTerm term) has at allowed = (
-  put_term map (put_in map 1 (to_le_bytes w32 term)) s has term (to_le_bytes w32 term) allowed.0 refl (term_again term allowed.1) (put_changes map 1 (to_le_bytes w32 term) _ refl),
+step_by : (map : ℕ → List ℕ) (s : Stored) (next : Option Entry) (put : Put) → Stores map s → IsNext map s next → IsAllowed put s next → IsStorable (after_put put s) → Step map s next put
+step_by map s next (PutTerm term) has at allowed storable = (
+  put_term map s has 1 (to_le_bytes w32 term) term refl (record { size = λ some. refl; number = term_again term allowed.1 }) storable,
   next_kept map s (record s { term = term }) next 1 (to_le_bytes w32 term) refl (omega arith) at,
 )
-step map s next (PutVote node) has at allowed =
-    (put_vote map (put_in map 2 (node ∷ [])) s has node allowed (put_changes map 2 (node ∷ []) _ refl), next_kept map s (record s { vote = node }) next 2 (node ∷ []) refl (omega arith) at)
-step map s next (PutCommit index) has at allowed = (
-  put_commit map (put_in map 4 (index ∷ [])) s has index (subst (λ n. index ≤ n) (log_length map s has) allowed) (put_changes map 4 (index ∷ []) _ refl),
-  next_kept map s (record s { commit = index }) next 4 (index ∷ []) refl (omega arith) at,
-)
-step map s next (PutEntry entry) has at allowed =
-    let changed : Changes (5 + length s.log) (entry_bytes entry) map (put_in map (5 + length s.log) (entry_bytes entry)) = put_changes map (5 + length s.log) (entry_bytes entry) (entry_bytes entry) refl in
-    (put_entry map (put_in map (5 + length s.log) (entry_bytes entry)) s has (length s.log) (entry_bytes entry) (sym (log_length map s has)) changed, (changed.new, allowed.1))
-step map s next (PutLast log) has at (inl cut) = cut_step map s next log has cut
-step map s next (PutLast log) has at (inr longer) = longer_step map s next log has at longer
+step_by map s next (PutVote node) has at allowed storable =
+    (put_vote map s has 2 (node ∷ []) node refl (record { size = omega arith; byte_is = refl }) storable, next_kept map s (record s { vote = node }) next 2 (node ∷ []) refl (omega arith) at)
+step_by map s next (PutCommit index) has at allowed storable =
+    (put_commit map s has 4 (index ∷ []) index refl (record { size = omega arith; byte_is = refl }) storable, next_kept map s (record s { commit = index }) next 4 (index ∷ []) refl (omega arith) at)
+step_by map s next (PutEntry entry) has at allowed storable =
+    let key = 5 + length s.log in (put_behind map s has key (entry_bytes entry) (omega arith), ((put_changes map key (entry_bytes entry) (entry_bytes entry) refl).new, allowed.1))
+step_by map s next (PutLast log) has at (inl cut) storable = cut_step map s next log has cut storable
+step_by map s next (PutLast log) has at (inr longer) storable = longer_step map s next log has at longer storable
+
+pub step : (map : ℕ → List ℕ) (s : Stored) (next : Option Entry) (put : Put) → Stores map s → IsNext map s next → IsAllowed put s next → Step map s next put
+step map s next put has at allowed = step_by map s next put has at allowed (storable_after put s next allowed has.storable)
 
 -- the keys and values of puts are those of a store
 pub key_exists : (s : Stored) (next : Option Entry) (put : Put) → IsAllowed put s next → key_of put s < 132

@@ -1,6 +1,7 @@
 pub mod AllowedPuts
 pub mod Entries
 pub mod InTurn
+pub mod Kept
 pub mod OnePut
 pub mod Puts
 pub mod Restarting

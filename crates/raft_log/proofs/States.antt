@@ -1,17 +1,16 @@
 -- States that maps and images stand for.
-use Rattle.std.proofs.Common.{◌≡◌, ◌⊎◌, inl, inr, ℕ, zero, suc, ◌+◌, ◌<◌, ◌≤◌, List, [], ◌∷◌, ◌++◌, length, take, get_or, refl, sym, ap, subst, ◌∙◌, arith}
-use Rattle.std.proofs.lemmas.List.{get_or_append_left}
+use Rattle.std.proofs.Common.{◌≡◌, ◌⊎◌, inl, inr, ℕ, zero, suc, ◌+◌, ◌<◌, ◌≤◌, List, [], ◌∷◌, ◌++◌, length, take, get_or, slice_index, refl, sym, ap, subst, ◌∙◌, arith}
+use Rattle.std.proofs.lemmas.List.{get_or_append_left, take_all, take_more}
 use Rattle.std.proofs.Math.Seq.{get_or-append_seam}
 use Rattle.std.proofs.lemmas.Bool.Decides.{leb_tells, eqb_tells}
 use Rattle.can_frame.specs.declared.entry.Entry.{Entry}
 use Rattle.can_frame.specs.Log.{AreDistinct, blank}
 use Rattle.kv_store.specs.Image.{IsFirstDamaged, StandsFor, chosen_copy, copy_start, length_byte, value_in}
 use Rattle.raft_log.specs.MayFollow.{IsStorable, MayFollow}
-use Rattle.raft_log.specs.Rules.{IsDamagedAt, IsFirstBroken, IsWhole, KeepsRules, StandsForState, Stores, entries_of, entry_of, last_of, number_of}
+use Rattle.raft_log.specs.Rules.{IsDamagedAt, IsFirstBroken, IsWhole, HasByte, HasEntry, HasTerm, IsVersion, KeepsRules, StandsForState, Stores, entries_of, entry_of, last_of, number_of}
 use Rattle.raft_log.specs.Rules.IsDamagedAt.{BadLength, BadValue}
 use Rattle.raft_log.specs.Stored.{Stored}
-use Rattle.raft_log.proofs.Puts.{log_length}
-use Rattle.raft_log.proofs.Rules.{entries_count, no_entries, same_entries, take_entries}
+use Rattle.raft_log.proofs.Rules.{entries_count, next_entries, no_entries, same_entries, take_entries}
 
 -- maps that agree on all keys keep the same rules and store the same
 module _ (map map' : ℕ → List ℕ) (same : (k : ℕ) → k < 132 → map' k ≡ map k) where
@@ -28,12 +27,13 @@ module _ (map map' : ℕ → List ℕ) (same : (k : ℕ) → k < 132 → map' k 
 
   pub stores_same : (s : Stored) → Stores map s → Stores map' s
   stores_same s has = record {
-    rules = keeps_same 132 (omega arith) has.rules;
-    term = rw (same 1 (omega arith)) has.term;
-    vote = rw (same 2 (omega arith)) has.vote;
-    log = let most : last_of map ≤ 127 = (has.rules.last (omega arith)).limit in
-        rw (same 3 (omega arith), same_entries map map' (last_of map) (λ j b. same (5 + j) (omega (arith, b, most)))) has.log;
-    commit = rw (same 4 (omega arith)) has.commit;
+    version = subst IsVersion (sym (same 0 (omega arith))) has.version;
+    term = subst (HasTerm s.term) (sym (same 1 (omega arith))) has.term;
+    vote = subst (HasByte s.vote) (sym (same 2 (omega arith))) has.vote;
+    last = subst (HasByte (length s.log)) (sym (same 3 (omega arith))) has.last;
+    commit = subst (HasByte s.commit) (sym (same 4 (omega arith))) has.commit;
+    entries = λ i h. subst (HasEntry (get_or s.log i (blank 0))) (sym (same (5 + i) (omega (arith, h, has.storable.room)))) (has.entries i h);
+    storable = has.storable;
   }
 
 pub fewer_rules : (map : ℕ → List ℕ) (below less : ℕ) → less ≤ below → KeepsRules map below → KeepsRules map less
@@ -72,9 +72,17 @@ entry_in map (suc n) i d below = elim (eqb_tells i n) as (λ _. get_or (entries_
       get_or_append_left (entries_of map n) (entry_of (map (5 + n)) ∷ []) d i (subst (λ m. i < m) (sym (entries_count map n)) low) ∙ entry_in map n i d low
 ]
 
-module _ (map : ℕ → List ℕ) (s : Stored) (has : Stores map s) where
+-- the state is what is read in a map that keeps all rules
+pub record IsRead (map : ℕ → List ℕ) (s : Stored) : Type 0 where
+  pub rules : KeepsRules map 132
+  pub term : s.term ≡ number_of (map 1)
+  pub vote : s.vote ≡ slice_index (map 2) 0
+  pub log : s.log ≡ entries_of map (last_of map)
+  pub commit : s.commit ≡ slice_index (map 4) 0
+
+module _ (map : ℕ → List ℕ) (s : Stored) (has : IsRead map s) where
   count : length s.log ≡ last_of map
-  count = log_length map s has
+  count = ap length has.log ∙ entries_count map (last_of map)
 
   -- its entries, one by one
   stored_entry : (i : ℕ) → i < length s.log → get_or s.log i (blank 0) ≡ entry_of (map (5 + i))
@@ -93,7 +101,7 @@ module _ (map : ℕ → List ℕ) (s : Stored) (has : Stores map s) where
       let apart : AreDistinct (get_or (entries_of map j) i (blank 0)) (entry_of (map (5 + j))) = (rule j below).distinct i inside in
       rw (stored_entry i low, stored_entry j below) (subst (λ (e : Entry). AreDistinct e (entry_of (map (5 + j)))) (entry_in map j i (blank 0) before) apart)
 
-  pub is_storable : IsStorable s
+  is_storable : IsStorable s
   is_storable = record {
     vote = rw has.vote (has.rules.vote (omega arith)).limit;
     room = rw count (has.rules.last (omega arith)).limit;
@@ -101,6 +109,54 @@ module _ (map : ℕ → List ℕ) (s : Stored) (has : Stores map s) where
     follows = λ i below. rw (earlier_entries i below, stored_entry i below, has.term) (rule i below);
     injective = distinct;
   }
+
+  pub stores_read : Stores map s
+  stores_read = record {
+    version = has.rules.version (omega arith);
+    term = record { size = has.rules.term (omega arith); number = sym has.term };
+    vote = record { size = (has.rules.vote (omega arith)).size; byte_is = sym has.vote };
+    last = record { size = (has.rules.last (omega arith)).size; byte_is = sym count };
+    commit = record { size = (has.rules.commit (omega arith)).size; byte_is = sym has.commit };
+    entries = λ i h. record { size = has.rules.entry_size i (omega (arith, count, h, (has.rules.last (omega arith)).limit)) (omega (arith, count, h)); entry_is = sym (stored_entry i h) };
+    storable = is_storable;
+  }
+
+-- and what a map stores is read in it
+module _ (map : ℕ → List ℕ) (s : Stored) (has : Stores map s) where
+  first_entries : (i : ℕ) → i ≤ length s.log → entries_of map i ≡ take i s.log
+  first_entries zero h = no_entries map
+  first_entries (suc i) h =
+      let below : i < length s.log = omega (arith, h) in
+      let next : i + 1 ≡ suc i = omega arith in
+      ap (λ n. entries_of map n) (sym next) ∙ (next_entries map i ∙ (rw (first_entries i (omega (arith, h)), (has.entries i below).entry_is) (sym (take_more s.log i (blank 0) below)) ∙ ap (λ n. take n s.log) next))
+
+  entry_rule : (i : ℕ) → i < last_of map → MayFollow (entries_of map i) (number_of (map 1)) (entry_of (map (5 + i)))
+  entry_rule i h =
+      let below : i < length s.log = omega (arith, h, has.last.byte_is) in
+      rw (first_entries i (omega (arith, below)), has.term.number, (has.entries i below).entry_is) (has.storable.follows i below)
+
+  pub read_stored : IsRead map s
+  read_stored = record {
+    rules = record {
+      version = λ h. has.version;
+      term = λ h. has.term.size;
+      vote = λ h. record { size = has.vote.size; limit = omega (arith, has.vote.byte_is, has.storable.vote) };
+      last = λ h. record { size = has.last.size; limit = omega (arith, has.last.byte_is, has.storable.room) };
+      commit = λ h. record { size = has.commit.size; limit = omega (arith, has.commit.byte_is, has.last.byte_is, has.storable.commit) };
+      entry_size = λ i h below. (has.entries i (omega (arith, below, has.last.byte_is))).size;
+      entry = λ i h. entry_rule i;
+    };
+    term = sym has.term.number;
+    vote = sym has.vote.byte_is;
+    log = sym (take_all (length s.log) s.log (omega arith)) ∙ (sym (first_entries (length s.log) (omega arith)) ∙ ap (entries_of map) (sym has.last.byte_is));
+    commit = sym has.commit.byte_is;
+  }
+
+pub same_state : (map : ℕ → List ℕ) (a b : Stored) → Stores map a → Stores map b → a ≡ b
+same_state map a b first second =
+    let x = read_stored map a first in
+    let y = read_stored map b second in
+    λ i. record { term = (x.term ∙ sym y.term) i; vote = (x.vote ∙ sym y.vote) i; log = (x.log ∙ sym y.log) i; commit = (x.commit ∙ sym y.commit) i }
 
 -- an image has one first damaged key
 not_before : (map : ℕ → List ℕ) (a b : ℕ) → IsFirstBroken map a → IsFirstBroken map b → a < b → ⊥
@@ -135,26 +191,32 @@ damaged_once image a b (BadValue whole first) (BadValue also second) = one_broke
 
 pub whole_or_damaged : (image : List ℕ) (s : Stored) (key : ℕ) → StandsForState image s → IsDamagedAt image key → ⊥
 whole_or_damaged image s key stands (BadLength first) = whole_or_long image key stands.whole first
-whole_or_damaged image s key stands (BadValue whole first) = first.broken (fewer_rules (value_in image) 132 (key + 1) (omega (arith, first.exists)) stands.stores.rules)
+whole_or_damaged image s key stands (BadValue whole first) = first.broken (fewer_rules (value_in image) 132 (key + 1) (omega (arith, first.exists)) (read_stored (value_in image) s stands.stores).rules)
 
 -- no key was ever put
 abbrev no_values : ℕ → List ℕ
 no_values key = []
 
-no_rules_broken : KeepsRules no_values 132
-no_rules_broken = record {
-  version = λ h. record { size = omega arith; one = λ some. absurd (omega arith) };
-  term = λ h some. absurd (omega arith);
-  vote = λ h. record { size = omega arith; limit = omega arith };
-  last = λ h. record { size = omega arith; limit = omega arith };
-  commit = λ h. record { size = omega arith; limit = omega arith };
-  entry_size = λ i h below. absurd (omega arith);
-  entry = λ i h below. absurd (omega arith);
+nothing_stored : IsRead no_values (record { term = 0; vote = 0; log = []; commit = 0 })
+nothing_stored = record {
+  rules = record {
+    version = λ h. record { size = omega arith; one = λ some. absurd (omega arith) };
+    term = λ h some. absurd (omega arith);
+    vote = λ h. record { size = omega arith; limit = omega arith };
+    last = λ h. record { size = omega arith; limit = omega arith };
+    commit = λ h. record { size = omega arith; limit = omega arith };
+    entry_size = λ i h below. absurd (omega arith);
+    entry = λ i h below. absurd (omega arith);
+  };
+  term = refl;
+  vote = refl;
+  log = sym (no_entries no_values);
+  commit = refl;
 }
 
 pub zeros_stand : (image : List ℕ) → ((i : ℕ) → get_or image i 0 ≡ 0) → StandsForState image (record { term = 0; vote = 0; log = []; commit = 0 })
 zeros_stand image zeros = record {
   whole = λ key h. rw (zeros (copy_start key (chosen_copy image key))) (omega arith);
   stores = stores_same no_values (value_in image) (λ key h. rw (zeros (copy_start key (chosen_copy image key))) refl) (record { term = 0; vote = 0; log = []; commit = 0 })
-      (record { rules = no_rules_broken; term = refl; vote = refl; log = sym (no_entries no_values); commit = refl });
+      (stores_read no_values (record { term = 0; vote = 0; log = []; commit = 0 }) nothing_stored);
 }

@@ -6,11 +6,12 @@
 -- key 3 last: empty, which is 0, or a byte of 0 to 127
 -- key 4 commit: empty, which is 0, or a byte of 0 to last
 -- key 4 + i, for i from 1 to last: the entry at place i, 21 bytes, which may follow the entries before it
-use Rattle.std.specs.Prelude.{◌≡◌, ℕ, zero, suc, ◌+◌, ◌*◌, ◌%◌, ◌<◌, ◌≤◌, List, [], ◌∷◌, ◌++◌, length, take, drop, slice_index}
+use Rattle.std.specs.Prelude.{◌≡◌, ℕ, zero, suc, ◌+◌, ◌*◌, ◌%◌, ◌<◌, ◌≤◌, List, [], ◌∷◌, ◌++◌, length, take, drop, slice_index, slice_index_or}
 use Rattle.can_frame.specs.declared.entry.Entry.{Entry}
+use Rattle.can_frame.specs.Log.{blank}
 use Rattle.disk_model.specs.Contents.{Contents, MayLeave}
 use Rattle.kv_store.specs.Image.{IsFirstDamaged, key_count, length_byte, value_in, value_limit}
-use Rattle.raft_log.specs.MayFollow.{MayFollow}
+use Rattle.raft_log.specs.MayFollow.{IsStorable, MayFollow}
 use Rattle.raft_log.specs.Stored.{Stored}
 
 -- empty, or one byte up to this
@@ -57,13 +58,28 @@ pub record IsFirstBroken (map : ℕ → List ℕ) (key : ℕ) : Type 0 where
   pub before : KeepsRules map key
   pub broken : KeepsRules map (key + 1) → ⊥
 
--- the map keeps all rules and stands for this state
+-- the value is this term, this byte, this entry
+pub record HasTerm (term : ℕ) (value : List ℕ) : Type 0 where
+  pub size : IsTerm value
+  pub number : number_of value ≡ term
+
+pub record HasByte (byte : ℕ) (value : List ℕ) : Type 0 where
+  pub size : length value ≤ 1
+  pub byte_is : slice_index value 0 ≡ byte
+
+pub record HasEntry (entry : Entry) (value : List ℕ) : Type 0 where
+  pub size : length value ≡ 21
+  pub entry_is : entry_of value ≡ entry
+
+-- each key has its part of the state, which is one that is stored
 pub record Stores (map : ℕ → List ℕ) (state : Stored) : Type 0 where
-  pub rules : KeepsRules map key_count
-  pub term : state.term ≡ number_of (map 1)
-  pub vote : state.vote ≡ slice_index (map 2) 0
-  pub log : state.log ≡ entries_of map (last_of map)
-  pub commit : state.commit ≡ slice_index (map 4) 0
+  pub version : IsVersion (map 0)
+  pub term : HasTerm state.term (map 1)
+  pub vote : HasByte state.vote (map 2)
+  pub last : HasByte (length state.log) (map 3)
+  pub commit : HasByte state.commit (map 4)
+  pub entries : (i : ℕ) → i < length state.log → HasEntry (slice_index_or state.log i (blank 0)) (map (5 + i))
+  pub storable : IsStorable state
 
 -- no key of the image has a length byte that is too large
 abbrev pub IsWhole : List ℕ → Type 0

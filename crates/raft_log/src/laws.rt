@@ -54,6 +54,11 @@ pub fn a_durable_state_is_kept<D: Disk>()
     ensures { (durable : Durable D D.Disk) → IsKept (durable_state durable) }
 {}
 
+/// Allowed puts leave such a state.
+pub fn allowed_puts_leave_a_kept_state()
+    ensures { (puts : List Put) (state : Stored) → AreAllowed puts state None → IsKept state → IsKept (after_puts puts state) }
+{}
+
 /// Puts that were made by two calls, one after the other, are those of both. Where the first call failed
 /// there is no second, and a call without puts changes nothing.
 pub fn puts_in_turn<D: Disk>()

@@ -4,7 +4,6 @@ use Rattle.raft_log.specs.Changes.{next_for, put_of}
 use Rattle.raft_log.specs.Rules.{Stores}
 use Rattle.raft_log.specs.StateViews.{stored_of}
 use Rattle.raft_log.proofs.OnePut.{allowed_change, now_stores, put_done, put_failed}
-use Rattle.raft_log.proofs.States.{is_storable}
 use Rattle.raft_log.proofs.durable.Durable.make.Goals as goal
 
 pub returns-in_err-put-clause-puts : goal.returns-in_err-put-clause-puts
@@ -24,7 +23,7 @@ invariant_of-self-2 g c =
     let allowed = allowed_change c.args.change s c.requires.may c.value-value.ensures.fits in
     let has = now_stores (store_map old.store) s (next_for c.args.change) put c.key.result c.value-value.result.items c.key.ensures c.value-value.ensures.bytes old.stored c.requires.next allowed new c.in_ok-put.ensures.put in
     let stored = subst (λ x. Stores new x) (sym c.make.ensures) has in
-    record { stored = stored; storable = is_storable new (stored_of c.make.new.self) stored }
+    record { stored = stored; storable = stored.storable }
 
 pub returns-clause-puts : goal.returns-clause-puts
 returns-clause-puts g c =

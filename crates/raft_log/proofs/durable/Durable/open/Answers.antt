@@ -2,7 +2,7 @@ use Rattle.std.proofs.Common.{rules, ◌≡◌, subst}
 use Rattle.kv_store.specs.StoreViews.{store_map}
 use Rattle.raft_log.specs.Rules.{IsFirstBroken}
 use Rattle.raft_log.specs.Rules.IsDamagedAt.{BadValue}
-use Rattle.raft_log.proofs.States.{image_broken, image_stands, is_storable}
+use Rattle.raft_log.proofs.States.{image_broken, image_stands}
 use Rattle.raft_log.proofs.durable.Durable.open.Goals as goal
 
 pub returns-in-Err-read-clause-damaged : goal.returns-in-Err-read-clause-damaged
@@ -13,7 +13,7 @@ returns-in-Err-read-clause-damaged g c = λ key is told.
     BadValue shown.whole (image_broken _ map key shown (subst (λ k. IsFirstBroken map k) same c.in-Err-read.ensures.broken))
 
 pub invariant_of-result : goal.invariant_of-result
-invariant_of-result g c = record { stored = c.in-Ok-read.ensures.state; storable = is_storable _ _ c.in-Ok-read.ensures.state }
+invariant_of-result g c = record { stored = c.in-Ok-read.ensures.state; storable = c.in-Ok-read.ensures.state.storable }
 
 pub returns-in-Ok-read-clause-state : goal.returns-in-Ok-read-clause-state
 returns-in-Ok-read-clause-state g c = λ told. image_stands _ _ _ (c.in-Ok.ensures.map told) c.in-Ok-read.ensures.state

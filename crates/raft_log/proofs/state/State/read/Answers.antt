@@ -3,6 +3,7 @@ use Rattle.kv_store.specs.StoreViews.{store_map}
 use Rattle.raft_log.specs.MayFollow.{MayFollow}
 use Rattle.raft_log.specs.Rules.{entries_of, entry_of, last_of, number_of}
 use Rattle.raft_log.proofs.Rules.{all_rules, next_entries, no_entries, one_more}
+use Rattle.raft_log.proofs.States.{stores_read}
 use Rattle.raft_log.proofs.state.State.read.Goals as goal
 
 pub loop-place-init : goal.loop-place-init
@@ -37,10 +38,10 @@ returns-clause-state g c =
     let first : List ℕ → ℕ = λ (value : List ℕ). slice_index value 0 in
     let last : c.in-Some-read_byte-2.last ≡ last_of map = c.in-Some-read_byte-2.ensures.found.0 ∙ ap first (c.deref-4.ensures.0 ∙ c.get-4.ensures.value) in
     let all : place ≡ last_of map = omega (arith, last, c.loop-place-test.false, c.loop-place.auto.place-end) in
-    record {
+    stores_read map _ (record {
       rules = all_rules map place all c.loop-place.invariant.rules;
       term = c.in-Some.ensures.found.0 ∙ ap number_of (c.deref-2.ensures.0 ∙ c.get-2.ensures.value);
       vote = c.in-Some-read_byte.ensures.found.0 ∙ ap first (c.deref-3.ensures.0 ∙ c.get-3.ensures.value);
       log = c.loop-place.invariant.entries ∙ ap (entries_of map) all;
       commit = c.in-Some-read_byte-3.ensures.found.0 ∙ ap first (c.deref-5.ensures.0 ∙ c.get-5.ensures.value);
-    }
+    })
