@@ -1,8 +1,6 @@
 -- What a member acknowledged it keeps, unless a later term diverges: the fact Acks.
-use Rattle.std.proofs.Common.{◌≡◌, ◌<◌, ℕ, false, inl, inr, arith}
-use Rattle.raft_model.specs.Invariants.{AcknowledgedKept, AcknowledgedVoted, Acknowledged, AcknowledgedExactly, HasKept, HasVotedWith}
-use Rattle.raft_model.specs.Lists.{In}
-use Rattle.raft_model.specs.History.{KeptVote}
+use Rattle.std.proofs.Common.{ℕ, inl, inr, arith}
+use Rattle.raft_model.specs.Invariants.{AcknowledgedKept, AcknowledgedVoted, Acknowledged, AcknowledgedExactly, ExactlyKept, ExactlyVoted}
 use Rattle.raft_model.specs.Runs.{World}
 use Rattle.raft_model.proofs.Micro.{State}
 use Rattle.raft_model.proofs.Facts.{Facts, Acked}
@@ -20,9 +18,8 @@ at_least : (w : World) (m t j : ℕ) → AcknowledgedExactly w m t j → Acknowl
 at_least w m t j (inl l) = inl l
 at_least w m t j (inr a) = inr (a.0, a.1, a.2, a.3, a.4, a.5, omega (arith, a.6))
 
-pub kept_exactly : (w : World) → AcknowledgedKept w → (m t j : ℕ) → AcknowledgedExactly w m t j → HasKept w m t j
+pub kept_exactly : (w : World) → AcknowledgedKept w → ExactlyKept w
 kept_exactly w f m t j a = f m t j (at_least w m t j a)
 
-pub voted_exactly : (w : World) → AcknowledgedVoted w → (k : KeptVote) (t j : ℕ) → In k w.history.kept → k.led ≡ false → t < k.term
-    → AcknowledgedExactly w k.voter t j → HasVotedWith w k t j
+pub voted_exactly : (w : World) → AcknowledgedVoted w → ExactlyVoted w
 voted_exactly w f k t j i l b a = f k t j i l b (at_least w k.voter t j a)

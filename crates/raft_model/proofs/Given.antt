@@ -7,7 +7,7 @@ use Rattle.raft_model.specs.Lists.{In}
 use Rattle.raft_model.specs.Messages.{Pair}
 use Rattle.raft_model.specs.Messages.Message.{Pairs}
 use Rattle.raft_model.specs.Server.{Store, committed}
-use Rattle.raft_model.specs.Runs.{World, Event, Lawful, beginning, run}
+use Rattle.raft_model.specs.Runs.{World, InEveryRun, beginning, run}
 use Rattle.raft_model.specs.Invariants.{Invariants, SoundStore}
 use Rattle.raft_model.specs.Safety.{IsSafe, IsGivenOnce}
 use Rattle.raft_model.proofs.Run.{keeps_invariants, is_safe}
@@ -58,7 +58,7 @@ module _ (pairs : (log : List Entry) (i j : ℕ) → IsInjective log → i < len
       same = sym (get_or-take (length (committed store)) world.ledger.entries place (blank 0) (omega (arith, below, counted)))
           ∙ (ap (λ (l : List Entry). get_or l place (blank 0)) front ∙ get_or-take store.commit store.log place (blank 0) below)
 
-  pub given_once : (members : List ℕ) (events : List Event) → Lawful (beginning members) events → IsGivenOnce (run (beginning members) events)
+  pub given_once : InEveryRun IsGivenOnce
   given_once members events lawful = record {
     pairs = λ i j. pairs world.ledger.entries i j safe.injective;
     reserved = λ i j. reserved world.ledger.entries i j safe.injective;

@@ -4,11 +4,11 @@ use Rattle.std.specs.Prelude.{◌==◌, if◌then◌else◌}
 use Rattle.std.proofs.lemmas.List.{take-take}
 use Rattle.can_frame.specs.declared.entry.Entry.{Entry}
 use Rattle.can_frame.specs.Log.{IsPrefix}
-use Rattle.raft_model.specs.Invariants.{IsFirm, IsSettled, has_acknowledged, is_acknowledgement}
+use Rattle.raft_model.specs.Invariants.{IsFirm, StaysSettled, has_acknowledged, is_acknowledgement}
 use Rattle.raft_model.specs.Lists.{any, how_many}
 use Rattle.raft_model.specs.Log.{Same}
 use Rattle.raft_model.specs.Messages.{Message}
-use Rattle.raft_model.specs.Runs.{Event, World, Lawful, after, beginning, posted, run}
+use Rattle.raft_model.specs.Runs.{Event, FromEachMoment, World, after, beginning, posted, run}
 use Rattle.raft_model.specs.Runs.Event.{Opens, Steps, Stops, StopsWithin}
 use Rattle.raft_model.specs.Safety.{Lasts}
 use Rattle.raft_model.specs.Server.{quorum}
@@ -87,7 +87,7 @@ module _ (early : World) (events : List Event) (still : Lasts early (run early e
       grows : IsPrefix (early.history.list term) (late.history.list term)
       grows = still.list term f.led
 
-  settled_later : (log : List Entry) (term : ℕ) → IsSettled early log term → IsSettled late log term
+  settled_later : StaysSettled early late
   settled_later log term s = (
     s.0,
     s.1,
@@ -97,7 +97,5 @@ module _ (early : World) (events : List Event) (still : Lasts early (run early e
         (omega (arith, s.1, s.2.inside))),
   )
 
-pub settled_lasts : (members : List ℕ) (early late : List Event) (log : List Entry) (term : ℕ) → Lawful (beginning members) early
-    → Lawful (run (beginning members) early) late → IsSettled (run (beginning members) early) log term
-    → IsSettled (run (run (beginning members) early) late) log term
-settled_lasts members early late log term l h = settled_later (run (beginning members) early) late (lasts members early late l h) log term
+pub settled_lasts : FromEachMoment StaysSettled
+settled_lasts members early late l h = settled_later (run (beginning members) early) late (lasts members early late l h)

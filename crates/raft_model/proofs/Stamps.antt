@@ -203,23 +203,22 @@ module _ (members : List ℕ) (events : List Event) (member step : ℕ) (moves :
   cut_waits count = stays site.ledger site.plain.store (take count (puts world.members member site.plain next)) here
       (take_low (length site.ledger.entries) count (puts world.members member site.plain next) low)
 
-pub ledger_waits : (members : List ℕ) (events : List Event) (member step : ℕ) (moves : List Move) (next : Move) (rest : List Move)
-    (fitted : List Message)
-    → Lawful (beginning members) events →
-    MayCome (run (beginning members) events) (Steps member step (moves ++ (next ∷ rest)) fitted) → ((index : ℕ) → next ≢ CommitTo index) →
+pub ledger_waits : (members : List ℕ) (events : List Event) → Lawful (beginning members) events
+    → (member step : ℕ) (moves : List Move) (next : Move) (rest : List Move) (fitted : List Message)
+    → MayCome (run (beginning members) events) (Steps member step (moves ++ (next ∷ rest)) fitted) → ((index : ℕ) → next ≢ CommitTo index) →
     (site_after (run (beginning members) events) member step (moves ++ (next ∷ []))).ledger
     ≡ (site_after (run (beginning members) events) member step moves).ledger
-ledger_waits members events member step moves next rest fitted lawful may other =
+ledger_waits members events lawful member step moves next rest fitted may other =
     ap (λ (x : Site). x.ledger) (joined_moves world.members member step moves (next ∷ []) (site_of world member))
     ∙ move_waits members events member step moves next lawful (stop_comes world member step moves next rest fitted 0 may) other
   where
     world : World
     world = run (beginning members) events
 
-pub ledger_cut : (members : List ℕ) (events : List Event) (member step : ℕ) (moves : List Move) (next : Move) (count : ℕ)
-    → Lawful (beginning members) events → MayCome (run (beginning members) events) (StopsWithin member step moves next count)
-    → ((index : ℕ) → next ≢ CommitTo index) →
+pub ledger_cut : (members : List ℕ) (events : List Event) → Lawful (beginning members) events
+    → (member step : ℕ) (moves : List Move) (next : Move) (count : ℕ)
+    → MayCome (run (beginning members) events) (StopsWithin member step moves next count) → ((index : ℕ) → next ≢ CommitTo index) →
     (after (run (beginning members) events) (StopsWithin member step moves next count)).ledger
     ≡ (site_after (run (beginning members) events) member step moves).ledger
-ledger_cut members events member step moves next count lawful may other = cut_waits members events member step moves next lawful may other
+ledger_cut members events lawful member step moves next count may other = cut_waits members events member step moves next lawful may other
     count

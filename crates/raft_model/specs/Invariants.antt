@@ -142,6 +142,14 @@ abbrev pub AcknowledgedVoted : World → Type 0
 AcknowledgedVoted world = (kept : KeptVote) (term count : ℕ) → In kept world.history.kept → kept.led ≡ false → term < kept.term
     → Acknowledged world kept.voter term count → HasVotedWith world kept term count
 
+-- what holds of just so many places, which follows from what holds of so many or more
+abbrev pub ExactlyKept : World → Type 0
+ExactlyKept world = (member term count : ℕ) → AcknowledgedExactly world member term count → HasKept world member term count
+
+abbrev pub ExactlyVoted : World → Type 0
+ExactlyVoted world = (kept : KeptVote) (term count : ℕ) → In kept world.history.kept → kept.led ≡ false → term < kept.term
+    → AcknowledgedExactly world kept.voter term count → HasVotedWith world kept term count
+
 -- Commit.
 
 abbrev pub is_acknowledgement : ℕ → ℕ → ℕ → Message → Bool
@@ -167,6 +175,10 @@ pub record IsFirm (world : World) (term place : ℕ) : Type 0 where
 abbrev pub IsSettled : World → List Entry → ℕ → Type 0
 IsSettled world log term = (place : ℕ) × (length log ≤ place) × IsFirm world term place
     × Same (length log) log (world.history.list term)
+
+-- what is settled at one moment is settled at the other
+abbrev pub StaysSettled : World → World → Type 0
+StaysSettled early late = (log : List Entry) (term : ℕ) → IsSettled early log term → IsSettled late log term
 
 -- what is settled by a term begins the list of every later term
 abbrev pub LeadersComplete : World → Type 0

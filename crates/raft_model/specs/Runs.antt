@@ -89,3 +89,12 @@ run world (event ∷ events) = run (after world event) events
 abbrev pub Lawful : World → List Event → Type 0
 Lawful world [] = Unit {0}
 Lawful world (event ∷ events) = MayCome world event × Lawful (after world event) events
+
+-- a fact of the world holds at each moment of every run
+abbrev pub InEveryRun : (World → Type 0) → Type 0
+InEveryRun fact = (members : List ℕ) (events : List Event) → Lawful (beginning members) events → fact (run (beginning members) events)
+
+-- a fact of two moments holds of each moment of every run and each later one
+abbrev pub FromEachMoment : (World → World → Type 0) → Type 0
+FromEachMoment fact = (members : List ℕ) (early late : List Event) → Lawful (beginning members) early
+    → Lawful (run (beginning members) early) late → fact (run (beginning members) early) (run (run (beginning members) early) late)

@@ -10,7 +10,6 @@ ghost use Rattle.can_frame.specs.Zeros.{zeros};
 ghost use Rattle.raft_model.specs.Lists.{In, how_many};
 ghost use Rattle.raft_model.specs.Messages.{Answer, Message, Pair, Request};
 ghost use Rattle.raft_model.specs.Messages.Message.{Answers, Pairs, Requests};
-ghost use Rattle.raft_model.specs.History.{KeptVote};
 ghost use Rattle.raft_model.specs.Server.{AreWritten, Plain, Store, opened, put_all};
 ghost use Rattle.raft_model.specs.Server.Role.{Candidate, Follower, Leader};
 ghost use Rattle.raft_model.specs.Moves.{CanCommit, Comes, IsCommitIndex, IsGranted, IsJudged, MayCall, MayPropose, Move, Verdict, memory_after, puts, term_limit, with_term};
@@ -21,10 +20,10 @@ ghost use Rattle.raft_model.specs.Handlers.{IsBreak, IsCut, calls_of_all, offers
 ghost use Rattle.raft_model.specs.Fit.{IsFit};
 ghost use Rattle.raft_model.specs.Duty.{CommitDuty, TellDuty, TickDuty, WinDuty, commit_phase, tell_phase, tick_phase};
 ghost use Rattle.raft_model.specs.Stops.{AllCome, Site, all_moved};
-ghost use Rattle.raft_model.specs.Runs.{Event, Lawful, MayCome, World, after, beginning, run, site_after};
+ghost use Rattle.raft_model.specs.Runs.{Event, FromEachMoment, InEveryRun, Lawful, MayCome, World, after, beginning, run, site_after};
 ghost use Rattle.raft_model.specs.Runs.Event.{Steps, Stops, StopsWithin};
 ghost use Rattle.raft_model.specs.Rows.{IsReady, MayTake};
-ghost use Rattle.raft_model.specs.Invariants.{AcknowledgedExactly, AcknowledgedKept, AcknowledgedVoted, HasKept, HasVotedWith, IsSettled, CallsSound, CommitsSettled, Invariants, LeadersComplete, LeadersElected, LogsMatch, StoresSound, VotesBound};
+ghost use Rattle.raft_model.specs.Invariants.{AcknowledgedKept, AcknowledgedVoted, CallsSound, CommitsSettled, ExactlyKept, ExactlyVoted, Invariants, LeadersComplete, LeadersElected, LogsMatch, StaysSettled, StoresSound, VotesBound};
 ghost use Rattle.raft_model.specs.Safety.{IsGivenOnce, IsSafe, Lasts};
 
 use can_frame::laws::node_ids_are_given_once;
@@ -32,77 +31,56 @@ use can_frame::laws::node_ids_are_given_once;
 /// Every run keeps the nine invariants and is safe: at each moment, after any number of the puts of a step
 /// that may come, and from each moment to every later one.
 pub fn law_every_run()
-    ensures invariants { (members : List ℕ) (events : List Event) → Lawful (beginning members) events
-        → Invariants (run (beginning members) events) }
-    ensures safe { (members : List ℕ) (events : List Event) → Lawful (beginning members) events → IsSafe (run (beginning members) events) }
-    ensures prefixes { (members : List ℕ) (events : List Event) (member step : ℕ) (moves : List Move) (next : Move) (rest : List Move)
-        (fitted : List Message) (count : ℕ)
-        → let world = run (beginning members) events in
-        Lawful (beginning members) events → MayCome world (Steps member step (moves ++ (next ∷ rest)) fitted)
+    ensures invariants { InEveryRun Invariants }
+    ensures safe { InEveryRun IsSafe }
+    ensures prefixes { InEveryRun (λ world. (member step : ℕ) (moves : List Move) (next : Move)
+        (rest : List Move) (fitted : List Message) (count : ℕ)
+        → MayCome world (Steps member step (moves ++ (next ∷ rest)) fitted)
         → Invariants (after world (StopsWithin member step moves next count))
-        × IsSafe (after world (StopsWithin member step moves next count)) }
-    ensures lasts { (members : List ℕ) (early late : List Event) → Lawful (beginning members) early
-        → Lawful (run (beginning members) early) late
-        → Lasts (run (beginning members) early) (run (run (beginning members) early) late) }
+        × IsSafe (after world (StopsWithin member step moves next count))) }
+    ensures lasts { FromEachMoment Lasts }
 {}
 
 /// What is stored is sound, and a vote binds its voter.
 pub fn law_stored()
-    ensures stores { (members : List ℕ) (events : List Event) → Lawful (beginning members) events
-        → StoresSound (run (beginning members) events) }
-    ensures votes { (members : List ℕ) (events : List Event) → Lawful (beginning members) events
-        → VotesBound (run (beginning members) events) }
+    ensures stores { InEveryRun StoresSound }
+    ensures votes { InEveryRun VotesBound }
 {}
 
 /// A leader was elected by a quorum, and calls and answers are what they say.
 pub fn law_votes()
-    ensures leaders { (members : List ℕ) (events : List Event) → Lawful (beginning members) events
-        → LeadersElected (run (beginning members) events) }
-    ensures calls { (members : List ℕ) (events : List Event) → Lawful (beginning members) events
-        → CallsSound (run (beginning members) events) }
+    ensures leaders { InEveryRun LeadersElected }
+    ensures calls { InEveryRun CallsSound }
 {}
 
 /// Logs with an entry of one term at one place agree up to there.
 pub fn law_matching()
-    ensures logs { (members : List ℕ) (events : List Event) → Lawful (beginning members) events
-        → LogsMatch (run (beginning members) events) }
+    ensures logs { InEveryRun LogsMatch }
 {}
 
 /// What a member acknowledged it keeps, and takes into its later votes, unless a later leader diverges: any
 /// number of places up to the reach of its answer, and so just those of its reach.
 pub fn law_acknowledged()
-    ensures kept { (members : List ℕ) (events : List Event) → Lawful (beginning members) events
-        → AcknowledgedKept (run (beginning members) events) }
-    ensures voted { (members : List ℕ) (events : List Event) → Lawful (beginning members) events
-        → AcknowledgedVoted (run (beginning members) events) }
-    ensures kept_exactly { (members : List ℕ) (events : List Event) (member term count : ℕ) → Lawful (beginning members) events
-        → AcknowledgedExactly (run (beginning members) events) member term count
-        → HasKept (run (beginning members) events) member term count }
-    ensures voted_exactly { (members : List ℕ) (events : List Event) (kept : KeptVote) (term count : ℕ) → Lawful (beginning members) events
-        → In kept (run (beginning members) events).history.kept → kept.led ≡ false → term < kept.term
-        → AcknowledgedExactly (run (beginning members) events) kept.voter term count
-        → HasVotedWith (run (beginning members) events) kept term count }
+    ensures kept { InEveryRun AcknowledgedKept }
+    ensures voted { InEveryRun AcknowledgedVoted }
+    ensures kept_exactly { InEveryRun ExactlyKept }
+    ensures voted_exactly { InEveryRun ExactlyVoted }
 {}
 
 /// What a quorum acknowledged stands in the list of every later leader, and only that is committed. It stays
 /// so through the run.
 pub fn law_commit()
-    ensures complete { (members : List ℕ) (events : List Event) → Lawful (beginning members) events
-        → LeadersComplete (run (beginning members) events) }
-    ensures commits { (members : List ℕ) (events : List Event) → Lawful (beginning members) events
-        → CommitsSettled (run (beginning members) events) }
-    ensures safe { (members : List ℕ) (events : List Event) → Lawful (beginning members) events → IsSafe (run (beginning members) events) }
-    ensures settled { (members : List ℕ) (early late : List Event) (log : List Entry) (term : ℕ) → Lawful (beginning members) early
-        → Lawful (run (beginning members) early) late → IsSettled (run (beginning members) early) log term
-        → IsSettled (run (run (beginning members) early) late) log term }
+    ensures complete { InEveryRun LeadersComplete }
+    ensures commits { InEveryRun CommitsSettled }
+    ensures safe { InEveryRun IsSafe }
+    ensures settled { FromEachMoment StaysSettled }
 {}
 
 /// What a reservation is for. Two pairs of the ledger have different node IDs and different unique IDs, and
 /// no pair has a reserved node ID. Whoever is told a node ID is told a pair of the ledger: a reservation is
 /// told to nobody, and nobody is told the node ID that it keeps back.
 pub fn law_reservations()
-    ensures { (members : List ℕ) (events : List Event) → Lawful (beginning members) events
-        → IsGivenOnce (run (beginning members) events) }
+    ensures { InEveryRun IsGivenOnce }
 {
     node_ids_are_given_once();
 }
@@ -110,18 +88,20 @@ pub fn law_reservations()
 /// Only a Leader's commit makes the ledger longer, so a stamp is always the term of a leader. Any other move
 /// leaves it, whole or cut.
 pub fn law_ledger()
-    ensures waits { (members : List ℕ) (events : List Event) (member step : ℕ) (moves : List Move) (next : Move) (rest : List Move)
-        (fitted : List Message)
-        → let world = run (beginning members) events in
-        Lawful (beginning members) events → MayCome world (Steps member step (moves ++ (next ∷ rest)) fitted)
+    ensures waits { InEveryRun (λ world. (member step : ℕ) (moves : List Move) (next : Move)
+        (rest : List Move) (fitted : List Message)
+        → MayCome world (Steps member step (moves ++ (next ∷ rest)) fitted)
         → ((index : ℕ) → next ≢ CommitTo index)
-        → (site_after world member step (moves ++ (next ∷ []))).ledger ≡ (site_after world member step moves).ledger }
-    ensures cut { (members : List ℕ) (events : List Event) (member step : ℕ) (moves : List Move) (next : Move) (count : ℕ)
-        → let world = run (beginning members) events in
-        Lawful (beginning members) events → MayCome world (StopsWithin member step moves next count)
+        → (site_after world member step (moves ++ (next ∷ []))).ledger
+        ≡ (site_after world member step moves).ledger) }
+    ensures cut { InEveryRun
+        (λ world. (member step : ℕ) (moves : List Move) (next : Move) (count : ℕ)
+        → MayCome world (StopsWithin member step moves next count)
         → ((index : ℕ) → next ≢ CommitTo index)
-        → (after world (StopsWithin member step moves next count)).ledger ≡ (site_after world member step moves).ledger }
-    ensures leader { (members : List ℕ) (member : ℕ) (bag : List Message) (called : List ℕ) (server : Plain) (index : ℕ)
+        → (after world (StopsWithin member step moves next count)).ledger
+        ≡ (site_after world member step moves).ledger) }
+    ensures leader { (members : List ℕ) (member : ℕ) (bag : List Message) (called : List ℕ)
+        (server : Plain) (index : ℕ)
         → Comes members member bag called server (CommitTo index) → server.memory.role ≡ Leader }
 {}
 
@@ -130,27 +110,35 @@ pub fn law_ledger()
 /// that failed stands in one of them, and whether a stop finds it undone or done, it is a stop within this
 /// move. What is stored then is what was stored before the step, with these puts.
 pub fn law_stops()
-    ensures stop { (world : World) (member step : ℕ) (moves : List Move) (next : Move) (rest : List Move) (fitted : List Message)
-        (count : ℕ)
+    ensures stop { (world : World) (member step : ℕ) (moves : List Move) (next : Move)
+        (rest : List Move) (fitted : List Message) (count : ℕ)
         → MayCome world (Steps member step (moves ++ (next ∷ rest)) fitted)
         → MayCome world (StopsWithin member step moves next count) }
-    ensures between { (world : World) (member step : ℕ) (moves rest : List Move) (fitted : List Message)
-        → MayCome world (Steps member step (moves ++ rest) fitted) → MayCome world (Stops member step moves) }
-    ensures cut { (members : List ℕ) (member step : ℕ) (server : Plain) (moves : List Move) (count : ℕ)
-        → 0 < length (puts_of_all members member step server moves) → count ≤ length (puts_of_all members member step server moves)
+    ensures between { (world : World) (member step : ℕ) (moves rest : List Move)
+        (fitted : List Message)
+        → MayCome world (Steps member step (moves ++ rest) fitted)
+        → MayCome world (Stops member step moves) }
+    ensures cut { (members : List ℕ) (member step : ℕ) (server : Plain) (moves : List Move)
+        (count : ℕ)
+        → 0 < length (puts_of_all members member step server moves)
+        → count ≤ length (puts_of_all members member step server moves)
         → IsCut members member step server moves count }
-    ensures failed { (members : List ℕ) (member step : ℕ) (server : Plain) (moves : List Move) (done : ℕ)
-        → done < length (puts_of_all members member step server moves) → IsBreak members member step server moves done }
+    ensures failed { (members : List ℕ) (member step : ℕ) (server : Plain) (moves : List Move)
+        (done : ℕ)
+        → done < length (puts_of_all members member step server moves)
+        → IsBreak members member step server moves done }
     ensures stored { (world : World) (member step : ℕ) (moves : List Move) (next : Move) (count : ℕ)
         → let server = world.server member in
         ((after world (StopsWithin member step moves next count)).server member).store
         ≡ put_all server.store (puts_of_all world.members member step server moves
-        ++ take count (puts world.members member (plain_after_all world.members member step server moves) next)) }
+        ++ take count (puts world.members member
+        (plain_after_all world.members member step server moves) next)) }
 {}
 
 /// Each move puts an entry just before it raises last by it, and so does a step of many moves.
 pub fn law_puts()
-    ensures of_move { (members : List ℕ) (member : ℕ) (server : Plain) (move : Move) → AreWritten None (puts members member server move) }
+    ensures of_move { (members : List ℕ) (member : ℕ) (server : Plain) (move : Move)
+        → AreWritten None (puts members member server move) }
     ensures of_step { (members : List ℕ) (member step : ℕ) (server : Plain) (moves : List Move)
         → AreWritten None (puts_of_all members member step server moves) }
 {}
@@ -159,7 +147,8 @@ pub fn law_puts()
 pub fn law_one_more()
     ensures run { (world : World) (events : List Event) (event : Event)
         → run world (events ++ (event ∷ [])) ≡ after (run world events) event }
-    ensures lawful { (world : World) (events : List Event) (event : Event) → Lawful world events → MayCome (run world events) event
+    ensures lawful { (world : World) (events : List Event) (event : Event) → Lawful world events
+        → MayCome (run world events) event
         → Lawful world (events ++ (event ∷ [])) }
 {}
 
@@ -167,7 +156,8 @@ pub fn law_one_more()
 /// the messages that they offer, and the peers that they call.
 pub fn law_handlers()
     ensures plain { (members : List ℕ) (member step : ℕ) (moves : List Move) (site : Site)
-        → (all_moved members member step site moves).plain ≡ plain_after_all members member step site.plain moves }
+        → (all_moved members member step site moves).plain
+        ≡ plain_after_all members member step site.plain moves }
     ensures store { (members : List ℕ) (member step : ℕ) (moves : List Move) (server : Plain)
         → (plain_after_all members member step server moves).store
         ≡ put_all server.store (puts_of_all members member step server moves) }
@@ -181,42 +171,60 @@ pub fn law_handlers()
 /// Two lists of moves, one after the other, are one: the server after them, their puts and offers; and they
 /// may come together exactly where each may come in its turn.
 pub fn law_joined()
-    ensures server { (members : List ℕ) (member step : ℕ) (first second : List Move) (server : Plain)
+    ensures server { (members : List ℕ) (member step : ℕ) (first second : List Move)
+        (server : Plain)
         → plain_after_all members member step server (first ++ second)
-        ≡ plain_after_all members member step (plain_after_all members member step server first) second }
+        ≡ plain_after_all members member step
+        (plain_after_all members member step server first) second }
     ensures puts { (members : List ℕ) (member step : ℕ) (first second : List Move) (server : Plain)
         → puts_of_all members member step server (first ++ second)
         ≡ puts_of_all members member step server first
-        ++ puts_of_all members member step (plain_after_all members member step server first) second }
-    ensures offers { (members : List ℕ) (member step : ℕ) (first second : List Move) (server : Plain)
+        ++ puts_of_all members member step
+        (plain_after_all members member step server first) second }
+    ensures offers { (members : List ℕ) (member step : ℕ) (first second : List Move)
+        (server : Plain)
         → offers_of_all members member step server (first ++ second)
-        ≡ offers_of_all members member step (plain_after_all members member step server first) second
+        ≡ offers_of_all members member step
+        (plain_after_all members member step server first) second
         ++ offers_of_all members member step server first }
     ensures site { (members : List ℕ) (member step : ℕ) (first second : List Move) (site : Site)
-        → all_moved members member step site (first ++ second) ≡ all_moved members member step (all_moved members member step site first) second }
-    ensures come { (members : List ℕ) (member step : ℕ) (bag : List Message) (first second : List Move) (site : Site)
-        → AllCome members member step bag site first → AllCome members member step bag (all_moved members member step site first) second
+        → all_moved members member step site (first ++ second)
+        ≡ all_moved members member step (all_moved members member step site first) second }
+    ensures come { (members : List ℕ) (member step : ℕ) (bag : List Message)
+        (first second : List Move) (site : Site)
+        → AllCome members member step bag site first
+        → AllCome members member step bag (all_moved members member step site first) second
         → AllCome members member step bag site (first ++ second) }
-    ensures apart { (members : List ℕ) (member step : ℕ) (bag : List Message) (first second : List Move) (site : Site)
+    ensures apart { (members : List ℕ) (member step : ℕ) (bag : List Message)
+        (first second : List Move) (site : Site)
         → AllCome members member step bag site (first ++ second)
-        → AllCome members member step bag site first × AllCome members member step bag (all_moved members member step site first) second }
+        → AllCome members member step bag site first
+        × AllCome members member step bag (all_moved members member step site first) second }
 {}
 
 /// What a server decides is what the moves ask for, and they ask for nothing else: whether a vote is
 /// granted, what becomes of an append request, whether an entry may be proposed, and the index to which a
 /// leader commits.
 pub fn law_decisions()
-    ensures granted { (store : Store) (request : Request) → IsGranted store request (grants store request) }
-    ensures one_grant { (store : Store) (request : Request) (granted : Bool) → IsGranted store request granted → granted ≡ grants store request }
-    ensures judged { (server : Plain) (request : Request) → IsJudged server request (judges server request) }
-    ensures one_verdict { (server : Plain) (request : Request) (verdict : Verdict) → IsJudged server request verdict
+    ensures granted { (store : Store) (request : Request)
+        → IsGranted store request (grants store request) }
+    ensures one_grant { (store : Store) (request : Request) (granted : Bool)
+        → IsGranted store request granted → granted ≡ grants store request }
+    ensures judged { (server : Plain) (request : Request)
+        → IsJudged server request (judges server request) }
+    ensures one_verdict { (server : Plain) (request : Request) (verdict : Verdict)
+        → IsJudged server request verdict
         → verdict ≡ judges server request }
-    ensures proposal { (server : Plain) (entry : Entry) → (may_propose server entry ≡ true) ↔ MayPropose server entry }
-    ensures commit { (members : List ℕ) (member : ℕ) (server : Plain) (index : ℕ) → commit_index members member server ≡ Some index
+    ensures proposal { (server : Plain) (entry : Entry)
+        → (may_propose server entry ≡ true) ↔ MayPropose server entry }
+    ensures commit { (members : List ℕ) (member : ℕ) (server : Plain) (index : ℕ)
+        → commit_index members member server ≡ Some index
         → IsCommitIndex members member server index }
-    ensures one_commit { (members : List ℕ) (member : ℕ) (server : Plain) (index : ℕ) → IsCommitIndex members member server index
+    ensures one_commit { (members : List ℕ) (member : ℕ) (server : Plain) (index : ℕ)
+        → IsCommitIndex members member server index
         → commit_index members member server ≡ Some index }
-    ensures no_commit { (members : List ℕ) (member : ℕ) (server : Plain) → commit_index members member server ≡ None → (index : ℕ)
+    ensures no_commit { (members : List ℕ) (member : ℕ) (server : Plain)
+        → commit_index members member server ≡ None → (index : ℕ)
         → CanCommit members member server index → ⊥ }
 {}
 
@@ -226,7 +234,8 @@ pub fn law_decisions()
 /// same puts, messages and memory of the model, and they may come. A Follower that does not stand for election
 /// needs no list of all for it.
 pub fn law_members()
-    ensures count { (list members : List ℕ) (test : ℕ → Bool) → IsAll list members → how_many test list ≡ how_many test members }
+    ensures count { (list members : List ℕ) (test : ℕ → Bool) → IsAll list members
+        → how_many test list ≡ how_many test members }
     ensures puts { (list members : List ℕ) (member : ℕ) (server : Plain) (move : Move)
         → (counts_votes server move ≡ true → IsAll list members)
         → puts list member server move ≡ puts members member server move }
@@ -235,30 +244,43 @@ pub fn law_members()
         → memory_after list member step server move ≡ memory_after members member step server move }
     ensures commit { (list members : List ℕ) (member : ℕ) (server : Plain) → IsAll list members
         → commit_index list member server ≡ commit_index members member server }
-    ensures come { (list members : List ℕ) (member : ℕ) (bag : List Message) (called : List ℕ) (server : Plain) (move : Move)
+    ensures come { (list members : List ℕ) (member : ℕ) (bag : List Message) (called : List ℕ)
+        (server : Plain) (move : Move)
         → (server.memory.role ≢ Follower → IsAll list members)
         → Comes list member bag called server move → Comes members member bag called server move }
-    ensures all_after { (list members : List ℕ) (member step : ℕ) (server : Plain) (moves : List Move) → KnowsEnough list members server moves
-        → plain_after_all list member step server moves ≡ plain_after_all members member step server moves }
-    ensures all_puts { (list members : List ℕ) (member step : ℕ) (server : Plain) (moves : List Move) → KnowsEnough list members server moves
-        → puts_of_all list member step server moves ≡ puts_of_all members member step server moves }
-    ensures all_offers { (list members : List ℕ) (member step : ℕ) (server : Plain) (moves : List Move)
+    ensures all_after { (list members : List ℕ) (member step : ℕ) (server : Plain)
+        (moves : List Move)
         → KnowsEnough list members server moves
-        → offers_of_all list member step server moves ≡ offers_of_all members member step server moves }
-    ensures all_site { (list members : List ℕ) (member step : ℕ) (site : Site) (moves : List Move) → KnowsEnough list members site.plain moves
+        → plain_after_all list member step server moves
+        ≡ plain_after_all members member step server moves }
+    ensures all_puts { (list members : List ℕ) (member step : ℕ) (server : Plain)
+        (moves : List Move)
+        → KnowsEnough list members server moves
+        → puts_of_all list member step server moves ≡ puts_of_all members member step server moves }
+    ensures all_offers { (list members : List ℕ) (member step : ℕ) (server : Plain)
+        (moves : List Move)
+        → KnowsEnough list members server moves
+        → offers_of_all list member step server moves
+        ≡ offers_of_all members member step server moves }
+    ensures all_site { (list members : List ℕ) (member step : ℕ) (site : Site) (moves : List Move)
+        → KnowsEnough list members site.plain moves
         → all_moved list member step site moves ≡ all_moved members member step site moves }
-    ensures all_come { (list members : List ℕ) (member step : ℕ) (bag : List Message) (site : Site) (moves : List Move)
+    ensures all_come { (list members : List ℕ) (member step : ℕ) (bag : List Message) (site : Site)
+        (moves : List Move)
         → KnowsEnough list members site.plain moves
         → AllCome list member step bag site moves → AllCome members member step bag site moves }
 {}
 
 /// A server that opens is fit, every move that may come keeps it fit, and so is each server of every run.
 pub fn law_fit()
-    ensures opened { (member : ℕ) (store : Store) → IsFit member (record { store = store; memory = opened }) }
-    ensures kept { (members : List ℕ) (member step : ℕ) (bag : List Message) (called : List ℕ) (server : Plain) (move : Move)
+    ensures opened { (member : ℕ) (store : Store)
+        → IsFit member (record { store = store; memory = opened }) }
+    ensures kept { (members : List ℕ) (member step : ℕ) (bag : List Message) (called : List ℕ)
+        (server : Plain) (move : Move)
         → Comes members member bag called server move → IsFit member server
         → IsFit member (plain_after members member step server move) }
-    ensures run { (members : List ℕ) (events : List Event) (member : ℕ) → Lawful (beginning members) events
+    ensures run { (members : List ℕ) (events : List Event) (member : ℕ)
+        → Lawful (beginning members) events
         → IsFit member ((run (beginning members) events).server member) }
 {}
 
@@ -266,63 +288,92 @@ pub fn law_fit()
 /// stands for the next term, a leader's commit is the greatest, a committed pair is told where there is
 /// room, a full log takes no proposal, and a Candidate that counts a quorum leads.
 pub fn law_duty()
-    ensures tick_comes { (members : List ℕ) (member step : ℕ) (bag : List Message) (waited : Bool) (site : Site)
+    ensures tick_comes { (members : List ℕ) (member step : ℕ) (bag : List Message) (waited : Bool)
+        (site : Site)
         → AllCome members member step bag site (tick_phase waited site.plain) }
-    ensures tick { (members : List ℕ) (member step : ℕ) (server : Plain) → server.memory.role ≢ Leader → server.store.term < term_limit
+    ensures tick { (members : List ℕ) (member step : ℕ) (server : Plain)
+        → server.memory.role ≢ Leader → server.store.term < term_limit
         → TickDuty server (plain_after_all members member step server (tick_phase true server)) }
     ensures commit_comes { (members : List ℕ) (member step : ℕ) (bag : List Message) (site : Site)
         → AllCome members member step bag site (commit_phase members member site.plain) }
-    ensures commit { (members : List ℕ) (member step : ℕ) (server : Plain) → server.memory.role ≡ Leader
-        → CommitDuty members member server (plain_after_all members member step server (commit_phase members member server)) }
-    ensures tell_comes { (members : List ℕ) (member step : ℕ) (bag : List Message) (room : Bool) (site : Site)
+    ensures commit { (members : List ℕ) (member step : ℕ) (server : Plain)
+        → server.memory.role ≡ Leader
+        → CommitDuty members member server
+        (plain_after_all members member step server (commit_phase members member server)) }
+    ensures tell_comes { (members : List ℕ) (member step : ℕ) (bag : List Message) (room : Bool)
+        (site : Site)
         → AllCome members member step bag site (tell_phase room site.plain) }
-    ensures tell { (members : List ℕ) (member step : ℕ) (room : Bool) (server : Plain) → server.memory.role ≡ Leader
-        → TellDuty member step room server (plain_after_all members member step server (tell_phase room server))
+    ensures tell { (members : List ℕ) (member step : ℕ) (room : Bool) (server : Plain)
+        → server.memory.role ≡ Leader
+        → TellDuty member step room server
+        (plain_after_all members member step server (tell_phase room server))
         (offers_of_all members member step server (tell_phase room server)) }
-    ensures full { (server : Plain) (entry : Entry) → length server.store.log ≡ log_limit → MayPropose server entry → ⊥ }
-    ensures win { (members : List ℕ) (events : List Event) (member : ℕ) → Lawful (beginning members) events
+    ensures full { (server : Plain) (entry : Entry) → length server.store.log ≡ log_limit
+        → MayPropose server entry → ⊥ }
+    ensures win { (members : List ℕ) (events : List Event) (member : ℕ)
+        → Lawful (beginning members) events
         → WinDuty members ((run (beginning members) events).server member) }
 {}
 
 /// Each row of the table whose condition holds is a lawful step by itself, so the machine is not empty.
 pub fn law_rows()
-    ensures time_out { (world : World) (member step : ℕ) → IsReady world member step → (world.server member).memory.role ≢ Leader
+    ensures time_out { (world : World) (member step : ℕ) → IsReady world member step
+        → (world.server member).memory.role ≢ Leader
         → (world.server member).store.term < term_limit → MayTake world member step TimeOut }
-    ensures vote_request { (world : World) (member step : ℕ) (request : Request) → IsReady world member step → In (Requests request) world.bag
+    ensures vote_request { (world : World) (member step : ℕ) (request : Request)
+        → IsReady world member step → In (Requests request) world.bag
         → request.to ≡ member → request.append ≡ false
         → MayTake world member step
-        (TakeVoteRequest request (grants (with_term (world.server member).store request.term) request)) }
-    ensures vote_answer { (world : World) (member step : ℕ) (answer : Answer) → IsReady world member step → In (Answers answer) world.bag
+        (TakeVoteRequest request
+        (grants (with_term (world.server member).store request.term) request)) }
+    ensures vote_answer { (world : World) (member step : ℕ) (answer : Answer)
+        → IsReady world member step → In (Answers answer) world.bag
         → answer.request.from ≡ member → answer.request.append ≡ false
         → (world.server member).memory.pending answer.from ≡ Some answer.request
         → MayTake world member step (TakeVoteAnswer answer) }
-    ensures append_request { (world : World) (member step : ℕ) (request : Request) → IsReady world member step → In (Requests request) world.bag
+    ensures append_request { (world : World) (member step : ℕ) (request : Request)
+        → IsReady world member step → In (Requests request) world.bag
         → request.to ≡ member → request.append ≡ true
-        → MayTake world member step (TakeAppendRequest request (judges (world.server member) request)) }
-    ensures append_answer { (world : World) (member step : ℕ) (answer : Answer) → IsReady world member step → In (Answers answer) world.bag
+        → MayTake world member step
+        (TakeAppendRequest request (judges (world.server member) request)) }
+    ensures append_answer { (world : World) (member step : ℕ) (answer : Answer)
+        → IsReady world member step → In (Answers answer) world.bag
         → answer.request.from ≡ member → answer.request.append ≡ true
         → (world.server member).memory.pending answer.from ≡ Some answer.request
         → MayTake world member step (TakeAppendAnswer answer) }
-    ensures propose { (world : World) (member step : ℕ) (entry : Entry) → IsReady world member step → MayPropose (world.server member) entry
+    ensures propose { (world : World) (member step : ℕ) (entry : Entry) → IsReady world member step
+        → MayPropose (world.server member) entry
         → MayTake world member step (ProposeEntry entry) }
-    ensures commit { (world : World) (member step index : ℕ) → IsReady world member step → (world.server member).memory.role ≡ Leader
-        → commit_index world.members member (world.server member) ≡ Some index → MayTake world member step (CommitTo index) }
-    ensures tell { (world : World) (member step : ℕ) → IsReady world member step → let server = world.server member in
+    ensures commit { (world : World) (member step index : ℕ) → IsReady world member step
+        → (world.server member).memory.role ≡ Leader
+        → commit_index world.members member (world.server member) ≡ Some index
+        → MayTake world member step (CommitTo index) }
+    ensures tell { (world : World) (member step : ℕ) → IsReady world member step
+        → let server = world.server member in
         server.memory.role ≡ Leader → server.memory.told < server.store.commit
-        → (get_or server.store.log server.memory.told (blank 0)).uid ≢ zeros → MayTake world member step TellPair }
-    ensures pass_over { (world : World) (member step : ℕ) → IsReady world member step → let server = world.server member in
+        → (get_or server.store.log server.memory.told (blank 0)).uid ≢ zeros
+        → MayTake world member step TellPair }
+    ensures pass_over { (world : World) (member step : ℕ) → IsReady world member step
+        → let server = world.server member in
         server.memory.role ≡ Leader → server.memory.told < server.store.commit
-        → (get_or server.store.log server.memory.told (blank 0)).uid ≡ zeros → MayTake world member step TellNothing }
-    ensures call_for_vote { (world : World) (member step peer : ℕ) → IsReady world member step → (world.server member).memory.role ≡ Candidate
-        → MayCall world.members member [] (world.server member) peer → MayTake world member step (CallForVote peer) }
-    ensures call_to_append { (world : World) (member step peer previous : ℕ) (with_entry : Bool) → IsReady world member step
-        → (world.server member).memory.role ≡ Leader → previous ≤ length (world.server member).store.log
+        → (get_or server.store.log server.memory.told (blank 0)).uid ≡ zeros
+        → MayTake world member step TellNothing }
+    ensures call_for_vote { (world : World) (member step peer : ℕ) → IsReady world member step
+        → (world.server member).memory.role ≡ Candidate
+        → MayCall world.members member [] (world.server member) peer
+        → MayTake world member step (CallForVote peer) }
+    ensures call_to_append { (world : World) (member step peer previous : ℕ) (with_entry : Bool)
+        → IsReady world member step
+        → (world.server member).memory.role ≡ Leader
+        → previous ≤ length (world.server member).store.log
         → MayCall world.members member [] (world.server member) peer
         → MayTake world member step (CallToAppend peer previous with_entry) }
-    ensures answer_again { (world : World) (member step place : ℕ) → IsReady world member step → let server = world.server member in
+    ensures answer_again { (world : World) (member step place : ℕ) → IsReady world member step
+        → let server = world.server member in
         place < server.store.commit → (get_or server.store.log place (blank 0)).uid ≢ zeros
         → MayTake world member step (AnswerAgain place) }
-    ensures give_up { (world : World) (member step peer : ℕ) → IsReady world member step → MayTake world member step (GiveUp peer) }
+    ensures give_up { (world : World) (member step peer : ℕ) → IsReady world member step
+        → MayTake world member step (GiveUp peer) }
 {}
 
 /// The machine does something: three members come to a leader that has committed an entry and told its pair.
