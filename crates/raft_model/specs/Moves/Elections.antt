@@ -1,0 +1,133 @@
+-- What the moves of an election change: a higher term, standing and winning, votes.
+use Rattle.std.specs.Prelude.{◌≡◌, ℕ, ◌+◌, Bool, true, false, List, [], ◌∷◌, length, ◌==◌, ◌&&◌, ◌⊎◌, Option, Some, None, nat_le, nat_lt, if◌then◌else◌}
+use Rattle.raft_model.specs.Lists.{at, how_many}
+use Rattle.can_frame.specs.Log.{blank, last_term, log_limit}
+use Rattle.raft_model.specs.Log.{NotAbove}
+use Rattle.raft_model.specs.Messages.{Request, Answer}
+use Rattle.raft_model.specs.Server.{Role, Store, Memory, Plain, quorum, Put, put_all}
+use Rattle.raft_model.specs.Server.Role.{Follower, Candidate, Leader}
+use Rattle.raft_model.specs.Server.Put.{PutTerm, PutVote, PutEntry, PutLonger}
+use Rattle.raft_model.specs.History.{History, voted, elected}
+
+-- no term is above it
+abbrev pub term_limit : ℕ
+term_limit = 4294967295
+
+abbrev pub is_candidate : Role → Bool
+is_candidate Follower = false
+is_candidate Candidate = true
+is_candidate Leader = false
+
+abbrev pub is_leader : Role → Bool
+is_leader Follower = false
+is_leader Candidate = false
+is_leader Leader = true
+
+-- A higher term: that term, vote none; role Follower.
+
+abbrev pub term_puts : Store → ℕ → List Put
+term_puts store term = if nat_lt store.term term then PutTerm term ∷ PutVote None ∷ [] else []
+
+abbrev pub with_term : Store → ℕ → Store
+with_term store term = put_all store (term_puts store term)
+
+abbrev pub term_memory : Plain → ℕ → Memory
+term_memory server term = if nat_lt server.store.term term then record server.memory { role = Follower } else server.memory
+
+-- Standing and winning.
+
+-- these votes are a quorum
+abbrev pub has_quorum : List ℕ → (ℕ → Bool) → Bool
+has_quorum members votes = nat_le (quorum members) (how_many votes members)
+
+-- term plus 1, vote none, vote itself
+abbrev pub stand_puts : ℕ → Store → List Put
+stand_puts member store = PutTerm (store.term + 1) ∷ PutVote None ∷ PutVote (Some member) ∷ []
+
+-- its own vote alone counts
+abbrev pub own_vote : ℕ → ℕ → Bool
+own_vote member peer = peer == member
+
+abbrev pub stand_memory : ℕ → Memory → Memory
+stand_memory member memory = record memory { role = Candidate; votes = own_vote member; pending = λ peer. None }
+
+-- a new leader adds a blank where something is not committed and there is room
+abbrev pub adds_blank : Store → Bool
+adds_blank store = nat_lt store.commit (length store.log) && nat_lt (length store.log) log_limit
+
+abbrev pub win_puts : Store → List Put
+win_puts store = if adds_blank store then PutEntry (blank store.term) ∷ PutLonger (blank store.term) ∷ [] else []
+
+abbrev pub win_memory : Store → Memory → Memory
+win_memory store memory = record memory {
+  role = Leader;
+  told = store.commit;
+  next = λ peer. length store.log + 1;
+  matched = λ peer. 0;
+  pending = λ peer. None;
+}
+
+-- a win that has no put is remembered when its move is done
+abbrev pub win_history : ℕ → Store → History → History
+win_history member store history = if adds_blank store then history else elected history member store.term store.log
+
+-- Votes.
+
+-- a vote is granted exactly where the terms are equal, the vote is none or the sender, and the sender's log is not behind
+pub record MayGrant (store : Store) (request : Request) : Type 0 where
+  pub own_term : request.term ≡ store.term
+  pub free : (store.vote ≡ None) ⊎ (store.vote ≡ Some request.from)
+  pub not_above : NotAbove (last_term store.log) (length store.log) request.previous_term request.previous
+
+abbrev pub IsGranted : Store → Request → Bool → Type 0
+IsGranted store request true = MayGrant store request
+IsGranted store request false = MayGrant store request → ⊥
+
+-- a first grant is stored, a repeated one has no put
+abbrev pub vote_puts : Option ℕ → ℕ → List Put
+vote_puts None candidate = PutVote (Some candidate) ∷ []
+vote_puts (Some earlier) candidate = []
+
+abbrev pub grant_puts : Store → Request → Bool → List Put
+grant_puts store request true = vote_puts store.vote request.from
+grant_puts store request false = []
+
+-- a repeated grant is kept when its move is done
+abbrev pub vote_history : ℕ → Store → Request → Option ℕ → History → History
+vote_history member store request None history = history
+vote_history member store request (Some earlier) history = voted history member request.from request.term store.log
+
+abbrev pub grant_history : ℕ → Store → Request → Bool → History → History
+grant_history member store request true history = vote_history member store request store.vote history
+grant_history member store request false history = history
+
+-- a grant counts for a Candidate of this term
+abbrev pub counts : Plain → Answer → Bool
+counts server answer = is_candidate server.memory.role && ((answer.term == server.store.term) && answer.success)
+
+abbrev pub counted : Memory → Answer → ℕ → Bool
+counted memory answer = at memory.votes answer.from true
+
+-- the call that an answer answers ends
+abbrev pub ended : Memory → ℕ → Memory
+ended memory peer = record memory { pending = at memory.pending peer None }
+
+-- an answer with a higher term makes a Follower
+abbrev pub stepped_down : Memory → ℕ → Memory
+stepped_down memory peer = record (ended memory peer) { role = Follower }
+
+-- a grant is counted, and a quorum wins
+abbrev pub with_vote : Memory → Answer → Memory
+with_vote memory answer = record (ended memory answer.from) { votes = counted memory answer }
+
+abbrev pub counting_puts : List ℕ → Plain → Answer → List Put
+counting_puts members server answer = if has_quorum members (counted server.memory answer) then win_puts server.store else []
+
+abbrev pub counting_memory : List ℕ → Plain → Answer → Memory
+counting_memory members server answer =
+    if has_quorum members (counted server.memory answer)
+    then win_memory server.store (with_vote server.memory answer) else with_vote server.memory answer
+
+abbrev pub counting_history : List ℕ → ℕ → Plain → Answer → History → History
+counting_history members member server answer history =
+    if has_quorum members (counted server.memory answer) then win_history member server.store history else history
