@@ -22,7 +22,7 @@ ghost use Rattle.raft_model.specs.Duty.{CommitDuty, TellDuty, TickDuty, WinDuty,
 ghost use Rattle.raft_model.specs.Stops.{AllCome, Site, all_moved};
 ghost use Rattle.raft_model.specs.Runs.{Event, FromEachMoment, InEveryRun, Lawful, MayCome, World, after, beginning, run, site_after};
 ghost use Rattle.raft_model.specs.Runs.Event.{Steps, Stops, StopsWithin};
-ghost use Rattle.raft_model.specs.Rows.{IsReady, MayTake};
+ghost use Rattle.raft_model.specs.Rows.{IsAtWork, IsReady, MayTake};
 ghost use Rattle.raft_model.specs.Invariants.{AcknowledgedKept, AcknowledgedVoted, CallsSound, CommitsSettled, ExactlyKept, ExactlyVoted, Invariants, LeadersComplete, LeadersElected, LogsMatch, StaysSettled, StoresSound, VotesBound};
 ghost use Rattle.raft_model.specs.Safety.{IsGivenOnce, IsSafe, Lasts};
 
@@ -143,13 +143,19 @@ pub fn law_puts()
         → AreWritten None (puts_of_all members member step server moves) }
 {}
 
-/// A run grows by one event at its end.
+/// A run grows by one event at its end. Two lists of events, one after the other, are one run, which is
+/// lawful exactly where each is in its turn.
 pub fn law_one_more()
     ensures run { (world : World) (events : List Event) (event : Event)
         → run world (events ++ (event ∷ [])) ≡ after (run world events) event }
     ensures lawful { (world : World) (events : List Event) (event : Event) → Lawful world events
-        → MayCome (run world events) event
-        → Lawful world (events ++ (event ∷ [])) }
+        → MayCome (run world events) event → Lawful world (events ++ (event ∷ [])) }
+    ensures joined { (world : World) (first second : List Event)
+        → run world (first ++ second) ≡ run (run world first) second }
+    ensures come { (world : World) (first second : List Event) → Lawful world first
+        → Lawful (run world first) second → Lawful world (first ++ second) }
+    ensures apart { (world : World) (first second : List Event) → Lawful world (first ++ second)
+        → Lawful world first × Lawful (run world first) second }
 {}
 
 /// Moves told of the plain server alone are those of its step: the server after them, what is stored then,
@@ -376,9 +382,12 @@ pub fn law_rows()
         → MayTake world member step (GiveUp peer) }
 {}
 
-/// The machine does something: three members come to a leader that has committed an entry and told its pair.
+/// The machine does something: three members come to a leader that has committed an entry and told its pair,
+/// and go on to one that has committed a reservation too, and has passed it over.
 pub fn law_example()
-    ensures { (events : List Event) × Lawful (beginning (1 ∷ 2 ∷ 3 ∷ [])) events
+    ensures pair { (events : List Event) × Lawful (beginning (1 ∷ 2 ∷ 3 ∷ [])) events
         × (length (run (beginning (1 ∷ 2 ∷ 3 ∷ [])) events).ledger.entries ≡ 1)
         × ((pair : Pair) × In (Pairs pair) (run (beginning (1 ∷ 2 ∷ 3 ∷ [])) events).bag) }
+    ensures reservation { (events : List Event) × Lawful (beginning (1 ∷ 2 ∷ 3 ∷ [])) events
+        × IsAtWork (run (beginning (1 ∷ 2 ∷ 3 ∷ [])) events) 1 }
 {}
