@@ -1,1 +1,2 @@
 mod Growth
+mod Joining

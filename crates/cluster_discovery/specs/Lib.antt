@@ -1,2 +1,3 @@
 pub mod Members
 pub mod Stands
+pub mod Views

@@ -1,6 +1,6 @@
 -- What a member heard and sent, newest first, and what follows from it
 -- (UAVCAN v0 specification, "Redundant allocators"; uavcan.protocol.dynamic_node_id.server.Discovery).
-use Rattle.std.specs.Prelude.{ℕ, ◌+◌, ◌-◌, ◌/◌, Bool, false, if◌then◌else◌, not, ◌&&◌, ◌||◌, nat_le, nat_lt, nat_eq, List, [], ◌∷◌, ◌++◌, length}
+use Rattle.std.specs.Prelude.{ℕ, ◌≡◌, ◌≢◌, ◌⊎◌, ◌<◌, ◌≤◌, ◌+◌, ◌-◌, ◌/◌, Bool, true, false, if◌then◌else◌, not, ◌&&◌, ◌||◌, nat_le, nat_lt, nat_eq, List, [], ◌∷◌, ◌++◌, length, slice_index_or, Contains}
 use Rattle.std.specs.List.{list_any}
 use Rattle.dsdl_codec.specs.declared.discovery.Discovery.{Discovery}
 
@@ -11,6 +11,13 @@ pub record Start : Type 0 where
   -- how many members the cluster is to have
   pub size : ℕ
   pub moment : ℕ
+
+-- a member that may be: its node ID is 1 to 125, and its cluster is to have 1 to 5 members
+pub record IsStart (start : Start) : Type 0 where
+  pub numbered : 1 ≤ start.me
+  pub device : start.me ≤ 125
+  pub least : 1 ≤ start.size
+  pub most : start.size ≤ 5
 
 pub data Event : Type 0 where
   -- a Discovery was heard from a node
@@ -50,6 +57,20 @@ abbrev pub members : Start → List Event → List ℕ
 members start [] = start.me ∷ []
 members start (Heard from message ∷ events) = with_heard start (members start events) from message
 members start (Sent moment ∷ events) = members start events
+
+-- what a member list always is: the member itself first, node IDs of 1 to 125 alone, none twice, no more than the size
+pub record IsMemberList (me size : ℕ) (list : List ℕ) : Type 0 where
+  pub own : 1 ≤ length list
+  pub first : slice_index_or list 0 0 ≡ me
+  pub within : length list ≤ size
+  pub numbered : (i : ℕ) → i < length list → 1 ≤ slice_index_or list i 0
+  pub devices : (i : ℕ) → i < length list → slice_index_or list i 0 ≤ 125
+  pub different : (i j : ℕ) → i < j → j < length list → slice_index_or list i 0 ≢ slice_index_or list j 0
+
+-- a message names a node: it counts, and the node is its source or is listed
+pub record Names (start : Start) (from : ℕ) (message : Discovery) (node : ℕ) : Type 0 where
+  pub counts : counts start from message ≡ true
+  pub named : (node ≡ from) ⊎ Contains message.known.items node
 
 -- a message teaches a member
 abbrev pub learns : Start → List Event → ℕ → Discovery → Bool

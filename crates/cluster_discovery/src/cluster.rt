@@ -1,4 +1,4 @@
-ghost use Rattle.std.specs.Prelude.{◌≡◌, ◌∷◌, ◌<◌, ◌≤◌, ◌≢◌, [], ℕ, List, length, slice_index_or};
+ghost use Rattle.std.specs.Prelude.{◌≡◌, ◌∷◌, ◌+◌, ◌/◌, ◌<◌, ◌≤◌, ◌≢◌, ◌↔◌, [], ℕ, IsTrue, List, length, slice_index_or};
 ghost use Rattle.arrayvec.specs.ArrayVec.{array_vec_len};
 
 use arrayvec::ArrayVec;
@@ -33,8 +33,9 @@ pub struct Cluster {
 
 impl Cluster {
     ghost use Rattle.cluster_discovery.specs.Members as members;
-    ghost use Rattle.cluster_discovery.specs.Members.{Event, Heard, Sent, Start, all_joined, is_complete, is_due, joined, learns, quorum};
+    ghost use Rattle.cluster_discovery.specs.Members.{Event, Heard, Sent, IsMemberList, IsStart, Start, all_joined, is_complete, is_due, joined, learns, quorum};
     ghost use Rattle.cluster_discovery.specs.Stands.{StandsFor};
+    ghost use Rattle.cluster_discovery.specs.Views.{cluster_size, member_list, own_id};
 
     /// A member that starts now: its node ID is 1 to 125, and its cluster is to have 1 to 5 members.
     pub fn new(me: u8, size: u8, now: u64) -> Cluster
@@ -42,7 +43,10 @@ impl Cluster {
         requires device { me ≤ 125 }
         requires least { 1 ≤ size }
         requires most { size ≤ 5 }
-        ensures { StandsFor result (record { me = me; size = size; moment = now }) [] }
+        ensures starts { StandsFor result (record { me = me; size = size; moment = now }) [] }
+        ensures me { own_id result ≡ me }
+        ensures size { cluster_size result ≡ size }
+        ensures list { member_list result ≡ me ∷ [] }
     {
         let mut members = ArrayVec::new();
         members.push(me);
@@ -60,6 +64,9 @@ impl Cluster {
     pub fn heard(&mut self, from: u8, message: &Discovery) -> bool
         ensures learnt { (start : Start) (events : List Event) → StandsFor self.old start events → result ≡ learns start events from message.now }
         ensures follows { (start : Start) (events : List Event) → StandsFor self.old start events → StandsFor self.new start (Heard from message.now ∷ events) }
+        ensures complete { length (member_list self.old) ≡ cluster_size self.old → member_list self.new ≡ member_list self.old }
+        ensures me { own_id self.new ≡ own_id self.old }
+        ensures size { cluster_size self.new ≡ cluster_size self.old }
     {
         if message.size != self.size || from == self.me {
             return false;
@@ -83,7 +90,10 @@ impl Cluster {
 
     /// The member's own Discovery was sent, or found no room: nothing is owed from now on.
     pub fn sent(&mut self, now: u64)
-        ensures { (start : Start) (events : List Event) → StandsFor self.old start events → StandsFor self.new start (Sent now ∷ events) }
+        ensures follows { (start : Start) (events : List Event) → StandsFor self.old start events → StandsFor self.new start (Sent now ∷ events) }
+        ensures list { member_list self.new ≡ member_list self.old }
+        ensures me { own_id self.new ≡ own_id self.old }
+        ensures size { cluster_size self.new ≡ cluster_size self.old }
     {
         self.owes = false;
         self.last = now;
@@ -106,7 +116,8 @@ impl Cluster {
 
     /// Whether all members are known.
     pub fn complete(&self) -> bool
-        ensures { (start : Start) (events : List Event) → StandsFor self.now start events → result ≡ is_complete start events }
+        ensures all { IsTrue result ↔ (length (member_list self.now) ≡ cluster_size self.now) }
+        ensures computed { (start : Start) (events : List Event) → StandsFor self.now start events → result ≡ is_complete start events }
     {
         self.members.len() == self.size as usize
     }
@@ -116,6 +127,10 @@ impl Cluster {
         ensures known { (start : Start) (events : List Event) → StandsFor self.now start events → result.now ≡ members.members start events }
         ensures first { (start : Start) (events : List Event) → StandsFor self.now start events → slice_index_or result.now 0 0 ≡ start.me }
         ensures within { (start : Start) (events : List Event) → StandsFor self.now start events → length result.now ≤ start.size }
+        ensures start { (start : Start) (events : List Event) → StandsFor self.now start events → IsStart start }
+        ensures list { result.now ≡ member_list self.now }
+        ensures is_list { IsMemberList (own_id self.now) (cluster_size self.now) result.now }
+        ensures few { length result.now ≤ 5 }
         ensures own { 1 ≤ length result.now }
         ensures numbered { (i : ℕ) → i < length result.now → 1 ≤ slice_index_or result.now i 0 }
         ensures devices { (i : ℕ) → i < length result.now → slice_index_or result.now i 0 ≤ 125 }
@@ -126,7 +141,8 @@ impl Cluster {
 
     /// How many members are more than half of the cluster.
     pub fn quorum(&self) -> u8
-        ensures { (start : Start) (events : List Event) → StandsFor self.now start events → result ≡ quorum start }
+        ensures computed { (start : Start) (events : List Event) → StandsFor self.now start events → result ≡ quorum start }
+        ensures half { result ≡ cluster_size self.now / 2 + 1 }
     {
         self.size / 2 + 1
     }
