@@ -3,6 +3,7 @@ pub mod Calls
 pub mod Changes
 pub mod DeviceCalls
 pub mod DurableViews
+pub mod Making
 pub mod MayFollow
 pub mod Rules
 pub mod Shelf

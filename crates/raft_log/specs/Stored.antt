@@ -1,6 +1,6 @@
 -- What a member keeps through stops, and the puts that change it (the persistent state of the Raft paper,
 -- and the commit index).
-use Rattle.std.specs.Prelude.{ℕ, ◌⊎◌, List, [], ◌∷◌}
+use Rattle.std.specs.Prelude.{ℕ, ◌⊎◌, List, [], ◌∷◌, ◌++◌, take}
 use Rattle.can_frame.specs.declared.entry.Entry.{Entry}
 
 -- a vote of 0 is none
@@ -40,3 +40,13 @@ AfterSome fact (put ∷ puts) state = fact state ⊎ AfterSome fact puts (after_
 abbrev pub AtOne : (Stored → Stored → Type 0) → List Put → Stored → Type 0
 AtOne fact [] state = ⊥
 AtOne fact (put ∷ puts) state = fact state (after_put put state) ⊎ AtOne fact puts (after_put put state)
+
+-- the puts of a later term, of an entry that is appended, and of a log that is cut
+abbrev pub puts_of_term : ℕ → List Put
+puts_of_term term = PutTerm term ∷ PutVote 0 ∷ []
+
+abbrev pub puts_of_append : Entry → Stored → List Put
+puts_of_append entry state = PutEntry entry ∷ PutLast (state.log ++ entry ∷ []) ∷ []
+
+abbrev pub puts_of_cut : ℕ → Stored → List Put
+puts_of_cut place state = PutLast (take place state.log) ∷ []

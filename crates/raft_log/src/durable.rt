@@ -1,4 +1,4 @@
-ghost use Rattle.std.specs.Prelude.{◌≡◌, ◌≤◌, ◌<◌, ◌+◌, ◌++◌, ◌∷◌, [], ℕ, true, None, is_ok, OnOk, IfOk, IfErr, length, take};
+ghost use Rattle.std.specs.Prelude.{◌≡◌, ◌≤◌, ◌<◌, ◌∷◌, [], ℕ, true, None, is_ok, OnOk, IfOk, IfErr, length};
 ghost use Rattle.std.specs.Result.{result_err};
 ghost use Rattle.can_frame.specs.Log.{entry_at, log_limit};
 ghost use Rattle.disk_model.specs.Contents.{AddsNoImage};
@@ -6,11 +6,12 @@ ghost use Rattle.disk_model.specs.Device.{Makes};
 ghost use Rattle.kv_store.specs.Image.{chosen_copy, key_count, open_calls};
 ghost use Rattle.kv_store.specs.StoreViews.{store_map};
 ghost use Rattle.outside.specs.Faults.{Rose};
-ghost use Rattle.raft_log.specs.Allowed.{AreAllowed, IsNext, next_after};
+ghost use Rattle.raft_log.specs.Allowed.{AreAllowed};
 ghost use Rattle.raft_log.specs.MayFollow.{IsStorable, MayFollow};
 ghost use Rattle.raft_log.specs.Rules.{AlwaysStandsForState, IsDamagedAt, StandsForState, Stores};
 ghost use Rattle.raft_log.specs.StateViews.{stored_of};
-ghost use Rattle.raft_log.specs.Stored.Put.{PutTerm, PutVote, PutEntry, PutLast, PutCommit};
+ghost use Rattle.raft_log.specs.Stored.{puts_of_append, puts_of_cut, puts_of_term};
+ghost use Rattle.raft_log.specs.Stored.Put.{PutVote, PutCommit};
 
 use crate::change::Change;
 use crate::state::State;
@@ -32,8 +33,9 @@ impl<D: Disk> Durable<D> {
     ghost use Rattle.kv_store.specs.declared.fault.Fault.{Fault};
     ghost use Rattle.kv_store.specs.declared.fault.OpenFault.TheVariants.{Fault as DiskFault, Damaged};
     ghost use Rattle.raft_log.specs.DurableViews.{durable_state, durable_disk, durable_fault, durable_copies};
-    ghost use Rattle.raft_log.specs.Calls.{KeepsFault, MakesPuts, MakesPutsAfter};
-    ghost use Rattle.raft_log.specs.Changes.{FitsBytes, MayMake, next_for, put_of};
+    ghost use Rattle.raft_log.specs.Calls.{KeepsFault, MakesPuts};
+    ghost use Rattle.raft_log.specs.Changes.{FitsBytes, MayMake};
+    ghost use Rattle.raft_log.specs.Making.{HasNext, LeavesNext, MakesChange};
 
     /// The state that the disk stands for, found by a sync and one read.
     pub fn open(disk: D) -> Result<Durable<D>, OpenRefused<D>>
@@ -125,8 +127,8 @@ impl<D: Disk> Durable<D> {
     /// Takes a later term, with no vote in it. It puts the term, and then the vote 0.
     pub fn set_term(&mut self, term: u32) -> Result<(), Fault>
         requires { (durable_state self.old).term < term }
-        ensures allowed { AreAllowed (PutTerm term ∷ PutVote 0 ∷ []) (durable_state self.old) None }
-        ensures puts { MakesPuts (PutTerm term ∷ PutVote 0 ∷ []) self.old self.new (is_ok result) }
+        ensures allowed { AreAllowed (puts_of_term term) (durable_state self.old) None }
+        ensures puts { MakesPuts (puts_of_term term) self.old self.new (is_ok result) }
         ensures fault { KeepsFault self.old self.new (result_err result) }
     {
         self.make(Change::Term(term))?;
@@ -149,8 +151,8 @@ impl<D: Disk> Durable<D> {
     pub fn append(&mut self, entry: Entry) -> Result<(), Fault>
         requires room { length (durable_state self.old).log < log_limit }
         requires follows { MayFollow (durable_state self.old).log (durable_state self.old).term entry }
-        ensures allowed { AreAllowed (PutEntry entry ∷ PutLast ((durable_state self.old).log ++ entry ∷ []) ∷ []) (durable_state self.old) None }
-        ensures puts { MakesPuts (PutEntry entry ∷ PutLast ((durable_state self.old).log ++ entry ∷ []) ∷ []) self.old self.new (is_ok result) }
+        ensures allowed { AreAllowed (puts_of_append entry (durable_state self.old)) (durable_state self.old) None }
+        ensures puts { MakesPuts (puts_of_append entry (durable_state self.old)) self.old self.new (is_ok result) }
         ensures fault { KeepsFault self.old self.new (result_err result) }
     {
         self.make(Change::Next(entry))?;
@@ -161,8 +163,8 @@ impl<D: Disk> Durable<D> {
     pub fn truncate(&mut self, place: u8) -> Result<(), Fault>
         requires kept { (durable_state self.old).commit ≤ place }
         requires shorter { place < length (durable_state self.old).log }
-        ensures allowed { AreAllowed (PutLast (take place (durable_state self.old).log) ∷ []) (durable_state self.old) None }
-        ensures puts { MakesPuts (PutLast (take place (durable_state self.old).log) ∷ []) self.old self.new (is_ok result) }
+        ensures allowed { AreAllowed (puts_of_cut place (durable_state self.old)) (durable_state self.old) None }
+        ensures puts { MakesPuts (puts_of_cut place (durable_state self.old)) self.old self.new (is_ok result) }
         ensures fault { KeepsFault self.old self.new (result_err result) }
     {
         self.make(Change::Shorter(place))
@@ -189,12 +191,11 @@ impl<D: Disk> Durable<D> {
     /// Makes a change by one put.
     fn make(&mut self, change: Change) -> Result<(), Fault>
         requires may { MayMake change (durable_state self.old) }
-        requires next { IsNext (store_map self.old.store) (durable_state self.old) (next_for change) }
-        ensures puts { MakesPutsAfter (next_for change) (put_of change (durable_state self.old) ∷ []) self.old self.new (is_ok result) }
+        requires next { HasNext change self.old }
+        ensures puts { MakesChange change self.old self.new (is_ok result) }
         ensures fault { KeepsFault self.old self.new (result_err result) }
         ensures fits { FitsBytes change }
-        ensures next { OnOk result (IsNext (store_map self.new.store) (durable_state self.new)
-            (next_after (put_of change (durable_state self.old)) None)) }
+        ensures next { OnOk result (LeavesNext change self.old self.new) }
     {
         let value = change.value(&self.state);
         self.store.put(change.key(&self.state), &value)?;

@@ -56,19 +56,22 @@ pub fn a_durable_state_is_kept<D: Disk>()
 
 /// Allowed puts leave such a state.
 pub fn allowed_puts_leave_a_kept_state()
-    ensures { (puts : List Put) (state : Stored) → AreAllowed puts state None → IsKept state → IsKept (after_puts puts state) }
+    ensures { (puts : List Put) (state : Stored) → AreAllowed puts state None → IsKept state →
+        IsKept (after_puts puts state) }
 {}
 
 /// Puts that were made by two calls, one after the other, are those of both. Where the first call failed
 /// there is no second, and a call without puts changes nothing.
 pub fn puts_in_turn<D: Disk>()
     ensures nothing { (durable : Durable D D.Disk) → MakesPuts [] durable durable true }
-    ensures still { (durable : Durable D D.Disk) → durable_fault durable ≡ None → KeepsFault durable durable None }
+    ensures still { (durable : Durable D D.Disk) → durable_fault durable ≡ None →
+        KeepsFault durable durable None }
     ensures joined { (xs ys : List Put) (old mid new : Durable D D.Disk) (ok : Bool) →
         MakesPuts xs old mid true → (durable_fault old ≡ None → KeepsFault old mid None) →
         MakesPuts ys mid new ok → MakesPuts (xs ++ ys) old new ok }
     ensures kept { (old mid new : Durable D D.Disk) (failed : Option Fault) →
-        KeepsFault old mid None → (durable_fault mid ≡ None → KeepsFault mid new failed) → KeepsFault old new failed }
+        KeepsFault old mid None → (durable_fault mid ≡ None → KeepsFault mid new failed) →
+        KeepsFault old new failed }
     ensures cut_off { (xs ys : List Put) (old new : Durable D D.Disk) →
         MakesPuts xs old new false → MakesPuts (xs ++ ys) old new false }
     ensures allowed { (xs ys : List Put) (state : Stored) →
@@ -93,9 +96,11 @@ pub fn the_disk_by_states()
         ((puts_on puts shelf).store ≡ after_puts puts shelf.store) ×
         ((puts_on puts shelf).copies ≡ copies_after puts shelf.store shelf.copies) }
     ensures counted { (puts : List Put) (calls : Calls) → done_on puts calls ≤ length puts ×
-        (are_put puts calls ≡ true → done_on puts calls ≡ length puts) × (are_put puts calls ≡ false → done_on puts calls < length puts) }
-    ensures found_again { (puts : List Put) (shelf : Shelf Stored) (pattern : Pattern) → shelf.loose ≡ None →
-        let after = puts_on puts shelf in let count = done_on puts shelf.calls + found_by pattern after in
+        (are_put puts calls ≡ true → done_on puts calls ≡ length puts) ×
+        (are_put puts calls ≡ false → done_on puts calls < length puts) }
+    ensures found_again { (puts : List Put) (shelf : Shelf Stored) (pattern : Pattern) →
+        shelf.loose ≡ None → let after = puts_on puts shelf in
+        let count = done_on puts shelf.calls + found_by pattern after in
         (restarted_on pattern after).store ≡ after_puts (take count puts) shelf.store }
     ensures opened { (old new : MemoryDisk) (shelf : Shelf Stored) (ok : Bool) → IsOn old shelf →
         Makes DoesInMemory open_calls ok old new →
@@ -114,14 +119,16 @@ pub fn the_disk_by_states()
 /// A running member whose disk in memory a shelf tells of: its calls do to the shelf what their puts do, and
 /// after success its state and its copies are those of the shelf again.
 pub fn a_member_on_the_disk_by_states()
-    ensures puts { (puts : List Put) (old new : Durable MemoryDisk ⟦<MemoryDisk as Disk>⟧) (shelf : Shelf Stored) (ok : Bool) →
-        IsOnShelf old shelf → MakesPuts puts old new ok → (ok ≡ true → durable_fault new ≡ None) →
-        let after = puts_on puts shelf in
-        IsOn (durable_disk new) after × (ok ≡ are_put puts shelf.calls) × (ok ≡ true → IsOnShelf new after) }
-    ensures set { (old new : Durable MemoryDisk ⟦<MemoryDisk as Disk>⟧) (shelf : Shelf Stored) (calls : Calls) → IsOnShelf old shelf →
-        durable_state new ≡ durable_state old → durable_copies new ≡ durable_copies old → durable_fault new ≡ durable_fault old →
-        memory_contents (durable_disk new) ≡ memory_contents (durable_disk old) → memory_calls (durable_disk new) ≡ calls →
-        IsOnShelf new (record shelf { calls = calls }) }
+    ensures puts { (puts : List Put) (old new : Durable MemoryDisk ⟦<MemoryDisk as Disk>⟧)
+        (shelf : Shelf Stored) (ok : Bool) → IsOnShelf old shelf → MakesPuts puts old new ok →
+        (ok ≡ true → durable_fault new ≡ None) → let after = puts_on puts shelf in
+        IsOn (durable_disk new) after × (ok ≡ are_put puts shelf.calls) ×
+        (ok ≡ true → IsOnShelf new after) }
+    ensures set { (old new : Durable MemoryDisk ⟦<MemoryDisk as Disk>⟧) (shelf : Shelf Stored)
+        (calls : Calls) → IsOnShelf old shelf → durable_state new ≡ durable_state old →
+        durable_copies new ≡ durable_copies old → durable_fault new ≡ durable_fault old →
+        memory_contents (durable_disk new) ≡ memory_contents (durable_disk old) →
+        memory_calls (durable_disk new) ≡ calls → IsOnShelf new (record shelf { calls = calls }) }
 {
     the_disk_by_states();
 }
