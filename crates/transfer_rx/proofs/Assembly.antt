@@ -6,7 +6,7 @@ use Rattle.std.specs.Cmp.Lexicographic.{pointwise}
 use Rattle.can_frame.specs.TransferCrc.{transfer_crc}
 use Rattle.can_frame.specs.Cutting.{Piece, bytes_cut, crc_bytes, cut, joined, payload_of, tail_at}
 use Rattle.can_frame.specs.declared.step.Why.TheVariants.{Crc}
-use Rattle.transfer_rx.proofs.Cuts.{joined-frames, short_cut, long_cut, one_piece, several_pieces}
+use Rattle.transfer_rx.proofs.Cuts.{CarryWhatIsCut}
 use Rattle.transfer_rx.specs.Outcome.{Delivers, Spoils, assembled, cut_again, same_piece}
 use Rattle.transfer_rx.specs.Parts.{IsPart}
 use Rattle.transfer_rx.proofs.Lengths.{frames_as, joined-push, length-push, total}
@@ -41,7 +41,7 @@ matches signature id pieces payload e same =
     subst (λ x. pointwise same_piece pieces x ≡ true) same (own_pieces pieces) in
     rw (t, e) refl
 
-module _ (signature id : ℕ) (taken : List Piece) (piece : Piece) (part : IsPart id 0 taken) (short : length piece.bytes ≤ 7)
+module _ (law : CarryWhatIsCut) (signature id : ℕ) (taken : List Piece) (piece : Piece) (part : IsPart id 0 taken) (short : length piece.bytes ≤ 7)
     (tail : piece.tail ≡ tail_at id (length taken) true) where
   ordered : taken ++ piece ∷ [] ≡ cut id 0 (length taken) (joined (taken ++ piece ∷ []))
   ordered =
@@ -59,9 +59,9 @@ module _ (signature id : ℕ) (taken : List Piece) (piece : Piece) (part : IsPar
   single z =
       let n : length (taken ++ piece ∷ []) ≡ length taken + 1 = length-push taken piece in
       let j : length (joined (taken ++ piece ∷ [])) ≡ 7 * length taken + length piece.bytes = total id 0 taken piece part in
-      let o : payload_of (taken ++ piece ∷ []) ≡ joined (taken ++ piece ∷ []) = one_piece _ (omega arith) in
+      let o : payload_of (taken ++ piece ∷ []) ≡ joined (taken ++ piece ∷ []) = law.one_frame _ (omega arith) in
       let l : length (payload_of (taken ++ piece ∷ [])) ≡ length piece.bytes = ap length o ∙ omega arith in
-      let b : bytes_cut signature (payload_of (taken ++ piece ∷ [])) ≡ payload_of (taken ++ piece ∷ []) = short_cut signature _ (omega arith) in
+      let b : bytes_cut signature (payload_of (taken ++ piece ∷ [])) ≡ payload_of (taken ++ piece ∷ []) = law.short signature _ (omega arith) in
       let lb : length (bytes_cut signature (payload_of (taken ++ piece ∷ []))) ≡ length piece.bytes = ap length b ∙ l in
       let none : joined taken ≡ [] = joined_none taken z in
       matches signature id (taken ++ piece ∷ []) piece.bytes
@@ -72,10 +72,10 @@ module _ (signature id : ℕ) (taken : List Piece) (piece : Piece) (part : IsPar
     is_payload : payload_of (taken ++ piece ∷ []) ≡ payload
     is_payload =
         let n : length (taken ++ piece ∷ []) ≡ length taken + 1 = length-push taken piece in
-        several_pieces (taken ++ piece ∷ []) (omega arith) ∙ ap (drop 2) carried
+        law.several_frames (taken ++ piece ∷ []) (omega arith) ∙ ap (drop 2) carried
 
     cut_long : bytes_cut signature (payload_of (taken ++ piece ∷ [])) ≡ crc_bytes signature payload ++ payload
-    cut_long = ap (bytes_cut signature) is_payload ∙ long_cut signature payload long
+    cut_long = ap (bytes_cut signature) is_payload ∙ law.long signature payload long
 
     pub whole : a ≡ transfer_crc signature payload % 256 → b ≡ transfer_crc signature payload / 256 →
         assembled signature id (taken ++ piece ∷ []) ≡ Delivers payload
@@ -93,7 +93,7 @@ module _ (signature id : ℕ) (taken : List Piece) (piece : Piece) (part : IsPar
         false_from_ne_true _ (λ t.
         let e : a ∷ b ∷ payload ≡ crc_bytes signature payload ++ payload =
         sym carried ∙ same_joined (taken ++ piece ∷ []) (cut_again signature id (taken ++ piece ∷ [])) t
-        ∙ joined-frames signature id (payload_of (taken ++ piece ∷ [])) ∙ cut_long in
+        ∙ law.carried signature id (payload_of (taken ++ piece ∷ [])) ∙ cut_long in
         elim differs [ inl x ↦ x (ap (λ l. get_or l 0 0) e) | inr y ↦ y (ap (λ l. get_or l 1 0) e) ]) in
         rw f refl
 
@@ -121,7 +121,7 @@ long_payload id pieces piece a b payload part low e =
     omega arith
 
 -- a last frame behind others, in the numbers and bytes that a place has
-module _ (signature id : ℕ) (pieces : List Piece) (piece : Piece) (part : IsPart id 0 pieces) (count : ℕ) (bytes last payload : List ℕ)
+module _ (law : CarryWhatIsCut) (signature id : ℕ) (pieces : List Piece) (piece : Piece) (part : IsPart id 0 pieces) (count : ℕ) (bytes last payload : List ℕ)
     (counted : length pieces ≡ count) (same : piece.bytes ≡ last) (tail : piece.tail ≡ tail_at id (length pieces) true)
     (kept : take (7 * count) bytes ≡ joined pieces) (room : length bytes ≡ 378) (short : length last ≤ 7) (some : 0 < count)
     (some_bytes : 0 < length last) (low : 10 ≤ 7 * count + length last) (high : 7 * count + length last ≤ 378)
@@ -141,10 +141,10 @@ module _ (signature id : ℕ) (pieces : List Piece) (piece : Piece) (part : IsPa
       assembled signature id (pieces ++ piece ∷ []) ≡ Delivers payload
   several_whole x y =
       let s : length piece.bytes ≡ length last = size in
-      whole signature id pieces piece part (omega arith) tail payload (get_or bytes 0 0) (get_or bytes 1 0) (omega arith) (omega arith) long bears x y
+      whole law signature id pieces piece part (omega arith) tail payload (get_or bytes 0 0) (get_or bytes 1 0) (omega arith) (omega arith) long bears x y
 
   pub several_damaged : (get_or bytes 0 0 ≢ transfer_crc signature payload % 256) ⊎ (get_or bytes 1 0 ≢ transfer_crc signature payload / 256) →
       assembled signature id (pieces ++ piece ∷ []) ≡ Spoils Crc
   several_damaged differs =
       let s : length piece.bytes ≡ length last = size in
-      damaged signature id pieces piece part (omega arith) tail payload (get_or bytes 0 0) (get_or bytes 1 0) (omega arith) (omega arith) long bears differs
+      damaged law signature id pieces piece part (omega arith) tail payload (get_or bytes 0 0) (get_or bytes 1 0) (omega arith) (omega arith) long bears differs

@@ -18,7 +18,7 @@ use Rattle.transfer_rx.specs.Parts.{IsPart}
 use Rattle.transfer_rx.specs.Reassembly.{Arrival, Gives, Setting, Step, answer, at_session, grown, in_turn, next, piece_in, session_after, session_step}
 use Rattle.transfer_rx.specs.Run.{ComesWhole, MayBegin, has_session_key, is_of, of_key, run}
 use Rattle.transfer_rx.specs.Sessions.{Session, continued, is_recent, next_id, opened, others, remembered, restarted, restarts, session_for, session_of}
-use Rattle.transfer_rx.proofs.Cuts.{joined-frames}
+use Rattle.transfer_rx.proofs.Cuts.{CarryWhatIsCut, SameFrames, SamePayload, Uncut}
 use Rattle.transfer_rx.proofs.Comes.{for-key, opens}
 use Rattle.transfer_rx.proofs.Cuttings.{delivered_last}
 use Rattle.transfer_rx.proofs.Earlier.{Parts, frame_parts, grows, last_of}
@@ -178,7 +178,7 @@ own_step setting sessions arrival key s own there p size l =
     (earlier.in_turn (piece_in arrival) s false tail) (sym result))
     ∙ ap (λ b. cond b (Some (grown (piece_in arrival) arrival.mark arrival.moment s)) (session_of key (others (key_of own.w.ident) (remembered arrival.moment sessions)))) t
 
-last_step : (setting : Setting) (sessions : List Session) (arrival : Arrival) (w : Wanted) (s : Session) (payload : List ℕ) →
+last_step : Uncut → SameFrames → SamePayload → (setting : Setting) (sessions : List Session) (arrival : Arrival) (w : Wanted) (s : Session) (payload : List ℕ) →
     wanted setting.rows setting.me arrival.id ≡ Ok w → is_anonymous w.ident.kind ≡ false →
     session_for setting.sessions (key_of w.ident) (piece_in arrival).tail arrival.moment (remembered arrival.moment sessions) ≡ Ok s →
     (piece_in arrival).tail ≡ tail_at s.expected (length s.taken) true →
@@ -191,9 +191,9 @@ last_step : (setting : Setting) (sessions : List Session) (arrival : Arrival) (w
       mark = arrival.mark;
       whole = is_whole (s.marks ++ arrival.mark ∷ []);
     })
-last_step setting sessions arrival w s payload e n there tail cutting l =
+last_step uncut same_frames same_payload setting sessions arrival w s payload e n there tail cutting l =
     let end : (piece_in arrival).tail.end ≡ true = ap (λ (t : Tail). t.end) tail in
-    let result = delivered_last setting.blocks w.signature (piece_in arrival) s.taken (others (key_of w.ident) (remembered arrival.moment sessions)) payload cutting end l in
+    let result = delivered_last uncut same_frames same_payload setting.blocks w.signature (piece_in arrival) s.taken (others (key_of w.ident) (remembered arrival.moment sessions)) payload cutting end l in
     ap (λ (x : Step). x.answer)
     (of_session setting sessions arrival w e n
     ∙ steps.next setting.sessions setting.blocks w (piece_in arrival) arrival.mark arrival.moment (remembered arrival.moment sessions) s (Delivers payload) there
@@ -362,15 +362,15 @@ record IsEnd (id : ℕ) (part : List Piece) (piece : Piece) : Type 0 where
   end_is : piece.tail ≡ tail_at id (length part) true
   few : 7 * length part ≤ 378
 
-is_end : (signature : ℕ) (payload : List ℕ) (part : List Piece) (piece : Piece) → IsCutting signature piece.tail.id payload (part ++ piece ∷ []) → IsEnd piece.tail.id part piece
-is_end signature payload part piece cutting =
+is_end : CarryWhatIsCut → (signature : ℕ) (payload : List ℕ) (part : List Piece) (piece : Piece) → IsCutting signature piece.tail.id payload (part ++ piece ∷ []) → IsEnd piece.tail.id part piece
+is_end carry signature payload part piece cutting =
     let parts : Parts piece.tail.id 0 (frames_of signature piece.tail.id payload) = frame_parts signature piece.tail.id payload in
     let split = snoc part parts.part piece parts.last (cutting.frames ∙ parts.all) in
     let goes = subst (λ x. IsPart piece.tail.id 0 x) (sym split.0) parts.goes in
     let zero_more : 0 + length parts.part ≡ length part = omega (arith, ap length split.0) in
     let all : length (joined (part ++ piece ∷ [])) ≡ length (bytes_cut signature payload) =
-    ap (λ x. length (joined x)) cutting.frames ∙ ap length (joined-frames signature piece.tail.id payload) in
-    let most = at_most_two_more signature payload in
+    ap (λ x. length (joined x)) cutting.frames ∙ ap length (carry.carried signature piece.tail.id payload) in
+    let most = at_most_two_more carry signature payload in
     let count = total piece.tail.id 0 part piece goes in
     let size = cutting.size in
     record {
@@ -379,19 +379,126 @@ is_end signature payload part piece cutting =
       few = omega arith;
     }
 
-module _ (setting : Setting) (sessions : List Session) (w : Wanted) (payload : List ℕ) (last : Arrival)
-    (accepted : wanted setting.rows setting.me last.id ≡ Ok w) (of_a_session : is_anonymous w.ident.kind ≡ false) where
-  own_last : is_of setting (key_of w.ident) last ≡ true
-  own_last = is_own setting w last accepted of_a_session
+-- with the laws of cuttings
+module _ (carry : CarryWhatIsCut) (uncut : Uncut) (same_frames : SameFrames) (same_payload : SamePayload) where
+  module _ (setting : Setting) (sessions : List Session) (w : Wanted) (payload : List ℕ) (last : Arrival)
+      (accepted : wanted setting.rows setting.me last.id ≡ Ok w) (of_a_session : is_anonymous w.ident.kind ≡ false) where
+    own_last : is_of setting (key_of w.ident) last ≡ true
+    own_last = is_own setting w last accepted of_a_session
 
-  -- the last frame, where its session has taken all the others
-  pub finish : (before : List Arrival) (s : Session) →
-      session_for setting.sessions (key_of w.ident) (piece_in last).tail last.moment (remembered last.moment (run setting sessions before)) ≡ Ok s →
-      s.expected ≡ (piece_in last).tail.id → s.taken ≡ map piece_in (of_key setting (key_of w.ident) before) →
-      s.marks ≡ map (λ (a : Arrival). a.mark) (of_key setting (key_of w.ident) before) →
-      IsCutting w.signature (piece_in last).tail.id payload (map piece_in (of_key setting (key_of w.ident) before) ++ piece_in last ∷ []) →
-      lacks_blocks setting.blocks (piece_in last) (map piece_in (of_key setting (key_of w.ident) before))
-      (others (key_of w.ident) (remembered last.moment (run setting sessions before))) ≡ false →
+    -- the last frame, where its session has taken all the others
+    pub finish : (before : List Arrival) (s : Session) →
+        session_for setting.sessions (key_of w.ident) (piece_in last).tail last.moment (remembered last.moment (run setting sessions before)) ≡ Ok s →
+        s.expected ≡ (piece_in last).tail.id → s.taken ≡ map piece_in (of_key setting (key_of w.ident) before) →
+        s.marks ≡ map (λ (a : Arrival). a.mark) (of_key setting (key_of w.ident) before) →
+        IsCutting w.signature (piece_in last).tail.id payload (map piece_in (of_key setting (key_of w.ident) before) ++ piece_in last ∷ []) →
+        lacks_blocks setting.blocks (piece_in last) (map piece_in (of_key setting (key_of w.ident) before))
+        (others (key_of w.ident) (remembered last.moment (run setting sessions before))) ≡ false →
+        answer setting (run setting sessions before) last ≡ Gives (record {
+          ident = w.ident;
+          id = (piece_in last).tail.id;
+          payload = payload;
+          mark = last.mark;
+          whole = is_whole (map (λ (a : Arrival). a.mark) (of_key setting (key_of w.ident) (before ++ last ∷ [])));
+        })
+    finish before s there expected taken marked cutting l =
+        let end = is_end carry w.signature payload (map piece_in (of_key setting (key_of w.ident) before)) (piece_in last) cutting in
+        let tail : (piece_in last).tail ≡ tail_at s.expected (length s.taken) true =
+        end.end_is ∙ (λ i. tail_at (sym expected i) (length (sym taken i)) true) in
+        last_step uncut same_frames same_payload setting (run setting sessions before) last w s payload accepted of_a_session there tail
+        (subst (λ x. IsCutting w.signature (piece_in last).tail.id payload (x ++ piece_in last ∷ [])) (sym taken) cutting)
+        (subst (λ x. lacks_blocks setting.blocks (piece_in last) x (others (key_of w.ident) (remembered last.moment (run setting sessions before))) ≡ false) (sym taken) l)
+        ∙ ap (λ marks. Gives (record { ident = w.ident; id = (piece_in last).tail.id; payload = payload; mark = last.mark; whole = is_whole marks }))
+        (ap (λ marks. marks ++ last.mark ∷ []) marked ∙ sym (marks-push setting (key_of w.ident) last own_last before))
+
+    finish_waiting : (before : List Arrival) →
+        Waits setting (key_of w.ident) last (run setting sessions before) (map piece_in (of_key setting (key_of w.ident) before)) (piece_in last).tail.id
+        (map (λ (a : Arrival). a.mark) (of_key setting (key_of w.ident) before)) →
+        IsCutting w.signature (piece_in last).tail.id payload (map piece_in (of_key setting (key_of w.ident) before) ++ piece_in last ∷ []) →
+        lacks_blocks setting.blocks (piece_in last) (map piece_in (of_key setting (key_of w.ident) before))
+        (others (key_of w.ident) (remembered last.moment (run setting sessions before))) ≡ false →
+        answer setting (run setting sessions before) last ≡ Gives (record {
+          ident = w.ident;
+          id = (piece_in last).tail.id;
+          payload = payload;
+          mark = last.mark;
+          whole = is_whole (map (λ (a : Arrival). a.mark) (of_key setting (key_of w.ident) (before ++ last ∷ [])));
+        })
+    finish_waiting before waits cutting l =
+        let still : session_of (key_of w.ident) (remembered last.moment (run setting sessions before)) ≡ Some waits.session =
+        session_of-filter (is_recent last.moment) (key_of w.ident) (run setting sessions before) waits.session waits.there
+        (le-leb (last.moment - waits.session.moment) 2000 (waits.recent.each 0 last (omega arith))) in
+        finish before waits.session
+        (finds setting.sessions (key_of w.ident) (piece_in last).tail last.moment (remembered last.moment (run setting sessions before)) waits.session still
+        ∙ ap as_ok (stays (piece_in last).tail waits.session (sym waits.expected)))
+        waits.expected waits.taken waits.marked cutting l
+
+    cutting_before : (arrivals before : List Arrival) → arrivals ≡ before ++ last ∷ [] →
+        IsCutting w.signature (piece_in last).tail.id payload (map piece_in (of_key setting (key_of w.ident) arrivals)) →
+        IsCutting w.signature (piece_in last).tail.id payload (map piece_in (of_key setting (key_of w.ident) before) ++ piece_in last ∷ [])
+    cutting_before arrivals before e cutting =
+        subst (λ x. IsCutting w.signature (piece_in last).tail.id payload x)
+        (ap (λ x. map piece_in (of_key setting (key_of w.ident) x)) e ∙ pieces-push setting (key_of w.ident) last own_last before) cutting
+
+  -- the first frame is the last
+  alone : (setting : Setting) (sessions : List Session) (w : Wanted) (payload : List ℕ) (arrivals : List Arrival) (first last : Arrival) →
+      ComesWhole setting sessions w payload arrivals [] first last →
+      answer setting sessions last ≡ Gives (record {
+        ident = w.ident;
+        id = (piece_in last).tail.id;
+        payload = payload;
+        mark = last.mark;
+        whole = is_whole (map (λ (a : Arrival). a.mark) (of_key setting (key_of w.ident) (last ∷ [])));
+      })
+  alone setting sessions w payload arrivals first last h =
+      let cutting = cutting_before setting sessions w payload last h.accepted h.of_session arrivals [] h.ends h.cutting in
+      let end = is_end carry w.signature payload [] (piece_in last) cutting in
+      let start : (piece_in last).tail.start ≡ true = ap (λ (t : Tail). t.start) end.end_is in
+      let same : first ∷ h.begins.0 ≡ last ∷ [] = sym h.begins.1 ∙ h.ends in
+      let one : first ≡ last = cc in
+      let b = finds_first setting sessions (key_of w.ident) last (subst (λ a. MayBegin setting sessions (key_of w.ident) a) one h.may_begin) start in
+      finish setting sessions w payload last h.accepted h.of_session [] b.session b.there b.expected b.taken b.marks cutting
+      (h.blocks [] [] last h.ends (own_last setting sessions w payload last h.accepted h.of_session))
+
+  -- others come between the first frame and the last
+  several : (setting : Setting) (sessions : List Session) (w : Wanted) (payload : List ℕ) (arrivals before : List Arrival) (first head last : Arrival) →
+      ComesWhole setting sessions w payload arrivals (head ∷ before) first last →
+      answer setting (run setting (next setting sessions head) before) last ≡ Gives (record {
+        ident = w.ident;
+        id = (piece_in last).tail.id;
+        payload = payload;
+        mark = last.mark;
+        whole = is_whole (map (λ (a : Arrival). a.mark) (of_key setting (key_of w.ident) (head ∷ (before ++ last ∷ []))));
+      })
+  several setting sessions w payload arrivals before first head last h =
+      let key = key_of w.ident in
+      let cutting = cutting_before setting sessions w payload last h.accepted h.of_session arrivals (head ∷ before) h.ends h.cutting in
+      let part : List Piece = map piece_in (of_key setting key (head ∷ before)) in
+      let end = is_end carry w.signature payload part (piece_in last) cutting in
+      let same : first ∷ h.begins.0 ≡ head ∷ (before ++ last ∷ []) = sym h.begins.1 ∙ h.ends in
+      let one : first ≡ head = cc in
+      let own : is_of setting key head ≡ true = subst (λ a. is_of setting key a ≡ true) one h.begins.2 in
+      let part_is : part ≡ piece_in head ∷ map piece_in (of_key setting key before) = own_pieces setting key last head before own in
+      let goes_head : IsPart (piece_in last).tail.id 0 (piece_in head ∷ map piece_in (of_key setting key before)) =
+      subst (λ x. IsPart (piece_in last).tail.id 0 x) part_is end.part_is in
+      let tail : (piece_in head).tail ≡ tail_at (piece_in last).tail.id 0 false = goes_head.1 in
+      let b = finds_first setting sessions key head (subst (λ a. MayBegin setting sessions key a) one h.may_begin) (ap (λ (t : Tail). t.start) tail) in
+      let id : b.session.expected ≡ (piece_in last).tail.id = b.expected ∙ ap (λ (t : Tail). t.id) tail in
+      let waits = own_goes setting key last head before (goes setting key last before) sessions b.session part own b.there
+      (record { pairs = subst (λ x. AllPairs (λ (earlier later : Arrival). later.moment - earlier.moment ≤ 2000) x) h.ends h.in_time })
+      (ap (λ x. x ++ part) (sym b.taken)) (subst (λ i. IsPart i 0 part) (sym id) end.part_is) end.few
+      (record {
+        each = λ front back a cut mine.
+            subst (λ x. lacks_blocks setting.blocks (piece_in a) (x ++ map piece_in (of_key setting key front)) (others key (remembered a.moment (run setting sessions front))) ≡ false)
+            (sym b.taken) (h.blocks front back a (h.ends ∙ cut) mine);
+      }) in
+      finish_waiting setting sessions w payload last h.accepted h.of_session (head ∷ before)
+      (subst (λ i. Waits setting key last (run setting sessions (head ∷ before)) part i (map (λ (a : Arrival). a.mark) (of_key setting key (head ∷ before)))) id
+      (subst (λ x. Waits setting key last (run setting sessions (head ∷ before)) part b.session.expected (x ++ map (λ (a : Arrival). a.mark) (of_key setting key (head ∷ before)))) b.marks waits))
+      cutting (h.blocks (head ∷ before) [] last h.ends (own_last setting sessions w payload last h.accepted h.of_session))
+
+  complete-cases : (setting : Setting) (sessions : List Session) (w : Wanted) (payload : List ℕ) (arrivals before : List Arrival) (first last : Arrival) →
+      ComesWhole setting sessions w payload arrivals before first last →
       answer setting (run setting sessions before) last ≡ Gives (record {
         ident = w.ident;
         id = (piece_in last).tail.id;
@@ -399,129 +506,24 @@ module _ (setting : Setting) (sessions : List Session) (w : Wanted) (payload : L
         mark = last.mark;
         whole = is_whole (map (λ (a : Arrival). a.mark) (of_key setting (key_of w.ident) (before ++ last ∷ [])));
       })
-  finish before s there expected taken marked cutting l =
-      let end = is_end w.signature payload (map piece_in (of_key setting (key_of w.ident) before)) (piece_in last) cutting in
-      let tail : (piece_in last).tail ≡ tail_at s.expected (length s.taken) true =
-      end.end_is ∙ (λ i. tail_at (sym expected i) (length (sym taken i)) true) in
-      last_step setting (run setting sessions before) last w s payload accepted of_a_session there tail
-      (subst (λ x. IsCutting w.signature (piece_in last).tail.id payload (x ++ piece_in last ∷ [])) (sym taken) cutting)
-      (subst (λ x. lacks_blocks setting.blocks (piece_in last) x (others (key_of w.ident) (remembered last.moment (run setting sessions before))) ≡ false) (sym taken) l)
-      ∙ ap (λ marks. Gives (record { ident = w.ident; id = (piece_in last).tail.id; payload = payload; mark = last.mark; whole = is_whole marks }))
-      (ap (λ marks. marks ++ last.mark ∷ []) marked ∙ sym (marks-push setting (key_of w.ident) last own_last before))
+  complete-cases setting sessions w payload arrivals [] first last h = alone setting sessions w payload arrivals first last h
+  complete-cases setting sessions w payload arrivals (head ∷ before) first last h = several setting sessions w payload arrivals before first head last h
 
-  finish_waiting : (before : List Arrival) →
-      Waits setting (key_of w.ident) last (run setting sessions before) (map piece_in (of_key setting (key_of w.ident) before)) (piece_in last).tail.id
-      (map (λ (a : Arrival). a.mark) (of_key setting (key_of w.ident) before)) →
-      IsCutting w.signature (piece_in last).tail.id payload (map piece_in (of_key setting (key_of w.ident) before) ++ piece_in last ∷ []) →
-      lacks_blocks setting.blocks (piece_in last) (map piece_in (of_key setting (key_of w.ident) before))
-      (others (key_of w.ident) (remembered last.moment (run setting sessions before))) ≡ false →
+  pub complete : (setting : Setting) (sessions : List Session) (w : Wanted) (payload : List ℕ) (arrivals before : List Arrival) (first last : Arrival) →
+      ComesWhole setting sessions w payload arrivals before first last →
       answer setting (run setting sessions before) last ≡ Gives (record {
         ident = w.ident;
         id = (piece_in last).tail.id;
         payload = payload;
         mark = last.mark;
-        whole = is_whole (map (λ (a : Arrival). a.mark) (of_key setting (key_of w.ident) (before ++ last ∷ [])));
+        whole = is_whole (map (λ (a : Arrival). a.mark) (of_key setting (key_of w.ident) arrivals));
       })
-  finish_waiting before waits cutting l =
-      let still : session_of (key_of w.ident) (remembered last.moment (run setting sessions before)) ≡ Some waits.session =
-      session_of-filter (is_recent last.moment) (key_of w.ident) (run setting sessions before) waits.session waits.there
-      (le-leb (last.moment - waits.session.moment) 2000 (waits.recent.each 0 last (omega arith))) in
-      finish before waits.session
-      (finds setting.sessions (key_of w.ident) (piece_in last).tail last.moment (remembered last.moment (run setting sessions before)) waits.session still
-      ∙ ap as_ok (stays (piece_in last).tail waits.session (sym waits.expected)))
-      waits.expected waits.taken waits.marked cutting l
-
-  cutting_before : (arrivals before : List Arrival) → arrivals ≡ before ++ last ∷ [] →
-      IsCutting w.signature (piece_in last).tail.id payload (map piece_in (of_key setting (key_of w.ident) arrivals)) →
-      IsCutting w.signature (piece_in last).tail.id payload (map piece_in (of_key setting (key_of w.ident) before) ++ piece_in last ∷ [])
-  cutting_before arrivals before e cutting =
-      subst (λ x. IsCutting w.signature (piece_in last).tail.id payload x)
-      (ap (λ x. map piece_in (of_key setting (key_of w.ident) x)) e ∙ pieces-push setting (key_of w.ident) last own_last before) cutting
-
--- the first frame is the last
-alone : (setting : Setting) (sessions : List Session) (w : Wanted) (payload : List ℕ) (arrivals : List Arrival) (first last : Arrival) →
-    ComesWhole setting sessions w payload arrivals [] first last →
-    answer setting sessions last ≡ Gives (record {
-      ident = w.ident;
-      id = (piece_in last).tail.id;
-      payload = payload;
-      mark = last.mark;
-      whole = is_whole (map (λ (a : Arrival). a.mark) (of_key setting (key_of w.ident) (last ∷ [])));
-    })
-alone setting sessions w payload arrivals first last h =
-    let cutting = cutting_before setting sessions w payload last h.accepted h.of_session arrivals [] h.ends h.cutting in
-    let end = is_end w.signature payload [] (piece_in last) cutting in
-    let start : (piece_in last).tail.start ≡ true = ap (λ (t : Tail). t.start) end.end_is in
-    let same : first ∷ h.begins.0 ≡ last ∷ [] = sym h.begins.1 ∙ h.ends in
-    let one : first ≡ last = cc in
-    let b = finds_first setting sessions (key_of w.ident) last (subst (λ a. MayBegin setting sessions (key_of w.ident) a) one h.may_begin) start in
-    finish setting sessions w payload last h.accepted h.of_session [] b.session b.there b.expected b.taken b.marks cutting
-    (h.blocks [] [] last h.ends (own_last setting sessions w payload last h.accepted h.of_session))
-
--- others come between the first frame and the last
-several : (setting : Setting) (sessions : List Session) (w : Wanted) (payload : List ℕ) (arrivals before : List Arrival) (first head last : Arrival) →
-    ComesWhole setting sessions w payload arrivals (head ∷ before) first last →
-    answer setting (run setting (next setting sessions head) before) last ≡ Gives (record {
-      ident = w.ident;
-      id = (piece_in last).tail.id;
-      payload = payload;
-      mark = last.mark;
-      whole = is_whole (map (λ (a : Arrival). a.mark) (of_key setting (key_of w.ident) (head ∷ (before ++ last ∷ []))));
-    })
-several setting sessions w payload arrivals before first head last h =
-    let key = key_of w.ident in
-    let cutting = cutting_before setting sessions w payload last h.accepted h.of_session arrivals (head ∷ before) h.ends h.cutting in
-    let part : List Piece = map piece_in (of_key setting key (head ∷ before)) in
-    let end = is_end w.signature payload part (piece_in last) cutting in
-    let same : first ∷ h.begins.0 ≡ head ∷ (before ++ last ∷ []) = sym h.begins.1 ∙ h.ends in
-    let one : first ≡ head = cc in
-    let own : is_of setting key head ≡ true = subst (λ a. is_of setting key a ≡ true) one h.begins.2 in
-    let part_is : part ≡ piece_in head ∷ map piece_in (of_key setting key before) = own_pieces setting key last head before own in
-    let goes_head : IsPart (piece_in last).tail.id 0 (piece_in head ∷ map piece_in (of_key setting key before)) =
-    subst (λ x. IsPart (piece_in last).tail.id 0 x) part_is end.part_is in
-    let tail : (piece_in head).tail ≡ tail_at (piece_in last).tail.id 0 false = goes_head.1 in
-    let b = finds_first setting sessions key head (subst (λ a. MayBegin setting sessions key a) one h.may_begin) (ap (λ (t : Tail). t.start) tail) in
-    let id : b.session.expected ≡ (piece_in last).tail.id = b.expected ∙ ap (λ (t : Tail). t.id) tail in
-    let waits = own_goes setting key last head before (goes setting key last before) sessions b.session part own b.there
-    (record { pairs = subst (λ x. AllPairs (λ (earlier later : Arrival). later.moment - earlier.moment ≤ 2000) x) h.ends h.in_time })
-    (ap (λ x. x ++ part) (sym b.taken)) (subst (λ i. IsPart i 0 part) (sym id) end.part_is) end.few
-    (record {
-      each = λ front back a cut mine.
-          subst (λ x. lacks_blocks setting.blocks (piece_in a) (x ++ map piece_in (of_key setting key front)) (others key (remembered a.moment (run setting sessions front))) ≡ false)
-          (sym b.taken) (h.blocks front back a (h.ends ∙ cut) mine);
-    }) in
-    finish_waiting setting sessions w payload last h.accepted h.of_session (head ∷ before)
-    (subst (λ i. Waits setting key last (run setting sessions (head ∷ before)) part i (map (λ (a : Arrival). a.mark) (of_key setting key (head ∷ before)))) id
-    (subst (λ x. Waits setting key last (run setting sessions (head ∷ before)) part b.session.expected (x ++ map (λ (a : Arrival). a.mark) (of_key setting key (head ∷ before)))) b.marks waits))
-    cutting (h.blocks (head ∷ before) [] last h.ends (own_last setting sessions w payload last h.accepted h.of_session))
-
-complete-cases : (setting : Setting) (sessions : List Session) (w : Wanted) (payload : List ℕ) (arrivals before : List Arrival) (first last : Arrival) →
-    ComesWhole setting sessions w payload arrivals before first last →
-    answer setting (run setting sessions before) last ≡ Gives (record {
-      ident = w.ident;
-      id = (piece_in last).tail.id;
-      payload = payload;
-      mark = last.mark;
-      whole = is_whole (map (λ (a : Arrival). a.mark) (of_key setting (key_of w.ident) (before ++ last ∷ [])));
-    })
-complete-cases setting sessions w payload arrivals [] first last h = alone setting sessions w payload arrivals first last h
-complete-cases setting sessions w payload arrivals (head ∷ before) first last h = several setting sessions w payload arrivals before first head last h
-
-pub complete : (setting : Setting) (sessions : List Session) (w : Wanted) (payload : List ℕ) (arrivals before : List Arrival) (first last : Arrival) →
-    ComesWhole setting sessions w payload arrivals before first last →
-    answer setting (run setting sessions before) last ≡ Gives (record {
-      ident = w.ident;
-      id = (piece_in last).tail.id;
-      payload = payload;
-      mark = last.mark;
-      whole = is_whole (map (λ (a : Arrival). a.mark) (of_key setting (key_of w.ident) arrivals));
-    })
-complete setting sessions w payload arrivals before first last h =
-    complete-cases setting sessions w payload arrivals before first last h
-    ∙ ap (λ x. Gives (record {
-      ident = w.ident;
-      id = (piece_in last).tail.id;
-      payload = payload;
-      mark = last.mark;
-      whole = is_whole (map (λ (a : Arrival). a.mark) (of_key setting (key_of w.ident) x));
-    })) (sym h.ends)
+  complete setting sessions w payload arrivals before first last h =
+      complete-cases setting sessions w payload arrivals before first last h
+      ∙ ap (λ x. Gives (record {
+        ident = w.ident;
+        id = (piece_in last).tail.id;
+        payload = payload;
+        mark = last.mark;
+        whole = is_whole (map (λ (a : Arrival). a.mark) (of_key setting (key_of w.ident) x));
+      })) (sym h.ends)

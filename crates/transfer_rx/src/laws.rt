@@ -15,13 +15,17 @@ ghost use Rattle.transfer_rx.specs.Sessions.{Session, session_for};
 ghost use Rattle.transfer_rx.specs.Sound.{ArePossible, IsDelivered};
 ghost use Rattle.transfer_rx.specs.Unmarked.{unmarked, unmarked_answer, unmarked_arrival};
 
+use can_frame::laws::{frames_carry_what_is_cut, frames_give_the_payload, lengths_of_cuttings};
+
 /// Frames are delivered as a payload exactly where they are the cutting of it.
 pub fn delivers_cuttings()
     ensures whole { (signature id : ℕ) (payload : List ℕ) (pieces : List Piece) → pieces ≡ frames_of signature id payload →
         assembled signature id pieces ≡ Delivers payload }
     ensures only { (signature id : ℕ) (payload : List ℕ) (pieces : List Piece) → assembled signature id pieces ≡ Delivers payload →
         pieces ≡ frames_of signature id payload }
-{}
+{
+    frames_give_the_payload();
+}
 
 /// Lengths are refused exactly where no payload has frames of these lengths.
 pub fn refuses_lengths()
@@ -29,7 +33,10 @@ pub fn refuses_lengths()
         (payload : List ℕ) → length payload ≤ 376 → sizes pieces ≡ sizes (frames_of signature id payload) → ⊥ }
     ensures some { (signature id : ℕ) (pieces : List Piece) → fits_no_payload signature id pieces ≡ false →
         (payload : List ℕ) × (length payload ≤ 376) × (sizes pieces ≡ sizes (frames_of signature id payload)) }
-{}
+{
+    frames_give_the_payload();
+    lengths_of_cuttings();
+}
 
 /// Completeness: a transfer that comes in order from its first frame to its last, among frames of
 /// other sessions, is delivered, where it may begin, no frame comes more than 2,000 ms after an
@@ -44,7 +51,11 @@ pub fn delivers_what_comes_whole()
           mark = last.mark;
           whole = is_whole (map (λ arrival. arrival.mark) (of_key setting (key_of w.ident) arrivals));
         }) }
-{}
+{
+    frames_carry_what_is_cut();
+    frames_give_the_payload();
+    lengths_of_cuttings();
+}
 
 /// Marks change nothing but the mark and `whole` of what is delivered.
 pub fn marks_change_marks_alone()
