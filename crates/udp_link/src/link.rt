@@ -1,0 +1,199 @@
+ghost use Rattle.std.specs.Prelude.{◌≡◌, ◌≤◌, ◌+◌, ◌<◌, ℕ, None};
+ghost use Rattle.outside.specs.Faults.{Rose};
+
+use crate::datagram::{MOST, datagram_of, frame_of};
+use outside::{Failed, Link, RawFrame, Received};
+use std::io::ErrorKind;
+use std::net::{Ipv4Addr, Net, UdpSocket};
+
+/// The highest node ID that has a port.
+const LAST: u8 = 125;
+
+/// How often a call is made again that told of another one: a port without a listener may be told of at
+/// a later call, which then neither sent nor received.
+const TRIES: u8 = 3;
+
+/// The link of a node over UDP on this machine. It tells no contents.
+#[derive(Drop)]
+pub struct UdpLink {
+    socket: UdpSocket,
+    base: u16,
+    id: u8,
+    faults: u64,
+    ghost ports: { base + 125 < 65536 },
+}
+
+impl UdpLink {
+    /// The link of the node with this ID, 1 to 125: it receives at port `base + id` of 127.0.0.1, and
+    /// never waits. It fails where the socket cannot be made, as where the port is taken.
+    pub fn open<R: Net>(rt: &R, base: u16, id: u8) -> Result<UdpLink, Failed>
+        requires ports { base + 125 < 65536 }
+        requires member { id ≤ 125 }
+    {
+        let Ok(socket) = UdpSocket::bind(rt, (Ipv4Addr::LOCALHOST, base + u16::from(id))) else {
+            return Err(Failed);
+        };
+        if socket.set_nonblocking(true).is_err() {
+            return Err(Failed);
+        }
+        Ok(UdpLink {
+            socket,
+            base,
+            id,
+            faults: 0,
+        })
+    }
+
+    /// Counts a call that failed.
+    fn fault(&mut self) -> Failed
+        ensures later { self.old.faults ≤ self.new.faults }
+        ensures rose { Rose self.old.faults self.new.faults }
+    {
+        self.faults = self.faults.saturating_add(1);
+        Failed
+    }
+
+    /// What has come, unless the socket failed.
+    fn received(&self) -> Option<Received> {
+        // One byte more than a frame has: a longer datagram is cut to that, and is junk.
+        let mut datagram = [0; MOST + 1];
+        for _ in 0..TRIES {
+            match self.socket.recv_from(&mut datagram) {
+                Ok((count, _)) => return Some(frame_of(&datagram[..count])),
+                Err(error) if error.kind() == ErrorKind::WouldBlock => break,
+                Err(error) if error.kind() == ErrorKind::ConnectionRefused => {}
+                Err(_) => return None,
+            }
+        }
+        Some(Received::Nothing)
+    }
+
+    /// Sends a datagram to the port of a node, and tells whether the socket works.
+    fn send_to(&self, node: u8, datagram: &[u8]) -> bool
+        requires { node ≤ 125 }
+    {
+        let port = self.base + u16::from(node);
+        for _ in 0..TRIES {
+            match self.socket.send_to(datagram, (Ipv4Addr::LOCALHOST, port)) {
+                Ok(_) => break,
+                Err(error) if error.kind() == ErrorKind::ConnectionRefused => {}
+                Err(_) => return false,
+            }
+        }
+        true
+    }
+
+    /// Sends a datagram to the port of each other node, up to the first where the socket fails, and
+    /// tells whether it works.
+    fn send_to_others(&self, datagram: &[u8]) -> bool {
+        for node in 1..=LAST {
+            if node != self.id && !self.send_to(node, datagram) {
+                return false;
+            }
+        }
+        true
+    }
+}
+
+impl Link for UdpLink {
+    ghost coming = { λ _. None };
+
+    ghost sent = { λ _. None };
+
+    ghost faults = { λ l. l.faults };
+
+    fn recv(&mut self) -> Result<Received, Failed> {
+        match self.received() {
+            Some(received) => Ok(received),
+            None => Err(self.fault()),
+        }
+    }
+
+    fn send(&mut self, frame: &RawFrame) -> Result<(), Failed> {
+        if self.send_to_others(&datagram_of(frame)) {
+            Ok(())
+        } else {
+            Err(self.fault())
+        }
+    }
+}
+
+#[cfg(test)]
+mod tests {
+    use super::*;
+    use std::test::Fail;
+
+    const FRAME: RawFrame = RawFrame {
+        id: 0x1e01_5501,
+        len: 8,
+        bytes: [4, 0, 0, 0, 0, 0, 0, 0xc0],
+    };
+
+    /// Links 1 and 2 at the first base whose ports are free.
+    fn two_links<R: Net>(rt: &R) -> Result<(UdpLink, UdpLink), Failed> {
+        for number in 0..100 {
+            let base = 5000 + 200 * number;
+            if let Ok(one) = UdpLink::open(rt, base, 1) {
+                if let Ok(two) = UdpLink::open(rt, base, 2) {
+                    return Ok((one, two));
+                }
+            }
+        }
+        Err(Failed)
+    }
+
+    /// The next item that comes.
+    fn next(link: &mut UdpLink) -> Result<Received, Failed> {
+        for _ in 0..1_000_000 {
+            let received = link.recv()?;
+            if received != Received::Nothing {
+                return Ok(received);
+            }
+        }
+        Ok(Received::Nothing)
+    }
+
+    #[test]
+    fn a_frame_goes_to_the_others_and_another_datagram_is_junk(
+        rt: HostRuntime,
+    ) -> Result<(), Fail> {
+        let (mut one, mut two) = two_links(&rt)?;
+        assert_eq!(rt; two.recv(), Ok(Received::Nothing));
+        assert_eq!(rt; one.send(&FRAME), Ok(()));
+        assert_eq!(rt; next(&mut two), Ok(Received::Frame(FRAME)));
+        let third = UdpSocket::bind(&rt, (Ipv4Addr::LOCALHOST, 0))?;
+        let to = (Ipv4Addr::LOCALHOST, two.base + 2);
+        for len in [0, 3, 4, 5, 12, 14, 40] {
+            let sent = third.send_to(&[8; 40][..len], to)?;
+            assert_eq!(rt; sent, len);
+            assert_eq!(rt; next(&mut two), Ok(Received::Junk));
+        }
+        assert_eq!(rt; third.send_to(&[8; 13], to)?, 13);
+        let eights = RawFrame {
+            id: 0x0808_0808,
+            len: 8,
+            bytes: [8; 8],
+        };
+        assert_eq!(rt; next(&mut two), Ok(Received::Frame(eights)));
+        assert_eq!(rt; two.recv(), Ok(Received::Nothing));
+        Ok(())
+    }
+
+    #[test]
+    fn a_port_without_a_listener_is_no_failure(rt: HostRuntime) -> Result<(), Fail> {
+        let (mut one, two) = two_links(&rt)?;
+        drop(two);
+        for _ in 0..3 {
+            assert_eq!(rt; one.send(&FRAME), Ok(()));
+            assert_eq!(rt; one.recv(), Ok(Received::Nothing));
+        }
+        Ok(())
+    }
+
+    #[test]
+    fn a_port_that_is_taken_makes_no_link(rt: HostRuntime) -> Result<(), Fail> {
+        let (one, _two) = two_links(&rt)?;
+        assert!(rt; UdpLink::open(&rt, one.base, 2).is_err());
+        Ok(())
+    }
+}
