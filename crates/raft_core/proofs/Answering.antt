@@ -1,6 +1,7 @@
 -- An answer of a peer: the call ends, a higher term counts, and else what the answer says.
 use Rattle.std.proofs.Common.{◌≡◌, ℕ, None, Bool, true, false, List, [], ◌∷◌, ◌++◌, refl, sym, subst, ◌∙◌}
-use Rattle.std.specs.Prelude.{Result, Err, OnOk, if◌then◌else◌, ◌&&◌, ◌==◌, nat_lt}
+use Rattle.std.specs.Result.{result_err}
+use Rattle.std.specs.Prelude.{Some, Result, Err, if◌then◌else◌, ◌&&◌, ◌==◌, nat_lt}
 use Rattle.disk_model.specs.declared.disk.Disk.{Ghosts}
 use Rattle.kv_store.specs.declared.fault.Fault.{Fault}
 use Rattle.can_frame.specs.declared.step.Role.{Role}
@@ -66,7 +67,7 @@ leader_stays raft raft2 stays leads = sym (stays (λ h. no_follower (sym leads �
 
 -- ---- exits
 
-module _ {D : Type 0} {disk : Ghosts D} (members : List ℕ) (m n : ℕ) (given : Given) (p : Plain) (t : Times) (a : Answer) (old new : Durable D disk) (raft2 : Raft) (result : Result Bool Fault) where
+module _ {D : Type 0} {disk : Ghosts D} (members : List ℕ) (m n : ℕ) (given : Given) (p : Plain) (t : Times) (a : Answer) (old new : Durable D disk) (raft2 : Raft) where
   abbrev p1 : Plain
   p1 = record p { memory = ended p.memory a.from }
 
@@ -77,56 +78,56 @@ module _ {D : Type 0} {disk : Ghosts D} (members : List ℕ) (m n : ℕ) (given 
   Raised t1 = StandsFor raft2 members (durable_state new) (record { store = with_term p.store a.term; memory = term_memory (record p { memory = ended p.memory a.from }) a.term }) (raise given.now a.term (record p { memory = ended p.memory a.from }) t1)
 
   -- a vote that does not count
-  pub no_vote_counted : (nat_lt p.store.term a.term ≡ false → counts p a ≡ false) → DoesPuts (term_puts p.store a.term) old new result → OnOk result (Raised (end_vote_call a.from t))
-      → MakesMoves members m n given (TakeVoteAnswer a ∷ []) p t old new raft2 result
-  no_vote_counted none made after = one_move members m n given (TakeVoteAnswer a) p t old new raft2 result
-      (subst (λ (l : List Put). DoesPuts l old new result) same_puts made)
-      (subst (λ (x : Times). OnOk result (StandsFor raft2 members (durable_state new) (record { store = put_all p.store (puts members m p (TakeVoteAnswer a)); memory = memory_after members m n p (TakeVoteAnswer a) }) x))
+  pub no_vote_counted : (nat_lt p.store.term a.term ≡ false → counts p a ≡ false) → DoesPuts (term_puts p.store a.term) old new None → Raised (end_vote_call a.from t)
+      → MakesMoves members m n given (TakeVoteAnswer a ∷ []) p t old new raft2 None
+  no_vote_counted none made after = one_move members m n given (TakeVoteAnswer a) p t old new raft2
+      (subst (λ (l : List Put). DoesPuts l old new None) same_puts made)
+      (subst (λ (x : Times). StandsFor raft2 members (durable_state new) (record { store = put_all p.store (puts members m p (TakeVoteAnswer a)); memory = memory_after members m n p (TakeVoteAnswer a) }) x)
       (skip higher (counts p a && has_quorum members (counted p.memory a)) (step_down given.now p.memory.role (end_vote_call a.from t)) (win (end_vote_call a.from t)) (end_vote_call a.from t) (λ low. and_false (counts p a) _ (none low)))
-      (subst (λ (x : Memory). OnOk result (StandsFor raft2 members (durable_state new) (record { store = put_all p.store (puts members m p (TakeVoteAnswer a)); memory = x }) (raise given.now a.term p1 (end_vote_call a.from t))))
+      (subst (λ (x : Memory). StandsFor raft2 members (durable_state new) (record { store = put_all p.store (puts members m p (TakeVoteAnswer a)); memory = x }) (raise given.now a.term p1 (end_vote_call a.from t)))
       (skip higher (counts p a) (record (ended p.memory a.from) { role = MachineRole.Follower }) _ (ended p.memory a.from) none)
-      (subst (λ (l : List Put). OnOk result (StandsFor raft2 members (durable_state new) (record { store = put_all p.store l; memory = term_memory p1 a.term }) (raise given.now a.term p1 (end_vote_call a.from t)))) same_puts after)))
+      (subst (λ (l : List Put). StandsFor raft2 members (durable_state new) (record { store = put_all p.store l; memory = term_memory p1 a.term }) (raise given.now a.term p1 (end_vote_call a.from t))) same_puts after)))
     where
       same_puts : term_puts p.store a.term ≡ puts members m p (TakeVoteAnswer a)
       same_puts = twice higher _ [] ∙ skip higher (counts p a) (term_puts p.store a.term) (if has_quorum members (counted p.memory a) then win_puts p.store else []) [] none
 
   -- one that counts
-  pub vote_counted : nat_lt p.store.term a.term ≡ false → counts p a ≡ true → DoesPuts (votes_puts members p1 t (counted p.memory a) old new raft2) old new result
-      → OnOk result (CountsVotes members p1 (end_vote_call a.from t) (counted p.memory a) old new raft2)
-      → MakesMoves members m n given (TakeVoteAnswer a ∷ []) p t old new raft2 result
-  vote_counted low so made after = one_move members m n given (TakeVoteAnswer a) p t old new raft2 result (rw (low, so) made) (rw (low, so) (by_quorum (has_quorum members (counted p.memory a)) result after))
+  pub vote_counted : nat_lt p.store.term a.term ≡ false → counts p a ≡ true → DoesPuts (votes_puts members p1 t (counted p.memory a) old new raft2) old new None
+      → CountsVotes members p1 (end_vote_call a.from t) (counted p.memory a) old new raft2
+      → MakesMoves members m n given (TakeVoteAnswer a ∷ []) p t old new raft2 None
+  vote_counted low so made after = one_move members m n given (TakeVoteAnswer a) p t old new raft2 (rw (low, so) made) (rw (low, so) (by_quorum (has_quorum members (counted p.memory a)) after))
     where
-      by_quorum : (q : Bool) (r : Result Bool Fault)
-          → OnOk r (StandsFor raft2 members (durable_state new) (if q then record { store = put_all p.store (win_puts p.store); memory = win_memory p.store (record p1.memory { votes = counted p.memory a }) } else record p1 { memory = record p1.memory { votes = counted p.memory a } }) (if q then win (end_vote_call a.from t) else end_vote_call a.from t))
-          → OnOk r (StandsFor raft2 members (durable_state new) (record { store = put_all p.store (if q then win_puts p.store else []); memory = if q then win_memory p.store (record p1.memory { votes = counted p.memory a }) else record p1.memory { votes = counted p.memory a } }) (if q then win (end_vote_call a.from t) else end_vote_call a.from t))
-      by_quorum true r h = h
-      by_quorum false r h = h
+      by_quorum : (q : Bool)
+          → (StandsFor raft2 members (durable_state new) (if q then record { store = put_all p.store (win_puts p.store); memory = win_memory p.store (record p1.memory { votes = counted p.memory a }) } else record p1 { memory = record p1.memory { votes = counted p.memory a } }) (if q then win (end_vote_call a.from t) else end_vote_call a.from t))
+          → (StandsFor raft2 members (durable_state new) (record { store = put_all p.store (if q then win_puts p.store else []); memory = if q then win_memory p.store (record p1.memory { votes = counted p.memory a }) else record p1.memory { votes = counted p.memory a } }) (if q then win (end_vote_call a.from t) else end_vote_call a.from t))
+      by_quorum true h = h
+      by_quorum false h = h
 
   -- an append answer that does not count
-  pub not_matched : (nat_lt p.store.term a.term ≡ false → (is_leader p.memory.role && (a.term == p.store.term)) ≡ false) → DoesPuts (term_puts p.store a.term) old new result → OnOk result (Raised (end_call a.from t))
-      → MakesMoves members m n given (TakeAppendAnswer a ∷ []) p t old new raft2 result
-  not_matched none made after = one_move members m n given (TakeAppendAnswer a) p t old new raft2 result made
-      (subst (λ (x : Memory). OnOk result (StandsFor raft2 members (durable_state new) (record { store = with_term p.store a.term; memory = x }) (raise given.now a.term p1 (end_call a.from t))))
+  pub not_matched : (nat_lt p.store.term a.term ≡ false → (is_leader p.memory.role && (a.term == p.store.term)) ≡ false) → DoesPuts (term_puts p.store a.term) old new None → Raised (end_call a.from t)
+      → MakesMoves members m n given (TakeAppendAnswer a ∷ []) p t old new raft2 None
+  not_matched none made after = one_move members m n given (TakeAppendAnswer a) p t old new raft2 made
+      (subst (λ (x : Memory). StandsFor raft2 members (durable_state new) (record { store = with_term p.store a.term; memory = x }) (raise given.now a.term p1 (end_call a.from t)))
       (skip higher (is_leader p.memory.role && (a.term == p.store.term)) (record (ended p.memory a.from) { role = MachineRole.Follower }) (matched_memory p.memory a) (ended p.memory a.from) none) after)
 
   -- one that counts
-  pub matched : nat_lt p.store.term a.term ≡ false → (is_leader p.memory.role && (a.term == p.store.term)) ≡ true → DoesPuts (term_puts p.store a.term) old new result
-      → OnOk result (StandsFor raft2 members (durable_state new) (record p { memory = matched_memory p.memory a }) (end_call a.from t))
-      → MakesMoves members m n given (TakeAppendAnswer a ∷ []) p t old new raft2 result
-  matched low so made after = one_move members m n given (TakeAppendAnswer a) p t old new raft2 result made (rw (low, so) after)
+  pub matched : nat_lt p.store.term a.term ≡ false → (is_leader p.memory.role && (a.term == p.store.term)) ≡ true → DoesPuts (term_puts p.store a.term) old new None
+      → StandsFor raft2 members (durable_state new) (record p { memory = matched_memory p.memory a }) (end_call a.from t)
+      → MakesMoves members m n given (TakeAppendAnswer a ∷ []) p t old new raft2 None
+  matched low so made after = one_move members m n given (TakeAppendAnswer a) p t old new raft2 made (rw (low, so) after)
 
   -- the votes were not stored
-  pub count_failed : (fault : Fault) → result ≡ Err fault → nat_lt p.store.term a.term ≡ false → counts p a ≡ true → DoesPuts (votes_puts members p1 t (counted p.memory a) old new raft2) old new result
-      → MakesMoves members m n given (TakeVoteAnswer a ∷ []) p t old new raft2 result
-  count_failed fault failed low so made = one_move_failed members m n given (TakeVoteAnswer a) p t old new raft2 result fault failed (rw (low, so) made)
+  pub count_failed : {T : Type 0} (result : Result T Fault) (fault : Fault) → result ≡ Err fault → nat_lt p.store.term a.term ≡ false → counts p a ≡ true → DoesPuts (votes_puts members p1 t (counted p.memory a) old new raft2) old new (Some fault)
+      → MakesMoves members m n given (TakeVoteAnswer a ∷ []) p t old new raft2 (result_err result)
+  count_failed result fault failed low so made = one_move_failed members m n given (TakeVoteAnswer a) p t old new raft2 result fault failed (rw (low, so) made)
 
   -- what is put besides the term
   abbrev pub rest : List Put
   rest = if nat_lt p.store.term a.term then [] else (if counts p a then (if has_quorum members (counted p.memory a) then win_puts p.store else []) else [])
 
   -- the term was not stored
-  pub term_failed : (fault : Fault) → result ≡ Err fault → DoesPuts (term_puts p.store a.term ++ rest) old new result → MakesMoves members m n given (TakeVoteAnswer a ∷ []) p t old new raft2 result
-  term_failed fault failed made = one_move_failed members m n given (TakeVoteAnswer a) p t old new raft2 result fault failed (subst (λ (l : List Put). DoesPuts l old new result) (joins higher _) made)
+  pub term_failed : {T : Type 0} (result : Result T Fault) (fault : Fault) → result ≡ Err fault → DoesPuts (term_puts p.store a.term ++ rest) old new (Some fault) → MakesMoves members m n given (TakeVoteAnswer a ∷ []) p t old new raft2 (result_err result)
+  term_failed result fault failed made = one_move_failed members m n given (TakeVoteAnswer a) p t old new raft2 result fault failed (subst (λ (l : List Put). DoesPuts l old new (Some fault)) (joins higher _) made)
     where
       joins : (b : Bool) (more : List Put) → (if b then PutTerm a.term ∷ PutVote None ∷ [] else []) ++ (if b then [] else more) ≡ (if b then (if b then PutTerm a.term ∷ PutVote None ∷ [] else []) else more)
       joins true more = refl

@@ -1,6 +1,7 @@
 -- The exits of an append request.
 use Rattle.std.proofs.Common.{◌≡◌, ℕ, Bool, false, List, [], ◌∷◌, ◌++◌, refl, sym, ap, subst, ◌∙◌}
-use Rattle.std.specs.Prelude.{Result, Ok, Err, IfOk}
+use Rattle.std.specs.Prelude.{Some, None, Result, Ok, Err, IfOk}
+use Rattle.std.specs.Result.{result_err}
 use Rattle.disk_model.specs.declared.disk.Disk.{Ghosts}
 use Rattle.dsdl_codec.specs.declared.append_answer.AppendAnswer.{AppendAnswer}
 use Rattle.can_frame.specs.declared.step.Role.TheVariants.{Follower}
@@ -25,18 +26,17 @@ module _ {D : Type 0} {disk : Ghosts D} (members : List ℕ) (m n : ℕ) (given 
     (old new : Durable D disk) (raft : Raft) (st : StandsFor raft members (durable_state old) p t) where
   -- what is made of it, and what is answered
   abbrev pub IsTaken : Durable D disk → Raft → Result AppendAnswer Fault → Type 0
-  IsTaken now raft2 result = MakesMoves members m n given (TakeAppendRequest r v ∷ []) p t old now raft2 result ×
+  IsTaken now raft2 result = MakesMoves members m n given (TakeAppendRequest r v ∷ []) p t old now raft2 (result_err result) ×
       IfOk result (λ answer. (answer.term ≡ (with_term p.store r.term).term) × (answer.success ≡ is_accepted v))
 
   -- its term refuses it
   pub refused_late : (term : ℕ) → IsLate raft members (durable_state old) p t r st → term ≡ (durable_state old).term
-      → DoesPuts {T = AppendAnswer} [] old old (Ok (record { term = term; success = false })) → IsTaken old raft (Ok (record { term = term; success = false }))
+      → DoesPuts [] old old None → IsTaken old raft (Ok (record { term = term; success = false }))
   refused_late term is_late own nothing =
       let out : IsOutdated p r = late raft members (durable_state old) p t r st is_late in
-      let result : Result AppendAnswer Fault = Ok (record { term = term; success = false }) in
       let none : term_puts p.store r.term ++ [] ≡ [] = ap (λ (l : List Put). l ++ []) (no_term_puts p.store r.term (outdated_term p r out)) in
-      subst (λ (w : Verdict). MakesMoves members m n given (TakeAppendRequest r w ∷ []) p t old old raft result × ((term ≡ (with_term p.store r.term).term) × (false ≡ is_accepted w))) (sym (judged_outdated p r v judged out)) (
-        one_move members m n given (TakeAppendRequest r Outdated) p t old old raft result (none_made _ old result none nothing)
+      subst (λ (w : Verdict). MakesMoves members m n given (TakeAppendRequest r w ∷ []) p t old old raft None × ((term ≡ (with_term p.store r.term).term) × (false ≡ is_accepted w))) (sym (judged_outdated p r v judged out)) (
+        one_move members m n given (TakeAppendRequest r Outdated) p t old old raft (none_made _ old None none nothing)
             (subst (λ (l : List Put). StandsFor raft members (durable_state old) (record p { store = put_all p.store l }) t) (sym none) st),
         (own ∙ (sym (ap (λ (z : Store). z.term) st.store) ∙ own_term p.store r.term (outdated_term p r out)), refl),
       )
@@ -47,10 +47,10 @@ module _ {D : Type 0} {disk : Ghosts D} (members : List ℕ) (m n : ℕ) (given 
 
     -- the term was not stored
     pub term_failed : (fault : Fault) (raft2 : Raft) (result : Result AppendAnswer Fault) → result ≡ Err fault
-        → DoesPuts (term_puts (store_of (durable_state old)) r.term ++ append_puts (with_term p.store r.term) r v) old new result → IsTaken new raft2 result
+        → DoesPuts (term_puts (store_of (durable_state old)) r.term ++ append_puts (with_term p.store r.term) r v) old new (Some fault) → IsTaken new raft2 result
     term_failed fault raft2 result is made = (
       one_move_failed members m n given (TakeAppendRequest r v) p t old new raft2 result fault is
-          (subst (λ (z : Store). DoesPuts (term_puts z r.term ++ append_puts (with_term p.store r.term) r v) old new result) (sym st.store) made),
+          (subst (λ (z : Store). DoesPuts (term_puts z r.term ++ append_puts (with_term p.store r.term) r v) old new (Some fault)) (sym st.store) made),
       subst (λ (x : Result AppendAnswer Fault). IfOk x (λ answer. (answer.term ≡ (with_term p.store r.term).term) × (answer.success ≡ is_accepted v))) (sym is) tt,
     )
 
@@ -66,18 +66,18 @@ module _ {D : Type 0} {disk : Ghosts D} (members : List ℕ) (m n : ℕ) (given 
       -- it is taken
       pub taken : (success : Bool) (term : ℕ) (raft2 : Raft) → raft2.role ≡ Follower → given.now ≡ raft2.since → raft2.told ≡ raft1.told → raft2.word ≡ raft1.word → raft2.peers ≡ raft1.peers
           → success ≡ is_accepted v → term ≡ r.term
-          → DoesPuts {T = Bool} (append_puts (store_of (durable_state mid)) r v) mid new (Ok success)
-          → DoesPuts {T = AppendAnswer} (term_puts (store_of (durable_state old)) r.term ++ append_puts (with_term p.store r.term) r v) old new (Ok (record { term = term; success = success }))
+          → DoesPuts (append_puts (store_of (durable_state mid)) r v) mid new None
+          → DoesPuts (term_puts (store_of (durable_state old)) r.term ++ append_puts (with_term p.store r.term) r v) old new None
           → IsTaken new raft2 (Ok (record { term = term; success = success }))
       taken success term raft2 role since told word peers is_success is_term appended made = (
-        one_move members m n given (TakeAppendRequest r v) p t old new raft2 _
-            (subst (λ (z : Store). DoesPuts {T = AppendAnswer} (term_puts z r.term ++ append_puts (with_term p.store r.term) r v) old new (Ok (record { term = term; success = success }))) (sym st.store) made)
+        one_move members m n given (TakeAppendRequest r v) p t old new raft2
+            (subst (λ (z : Store). DoesPuts (term_puts z r.term ++ append_puts (with_term p.store r.term) r v) old new None) (sym st.store) made)
             (taken_stands members m n given p t r v raft1 raft2 (durable_state mid) (durable_state new) st1 ruled stored role since told word peers),
         (is_term ∙ raised_term p.store r.term (not_lower raft members (durable_state old) p t r st not), is_success),
       )
         where
           stored : store_of (durable_state new) ≡ put_all p.store (term_puts p.store r.term ++ append_puts (with_term p.store r.term) r v)
-          stored = ap store_of appended.made.state
+          stored = ap store_of (appended.made.state refl)
               ∙ (store_after (append_puts (store_of (durable_state mid)) r v) (durable_state mid) (append_counts (store_of (durable_state mid)) r v)
               ∙ (ap (put_all (store_of (durable_state mid))) puts_now
               ∙ (ap (λ (z : Store). put_all z (append_puts (with_term p.store r.term) r v)) (sym st1.store)

@@ -1,6 +1,7 @@
 -- What the steps of an append request put.
 use Rattle.std.proofs.Common.{◌≡◌, ℕ, ◌+◌, ◌<◌, ◌≤◌, Bool, true, false, List, [], ◌∷◌, ◌++◌, length, take, min, Option, Some, None, refl, sym, ap, subst, ◌∙◌, arith, append_assoc}
-use Rattle.std.specs.Prelude.{Result, Ok, Err, IfOk, IsTrue, nat_lt}
+use Rattle.std.specs.Prelude.{Result, Ok, Err, IfOk, IsTrue, is_none, nat_lt}
+use Rattle.std.specs.Result.{result_err}
 use Rattle.std.proofs.lemmas.Bool.Decides.{nat_tests}
 use Rattle.can_frame.specs.declared.entry.Entry.{Entry}
 use Rattle.disk_model.specs.declared.disk.Disk.{Ghosts}
@@ -16,7 +17,7 @@ use Rattle.raft_model.specs.Server.{Put, Store}
 use Rattle.raft_model.specs.Server.Put.{PutEntry, PutLonger, PutShorter, PutCommit}
 use Rattle.raft_core.specs.Appending.{commit_puts, cut_to, write_puts}
 use Rattle.raft_core.specs.StoredPuts.{DoesPuts, store_of}
-use Rattle.raft_core.proofs.Puts.{does}
+use Rattle.raft_core.proofs.Puts.{does, fails}
 
 pub lt_true : (a b : ℕ) → a < b → nat_lt a b ≡ true
 lt_true a b less = grind (arith, nat_tests)
@@ -24,20 +25,21 @@ lt_true a b less = grind (arith, nat_tests)
 pub lt_false : (a b : ℕ) → b ≤ a → nat_lt a b ≡ false
 lt_false a b more = grind (arith, nat_tests)
 
-module _ {D T : Type 0} {disk : Ghosts D} (old new : Durable D disk) (result : Result T Fault) where
-  pub cut_made : (previous : ℕ) → previous < length (durable_state old).log → MakesPuts (StoredPut.PutLast (take previous (durable_state old).log) ∷ []) old new result → KeepsFault old new result
-      → DoesPuts (cut_to (store_of (durable_state old)) previous) old new result
-  cut_made previous shorter made keeps = rw (lt_true previous (length (durable_state old).log) shorter) (does (PutShorter previous ∷ []) _ old new result refl made keeps)
+module _ {D : Type 0} {disk : Ghosts D} (old new : Durable D disk) (ok : Bool) (failed : Option Fault) (ended : ok ≡ is_none failed) where
+  pub cut_made : (previous : ℕ) → previous < length (durable_state old).log → MakesPuts (StoredPut.PutLast (take previous (durable_state old).log) ∷ []) old new ok → KeepsFault old new failed
+      → DoesPuts (cut_to (store_of (durable_state old)) previous) old new failed
+  cut_made previous shorter made keeps = rw (lt_true previous (length (durable_state old).log) shorter) (does (PutShorter previous ∷ []) _ old new ok failed ended refl made keeps)
 
-  pub commit_made : (place : ℕ) → (durable_state old).commit < place → MakesPuts (StoredPut.PutCommit place ∷ []) old new result → KeepsFault old new result
-      → DoesPuts (commit_puts (store_of (durable_state old)) place) old new result
-  commit_made place later made keeps = rw (lt_true (durable_state old).commit place later) (does (PutCommit place ∷ []) _ old new result refl made keeps)
+  pub commit_made : (place : ℕ) → (durable_state old).commit < place → MakesPuts (StoredPut.PutCommit place ∷ []) old new ok → KeepsFault old new failed
+      → DoesPuts (commit_puts (store_of (durable_state old)) place) old new failed
+  commit_made place later made keeps = rw (lt_true (durable_state old).commit place later) (does (PutCommit place ∷ []) _ old new ok failed ended refl made keeps)
 
-  -- nothing is to be put
-  pub cut_none : (previous : ℕ) → length (durable_state old).log ≤ previous → DoesPuts [] old new result → DoesPuts (cut_to (store_of (durable_state old)) previous) old new result
+-- nothing is to be put
+module _ {D : Type 0} {disk : Ghosts D} (old new : Durable D disk) where
+  pub cut_none : (previous : ℕ) → length (durable_state old).log ≤ previous → DoesPuts [] old new None → DoesPuts (cut_to (store_of (durable_state old)) previous) old new None
   cut_none previous longer none = rw (lt_false previous (length (durable_state old).log) longer) none
 
-  pub commit_none : (place : ℕ) → place ≤ (durable_state old).commit → DoesPuts [] old new result → DoesPuts (commit_puts (store_of (durable_state old)) place) old new result
+  pub commit_none : (place : ℕ) → place ≤ (durable_state old).commit → DoesPuts [] old new None → DoesPuts (commit_puts (store_of (durable_state old)) place) old new None
   commit_none place done none = rw (lt_false (durable_state old).commit place done) none
 
 reach_none : (r : Request) → r.entry ≡ None → reach r ≡ r.previous
@@ -49,19 +51,19 @@ reach_one r e one = ap (λ (o : Option Entry). r.previous + items o) one
 module _ {D : Type 0} {disk : Ghosts D} (s : Store) (r : Request) (v : Verdict) where
   -- the puts of the verdict, and whether it accepts
   abbrev pub AnswersAs : Durable D disk → Durable D disk → Result Bool Fault → Verdict → Type 0
-  AnswersAs old new result w = DoesPuts (append_puts s r w) old new result × IfOk result (λ success. success ≡ is_accepted w)
+  AnswersAs old new result w = DoesPuts (append_puts s r w) old new (result_err result) × IfOk result (λ success. success ≡ is_accepted w)
 
-  pub refused_so : (old : Durable D disk) → v ≡ Refused → DoesPuts [] old old (Ok false) → AnswersAs old old (Ok false) v
+  pub refused_so : (old : Durable D disk) → v ≡ Refused → DoesPuts [] old old None → AnswersAs old old (Ok false) v
   refused_so old is none = subst (AnswersAs old old (Ok false)) (sym is) (none, refl)
 
   module _ (old new : Durable D disk) (result : Result Bool Fault) where
-    held_so : (place : ℕ) → v ≡ Held → min r.commit (reach r) ≡ place → DoesPuts (commit_puts s place) old new result → IfOk result (λ success. IsTrue success) → AnswersAs old new result v
-    held_so place is reaches puts accepted = subst (AnswersAs old new result) (sym is) (subst (λ (k : ℕ). DoesPuts (commit_puts s k) old new result) (sym reaches) puts, accepted)
+    held_so : (place : ℕ) → v ≡ Held → min r.commit (reach r) ≡ place → DoesPuts (commit_puts s place) old new (result_err result) → IfOk result (λ success. IsTrue success) → AnswersAs old new result v
+    held_so place is reaches puts accepted = subst (AnswersAs old new result) (sym is) (subst (λ (k : ℕ). DoesPuts (commit_puts s k) old new (result_err result)) (sym reaches) puts, accepted)
 
-    pub held_without : (place : ℕ) → v ≡ Held → r.entry ≡ None → place ≡ min r.commit r.previous → DoesPuts (commit_puts s place) old new result → IfOk result (λ success. IsTrue success) → AnswersAs old new result v
+    pub held_without : (place : ℕ) → v ≡ Held → r.entry ≡ None → place ≡ min r.commit r.previous → DoesPuts (commit_puts s place) old new (result_err result) → IfOk result (λ success. IsTrue success) → AnswersAs old new result v
     held_without place is none at_place = held_so place is (ap (min r.commit) (reach_none r none) ∙ sym at_place)
 
-    pub held_with : (e : Entry) (place : ℕ) → v ≡ Held → r.entry ≡ Some e → place ≡ min r.commit (r.previous + 1) → DoesPuts (commit_puts s place) old new result → IfOk result (λ success. IsTrue success) → AnswersAs old new result v
+    pub held_with : (e : Entry) (place : ℕ) → v ≡ Held → r.entry ≡ Some e → place ≡ min r.commit (r.previous + 1) → DoesPuts (commit_puts s place) old new (result_err result) → IfOk result (λ success. IsTrue success) → AnswersAs old new result v
     held_with e place is one at_place = held_so place is (ap (min r.commit) (reach_one r e one) ∙ sym at_place)
 
     -- what an added entry puts is what is written and what is committed
@@ -70,10 +72,10 @@ module _ {D : Type 0} {disk : Ghosts D} (s : Store) (r : Request) (v : Verdict) 
         ∙ ap (λ (k : ℕ). cut_to s r.previous ++ (PutEntry e ∷ PutLonger e ∷ commit_puts s k)) (at_place ∙ sym (ap (min r.commit) (reach_one r e one)))
 
     pub added_so : (e : Entry) (place : ℕ) → v ≡ Added e → r.entry ≡ Some e → place ≡ min r.commit (r.previous + 1)
-        → DoesPuts (write_puts s r.previous e ++ commit_puts s place) old new result → IfOk result (λ success. IsTrue success) → AnswersAs old new result v
-    added_so e place is one at_place puts accepted = subst (AnswersAs old new result) (sym is) (subst (λ (l : List Put). DoesPuts l old new result) (all_puts e place one at_place) puts, accepted)
+        → DoesPuts (write_puts s r.previous e ++ commit_puts s place) old new (result_err result) → IfOk result (λ success. IsTrue success) → AnswersAs old new result v
+    added_so e place is one at_place puts accepted = subst (AnswersAs old new result) (sym is) (subst (λ (l : List Put). DoesPuts l old new (result_err result)) (all_puts e place one at_place) puts, accepted)
 
     pub added_cut : (e : Entry) (place : ℕ) (fault : Fault) → result ≡ Err fault → v ≡ Added e → r.entry ≡ Some e → place ≡ min r.commit (r.previous + 1)
-        → DoesPuts (write_puts s r.previous e ++ commit_puts s place) old new result → AnswersAs old new result v
+        → DoesPuts (write_puts s r.previous e ++ commit_puts s place) old new (Some fault) → AnswersAs old new result v
     added_cut e place fault failed is one at_place puts =
-        added_so e place is one at_place puts (subst (λ (r : Result Bool Fault). IfOk r (λ success. IsTrue success)) (sym failed) tt)
+        added_so e place is one at_place (fails _ old new fault result failed puts) (subst (λ (r : Result Bool Fault). IfOk r (λ success. IsTrue success)) (sym failed) tt)

@@ -10,7 +10,7 @@ use Rattle.raft_model.specs.Messages.{Request, items, reach}
 use Rattle.raft_model.specs.Moves.{Move, append_request, vote_request}
 use Rattle.raft_model.specs.Moves.Move.{CallForVote, CallToAppend}
 use Rattle.raft_model.specs.Server.{Plain, Role as MachineRole}
-use Rattle.raft_model.proofs.At.{at_here, at_other}
+use Rattle.raft_model.specs.Lists.{at_here, at_other}
 use Rattle.raft_core.specs.declared.calls.Call.{Call}
 use Rattle.raft_core.specs.declared.calls.Call.TheVariants.{Vote, Append}
 use Rattle.raft_core.specs.declared.peer.Asked.{Asked}
@@ -86,12 +86,12 @@ pub record Keeps (raft raft2 : Raft) (q : ℕ) (peer : Peer) : Type 0 where
 same_move : (x : Option Move) (a b : Move) → x ≡ Some a → x ≡ Some b → a ≡ b
 same_move x a b is_a is_b = cc
 
-module _ (raft raft2 : Raft) (all : length raft.peers ≡ 128) (state : Stored) (q : ℕ) (below : q < 128) (kept : Peer) (call : Waiting) (keeps : Keeps raft raft2 q (with_call kept call)) where
+module _ (raft raft2 : Raft) (state : Stored) (q : ℕ) (below : q < 128) (kept : Peer) (call : Waiting) (keeps : Keeps raft raft2 q (with_call kept call)) where
   abbrev old : Peer
   old = slice_index_or raft.peers q (fresh 0)
 
   within : q < length raft.peers
-  within = subst (λ (n : ℕ). q < n) (sym all) below
+  within = subst (λ (n : ℕ). q < n) (sym raft.table) below
 
   but_appended : (appended : Option ℕ) → kept ≡ record old { appended = appended } → kept ≡ record old { appended = kept.appended }
   but_appended appended is = is ∙ ap set_appended (sym (ap (λ (x : Peer). x.appended) is))
@@ -137,8 +137,8 @@ module _ (raft raft2 : Raft) (all : length raft.peers ≡ 128) (state : Stored) 
   -- ---- and it fits what is stored
 
   called_reaches : (what : Call) → IsMade what old kept call.asked call.sent → Owes raft state q call.sent what → Fits raft state → raft.role ≡ Leader → AsksUpTo (length state.log) call.asked
-  called_reaches (Vote request) made owes fits leads = absurd (vote_owed raft state all q call.sent below request owes leads)
-  called_reaches (Append request) made owes fits leads = subst (AsksUpTo (length state.log)) (sym made.1) (append_owed raft state all q call.sent below request owes fits).1
+  called_reaches (Vote request) made owes fits leads = absurd (vote_owed raft state q call.sent below request owes leads)
+  called_reaches (Append request) made owes fits leads = subst (AsksUpTo (length state.log)) (sym made.1) (append_owed raft state q call.sent below request owes fits).1
 
   called_same : (what : Call) → IsMade what old kept call.asked call.sent → kept ≡ record old { appended = kept.appended }
   called_same (Vote request) made = but_appended old.appended made.0

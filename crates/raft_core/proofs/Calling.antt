@@ -106,18 +106,18 @@ reach_within : (log : List Entry) (next : ℕ) → next ≤ length log + 1 → (
 reach_within log next most true less = let below : next - 1 < length log = grind (arith, nat_tests) in omega arith
 reach_within log next most false less = omega arith
 
-module _ (raft : Raft) (state : Stored) (all : length raft.peers ≡ 128) (q now : ℕ) (below : q < 128) where
+module _ (raft : Raft) (state : Stored) (q now : ℕ) (below : q < 128) where
   abbrev peer : Peer
   peer = slice_index_or raft.peers q (fresh 0)
 
   pub vote_owed : (request : VoteRequest) → Owes raft state q now (Vote request) → raft.role ≡ Leader → ⊥
   vote_owed request owes leads =
-      let told = owes raft.members.items 0 (server_for raft state) (times_for raft) (stands_for raft state all) in
+      let told = owes raft.members.items 0 (server_for raft state) (times_for raft) (stands_for raft state) in
       vote_was_due _ (role_of raft.role) (server_for raft state) (times_for raft) q now (told.1 ∙ ap Some told.2.0) (ap role_of leads)
 
   pub append_owed : (request : AppendRequest) → Owes raft state q now (Append request) → Fits raft state → (request.prev_index ≤ length state.log) × (request.prev_index + items request.entry ≤ length state.log)
   append_owed request owes fits =
-      let told = owes raft.members.items 0 (server_for raft state) (times_for raft) (stands_for raft state all) in
+      let told = owes raft.members.items 0 (server_for raft state) (times_for raft) (stands_for raft state) in
       let due = append_was_due _ (role_of raft.role) (server_for raft state) (times_for raft) q now told.2.0 (told.1 ∙ ap Some told.2.1) in
       let within : IsWithin peer (length state.log) = fits.peers (leads raft.role due.0) q (fresh 0) below in
       let previous : request.prev_index ≡ peer.next - 1 = told.2.2.previous ∙ due.1 in

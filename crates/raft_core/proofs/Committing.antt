@@ -1,13 +1,15 @@
 -- A leader commits what a quorum has.
 use Rattle.std.proofs.Common.{◌≡◌, ◌⊎◌, inl, inr, ℕ, ◌+◌, ◌<◌, ◌≤◌, Bool, false, List, [], ◌∷◌, Option, Some, None, refl, sym, ap, subst, ◌∙◌, arith}
 use Rattle.std.proofs.lemmas.Bool.Decides.{eqb_tells, leb_tells}
-use Rattle.std.specs.Prelude.{slice_index_or, if◌then◌else◌, ◌==◌, Result, Ok, Err}
+use Rattle.std.specs.Prelude.{slice_index_or, if◌then◌else◌, ◌==◌, Result, Err}
+use Rattle.std.specs.Result.{result_err}
 use Rattle.can_frame.specs.declared.step.Role.TheVariants.{Leader}
 use Rattle.disk_model.specs.declared.disk.Disk.{Ghosts}
 use Rattle.kv_store.specs.declared.fault.Fault.{Fault}
 use Rattle.raft_log.specs.declared.durable.Durable.{Durable}
 use Rattle.raft_log.specs.DurableViews.{durable_state}
 use Rattle.raft_model.specs.Decisions.{commit_index}
+use Rattle.raft_model.specs.Duty.{commit_moves, commit_phase}
 use Rattle.raft_model.specs.Moves.{CanCommit, IsCommitIndex, is_leader}
 use Rattle.raft_model.specs.Moves.Move.{CommitTo}
 use Rattle.raft_model.specs.Server.{Plain, Store, Role as MachineRole}
@@ -17,7 +19,7 @@ use Rattle.raft_core.specs.declared.raft.Cause.{Cause}
 use Rattle.raft_core.specs.declared.raft.Cause.TheVariants.{Place}
 use Rattle.raft_core.specs.declared.raft.Raft.{Raft}
 use Rattle.raft_core.specs.Backs.{Backs, backs}
-use Rattle.raft_core.specs.Handled.{MakesMoves, commits_to, moves_of_commit}
+use Rattle.raft_core.specs.Handled.{MakesMoves}
 use Rattle.raft_core.specs.Peers.{fresh}
 use Rattle.raft_core.specs.Stands.{StandsFor, role_of}
 use Rattle.raft_core.specs.StoredPuts.{DoesPuts, store_of}
@@ -43,17 +45,17 @@ next_down members me p place below one not_here none i above can = elim (eqb_tel
   | inr t ↦ none i (let other = t.1 in omega (arith, one, above, other)) can
 ]
 
-not_leading : (x : MachineRole) → (x ≡ MachineRole.Leader → ⊥) → is_leader x ≡ false
+pub not_leading : (x : MachineRole) → (x ≡ MachineRole.Leader → ⊥) → is_leader x ≡ false
 not_leading MachineRole.Follower h = refl
 not_leading MachineRole.Candidate h = refl
 not_leading MachineRole.Leader h = absurd (h refl)
 
-found_moves : (members : List ℕ) (m : ℕ) (p : Plain) (k : ℕ) → p.memory.role ≡ MachineRole.Leader → commit_index members m p ≡ Some k → moves_of_commit members m p ≡ CommitTo k ∷ []
+found_moves : (members : List ℕ) (m : ℕ) (p : Plain) (k : ℕ) → p.memory.role ≡ MachineRole.Leader → commit_index members m p ≡ Some k → commit_phase members m p ≡ CommitTo k ∷ []
 found_moves members m p k role is = rw (role, is) refl
 
-no_moves : (members : List ℕ) (m : ℕ) (p : Plain) → (p.memory.role ≡ MachineRole.Leader → commit_index members m p ≡ None) → moves_of_commit members m p ≡ []
+no_moves : (members : List ℕ) (m : ℕ) (p : Plain) → (p.memory.role ≡ MachineRole.Leader → commit_index members m p ≡ None) → commit_phase members m p ≡ []
 no_moves members m p none = by_role p.memory.role refl where
-  by_role : (x : MachineRole) → p.memory.role ≡ x → (if is_leader x then commits_to (commit_index members m p) else []) ≡ []
+  by_role : (x : MachineRole) → p.memory.role ≡ x → (if is_leader x then commit_moves (commit_index members m p) else []) ≡ []
   by_role MachineRole.Follower is = refl
   by_role MachineRole.Candidate is = refl
   by_role MachineRole.Leader is = rw (none is) refl
@@ -68,19 +70,19 @@ no_index members m p law none = elim (known (commit_index members m p)) [ inl e 
 
 module _ {D : Type 0} {disk : Ghosts D} (members : List ℕ) (m n : ℕ) (given : Given) (p : Plain) (t : Times) (old : Durable D disk) (raft : Raft) (st : StandsFor raft members (durable_state old) p t) where
   module _ (k : ℕ) (role : raft.role ≡ Leader) (is : commit_index members m p ≡ Some k) (new : Durable D disk) where
-    moves : moves_of_commit members m p ≡ CommitTo k ∷ []
+    moves : commit_phase members m p ≡ CommitTo k ∷ []
     moves = found_moves members m p k (st.role ∙ ap role_of role) is
 
-    pub committed : DoesPuts {T = Unit {0}} (PutCommit k ∷ []) old new (Ok tt) → MakesMoves {T = Unit {0}} members m n given (moves_of_commit members m p) p t old new raft (Ok tt)
-    committed made = subst (λ mvs. MakesMoves {T = Unit {0}} members m n given mvs p t old new raft (Ok tt)) (sym moves)
-        (one_move members m n given (CommitTo k) p t old new raft (Ok tt) made
+    pub committed : DoesPuts (PutCommit k ∷ []) old new None → MakesMoves members m n given (commit_phase members m p) p t old new raft None
+    committed made = subst (λ mvs. MakesMoves members m n given mvs p t old new raft None) (sym moves)
+        (one_move members m n given (CommitTo k) p t old new raft made
         (storing_stands raft members (durable_state old) (durable_state new) p t _ st
-        (ap (λ (z : Store). record z { commit = k }) st.store ∙ sym (ap store_of made.made.state))))
+        (ap (λ (z : Store). record z { commit = k }) st.store ∙ sym (ap store_of (made.made.state refl)))))
 
-    pub commit_failed : (fault : Fault) (result : Result (Unit {0}) Fault) → result ≡ Err fault → DoesPuts (PutCommit k ∷ []) old new result → MakesMoves members m n given (moves_of_commit members m p) p t old new raft result
-    commit_failed fault result failed made = subst (λ mvs. MakesMoves members m n given mvs p t old new raft result) (sym moves)
+    pub commit_failed : (fault : Fault) (result : Result (Unit {0}) Fault) → result ≡ Err fault → DoesPuts (PutCommit k ∷ []) old new (Some fault) → MakesMoves members m n given (commit_phase members m p) p t old new raft (result_err result)
+    commit_failed fault result failed made = subst (λ mvs. MakesMoves members m n given mvs p t old new raft (result_err result)) (sym moves)
         (one_move_failed members m n given (CommitTo k) p t old new raft result fault failed made)
 
-  pub nothing_committed : (raft.role ≡ Leader → commit_index members m p ≡ None) → (result : Result (Unit {0}) Fault) → DoesPuts [] old old result → MakesMoves members m n given (moves_of_commit members m p) p t old old raft result
-  nothing_committed none result made = subst (λ mvs. MakesMoves members m n given mvs p t old old raft result) (sym (no_moves members m p (λ role. none (leads raft.role (sym st.role ∙ role)))))
-      (no_move members m n given p t old raft result made st)
+  pub nothing_committed : (raft.role ≡ Leader → commit_index members m p ≡ None) → DoesPuts [] old old None → MakesMoves members m n given (commit_phase members m p) p t old old raft None
+  nothing_committed none made = subst (λ mvs. MakesMoves members m n given mvs p t old old raft None) (sym (no_moves members m p (λ role. none (leads raft.role (sym st.role ∙ role)))))
+      (no_move members m n p t old raft made st)

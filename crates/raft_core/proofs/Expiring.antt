@@ -8,7 +8,7 @@ use Rattle.raft_model.specs.Handlers.{plain_after_all}
 use Rattle.raft_model.specs.Lists.{In, at}
 use Rattle.raft_model.specs.Messages.{Request}
 use Rattle.raft_model.specs.Server.{Memory, Plain}
-use Rattle.raft_model.proofs.At.{at_here, at_other}
+use Rattle.raft_model.specs.Lists.{at_here, at_other}
 use Rattle.raft_core.specs.declared.peer.Peer.{Peer}
 use Rattle.raft_core.specs.declared.peer.Waiting.{Waiting}
 use Rattle.raft_core.specs.declared.raft.Raft.{Raft}

@@ -1,6 +1,6 @@
 -- An append request is judged, first by its term.
 use Rattle.std.proofs.Common.{◌≡◌, ◌⊎◌, inl, inr, None, ℕ, ◌+◌, ◌<◌, ◌≤◌, Bool, true, false, List, [], ◌∷◌, ◌++◌, refl, sym, ap, subst, ◌∙◌, arith}
-use Rattle.std.specs.Prelude.{Result, nat_lt, min, if◌then◌else◌, length}
+use Rattle.std.specs.Prelude.{Option, is_none, nat_lt, min, if◌then◌else◌, length}
 use Rattle.std.proofs.lemmas.Bool.Decides.{leb_tells}
 use Rattle.disk_model.specs.declared.disk.Disk.{Ghosts}
 use Rattle.kv_store.specs.declared.fault.Fault.{Fault}
@@ -16,13 +16,15 @@ use Rattle.raft_model.specs.Moves.Verdict.{Outdated, Refused, Held, Added}
 use Rattle.raft_model.specs.Server.{Memory, Plain, Put, Store, put_all, Role as MachineRole}
 use Rattle.raft_model.specs.Server.Put.{PutTerm, PutVote, PutShorter, PutCommit}
 use Rattle.raft_core.specs.declared.raft.Raft.{Raft}
-use Rattle.can_frame.specs.declared.step.Role.TheVariants.{Follower, Leader}
+use Rattle.can_frame.specs.declared.step.Role.{Role}
+use Rattle.can_frame.specs.declared.step.Role.TheVariants.{Follower, Candidate, Leader}
+use Rattle.raft_core.specs.Roles.{StepsDown, since_after}
 use Rattle.raft_core.specs.Stands.{StandsFor, role_of}
-use Rattle.raft_core.specs.StoredPuts.{DoesPuts, store_of}
+use Rattle.raft_core.specs.StoredPuts.{DoesPuts, VoteForNodes, store_of}
 use Rattle.raft_core.specs.Times.{Given, Times, raise, step_down, times_after}
 use Rattle.raft_core.proofs.Appending.{lt_false, lt_true}
 use Rattle.raft_core.proofs.Puts.{does}
-use Rattle.raft_core.proofs.Moving.{AllCount, follower_stands, leads}
+use Rattle.raft_core.proofs.Moving.{follower_stands, leads}
 
 -- ---- a term
 
@@ -67,10 +69,28 @@ raise_sending now term p t = if_same (nat_lt p.store.term term) (step_down now p
 pub raise_word : (now term : ℕ) (p : Plain) (t : Times) → (raise now term p t).word ≡ t.word
 raise_word now term p t = if_same (nat_lt p.store.term term) (step_down now p.memory.role t) t (λ (x : Times). x.word) (down_word now p.memory.role t)
 
+down_since : (now : ℕ) (role : Role) (t : Times) → (step_down now (role_of role) t).since ≡ since_after role t.since now
+down_since now Follower t = refl
+down_since now Candidate t = refl
+down_since now Leader t = refl
+
+pub raised_stands : (raft raft2 : Raft) (members : List ℕ) (s s2 : Stored) (p : Plain) (t : Times) (now term : ℕ) → StandsFor raft members s p t → s.term < term
+    → s2 ≡ record s { term = term; vote = 0 } → StepsDown raft raft2 now
+    → StandsFor raft2 members s2 (record { store = with_term p.store term; memory = term_memory p term }) (raise now term p t)
+raised_stands raft raft2 members s s2 p t now term st higher stored down =
+    let test : nat_lt p.store.term term ≡ true = subst (λ (z : Store). nat_lt z.term term ≡ true) (sym st.store) (lt_true s.term term higher) in
+    rw test (follower_stands raft raft2 members s s2 p (record { store = record p.store { term = term; vote = None }; memory = record p.memory { role = MachineRole.Follower } }) t (step_down now p.memory.role t) st
+    refl refl refl
+    (ap (λ (z : Store). record z { term = term; vote = None }) st.store ∙ sym (ap store_of stored))
+    (down_sending now p.memory.role t)
+    (down_word now p.memory.role t)
+    (ap (λ (x : MachineRole). (step_down now x t).since) st.role ∙ (down_since now raft.role t ∙ (ap (λ (k : ℕ). since_after raft.role k now) st.since ∙ sym down.since)))
+    down.role down.rest.told down.rest.word down.rest.peers)
+
 -- a higher term is stored, with no vote
-pub term_made : {D T : Type 0} {disk : Ghosts D} (old new : Durable D disk) (result : Result T Fault) (term : ℕ) → (durable_state old).term < term
-    → MakesPuts (StoredPut.PutTerm term ∷ StoredPut.PutVote 0 ∷ []) old new result → KeepsFault old new result → DoesPuts (term_puts (store_of (durable_state old)) term) old new result
-term_made old new result term higher made keeps = rw (lt_true (durable_state old).term term higher) (does (PutTerm term ∷ PutVote None ∷ []) _ old new result refl made keeps)
+pub term_made : {D : Type 0} {disk : Ghosts D} (old new : Durable D disk) (ok : Bool) (failed : Option Fault) (term : ℕ) → ok ≡ is_none failed → (durable_state old).term < term
+    → MakesPuts (StoredPut.PutTerm term ∷ StoredPut.PutVote 0 ∷ []) old new ok → KeepsFault old new failed → DoesPuts (term_puts (store_of (durable_state old)) term) old new failed
+term_made old new ok failed term ended higher made keeps = rw (lt_true (durable_state old).term term higher) (does (PutTerm term ∷ PutVote None ∷ []) _ old new ok failed ended refl made keeps)
 
 -- ---- verdicts
 
@@ -99,15 +119,15 @@ outdated_term p r (inr a) = let e : r.term ≡ p.store.term = a.0 in omega (arit
 
 -- ---- puts and memory
 
-commits_count : (b : Bool) (k : ℕ) → AllCount (if b then PutCommit k ∷ [] else [])
+commits_count : (b : Bool) (k : ℕ) → VoteForNodes (if b then PutCommit k ∷ [] else [])
 commits_count true k = (tt, tt)
 commits_count false k = tt
 
-after_cut : (b : Bool) (k : ℕ) (xs : List Put) → AllCount xs → AllCount ((if b then PutShorter k ∷ [] else []) ++ xs)
+after_cut : (b : Bool) (k : ℕ) (xs : List Put) → VoteForNodes xs → VoteForNodes ((if b then PutShorter k ∷ [] else []) ++ xs)
 after_cut true k xs h = (tt, h)
 after_cut false k xs h = h
 
-pub append_counts : (s : Store) (r : Request) (v : Verdict) → AllCount (append_puts s r v)
+pub append_counts : (s : Store) (r : Request) (v : Verdict) → VoteForNodes (append_puts s r v)
 append_counts s r Outdated = tt
 append_counts s r Refused = tt
 append_counts s r Held = commits_count (nat_lt s.commit (min r.commit (reach r))) (min r.commit (reach r))

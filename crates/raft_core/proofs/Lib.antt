@@ -15,7 +15,9 @@ pub mod VoteAnswer
 pub mod Answering
 pub mod Calling
 pub mod Expiring
-pub mod Skipping
+pub mod TellNext
 pub mod SomeServer
 pub mod Peers
 pub mod Called
+pub mod Turns
+pub mod VotesCast

@@ -1,6 +1,7 @@
 -- One move of the machine: its puts, and the server and times after it.
-use Rattle.std.proofs.Common.{◌≡◌, ℕ, zero, suc, List, [], ◌∷◌, ◌++◌, Some, None, refl, sym, ap, subst, ◌∙◌}
-use Rattle.std.specs.Prelude.{⊤, Result, Ok, Err, OnOk, slice_index_or}
+use Rattle.std.proofs.Common.{◌≡◌, ℕ, zero, suc, List, [], ◌∷◌, ◌++◌, Option, Some, None, refl, sym, ap, subst, ◌∙◌, arith}
+use Rattle.std.specs.Prelude.{Result, Err, slice_index_or}
+use Rattle.std.specs.Result.{result_err}
 use Rattle.can_frame.specs.declared.step.Role.{Role}
 use Rattle.can_frame.specs.declared.step.Role.TheVariants.{Follower, Candidate, Leader}
 use Rattle.disk_model.specs.declared.disk.Disk.{Ghosts}
@@ -14,40 +15,28 @@ use Rattle.raft_model.specs.Server.{Plain, Put, Store, put, put_all, Role as Mac
 use Rattle.raft_model.specs.Server.Put.{PutTerm, PutVote, PutEntry, PutLonger, PutShorter, PutCommit}
 use Rattle.raft_core.specs.declared.peer.Peer.{Peer}
 use Rattle.raft_core.specs.declared.raft.Raft.{Raft}
-use Rattle.raft_core.specs.Handled.{MakesMoves}
+use Rattle.raft_core.specs.Handled.{LeavesMoves, MakesMoves}
 use Rattle.raft_core.specs.Stands.{StandsFor, Tells, Waits, role_of}
-use Rattle.raft_core.specs.StoredPuts.{DoesPuts, store_of, stored_put, stored_puts}
+use Rattle.raft_core.specs.StoredPuts.{DoesPuts, VoteForNodes, VotesForNode, store_of, stored_put, stored_puts}
 use Rattle.raft_core.specs.Times.{Given, Times, begin_wait, times_after}
 
 -- ---- what is stored
 
--- a put of a vote for a node, and not for 0
-abbrev pub Counts : Put → Type 0
-Counts (PutTerm term) = ⊤
-Counts (PutVote None) = ⊤
-Counts (PutVote (Some zero)) = ⊥
-Counts (PutVote (Some (suc n))) = ⊤
-Counts (PutEntry entry) = ⊤
-Counts (PutLonger entry) = ⊤
-Counts (PutShorter count) = ⊤
-Counts (PutCommit index) = ⊤
+vote_stays : (vote : Option ℕ) (s : Stored) → VotesForNode (PutVote vote) → store_of (after_put (stored_put (PutVote vote) s) s) ≡ put (store_of s) (PutVote vote)
+vote_stays None s h = refl
+vote_stays (Some zero) s h = absurd (omega (arith, h))
+vote_stays (Some (suc n)) s h = refl
 
-abbrev pub AllCount : List Put → Type 0
-AllCount [] = ⊤
-AllCount (x ∷ xs) = Counts x × AllCount xs
-
-store_after_one : (x : Put) (s : Stored) → Counts x → store_of (after_put (stored_put x s) s) ≡ put (store_of s) x
+store_after_one : (x : Put) (s : Stored) → VotesForNode x → store_of (after_put (stored_put x s) s) ≡ put (store_of s) x
 store_after_one (PutTerm term) s h = refl
-store_after_one (PutVote None) s h = refl
-store_after_one (PutVote (Some zero)) s h = absurd h
-store_after_one (PutVote (Some (suc n))) s h = refl
+store_after_one (PutVote vote) s h = vote_stays vote s h
 store_after_one (PutEntry entry) s h = refl
 store_after_one (PutLonger entry) s h = refl
 store_after_one (PutShorter count) s h = refl
 store_after_one (PutCommit index) s h = refl
 
 -- what is stored after puts is the same in both words
-pub store_after : (xs : List Put) (s : Stored) → AllCount xs → store_of (after_puts (stored_puts xs s) s) ≡ put_all (store_of s) xs
+pub store_after : (xs : List Put) (s : Stored) → VoteForNodes xs → store_of (after_puts (stored_puts xs s) s) ≡ put_all (store_of s) xs
 store_after [] s h = refl
 store_after (x ∷ xs) s h = store_after xs (after_put (stored_put x s) s) h.1 ∙ ap (λ (z : Store). put_all z xs) (store_after_one x s h.0)
 
@@ -61,16 +50,16 @@ nothing_more (x ∷ xs) = ap (λ (rest : List Put). x ∷ rest) (nothing_more xs
 
 -- ---- one move
 
-module _ {D T : Type 0} {disk : Ghosts D} (members : List ℕ) (m n : ℕ) (given : Given) (move : Move) (p : Plain) (t : Times) (old new : Durable D disk) (raft : Raft) where
-  pub one_move : (result : Result T Fault) → DoesPuts (puts members m p move) old new result
-      → OnOk result (StandsFor raft members (durable_state new) (plain_after members m n p move) (times_after members m given p move t))
-      → MakesMoves members m n given (move ∷ []) p t old new raft result
-  one_move result made after = record { puts = subst (λ (l : List Put). DoesPuts l old new result) (sym (nothing_more (puts members m p move))) made; after = after }
+module _ {D : Type 0} {disk : Ghosts D} (members : List ℕ) (m n : ℕ) (given : Given) (move : Move) (p : Plain) (t : Times) (old new : Durable D disk) (raft : Raft) where
+  pub one_move : DoesPuts (puts members m p move) old new None
+      → StandsFor raft members (durable_state new) (plain_after members m n p move) (times_after members m given p move t)
+      → MakesMoves members m n given (move ∷ []) p t old new raft None
+  one_move made after = record { puts = subst (λ (l : List Put). DoesPuts l old new None) (sym (nothing_more (puts members m p move))) made; after = after }
 
-  pub one_move_failed : (result : Result T Fault) (fault : Fault) → result ≡ Err fault → DoesPuts (puts members m p move) old new result
-      → MakesMoves members m n given (move ∷ []) p t old new raft result
-  one_move_failed result fault is made = one_move result made
-      (subst (λ (r : Result T Fault). OnOk r (StandsFor raft members (durable_state new) (plain_after members m n p move) (times_after members m given p move t))) (sym is) tt)
+  pub one_move_failed : {T : Type 0} (result : Result T Fault) (fault : Fault) → result ≡ Err fault → DoesPuts (puts members m p move) old new (Some fault)
+      → MakesMoves members m n given (move ∷ []) p t old new raft (result_err result)
+  one_move_failed result fault is made = subst (λ (r : Result _ Fault). MakesMoves members m n given (move ∷ []) p t old new raft (result_err r)) (sym is)
+      (record { puts = subst (λ (l : List Put). DoesPuts l old new (Some fault)) (sym (nothing_more (puts members m p move))) made; after = tt })
 
 -- ---- roles
 
@@ -137,10 +126,6 @@ storing_stands raft members s new p t store st stored = record {
 }
 
 -- a call that makes no move
-module _ {D T : Type 0} {disk : Ghosts D} (members : List ℕ) (m n : ℕ) (given : Given) (p : Plain) (t : Times) (durable : Durable D disk) (raft : Raft) where
-  pub no_move : (result : Result T Fault) → DoesPuts [] durable durable result → StandsFor raft members (durable_state durable) p t → MakesMoves members m n given [] p t durable durable raft result
-  no_move result made st = record { puts = made; after = each result }
-    where
-      each : (r : Result T Fault) → OnOk r (StandsFor raft members (durable_state durable) p t)
-      each (Ok value) = st
-      each (Err fault) = tt
+module _ {D : Type 0} {disk : Ghosts D} (members : List ℕ) (m n : ℕ) (p : Plain) (t : Times) (durable : Durable D disk) (raft : Raft) where
+  pub no_move : DoesPuts [] durable durable None → StandsFor raft members (durable_state durable) p t → LeavesMoves members m n [] p t durable durable raft None
+  no_move made st = record { puts = made; after = st }

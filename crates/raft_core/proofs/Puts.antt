@@ -1,40 +1,20 @@
 -- Puts of the machine as they are made of a stored state, one after another.
 use Rattle.std.proofs.Common.{◌≡◌, ◌⊎◌, inl, inr, ℕ, List, [], ◌∷◌, ◌++◌, Option, Some, None, refl, sym, ap, subst, ◌∙◌}
-use Rattle.std.specs.Prelude.{Result, Ok, Err, OnOk, IfSome, true}
+use Rattle.std.specs.Prelude.{Bool, true, false, Result, Ok, Err, OnOk, IfSome, is_ok, is_none}
+use Rattle.std.specs.Result.{result_err}
 use Rattle.disk_model.specs.declared.disk.Disk.{Ghosts}
 use Rattle.kv_store.specs.declared.fault.Fault.{Fault}
-use Rattle.kv_store.specs.Image.{turned}
+use Rattle.outside.specs.Faults.{Rose}
 use Rattle.raft_log.specs.declared.durable.Durable.{Durable}
 use Rattle.raft_log.specs.Calls.{KeepsFault, MakesPuts}
-use Rattle.raft_log.specs.DeviceCalls.{copies_after, key_of}
-use Rattle.raft_log.specs.DurableViews.{durable_copies, durable_disk, durable_fault, durable_state}
-use Rattle.raft_log.specs.Rules.{AlwaysStandsForState}
+use Rattle.raft_log.specs.DurableViews.{durable_disk, durable_fault, durable_state}
 use Rattle.raft_log.specs.Stored.{Stored, after_put, after_puts, Put as StoredPut}
 use Rattle.raft_model.specs.Server.{Put}
-use Rattle.raft_core.specs.StoredPuts.{DoesPuts, stored_put, stored_puts}
+use Rattle.raft_core.specs.StoredPuts.{DoesPuts, IsStill, KeepsFaults, stored_put, stored_puts}
 
 pub stored_both : (xs ys : List Put) (s : Stored) → stored_puts (xs ++ ys) s ≡ stored_puts xs s ++ stored_puts ys (after_puts (stored_puts xs s) s)
 stored_both [] ys s = refl
 stored_both (x ∷ xs) ys s = ap (λ (rest : List StoredPut). stored_put x s ∷ rest) (stored_both xs ys (after_put (stored_put x s) s))
-
-after_both : (xs ys : List StoredPut) (s : Stored) → after_puts (xs ++ ys) s ≡ after_puts ys (after_puts xs s)
-after_both [] ys s = refl
-after_both (x ∷ xs) ys s = after_both xs ys (after_put x s)
-
-copies_both : (xs ys : List StoredPut) (s : Stored) (c : ℕ → ℕ) → copies_after (xs ++ ys) s c ≡ copies_after ys (after_puts xs s) (copies_after xs s c)
-copies_both [] ys s c = refl
-copies_both (x ∷ xs) ys s c = copies_both xs ys (after_put x s) (turned (key_of x s) c)
-
-known : {A : Type 0} (o : Option A) → (o ≡ None) ⊎ ((a : A) × (o ≡ Some a))
-known None = inl refl
-known (Some a) = inr (a, refl)
-
-works_or_not : {A : Type 0} (o : Option A) (a : A) → o ≡ Some a → o ≡ None → ⊥
-works_or_not o a some none = cc
-
-on_ok : {T E : Type 0} {A : Type 0} (r : Result T E) (x y z : A) → y ≡ z → OnOk r (x ≡ y) → OnOk r (x ≡ z)
-on_ok (Ok value) x y z e p = p ∙ e
-on_ok (Err error) x y z e p = tt
 
 -- where the call succeeds
 pub each_ok : {T E : Type 0} (r : Result T E) (Q : Type 0) → ((value : T) → r ≡ Ok value → Q) → OnOk r Q
@@ -44,115 +24,86 @@ each_ok (Err error) Q f = tt
 pub got : {T E : Type 0} (r : Result T E) (value : T) (P : Type 0) → r ≡ Ok value → OnOk r P → P
 got r value P is h = subst (λ x. OnOk x P) is h
 
-open_yet : (fault : Option Fault) (P : Fault → Type 0) → fault ≡ None → IfSome fault P
-open_yet None P works = tt
-open_yet (Some f) P works = absurd (cc works)
+known : {A : Type 0} (o : Option A) → (o ≡ None) ⊎ ((a : A) × (o ≡ Some a))
+known None = inl refl
+known (Some a) = inr (a, refl)
+
+pub none_failed : {T E : Type 0} (r : Result T E) → is_ok r ≡ is_none (result_err r)
+none_failed (Ok value) = refl
+none_failed (Err error) = refl
+
+all_kept : (failed now : Option Fault) → now ≡ failed → IfSome failed (λ fault. now ≡ Some fault)
+all_kept None now same = tt
+all_kept (Some fault) now same = same
 
 module _ {D : Type 0} {disk : Ghosts D} where
+  pub still : (durable : Durable D disk) → IsStill durable durable
+  still durable = record { disk = refl; state = refl; fault = refl }
+
+  then_still : (old mid new : Durable D disk) → IsStill old mid → IsStill mid new → IsStill old new
+  then_still old mid new first second = record { disk = second.disk ∙ first.disk; state = second.state ∙ first.state; fault = second.fault ∙ first.fault }
+
   -- no put at all
-  pub nothing : {T : Type 0} (durable : Durable D disk) (value : T)
-      → (durable_fault durable ≡ None → disk.tells (durable_disk durable) ≡ true → AlwaysStandsForState (disk.contents (durable_disk durable)) (durable_state durable))
-      → (durable_fault durable ≡ None → KeepsFault {T = T} durable durable (Ok value)) → DoesPuts {T = T} [] durable durable (Ok value)
-  nothing durable value always still = record {
-    made = record {
-      state = refl;
-      durable = always;
-      cut = λ works. tt;
-      stop = always;
-      made = λ works. (refl, refl);
-      copies = refl;
-    };
-    fault = still;
-    kept = tt;
-  }
-
-  -- the result of a call that failed, in place of another's
-  puts_still : {T U : Type 0} (puts : List StoredPut) (old new : Durable D disk) (fault : Fault) → MakesPuts {T = T} puts old new (Err fault) → MakesPuts {T = U} puts old new (Err fault)
-  puts_still puts old new fault made = record { state = tt; durable = λ works. tt; cut = made.cut; stop = made.stop; made = made.made; copies = tt }
-
-  fault_still : {T U : Type 0} (old new : Durable D disk) (fault : Fault) → durable_fault old ≡ None → KeepsFault {T = T} old new (Err fault) → KeepsFault {T = U} old new (Err fault)
-  fault_still old new fault works keeps = record {
-    closed = open_yet (durable_fault old) _ works;
-    kept = keeps.kept;
-    cause = keeps.cause;
-    works = tt;
-    tells = keeps.tells;
-    later = keeps.later;
-  }
+  pub nothing : (durable : Durable D disk) → MakesPuts [] durable durable true → (durable_fault durable ≡ None → KeepsFault durable durable None) → DoesPuts [] durable durable None
+  nothing durable made keeps = record { made = made; faults = record { works = keeps; still = λ fault was. still durable; kept = tt } }
 
   -- the first puts failed
-  pub cut_off : {T U : Type 0} (xs ys : List Put) (old new : Durable D disk) (fault : Fault) (result : Result U Fault) → result ≡ Err fault
-      → ((xs ys : List StoredPut) → MakesPuts {T = T} xs old new (Err fault) → MakesPuts {T = T} (xs ++ ys) old new (Err fault))
-      → DoesPuts {T = T} xs old new (Err fault) → DoesPuts (xs ++ ys) old new result
-  cut_off {T} {U} xs ys old new fault result is law first = let s = durable_state old in subst (λ (r : Result U Fault). DoesPuts (xs ++ ys) old new r) (sym is) (record {
-    made = puts_still (stored_puts (xs ++ ys) s) old new fault
-        (subst (λ (l : List StoredPut). MakesPuts {T = T} l old new (Err fault)) (sym (stored_both xs ys s)) (law (stored_puts xs s) (stored_puts ys (after_puts (stored_puts xs s) s)) first.made));
-    fault = λ works. fault_still old new fault works (first.fault works);
-    kept = first.kept;
-  })
+  pub cut_off : (xs ys : List Put) (old new : Durable D disk) (fault : Fault)
+      → ((xs ys : List StoredPut) → MakesPuts xs old new false → MakesPuts (xs ++ ys) old new false)
+      → DoesPuts xs old new (Some fault) → DoesPuts (xs ++ ys) old new (Some fault)
+  cut_off xs ys old new fault law first = let s = durable_state old in record {
+    made = subst (λ (l : List StoredPut). MakesPuts l old new false) (sym (stored_both xs ys s)) (law (stored_puts xs s) (stored_puts ys (after_puts (stored_puts xs s) s)) first.made);
+    faults = first.faults;
+  }
+
+  pub all_faults : (old mid new : Durable D disk) (failed : Option Fault)
+      → (KeepsFault old mid None → (durable_fault mid ≡ None → KeepsFault mid new failed) → KeepsFault old new failed)
+      → KeepsFaults old mid None → KeepsFaults mid new failed → KeepsFaults old new failed
+  all_faults old mid new failed keeps first second = record {
+    works = λ works. keeps (first.works works) second.works;
+    still = λ fault was. let before = first.still fault was in then_still old mid new before (second.still fault (before.fault ∙ was));
+    kept = second.kept;
+  }
 
   -- the first puts were done, and then the others were made
-  module _ {T U : Type 0} (xs ys : List Put) (old mid new : Durable D disk) (value : T) (result : Result U Fault)
-      (law : (xs ys : List StoredPut) → MakesPuts {T = T} xs old mid (Ok value) → KeepsFault {T = T} old mid (Ok value) → MakesPuts ys mid new result → KeepsFault mid new result
-      → MakesPuts (xs ++ ys) old new result × KeepsFault old new result)
-      (first : DoesPuts {T = T} xs old mid (Ok value)) (second : DoesPuts ys mid new result) where
-    abbrev s : Stored
-    s = durable_state old
-
-    abbrev then : List StoredPut
-    then = stored_puts ys (after_puts (stored_puts xs s) s)
-
-    second_made : MakesPuts then mid new result
-    second_made = subst (λ (state : Stored). MakesPuts (stored_puts ys state) mid new result) first.made.state second.made
-
-    both : durable_fault old ≡ None → MakesPuts (stored_puts xs s ++ then) old new result × KeepsFault old new result
-    both works = law (stored_puts xs s) then first.made (first.fault works) second_made (second.fault (first.fault works).works)
-
-    -- of a store that had failed before
-    closed : (f : Fault) → durable_fault old ≡ Some f → MakesPuts (stored_puts xs s ++ then) old new result
-    closed f was = record {
-      state = on_ok result (durable_state new) (after_puts then (durable_state mid)) (after_puts (stored_puts xs s ++ then) s)
-          (ap (after_puts then) first.made.state ∙ sym (after_both (stored_puts xs s) then s)) second_made.state;
-      durable = λ works. absurd (works_or_not (durable_fault old) f was works);
-      cut = λ works. absurd (works_or_not (durable_fault old) f was works);
-      stop = λ works. absurd (works_or_not (durable_fault old) f was works);
-      made = λ works. absurd (works_or_not (durable_fault old) f was works);
-      copies = on_ok result (durable_copies new) (copies_after then (durable_state mid) (durable_copies mid)) (copies_after (stored_puts xs s ++ then) s (durable_copies old))
-          (ap (λ (state : Stored). copies_after then state (durable_copies mid)) first.made.state
-          ∙ (ap (copies_after then (after_puts (stored_puts xs s) s)) first.made.copies ∙ sym (copies_both (stored_puts xs s) then s (durable_copies old)))) second_made.copies;
-    }
-
-    all_made : (durable_fault old ≡ None) ⊎ ((f : Fault) × (durable_fault old ≡ Some f)) → MakesPuts (stored_puts xs s ++ then) old new result
-    all_made (inl works) = (both works).0
-    all_made (inr failed) = closed failed.0 failed.1
-
-    pub joined : DoesPuts (xs ++ ys) old new result
-    joined = record {
-      made = subst (λ (l : List StoredPut). MakesPuts l old new result) (sym (stored_both xs ys s)) (all_made (known (durable_fault old)));
-      fault = λ works. (both works).1;
-      kept = second.kept;
-    }
+  pub joined : (xs ys : List Put) (old mid new : Durable D disk) (failed : Option Fault)
+      → ((xs ys : List StoredPut) → MakesPuts xs old mid true → (durable_fault old ≡ None → KeepsFault old mid None) → MakesPuts ys mid new (is_none failed) → MakesPuts (xs ++ ys) old new (is_none failed))
+      → (KeepsFault old mid None → (durable_fault mid ≡ None → KeepsFault mid new failed) → KeepsFault old new failed)
+      → DoesPuts xs old mid None → DoesPuts ys mid new failed → DoesPuts (xs ++ ys) old new failed
+  joined xs ys old mid new failed law keeps first second = let s = durable_state old in record {
+    made = subst (λ (l : List StoredPut). MakesPuts l old new (is_none failed)) (sym (stored_both xs ys s))
+        (law (stored_puts xs s) (stored_puts ys (after_puts (stored_puts xs s) s)) first.made first.faults.works
+        (subst (λ (state : Stored). MakesPuts (stored_puts ys state) mid new (is_none failed)) (first.made.state refl) second.made));
+    faults = all_faults old mid new failed keeps first.faults second.faults;
+  }
 
   -- one call of the store made these puts
-  pub does : {T : Type 0} (puts : List Put) (stored : List StoredPut) (old new : Durable D disk) (result : Result T Fault)
-      → stored_puts puts (durable_state old) ≡ stored → MakesPuts stored old new result → KeepsFault old new result → DoesPuts puts old new result
-  does puts stored old new result same made keeps = record {
-    made = subst (λ (l : List StoredPut). MakesPuts l old new result) (sym same) made;
-    fault = λ works. keeps;
-    kept = keeps.kept;
-  }
+  pub does : (puts : List Put) (stored : List StoredPut) (old new : Durable D disk) (ok : Bool) (failed : Option Fault) → ok ≡ is_none failed
+      → stored_puts puts (durable_state old) ≡ stored → MakesPuts stored old new ok → KeepsFault old new failed → DoesPuts puts old new failed
+  does puts stored old new ok failed ended same made keeps = record {
+    made = subst (λ (l : List StoredPut). MakesPuts l old new (is_none failed)) (sym same) (subst (MakesPuts stored old new) ended made);
+    faults = record {
+      works = λ works. keeps;
+      still = λ fault was. closed fault was (subst (λ (o : Option Fault). IfSome o (λ fault. (failed ≡ Some fault) × (durable_disk new ≡ durable_disk old) × (durable_state new ≡ durable_state old))) was keeps.closed);
+      kept = all_kept failed (durable_fault new) keeps.kept;
+    };
+  } where
+    closed : (fault : Fault) → durable_fault old ≡ Some fault → (failed ≡ Some fault) × (durable_disk new ≡ durable_disk old) × (durable_state new ≡ durable_state old) → IsStill old new
+    closed fault was told = record { disk = told.1; state = told.2; fault = keeps.kept ∙ (told.0 ∙ sym was) }
 
-  -- and its caller answers something else
-  pub answers : {T U : Type 0} (puts : List Put) (old new : Durable D disk) (value : T) (other : U) → DoesPuts puts old new (Ok value) → DoesPuts puts old new (Ok other)
-  answers puts old new value other done = record {
-    made = record { state = done.made.state; durable = done.made.durable; cut = λ works. tt; stop = done.made.stop; made = done.made.made; copies = done.made.copies };
-    fault = λ works. let keeps = done.fault works in record { closed = open_yet (durable_fault old) _ works; kept = tt; cause = λ w. tt; works = keeps.works; tells = keeps.tells; later = keeps.later };
-    kept = tt;
-  }
+  -- a call that hands a fault on
+  pub fails : {U : Type 0} (puts : List Put) (old new : Durable D disk) (fault : Fault) (result : Result U Fault) → result ≡ Err fault → DoesPuts puts old new (Some fault) → DoesPuts puts old new (result_err result)
+  fails puts old new fault result is done = subst (λ (r : Result _ Fault). DoesPuts puts old new (result_err r)) (sym is) done
 
-  pub fails : {T U : Type 0} (puts : List Put) (old new : Durable D disk) (fault : Fault) (result : Result U Fault) → result ≡ Err fault → DoesPuts {T = T} puts old new (Err fault) → DoesPuts puts old new result
-  fails puts old new fault result is done = subst (λ (r : Result _ Fault). DoesPuts puts old new r) (sym is)
-      (record { made = puts_still (stored_puts puts (durable_state old)) old new fault done.made; fault = λ works. fault_still old new fault works (done.fault works); kept = done.kept })
+  pub faults_at : {U : Type 0} (old new : Durable D disk) (fault : Fault) (result : Result U Fault) → result ≡ Err fault → KeepsFaults old new (Some fault) → KeepsFaults old new (result_err result)
+  faults_at old new fault result is keeps = subst (λ (r : Result _ Fault). KeepsFaults old new (result_err r)) (sym is) keeps
 
-  pub none_made : {T : Type 0} (puts : List Put) (durable : Durable D disk) (result : Result T Fault) → puts ≡ [] → DoesPuts [] durable durable result → DoesPuts puts durable durable result
-  none_made puts durable result none made = subst (λ (l : List Put). DoesPuts l durable durable result) (sym none) made
+  pub none_made : (puts : List Put) (durable : Durable D disk) (failed : Option Fault) → puts ≡ [] → DoesPuts [] durable durable failed → DoesPuts puts durable durable failed
+  none_made puts durable failed none made = subst (λ (l : List Put). DoesPuts l durable durable failed) (sym none) made
+
+  -- where no call of the disk failed, a call that failed changed nothing
+  pub quiet : (old new : Durable D disk) (fault : Fault) → KeepsFaults old new (Some fault) → (Rose (disk.faults (durable_disk old)) (disk.faults (durable_disk new)) → ⊥) → IsStill old new
+  quiet old new fault keeps none = elim (known (durable_fault old)) [
+    | inl works ↦ absurd (none ((keeps.works works).cause works).1)
+    | inr was ↦ keeps.still was.0 was.1
+  ]

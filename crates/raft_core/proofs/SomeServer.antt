@@ -1,5 +1,5 @@
 -- Every member, with whatever it has stored, stands for some server and times.
-use Rattle.std.proofs.Common.{◌≡◌, ℕ, ◌<◌, true, false, length, Option, Some, None, refl, sym, subst, arith}
+use Rattle.std.proofs.Common.{◌≡◌, ℕ, ◌<◌, true, false, Option, Some, None, refl, sym, subst, arith}
 use Rattle.std.specs.Prelude.{slice_index_or}
 use Rattle.std.proofs.lemmas.List.{get_or_default}
 use Rattle.raft_log.specs.Stored.{Stored}
@@ -60,8 +60,8 @@ waits_for : (call : Option Waiting) → Waits call (pending_for call) (sending_f
 waits_for None = tt
 waits_for (Some call) = record { asks = asks call.step call.asked; step = step_for call.step call.asked; id = refl; moment = refl }
 
-pub stands_for : (raft : Raft) (state : Stored) → length raft.peers ≡ 128 → StandsFor raft raft.members.items state (server_for raft state) (times_for raft)
-stands_for raft state all = record {
+pub stands_for : (raft : Raft) (state : Stored) → StandsFor raft raft.members.items state (server_for raft state) (times_for raft)
+stands_for raft state = record {
   store = refl;
   role = refl;
   told = refl;
@@ -69,6 +69,6 @@ stands_for raft state all = record {
   since = refl;
   word = refl;
   peers = λ q d below.
-      subst (λ (peer : Peer). Tells peer (server_for raft state) (times_for raft) q) (get_or_default raft.peers q (fresh 0) d (subst (λ n. q < n) (sym all) below))
+      subst (λ (peer : Peer). Tells peer (server_for raft state) (times_for raft) q) (get_or_default raft.peers q (fresh 0) d (subst (λ n. q < n) (sym raft.table) below))
       (record { call = waits_for (peer_at raft q).call; voted = λ h. refl; answered = λ h. refl; next = λ h. refl; matched = λ h. refl; appended = λ h. refl });
 }

@@ -1,5 +1,5 @@
 -- Which verdict the rules on log and entry give, told by what the tests of the code say.
-use Rattle.std.proofs.Common.{◌≡◌, ◌⊎◌, inl, inr, ℕ, zero, suc, ◌+◌, ◌<◌, ◌≤◌, List, [], ◌∷◌, ◌++◌, Some, None, length, take, get_or, refl, sym, ap, subst, ◌∙◌, arith}
+use Rattle.std.proofs.Common.{◌≡◌, ◌↔◌, ◌⊎◌, inl, inr, ℕ, zero, suc, ◌+◌, ◌<◌, ◌≤◌, List, [], ◌∷◌, ◌++◌, Some, None, length, take, get_or, refl, sym, ap, subst, ◌∙◌, arith}
 use Rattle.std.proofs.lemmas.List.{get_or-take, get_or_append_left, length-take-le, length-append}
 use Rattle.std.proofs.Math.Seq.{get_or-append_seam}
 use Rattle.std.proofs.lemmas.Bool.Decides.{leb_tells}
@@ -27,31 +27,6 @@ last_of_take (e ∷ log) zero within = refl
 last_of_take log (suc i) within =
     let long : length (take (suc i) log) ≡ suc i = length-take-le (suc i) log within in
     ap (λ n. (entry_at (take (suc i) log) n).term) long ∙ ap (λ (e : Entry). e.term) (get_or-take (suc i) log i (blank 0) (omega arith))
-
-pub distinct_from : (log : List Entry) (e : Entry) → IsInjective (log ++ e ∷ []) → IsDistinctFromAll log e
-distinct_from log e injective i below =
-    subst (λ x. AreDistinct (get_or log i (blank 0)) x) (get_or-append_seam log e [] (blank 0))
-    (subst (λ x. AreDistinct x (get_or (log ++ e ∷ []) (length log) (blank 0))) (get_or_append_left log (e ∷ []) (blank 0) i below)
-    (injective i (length log) below (subst (λ n. length log < n) (sym (length-append log (e ∷ []))) (omega arith))))
-
-pub injective_with : (log : List Entry) (e : Entry) → IsInjective log → IsDistinctFromAll log e → IsInjective (log ++ e ∷ [])
-injective_with log e injective distinct i j less within =
-    elim (leb_tells (length log) j) [
-      | inl t ↦
-          let last : length log ≡ j = omega (arith, t.1, subst (λ n. j < n) (length-append log (e ∷ [])) within) in
-          subst (λ n. AreDistinct (get_or (log ++ e ∷ []) i (blank 0)) (get_or (log ++ e ∷ []) n (blank 0))) last
-          (subst (λ x. AreDistinct (get_or (log ++ e ∷ []) i (blank 0)) x) (sym (get_or-append_seam log e [] (blank 0)))
-          (subst (λ x. AreDistinct x e) (sym (get_or_append_left log (e ∷ []) (blank 0) i (omega (arith, less, last)))) (distinct i (omega (arith, less, last)))))
-      | inr t ↦
-          subst (λ x. AreDistinct (get_or (log ++ e ∷ []) i (blank 0)) x) (sym (get_or_append_left log (e ∷ []) (blank 0) j t.1))
-          (subst (λ x. AreDistinct x (get_or log j (blank 0))) (sym (get_or_append_left log (e ∷ []) (blank 0) i (omega (arith, less, t.1)))) (injective i j less t.1))
-    ]
-
-injective_front : (log : List Entry) (k : ℕ) → k ≤ length log → IsInjective log → IsInjective (take k log)
-injective_front log k within injective i j less below =
-    let short : j < k = subst (λ n. j < n) (length-take-le k log within) below in
-    subst (λ x. AreDistinct (get_or (take k log) i (blank 0)) x) (sym (get_or-take k log j (blank 0) short))
-    (subst (λ x. AreDistinct x (get_or log j (blank 0))) (sym (get_or-take k log i (blank 0) (omega (arith, less, short)))) (injective i j less (omega (arith, short, within))))
 
 -- ---- verdicts
 
@@ -87,7 +62,8 @@ module _ (s : Stored) (r : Request) (e : Entry) (is : r.entry ≡ Some e) where
   abbrev pub MayAdd : Type 0
   MayAdd = (r.previous < log_limit) × (s.commit ≤ r.previous) × MayFollow (take r.previous s.log) s.term e
 
-  module _ (own : r.term ≡ s.term) (fits : HasPrevious (store_of s) r) (not_there : IsThere (store_of s) r e → ⊥) where
+  module _ (grows : (log : List Entry) (x : Entry) → IsInjective (log ++ x ∷ []) ↔ (IsInjective log × IsDistinctFromAll log x)) (front : (log : List Entry) (k : ℕ) → IsInjective log → IsInjective (take k log))
+      (own : r.term ≡ s.term) (fits : HasPrevious (store_of s) r) (not_there : IsThere (store_of s) r e → ⊥) where
     may_add : Adds (store_of s) r e → MayAdd
     may_add a = (
       omega (arith, a.room),
@@ -96,7 +72,7 @@ module _ (s : Stored) (r : Request) (e : Entry) (is : r.entry ≡ Some e) where
         formed = a.well_formed;
         order = subst (λ n. n ≤ e.term) (sym (last_of_take s.log r.previous fits.previous)) a.rises;
         bound = subst (λ n. e.term ≤ n) own a.below;
-        distinct = distinct_from (take r.previous s.log) e a.injective;
+        distinct = ((grows (take r.previous s.log) e).0 a.injective).1;
       },
     )
 
@@ -124,7 +100,7 @@ module _ (s : Stored) (r : Request) (e : Entry) (is : r.entry ≡ Some e) where
       not_bad (inr (no_there, inr (inl malformed))) = absurd (malformed follows.formed)
       not_bad (inr (no_there, inr (inr (inl falls)))) = absurd (let order = subst (λ n. n ≤ e.term) (last_of_take s.log r.previous fits.previous) follows.order in omega (arith, falls, order))
       not_bad (inr (no_there, inr (inr (inr (inl high))))) = absurd (let bound = subst (λ n. e.term ≤ n) (sym own) follows.bound in omega (arith, high, bound))
-      not_bad (inr (no_there, inr (inr (inr (inr twice))))) = absurd (twice (injective_with (take r.previous s.log) e (injective_front s.log r.previous fits.previous injective) follows.distinct))
+      not_bad (inr (no_there, inr (inr (inr (inr twice))))) = absurd (twice ((grows (take r.previous s.log) e).1 (front s.log r.previous injective, follows.distinct)))
     added may injective Held h = no_held h.has where
       no_held : (r.entry ≡ None) ⊎ ((x : Entry) × (r.entry ≡ Some x) × (r.previous + 1 ≤ log_limit) × IsThere (store_of s) r x) → Held ≡ Added e
       no_held (inl none) = absurd (none_some e (sym none ∙ is))

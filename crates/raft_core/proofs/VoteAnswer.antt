@@ -1,6 +1,6 @@
 -- A vote answer.
 use Rattle.std.proofs.Common.{◌≡◌, ℕ, Bool, true, false, List, [], sym, subst}
-use Rattle.std.specs.Prelude.{Result, if◌then◌else◌}
+use Rattle.std.specs.Prelude.{Option, if◌then◌else◌}
 use Rattle.disk_model.specs.declared.disk.Disk.{Ghosts}
 use Rattle.kv_store.specs.declared.fault.Fault.{Fault}
 use Rattle.raft_log.specs.declared.durable.Durable.{Durable}
@@ -22,11 +22,11 @@ module _ {D : Type 0} {disk : Ghosts D} (members : List ℕ) (p : Plain) (t : Ti
       (if has_quorum members votes then record { store = put_all p.store (win_puts p.store); memory = win_memory p.store (record p.memory { votes = votes }) } else record p { memory = record p.memory { votes = votes } })
       (if has_quorum members votes then win t else t)
 
-  pub won_puts : (result : Result (Unit {0}) Fault) → has_quorum members votes ≡ true → p.store ≡ store_of (durable_state old) → DoesPuts (win_puts (store_of (durable_state old))) old new result → DoesPuts votes_puts old new result
-  won_puts result quorum store made = rw quorum (subst (λ (z : Store). DoesPuts (win_puts z) old new result) (sym store) made)
+  pub won_puts : (failed : Option Fault) → has_quorum members votes ≡ true → p.store ≡ store_of (durable_state old) → DoesPuts (win_puts (store_of (durable_state old))) old new failed → DoesPuts votes_puts old new failed
+  won_puts failed quorum store made = rw quorum (subst (λ (z : Store). DoesPuts (win_puts z) old new failed) (sym store) made)
 
-  pub no_puts : (result : Result (Unit {0}) Fault) → has_quorum members votes ≡ false → DoesPuts [] old new result → DoesPuts votes_puts old new result
-  no_puts result quorum made = rw quorum made
+  pub no_puts : (failed : Option Fault) → has_quorum members votes ≡ false → DoesPuts [] old new failed → DoesPuts votes_puts old new failed
+  no_puts failed quorum made = rw quorum made
 
   pub won_counted : has_quorum members votes ≡ true → StandsFor raft2 members (durable_state new) (record { store = put_all p.store (win_puts p.store); memory = win_memory p.store (record p.memory { votes = votes }) }) (win t) → CountsVotes
   won_counted quorum st = rw quorum st

@@ -1,6 +1,7 @@
 -- A candidate wins, and leads from then on.
 use Rattle.std.proofs.Common.{◌≡◌, ◌≢◌, ℕ, ◌+◌, ◌<◌, ◌≤◌, Bool, true, false, List, [], ◌∷◌, length, replicate, get_or, refl, sym, ap, subst, ◌∙◌, arith}
-use Rattle.std.specs.Prelude.{slice_index_or, if◌then◌else◌, Result, Ok}
+use Rattle.std.specs.Prelude.{slice_index_or, if◌then◌else◌, Option, None, Result, Ok}
+use Rattle.std.specs.Result.{result_err}
 use Rattle.std.proofs.lemmas.List.{get_or-replicate}
 use Rattle.can_frame.specs.Log.{blank}
 use Rattle.can_frame.specs.declared.step.Role.TheVariants.{Follower, Leader}
@@ -17,14 +18,13 @@ use Rattle.raft_core.specs.declared.raft.Raft.{Raft}
 use Rattle.raft_core.specs.Fits.{Fits, IsWithin}
 use Rattle.raft_core.specs.Peers.{fresh}
 use Rattle.raft_core.specs.Stands.{StandsFor, Tells, role_of}
-use Rattle.raft_core.specs.StoredPuts.{DoesPuts, store_of}
+use Rattle.raft_core.specs.StoredPuts.{DoesPuts, VoteForNodes, store_of}
 use Rattle.raft_core.specs.Times.{Times, opened_times, win}
-use Rattle.raft_core.proofs.Moving.{AllCount, store_after}
-use Rattle.raft_core.proofs.Puts.{got}
+use Rattle.raft_core.proofs.Moving.{store_after}
 
-pub win_counts : (s : Store) → AllCount (win_puts s)
+pub win_counts : (s : Store) → VoteForNodes (win_puts s)
 win_counts s = by_test (adds_blank s) where
-  by_test : (b : Bool) → AllCount (if b then PutEntry (blank s.term) ∷ PutLonger (blank s.term) ∷ [] else [])
+  by_test : (b : Bool) → VoteForNodes (if b then PutEntry (blank s.term) ∷ PutLonger (blank s.term) ∷ [] else [])
   by_test true = (tt, (tt, tt))
   by_test false = tt
 
@@ -68,15 +68,17 @@ module _ (raft raft2 : Raft) (members : List ℕ) (s s2 : Stored) (role : raft2.
         (record { least = omega arith; next = omega (arith, longer); matched = omega arith; reach = tt });
   }
 
-module _ {D : Type 0} {disk : Ghosts D} (old new : Durable D disk) (result : Result (Unit {0}) Fault) where
-  pub blank_made : adds_blank (store_of (durable_state old)) ≡ true → DoesPuts (PutEntry (blank (durable_state old).term) ∷ PutLonger (blank (durable_state old).term) ∷ []) old new result
-      → DoesPuts (win_puts (store_of (durable_state old))) old new result
-  blank_made wants made = rw wants made
+module _ {D : Type 0} {disk : Ghosts D} (old new : Durable D disk) where
+  pub blank_made : (failed : Option Fault) → adds_blank (store_of (durable_state old)) ≡ true → DoesPuts (PutEntry (blank (durable_state old).term) ∷ PutLonger (blank (durable_state old).term) ∷ []) old new failed
+      → DoesPuts (win_puts (store_of (durable_state old))) old new failed
+  blank_made failed wants made = rw wants made
 
   -- what is stored after it
-  pub won_store : (value : Unit {0}) → result ≡ Ok value → DoesPuts (win_puts (store_of (durable_state old))) old new result
+  pub won_store : {T : Type 0} (result : Result T Fault) (value : T) → result ≡ Ok value → DoesPuts (win_puts (store_of (durable_state old))) old new (result_err result)
       → store_of (durable_state new) ≡ put_all (store_of (durable_state old)) (win_puts (store_of (durable_state old)))
-  won_store value is made = ap store_of (got result value _ is made.made.state) ∙ store_after (win_puts (store_of (durable_state old))) (durable_state old) (win_counts (store_of (durable_state old)))
+  won_store result value is made =
+      let done : DoesPuts (win_puts (store_of (durable_state old))) old new None = subst (λ (r : Result _ Fault). DoesPuts (win_puts (store_of (durable_state old))) old new (result_err r)) is made in
+      ap store_of (done.made.state refl) ∙ store_after (win_puts (store_of (durable_state old))) (durable_state old) (win_counts (store_of (durable_state old)))
 
 -- a member that opens
 pub opened_stands : (raft : Raft) (members : List ℕ) (s : Stored) (now word : ℕ) → raft.role ≡ Follower → raft.told ≡ 0 → raft.since ≡ now → raft.word ≡ word → raft.peers ≡ replicate 128 (fresh 1)

@@ -1,5 +1,5 @@
 -- The calls that a member owes its peers.
-use Rattle.std.specs.Prelude.{◌≡◌, ℕ, ◌-◌, ◌||◌, true, if◌then◌else◌, nat_le, List, Option, Some, None, length}
+use Rattle.std.specs.Prelude.{◌≡◌, ⊤, ℕ, ◌-◌, ◌<◌, ◌||◌, true, IfSome, if◌then◌else◌, nat_le, List, Option, Some, None, length}
 use Rattle.dsdl_codec.specs.declared.append_request.AppendRequest.{AppendRequest}
 use Rattle.dsdl_codec.specs.declared.vote_request.VoteRequest.{VoteRequest}
 use Rattle.raft_model.specs.Messages.{Request}
@@ -12,6 +12,7 @@ use Rattle.raft_core.specs.declared.calls.Call.{Call}
 use Rattle.raft_core.specs.declared.calls.Call.TheVariants.{Vote, Append}
 use Rattle.raft_core.specs.declared.calls.Pending.{Pending}
 use Rattle.raft_core.specs.declared.raft.Raft.{Raft}
+use Rattle.raft_core.specs.RaftViews.{raft_me}
 use Rattle.raft_core.specs.Stands.{StandsFor}
 use Rattle.raft_core.specs.Times.{Sending, Times, is_silent}
 
@@ -50,7 +51,7 @@ Says member step server node (Append request) move = (previous : ℕ) × (move �
 -- the member owes the peer this call
 abbrev pub Owes : Raft → Stored → ℕ → ℕ → Call → Type 0
 Owes raft state node now call = (members : List ℕ) (step : ℕ) (server : Plain) (times : Times) → StandsFor raft members state server times →
-    (move : Move) × (owed server times node now ≡ Some move) × Says raft.me step server node call move
+    (move : Move) × (owed server times node now ≡ Some move) × Says (raft_me raft) step server node call move
 
 -- and it owes it none
 abbrev pub OwesNone : Raft → Stored → ℕ → ℕ → Type 0
@@ -62,3 +63,8 @@ pub record IsPending (pending : Pending) (request : Request) (sending : Sending)
   pub id : pending.id ≡ sending.id
   pub step : pending.step ≡ request.step
   pub sent : pending.sent ≡ sending.moment
+
+-- what a call carries can be written: the node ID of its entry has seven bits
+abbrev pub IsWritable : Call → Type 0
+IsWritable (Vote request) = ⊤
+IsWritable (Append request) = IfSome request.entry (λ entry. entry.node < 128)

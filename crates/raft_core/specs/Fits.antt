@@ -7,6 +7,7 @@ use Rattle.raft_core.specs.declared.peer.Asked.TheVariants.{Vote, Append}
 use Rattle.raft_core.specs.declared.peer.Waiting.{Waiting}
 use Rattle.raft_core.specs.declared.peer.Peer.{Peer}
 use Rattle.raft_core.specs.declared.raft.Raft.{Raft}
+use Rattle.raft_core.specs.RaftViews.{raft_me, raft_peers, raft_role, raft_told}
 
 -- an append call reaches at most this place
 abbrev pub AsksUpTo : ℕ → Asked → Type 0
@@ -25,7 +26,7 @@ pub record IsWithin (peer : Peer) (last : ℕ) : Type 0 where
   pub reach : ReachesUpTo last peer.call
 
 pub record Fits (raft : Raft) (state : Stored) : Type 0 where
-  pub told : raft.told ≤ state.commit
+  pub told : raft_told raft ≤ state.commit
   -- a Candidate or Leader is itself the stored vote
-  pub vote : raft.role ≢ Follower → state.vote ≡ raft.me
-  pub peers : raft.role ≡ Leader → (node : ℕ) (none : Peer) → node < 128 → IsWithin (slice_index_or raft.peers node none) (length state.log)
+  pub vote : raft_role raft ≢ Follower → state.vote ≡ raft_me raft
+  pub peers : raft_role raft ≡ Leader → (node : ℕ) (none : Peer) → node < 128 → IsWithin (slice_index_or (raft_peers raft) node none) (length state.log)

@@ -1,5 +1,5 @@
 -- What a call of a member does: it makes moves of the message machine.
-use Rattle.std.specs.Prelude.{ℕ, Bool, true, false, if◌then◌else◌, List, [], ◌∷◌, Option, None, Some, Result, OnOk}
+use Rattle.std.specs.Prelude.{ℕ, Bool, true, false, ◌&&◌, List, [], ◌∷◌, Option, None, Some, IfNone}
 use Rattle.disk_model.specs.declared.disk.Disk.{Ghosts}
 use Rattle.kv_store.specs.declared.fault.Fault.{Fault}
 use Rattle.dsdl_codec.specs.declared.append_request.AppendRequest.{AppendRequest}
@@ -8,21 +8,25 @@ use Rattle.raft_log.specs.declared.durable.Durable.{Durable}
 use Rattle.raft_log.specs.DurableViews.{durable_state}
 use Rattle.raft_model.specs.Handlers.{plain_after_all, puts_of_all}
 use Rattle.raft_model.specs.Messages.{Answer, Request}
-use Rattle.raft_model.specs.Decisions.{commit_index}
-use Rattle.raft_model.specs.Moves.{Move, is_leader}
-use Rattle.raft_model.specs.Moves.Move.{CommitTo, GiveUp}
+use Rattle.raft_model.specs.Duty.{tick_phase}
+use Rattle.raft_model.specs.Moves.{Move}
+use Rattle.raft_model.specs.Moves.Move.{GiveUp}
 use Rattle.raft_model.specs.Server.{Plain}
 use Rattle.raft_core.specs.declared.raft.Raft.{Raft}
 use Rattle.raft_core.specs.Stands.{StandsFor}
 use Rattle.raft_core.specs.StoredPuts.{DoesPuts}
-use Rattle.raft_core.specs.Times.{Given, Times, times_after_all}
+use Rattle.raft_core.specs.Times.{Given, Times, has_waited, times_after_all}
 
 -- the member makes these moves in a step: their puts in order, up to the first that fails; and
--- where none does, it stands for the server and the times after them
-pub record MakesMoves {D T : Type 0} {disk : Ghosts D} (members : List ℕ) (member step : ℕ) (given : Given) (moves : List Move) (server : Plain) (times : Times)
-    (old new : Durable D disk) (raft : Raft) (result : Result T Fault) : Type 0 where
-  pub puts : DoesPuts (puts_of_all members member step server moves) old new result
-  pub after : OnOk result (StandsFor raft members (durable_state new) (plain_after_all members member step server moves) (times_after_all members member step given server moves times))
+-- where none does, it stands for the server after them, and for these times
+pub record LeavesMoves {D : Type 0} {disk : Ghosts D} (members : List ℕ) (member step : ℕ) (moves : List Move) (server : Plain) (times_then : Times)
+    (old new : Durable D disk) (raft : Raft) (failed : Option Fault) : Type 0 where
+  pub puts : DoesPuts (puts_of_all members member step server moves) old new failed
+  pub after : IfNone failed (StandsFor raft members (durable_state new) (plain_after_all members member step server moves) times_then)
+
+-- they are given this, and leave the times after them
+abbrev pub MakesMoves : {D : Type 0} {disk : Ghosts D} → List ℕ → ℕ → ℕ → Given → List Move → Plain → Times → Durable D disk → Durable D disk → Raft → Option Fault → Type 0
+MakesMoves members member step given moves server times = LeavesMoves members member step moves server (times_after_all members member step given server moves times)
 
 -- the request of the machine that a vote request carries, which the node `from` made in a step for the node `to`
 abbrev pub vote_request_of : VoteRequest → ℕ → ℕ → ℕ → Request
@@ -36,13 +40,14 @@ append_request_of request step from to = record { step = step; from = from; to =
 abbrev pub answer_of : ℕ → ℕ → Request → ℕ → Bool → Answer
 answer_of step from request term success = record { step = step; from = from; request = request; term = term; success = success }
 
--- a leader commits to an index, where there is one
-abbrev pub commits_to : Option ℕ → List Move
-commits_to None = []
-commits_to (Some index) = CommitTo index ∷ []
+-- a tick: whoever has waited, and knows all members, stands for election, if there is a next term and it does not lead
+abbrev pub moves_of_tick : Bool → ℕ → Plain → Times → List Move
+moves_of_tick complete now server times = tick_phase (complete && has_waited times now) server
 
-abbrev pub moves_of_commit : List ℕ → ℕ → Plain → List Move
-moves_of_commit members member server = if is_leader server.memory.role then commits_to (commit_index members member server) else []
+-- the members that a tick counts: those of the election that it begins, else those of the last one
+abbrev pub counted_at : List Move → List ℕ → List ℕ → List ℕ
+counted_at [] last now = last
+counted_at (move ∷ moves) last now = now
 
 -- the calls to these nodes are given up
 abbrev pub moves_of_expire : List ℕ → List Move

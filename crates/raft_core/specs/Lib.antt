@@ -5,6 +5,8 @@ pub mod Fits
 pub mod Handled
 pub mod OneFit
 pub mod Peers
+pub mod Proposing
+pub mod RaftViews
 pub mod Requests
 pub mod Roles
 pub mod Stands

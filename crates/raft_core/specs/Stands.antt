@@ -10,6 +10,7 @@ use Rattle.raft_core.specs.declared.peer.Asked.TheVariants.{Vote, Append}
 use Rattle.raft_core.specs.declared.peer.Waiting.{Waiting}
 use Rattle.raft_core.specs.declared.peer.Peer.{Peer}
 use Rattle.raft_core.specs.declared.raft.Raft.{Raft}
+use Rattle.raft_core.specs.RaftViews.{raft_members, raft_peers, raft_role, raft_since, raft_told, raft_word}
 use Rattle.raft_core.specs.StoredPuts.{store_of}
 use Rattle.raft_core.specs.Times.{Sending, Times}
 
@@ -50,9 +51,9 @@ pub record Tells (peer : Peer) (server : Plain) (times : Times) (node : ℕ) : T
 -- the member with what it has stored; a Candidate or Leader counts these members
 pub record StandsFor (raft : Raft) (members : List ℕ) (state : Stored) (server : Plain) (times : Times) : Type 0 where
   pub store : server.store ≡ store_of state
-  pub role : server.memory.role ≡ role_of raft.role
-  pub told : server.memory.told ≡ raft.told
-  pub known : raft.role ≢ Follower → raft.members.items ≡ members
-  pub since : times.since ≡ raft.since
-  pub word : times.word ≡ raft.word
-  pub peers : (node : ℕ) (none : Peer) → node < 128 → Tells (slice_index_or raft.peers node none) server times node
+  pub role : server.memory.role ≡ role_of (raft_role raft)
+  pub told : server.memory.told ≡ raft_told raft
+  pub known : raft_role raft ≢ Follower → raft_members raft ≡ members
+  pub since : times.since ≡ raft_since raft
+  pub word : times.word ≡ raft_word raft
+  pub peers : (node : ℕ) (none : Peer) → node < 128 → Tells (slice_index_or (raft_peers raft) node none) server times node

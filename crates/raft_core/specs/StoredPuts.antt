@@ -1,11 +1,13 @@
 -- The stored state and its puts, in the words of the message machine and in those of `raft_log`.
-use Rattle.std.specs.Prelude.{◌≡◌, ℕ, zero, suc, List, [], ◌∷◌, ◌++◌, take, Option, Some, None, Result, IfErr}
+use Rattle.std.specs.Prelude.{◌≡◌, ◌≤◌, ⊤, ℕ, zero, suc, List, [], ◌∷◌, ◌++◌, take, Option, Some, None, IfSome, is_none}
 use Rattle.disk_model.specs.declared.disk.Disk.{Ghosts}
 use Rattle.kv_store.specs.declared.fault.Fault.{Fault}
 use Rattle.raft_log.specs.declared.durable.Durable.{Durable}
 use Rattle.raft_log.specs.Calls.{KeepsFault, MakesPuts}
-use Rattle.raft_log.specs.DurableViews.{durable_fault, durable_state}
+use Rattle.raft_log.specs.DurableViews.{durable_disk, durable_fault, durable_state}
 use Rattle.raft_log.specs.Stored.{Stored, after_put, Put as StoredPut}
+use Rattle.raft_model.specs.Moves.{Move}
+use Rattle.raft_model.specs.Moves.Move.{TakeVoteRequest}
 use Rattle.raft_model.specs.Server.{Put, Store}
 use Rattle.raft_model.specs.Server.Put.{PutTerm, PutVote, PutEntry, PutLonger, PutShorter, PutCommit}
 
@@ -34,8 +36,43 @@ abbrev pub stored_puts : List Put → Stored → List StoredPut
 stored_puts [] state = []
 stored_puts (put ∷ puts) state = stored_put put state ∷ stored_puts puts (after_put (stored_put put state) state)
 
+-- a put of a vote is for none, or for a node, whose ID is not 0: then what is stored says the same as the machine
+abbrev pub VotesForNode : Put → Type 0
+VotesForNode (PutTerm term) = ⊤
+VotesForNode (PutVote None) = ⊤
+VotesForNode (PutVote (Some node)) = 1 ≤ node
+VotesForNode (PutEntry entry) = ⊤
+VotesForNode (PutLonger entry) = ⊤
+VotesForNode (PutShorter count) = ⊤
+VotesForNode (PutCommit index) = ⊤
+
+abbrev pub VoteForNodes : List Put → Type 0
+VoteForNodes [] = ⊤
+VoteForNodes (put ∷ puts) = VotesForNode put × VoteForNodes puts
+
+-- a vote request is of a node
+abbrev pub IsOfNode : Move → Type 0
+IsOfNode (TakeVoteRequest request granted) = 1 ≤ request.from
+IsOfNode move = ⊤
+
+abbrev pub AreOfNodes : List Move → Type 0
+AreOfNodes [] = ⊤
+AreOfNodes (move ∷ moves) = IsOfNode move × AreOfNodes moves
+
+-- of a store that had failed before: nothing changed
+pub record IsStill {D : Type 0} {ghosts : Ghosts D} (old new : Durable D ghosts) : Type 0 where
+  pub disk : durable_disk new ≡ durable_disk old
+  pub state : durable_state new ≡ durable_state old
+  pub fault : durable_fault new ≡ durable_fault old
+
+-- what a call that ended with this fault, or with none, tells of faults: of a store that had none before, what `raft_log` says of its calls; and of one that
+-- had one, nothing changed
+pub record KeepsFaults {D : Type 0} {disk : Ghosts D} (old new : Durable D disk) (failed : Option Fault) : Type 0 where
+  pub works : durable_fault old ≡ None → KeepsFault old new failed
+  pub still : (fault : Fault) → durable_fault old ≡ Some fault → IsStill old new
+  pub kept : IfSome failed (λ fault. durable_fault new ≡ Some fault)
+
 -- these puts of the machine are made in order, up to the first that fails, whose fault is answered
-pub record DoesPuts {D T : Type 0} {disk : Ghosts D} (puts : List Put) (old new : Durable D disk) (result : Result T Fault) : Type 0 where
-  pub made : MakesPuts (stored_puts puts (durable_state old)) old new result
-  pub fault : durable_fault old ≡ None → KeepsFault old new result
-  pub kept : IfErr result (λ fault. durable_fault new ≡ Some fault)
+pub record DoesPuts {D : Type 0} {disk : Ghosts D} (puts : List Put) (old new : Durable D disk) (failed : Option Fault) : Type 0 where
+  pub made : MakesPuts (stored_puts puts (durable_state old)) old new (is_none failed)
+  pub faults : KeepsFaults old new failed

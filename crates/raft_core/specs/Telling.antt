@@ -1,30 +1,35 @@
 -- What a leader is to tell next.
-use Rattle.std.specs.Prelude.{◌≡◌, ◌⊎◌, ℕ, ◌+◌, ◌<◌, slice_index_or}
-use Rattle.can_frame.specs.Log.{blank}
+use Rattle.std.specs.Prelude.{◌≡◌, ◌≢◌, ◌⊎◌, ⊤, ℕ, ◌+◌, ◌≤◌, Bool, List, [], ◌∷◌, if◌then◌else◌}
 use Rattle.can_frame.specs.Zeros.{zeros}
+use Rattle.raft_log.specs.Stored.{Stored}
+use Rattle.raft_model.specs.Duty.{tell_phase}
 use Rattle.raft_model.specs.Moves.{Move, pair_at}
 use Rattle.raft_model.specs.Moves.Move.{TellNothing, TellPair}
 use Rattle.raft_model.specs.Server.{Plain}
-use Rattle.raft_model.specs.Server.Role.{Leader}
+use Rattle.raft_core.specs.declared.raft.Raft.{Raft}
 use Rattle.raft_core.specs.declared.tell.Telling.{Telling}
 use Rattle.raft_core.specs.declared.tell.Telling.TheVariants.{Nothing, Skip, Pair}
+use Rattle.raft_core.specs.RaftViews.{raft_told}
 
--- it is a leader that has something committed to tell
-pub record HasToTell (server : Plain) : Type 0 where
-  pub leads : server.memory.role ≡ Leader
-  pub below : server.memory.told < server.store.commit
-
--- the unique ID of the place after the last that was told
-abbrev pub IsZeroNext : Plain → Type 0
-IsZeroNext server = (slice_index_or server.store.log server.memory.told (blank 0)).uid ≡ zeros
-
--- what it tells: nothing; a place without a unique ID, which is passed over; or the pair of the place
+-- what it tells, where it has room for a pair or not: nothing; a place without a unique ID, which is passed over; or the pair
+-- of the place
 abbrev pub IsToTell : Plain → Telling → Type 0
-IsToTell server Nothing = HasToTell server → ⊥
-IsToTell server (Skip place) = HasToTell server × (place ≡ server.memory.told + 1) × IsZeroNext server
-IsToTell server (Pair place uid node) = HasToTell server × (place ≡ server.memory.told + 1) × (IsZeroNext server → ⊥) ×
+IsToTell server Nothing = (room : Bool) → tell_phase room server ≡ []
+IsToTell server (Skip place) = (place ≡ server.memory.told + 1) × ((room : Bool) → tell_phase room server ≡ TellNothing ∷ [])
+IsToTell server (Pair place uid node) = (place ≡ server.memory.told + 1) × ((room : Bool) → tell_phase room server ≡ (if room then TellPair ∷ [] else [])) ×
     ((member step : ℕ) → ((pair_at member step server.store server.memory.told).uid ≡ uid) × ((pair_at member step server.store server.memory.told).node ≡ node))
 
--- the move that tells it
-abbrev pub IsTelling : Plain → Move → Type 0
-IsTelling server move = (IsZeroNext server × (move ≡ TellNothing)) ⊎ ((IsZeroNext server → ⊥) × (move ≡ TellPair))
+-- the place after the last that was told, which is committed
+pub record IsNext (raft : Raft) (state : Stored) (place : ℕ) : Type 0 where
+  pub next : place ≡ raft_told raft + 1
+  pub committed : place ≤ state.commit
+
+-- what it tells lies there, and a pair has a unique ID
+abbrev pub TellsNext : Raft → Stored → Telling → Type 0
+TellsNext raft state Nothing = ⊤
+TellsNext raft state (Skip place) = IsNext raft state place
+TellsNext raft state (Pair place uid node) = IsNext raft state place × (uid ≢ zeros)
+
+-- the moves that tell it
+abbrev pub IsTelling : Move → Type 0
+IsTelling move = (move ≡ TellNothing) ⊎ (move ≡ TellPair)

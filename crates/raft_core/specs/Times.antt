@@ -6,7 +6,7 @@ use Rattle.raft_model.specs.Messages.{Request}
 use Rattle.raft_model.specs.Server.{Plain, Role}
 use Rattle.raft_model.specs.Server.Role.{Follower, Candidate, Leader}
 use Rattle.raft_model.specs.Handlers.{plain_after}
-use Rattle.raft_model.specs.Moves.{Move, counted, counts, has_quorum, is_leader, own_vote, term_limit}
+use Rattle.raft_model.specs.Moves.{Move, counted, counts, has_quorum, own_vote}
 use Rattle.raft_model.specs.Moves.Move.{TimeOut, TakeVoteRequest, TakeVoteAnswer, TakeAppendRequest, TakeAppendAnswer, ProposeEntry, CommitTo, TellPair, TellNothing, CallForVote, CallToAppend, AnswerAgain, GiveUp}
 use Rattle.raft_model.specs.Moves.Verdict.{Outdated, Refused, Held, Added}
 
@@ -59,10 +59,6 @@ wait word = 2000 + word % 2001
 
 abbrev pub has_waited : Times → ℕ → Bool
 has_waited times now = nat_le (wait times.word) (age times.since now)
-
--- a member that is no Leader, has waited and has not the highest term stands for election, once it knows all members
-abbrev pub stands : Bool → ℕ → Plain → Times → Bool
-stands complete now server times = complete && (not (is_leader server.memory.role) && (nat_lt server.store.term term_limit && has_waited times now))
 
 -- a Leader sends the next append request 400 ms after the last
 abbrev pub is_silent : Option ℕ → ℕ → Bool

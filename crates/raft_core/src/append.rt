@@ -1,4 +1,5 @@
 ghost use Rattle.std.specs.Prelude.{◌≡◌, ◌↔◌, ◌⊎◌, ◌≤◌, ◌<◌, ◌+◌, ◌++◌, ◌∷◌, ◌==◌, ◌&&◌, [], ℕ, List, IsTrue, true, false, OnOk, IfOk, Ok, Some, length, slice_index_or, take};
+ghost use Rattle.std.specs.Result.{result_err};
 ghost use Rattle.can_frame.specs.declared.step.Role.TheVariants.{Leader};
 ghost use Rattle.can_frame.specs.Log.{log_limit};
 ghost use Rattle.raft_log.specs.DurableViews.{durable_state};
@@ -14,15 +15,17 @@ ghost use Rattle.raft_model.specs.Moves.Move.{TakeAppendAnswer, TakeAppendReques
 ghost use Rattle.raft_model.specs.Server.{Plain};
 ghost use Rattle.raft_core.specs.Appending.{commit_puts, cut_to, write_puts};
 ghost use Rattle.raft_core.specs.Handled.{answer_of, append_request_of};
-ghost use Rattle.raft_core.specs.StoredPuts.{DoesPuts, store_of};
+ghost use Rattle.raft_core.specs.StoredPuts.{DoesPuts, KeepsFaults, store_of};
 ghost use Rattle.raft_core.specs.Times.{Times, given_at, is_awaited};
 
 use crate::laws::puts_in_turn;
 use crate::raft::Raft;
+use can_frame::laws::logs_stay_injective;
 use can_frame::{Entry, Role};
 use disk_model::Disk;
 use dsdl_codec::{AppendAnswer, AppendRequest};
 use kv_store::Fault;
+use raft_log::laws::a_durable_state_is_kept;
 use raft_log::{Durable, may_follow};
 use raft_model::laws::law_decisions;
 
@@ -30,6 +33,7 @@ impl Raft {
     ghost use Rattle.raft_core.specs.declared.peer.Peer.{Peer};
     ghost use Rattle.raft_core.specs.Fits.{Fits};
     ghost use Rattle.raft_core.specs.Handled.{MakesMoves};
+    ghost use Rattle.raft_core.specs.RaftViews.{raft_me, raft_size};
     ghost use Rattle.raft_core.specs.Stands.{StandsFor, role_of};
 
     /// A leader's append request came from the node `from`. A request of a lower term is refused, and one
@@ -44,14 +48,15 @@ impl Raft {
     ) -> Result<AppendAnswer, Fault>
         requires fits { Fits self.old (durable_state d.old) }
         ensures moves { (members : List ℕ) (step : ℕ) (server : Plain) (times : Times) → StandsFor self.old members (durable_state d.old) server times →
-            (made_in : ℕ) → let request = append_request_of req.now made_in from self.old.me in let verdict = judges server request in
-            MakesMoves members self.old.me step (given_at now) (TakeAppendRequest request verdict ∷ []) server times d.old d.new self.new result ×
+            (made_in : ℕ) → let request = append_request_of req.now made_in from (raft_me self.old) in let verdict = judges server request in
+            MakesMoves members (raft_me self.old) step (given_at now) (TakeAppendRequest request verdict ∷ []) server times d.old d.new self.new (result_err result) ×
             IfOk result (λ answer. (answer.term ≡ (with_term server.store request.term).term) × (answer.success ≡ is_accepted verdict)) }
+        ensures fault { KeepsFaults d.old d.new (result_err result) }
         ensures fits { OnOk result (Fits self.new (durable_state d.new)) }
-        ensures me { self.new.me ≡ self.old.me }
-        ensures size { self.new.size ≡ self.old.size }
+        ensures me { raft_me self.new ≡ raft_me self.old }
+        ensures size { raft_size self.new ≡ raft_size self.old }
     {
-        puts_in_turn::<D, (), AppendAnswer>();
+        puts_in_turn::<D>();
         law_decisions();
         if self.is_outdated(d.term(), req.term) {
             return Ok(AppendAnswer {
@@ -85,13 +90,15 @@ impl Raft {
             is_awaited server times from true id ≡ false → (result ≡ Ok false) × (self.new ≡ self.old) × (d.new ≡ d.old) }
         ensures moves { (members : List ℕ) (step : ℕ) (server : Plain) (times : Times) → StandsFor self.old members (durable_state d.old) server times →
             is_awaited server times from true id ≡ true → (made_in : ℕ) (request : Request) → server.memory.pending from ≡ Some request →
-            MakesMoves members self.old.me step (given_at now) (TakeAppendAnswer (answer_of made_in from request ans.now.term ans.now.success) ∷ []) server times d.old d.new self.new result ×
+            MakesMoves members (raft_me self.old) step (given_at now) (TakeAppendAnswer (answer_of made_in from request ans.now.term ans.now.success) ∷ []) server times d.old d.new self.new (result_err result) ×
             IfOk result (λ taken. IsTrue taken) }
+        ensures fault { KeepsFaults d.old d.new (result_err result) }
         ensures fits { OnOk result (Fits self.new (durable_state d.new)) }
-        ensures me { self.new.me ≡ self.old.me }
-        ensures size { self.new.size ≡ self.old.size }
+        ensures me { raft_me self.new ≡ raft_me self.old }
+        ensures size { raft_size self.new ≡ raft_size self.old }
     {
-        puts_in_turn::<D, (), bool>();
+        puts_in_turn::<D>();
+        a_durable_state_is_kept::<D>();
         let Some(reach) = self.awaited_reach(from, id) else {
             return Ok(false);
         };
@@ -122,8 +129,8 @@ impl Raft {
             (answer : Answer) → answer.from ≡ from → answer.success ≡ success → messages.reach answer.request ≡ reach →
             StandsFor self.new members state (record server { memory = record server.memory { matched = at server.memory.matched from (matched_after server.memory answer); next = at server.memory.next from (next_after server.memory answer) } }) times }
         ensures fits { (state : Stored) → Fits self.old state → reach ≤ length state.log → Fits self.new state }
-        ensures me { self.new.me ≡ self.old.me }
-        ensures size { self.new.size ≡ self.old.size }
+        ensures me { raft_me self.new ≡ raft_me self.old }
+        ensures size { raft_size self.new ≡ raft_size self.old }
     {
         self.peers[from as usize].move_on(reach, success);
     }
@@ -140,10 +147,11 @@ impl Raft {
 fn accept<D: Disk>(d: &mut Durable<D>, req: &AppendRequest) -> Result<bool, Fault>
     requires { req.now.term ≡ (durable_state d.old).term }
     ensures puts { (step from to : ℕ) (verdict : Verdict) → let request = append_request_of req.now step from to in IsRuled (store_of (durable_state d.old)) request verdict →
-        DoesPuts (append_puts (store_of (durable_state d.old)) request verdict) d.old d.new result × IfOk result (λ success. success ≡ is_accepted verdict) }
+        DoesPuts (append_puts (store_of (durable_state d.old)) request verdict) d.old d.new (result_err result) × IfOk result (λ success. success ≡ is_accepted verdict) }
+    ensures fault { KeepsFaults d.old d.new (result_err result) }
     ensures commit { OnOk result ((durable_state d.old).commit ≤ (durable_state d.new).commit) }
 {
-    puts_in_turn::<D, (), bool>();
+    puts_in_turn::<D>();
     if !has_previous(d, req) {
         return Ok(false);
     }
@@ -160,10 +168,13 @@ fn take_entry<D: Disk>(d: &mut Durable<D>, req: &AppendRequest, entry: Entry) ->
     requires previous { req.now.prev_index ≤ length (durable_state d.old).log }
     requires previous_term { term_at (durable_state d.old).log req.now.prev_index ≡ req.now.prev_term }
     ensures puts { (step from to : ℕ) (verdict : Verdict) → let request = append_request_of req.now step from to in IsRuled (store_of (durable_state d.old)) request verdict →
-        DoesPuts (append_puts (store_of (durable_state d.old)) request verdict) d.old d.new result × IfOk result (λ success. success ≡ is_accepted verdict) }
+        DoesPuts (append_puts (store_of (durable_state d.old)) request verdict) d.old d.new (result_err result) × IfOk result (λ success. success ≡ is_accepted verdict) }
+    ensures fault { KeepsFaults d.old d.new (result_err result) }
     ensures commit { OnOk result ((durable_state d.old).commit ≤ (durable_state d.new).commit) }
 {
-    puts_in_turn::<D, (), bool>();
+    puts_in_turn::<D>();
+    a_durable_state_is_kept::<D>();
+    logs_stay_injective();
     let previous = req.prev_index;
     if is_there(d, previous, entry.term) {
         return hold(d, req.commit.min(previous + 1));
@@ -202,11 +213,11 @@ fn may_add<D: Disk>(d: &Durable<D>, previous: u8, entry: &Entry) -> bool
 /// The log is accepted as it is: what the request commits of it is committed. Answers true.
 fn hold<D: Disk>(d: &mut Durable<D>, place: u8) -> Result<bool, Fault>
     requires { place ≤ length (durable_state d.old).log }
-    ensures puts { DoesPuts (commit_puts (store_of (durable_state d.old)) place) d.old d.new result }
+    ensures puts { DoesPuts (commit_puts (store_of (durable_state d.old)) place) d.old d.new (result_err result) }
     ensures commit { OnOk result ((durable_state d.old).commit ≤ (durable_state d.new).commit) }
     ensures accepted { IfOk result (λ success. IsTrue success) }
 {
-    puts_in_turn::<D, (), bool>();
+    puts_in_turn::<D>();
     if d.commit() < place {
         d.set_commit(place)?;
     }
@@ -219,11 +230,11 @@ fn write<D: Disk>(d: &mut Durable<D>, previous: u8, entry: Entry) -> Result<(), 
     requires room { previous < log_limit }
     requires kept { (durable_state d.old).commit ≤ previous }
     requires follows { MayFollow (take previous (durable_state d.old).log) (durable_state d.old).term entry }
-    ensures puts { DoesPuts (write_puts (store_of (durable_state d.old)) previous entry) d.old d.new result }
+    ensures puts { DoesPuts (write_puts (store_of (durable_state d.old)) previous entry) d.old d.new (result_err result) }
     ensures log { OnOk result ((durable_state d.new).log ≡ take previous (durable_state d.old).log ++ (entry ∷ [])) }
     ensures commit { OnOk result ((durable_state d.new).commit ≡ (durable_state d.old).commit) }
 {
-    puts_in_turn::<D, (), ()>();
+    puts_in_turn::<D>();
     cut(d, previous)?;
     d.append(entry)
 }
@@ -232,10 +243,10 @@ fn write<D: Disk>(d: &mut Durable<D>, previous: u8, entry: Entry) -> Result<(), 
 fn cut<D: Disk>(d: &mut Durable<D>, previous: u8) -> Result<(), Fault>
     requires inside { previous ≤ length (durable_state d.old).log }
     requires kept { (durable_state d.old).commit ≤ previous }
-    ensures puts { DoesPuts (cut_to (store_of (durable_state d.old)) previous) d.old d.new result }
+    ensures puts { DoesPuts (cut_to (store_of (durable_state d.old)) previous) d.old d.new (result_err result) }
     ensures state { OnOk result (durable_state d.new ≡ record (durable_state d.old) { log = take previous (durable_state d.old).log }) }
 {
-    puts_in_turn::<D, (), ()>();
+    puts_in_turn::<D>();
     if previous < d.last() {
         d.truncate(previous)?;
     }

@@ -18,6 +18,7 @@ use can_frame::Role;
 use disk_model::Disk;
 use dsdl_codec::{AppendRequest, VoteRequest};
 use raft_log::Durable;
+use raft_log::laws::a_durable_state_is_kept;
 
 /// A request to a peer.
 #[derive(Clone, Copy, Debug, PartialEq, Eq)]
@@ -44,18 +45,19 @@ pub struct Pending {
 }
 
 impl Raft {
-    ghost use Rattle.raft_core.specs.Calls.{IsPending, Owes, OwesNone, owed};
+    ghost use Rattle.raft_core.specs.Calls.{IsPending, IsWritable, Owes, OwesNone, owed};
     ghost use Rattle.raft_core.specs.Fits.{Fits};
+    ghost use Rattle.raft_core.specs.RaftViews.{raft_me, raft_size};
     ghost use Rattle.raft_core.specs.Stands.{StandsFor};
 
     /// Calls that were made 1,000 ms ago, or earlier, are given up.
     pub fn expire(&mut self, now: u64)
         ensures moves { (members : List ℕ) (step : ℕ) (state : Stored) (server : Plain) (times : Times) → StandsFor self.old members state server times →
             (nodes : List ℕ) → ((node : ℕ) → node < 128 → server.memory.pending node ≢ None → In node nodes) → let moves = moves_of_expire (overdue times now nodes) in
-            StandsFor self.new members state (plain_after_all members self.old.me step server moves) (times_after_all members self.old.me step (given_at now) server moves times) }
+            StandsFor self.new members state (plain_after_all members (raft_me self.old) step server moves) (times_after_all members (raft_me self.old) step (given_at now) server moves times) }
         ensures fits { (state : Stored) → Fits self.old state → Fits self.new state }
-        ensures me { self.new.me ≡ self.old.me }
-        ensures size { self.new.size ≡ self.old.size }
+        ensures me { raft_me self.new ≡ raft_me self.old }
+        ensures size { raft_size self.new ≡ raft_size self.old }
     {
         for peer in &mut self.peers {
             peer.expire(now);
@@ -70,7 +72,9 @@ impl Raft {
         requires fits { Fits self.now (durable_state d.now) }
         ensures some { IfSome result (λ call. Owes self.now (durable_state d.now) peer now call) }
         ensures none { IsNone result → OwesNone self.now (durable_state d.now) peer now }
+        ensures writable { IfSome result IsWritable }
     {
+        a_durable_state_is_kept::<D>();
         let kept = &self.peers[peer as usize];
         if kept.call.is_some() {
             return None;
@@ -99,11 +103,12 @@ impl Raft {
         requires owed { Owes self.old (durable_state d.now) peer now what.now }
         ensures moves { (members : List ℕ) (server : Plain) (times : Times) → StandsFor self.old members (durable_state d.now) server times →
             (move : Move) → owed server times peer now ≡ Some move →
-            StandsFor self.new members (durable_state d.now) (plain_after_all members self.old.me step server (move ∷ [])) (times_after_all members self.old.me step (given_call now id) server (move ∷ []) times) }
+            StandsFor self.new members (durable_state d.now) (plain_after_all members (raft_me self.old) step server (move ∷ [])) (times_after_all members (raft_me self.old) step (given_call now id) server (move ∷ []) times) }
         ensures fits { Fits self.new (durable_state d.now) }
-        ensures me { self.new.me ≡ self.old.me }
-        ensures size { self.new.size ≡ self.old.size }
+        ensures me { raft_me self.new ≡ raft_me self.old }
+        ensures size { raft_size self.new ≡ raft_size self.old }
     {
+        a_durable_state_is_kept::<D>();
         let kept = &mut self.peers[peer as usize];
         let asked = match what {
             Call::Vote(_) => Asked::Vote,
@@ -167,8 +172,8 @@ impl Raft {
         ensures stands { (members : List ℕ) (state : Stored) (server : Plain) (times : Times) → StandsFor self.old members state server times →
             StandsFor self.new members state (record server { memory = ended server.memory from }) (clock.end_call from times) }
         ensures fits { (state : Stored) → Fits self.old state → Fits self.new state }
-        ensures me { self.new.me ≡ self.old.me }
-        ensures size { self.new.size ≡ self.old.size }
+        ensures me { raft_me self.new ≡ raft_me self.old }
+        ensures size { raft_size self.new ≡ raft_size self.old }
         ensures role { self.new.role ≡ self.old.role }
     {
         self.peers[from as usize].call = None;

@@ -1,9 +1,11 @@
 ghost use Rattle.std.specs.Prelude.{◌≡◌, ◌↔◌, ◌≤◌, ◌<◌, ℕ, List, IsTrue, IsNone, IfSome, OnOk, length};
+ghost use Rattle.std.specs.Result.{result_err};
 ghost use Rattle.can_frame.specs.declared.step.Role.TheVariants.{Leader};
 ghost use Rattle.raft_log.specs.DurableViews.{durable_state};
+ghost use Rattle.raft_model.specs.Duty.{commit_phase};
 ghost use Rattle.raft_model.specs.Moves.{CanCommit, IsCommitIndex};
 ghost use Rattle.raft_model.specs.Server.{Plain};
-ghost use Rattle.raft_core.specs.Handled.{moves_of_commit};
+ghost use Rattle.raft_core.specs.StoredPuts.{KeepsFaults};
 ghost use Rattle.raft_core.specs.Times.{Given, Times};
 
 use crate::laws::puts_in_turn;
@@ -17,6 +19,7 @@ use raft_model::laws::law_decisions;
 impl Raft {
     ghost use Rattle.raft_core.specs.Fits.{Fits};
     ghost use Rattle.raft_core.specs.Handled.{MakesMoves};
+    ghost use Rattle.raft_core.specs.RaftViews.{raft_me};
     ghost use Rattle.raft_core.specs.Stands.{StandsFor};
 
     /// A leader commits the greatest place above its commit index whose entry has the current term and
@@ -25,11 +28,12 @@ impl Raft {
         requires fits { Fits self.old (durable_state d.old) }
         ensures moves { (members : List ℕ) (step : ℕ) (server : Plain) (times : Times) → StandsFor self.old members (durable_state d.old) server times →
             (given : Given) →
-            MakesMoves members self.old.me step given (moves_of_commit members self.old.me server) server times d.old d.new self.new result }
+            MakesMoves members (raft_me self.old) step given (commit_phase members (raft_me self.old) server) server times d.old d.new self.new (result_err result) }
+        ensures fault { KeepsFaults d.old d.new (result_err result) }
         ensures fits { OnOk result (Fits self.new (durable_state d.new)) }
         ensures same { self.new ≡ self.old }
     {
-        puts_in_turn::<D, (), ()>();
+        puts_in_turn::<D>();
         law_decisions();
         if let Some(place) = self.commit_index(d) {
             d.set_commit(place)?;

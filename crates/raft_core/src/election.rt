@@ -1,13 +1,13 @@
-ghost use Rattle.std.specs.Prelude.{◌≡◌, ◌≢◌, ◌≤◌, ◌<◌, ◌+◌, ◌∷◌, [], ℕ, List, true, OnOk, length, replicate, slice_index_or, slice_set, if◌then◌else◌};
+ghost use Rattle.std.specs.Prelude.{◌≡◌, ◌≢◌, ◌≤◌, ◌<◌, ◌+◌, ◌∷◌, [], ℕ, List, ◌&&◌, not, nat_lt, true, OnOk, length, replicate, slice_index_or, slice_set};
+ghost use Rattle.std.specs.Result.{result_err};
 ghost use Rattle.arrayvec.specs.ArrayVec.{array_vec_len};
 ghost use Rattle.can_frame.specs.Log as log;
 ghost use Rattle.can_frame.specs.declared.step.Role.TheVariants.{Follower, Candidate};
 ghost use Rattle.raft_log.specs.DurableViews.{durable_state};
-ghost use Rattle.raft_model.specs.Moves.{adds_blank, stand_memory, stand_puts, win_memory, win_puts};
-ghost use Rattle.raft_model.specs.Moves.Move.{TimeOut};
+ghost use Rattle.raft_model.specs.Moves.{adds_blank, is_leader, stand_memory, stand_puts, term_limit, win_memory, win_puts};
 ghost use Rattle.raft_model.specs.Server.{Plain, put_all};
 ghost use Rattle.raft_core.specs.Peers.{fresh, voter};
-ghost use Rattle.raft_core.specs.StoredPuts.{DoesPuts, store_of};
+ghost use Rattle.raft_core.specs.StoredPuts.{DoesPuts, KeepsFaults, store_of};
 ghost use Rattle.raft_core.specs.Times as clock;
 ghost use Rattle.raft_core.specs.Times.{Times, given_tick};
 
@@ -22,12 +22,14 @@ use raft_log::Durable;
 
 impl Raft {
     ghost use Rattle.raft_core.specs.Fits.{Fits};
-    ghost use Rattle.raft_core.specs.Handled.{MakesMoves};
+    ghost use Rattle.raft_core.specs.Handled.{MakesMoves, counted_at, moves_of_tick};
+    ghost use Rattle.raft_core.specs.RaftViews.{raft_me, raft_size};
     ghost use Rattle.raft_core.specs.Stands.{StandsFor, role_of};
 
     /// Time has passed. A member that is no leader begins an election where its wait has passed and its
     /// term is not the highest, once it knows all members: `peers` are the others that it knows, and
-    /// `complete` says whether they are all. `word` is for the next wait.
+    /// `complete` says whether they are all. `word` is for the next wait. A member that begins no election
+    /// counts the members of its last one, whatever list it is handed.
     pub fn tick<D: Disk>(
         &mut self,
         d: &mut Durable<D>,
@@ -37,16 +39,17 @@ impl Raft {
         word: u32,
     ) -> Result<(), Fault>
         requires peers { (i : ℕ) → i < length peers.now → slice_index_or peers.now i 0 ≤ 125 }
-        requires complete { complete ≡ true → length peers.now + 1 ≡ self.old.size }
+        requires complete { complete ≡ true → length peers.now + 1 ≡ raft_size self.old }
         requires fits { Fits self.old (durable_state d.old) }
         ensures moves { (members : List ℕ) (step : ℕ) (server : Plain) (times : Times) → StandsFor self.old members (durable_state d.old) server times →
-            (complete ≡ true → members ≡ self.old.me ∷ peers.now) →
-            MakesMoves members self.old.me step (given_tick now word) (if clock.stands complete now server times then TimeOut ∷ [] else []) server times d.old d.new self.new result }
+            let moves = moves_of_tick complete now server times in let counted = counted_at moves members (raft_me self.old ∷ peers.now) in
+            MakesMoves counted (raft_me self.old) step (given_tick now word) moves server times d.old d.new self.new (result_err result) }
+        ensures fault { KeepsFaults d.old d.new (result_err result) }
         ensures fits { OnOk result (Fits self.new (durable_state d.new)) }
-        ensures me { self.new.me ≡ self.old.me }
-        ensures size { self.new.size ≡ self.old.size }
+        ensures me { raft_me self.new ≡ raft_me self.old }
+        ensures size { raft_size self.new ≡ raft_size self.old }
     {
-        puts_in_turn::<D, (), ()>();
+        puts_in_turn::<D>();
         if !self.may_stand(complete, d.term(), now) {
             return Ok(());
         }
@@ -61,15 +64,15 @@ impl Raft {
     /// below the highest term.
     fn may_stand(&self, complete: bool, term: u32, now: u64) -> bool
         ensures stands { (server : Plain) (times : Times) → server.memory.role ≡ role_of self.now.role → server.store.term ≡ term → times.since ≡ self.now.since → times.word ≡ self.now.word →
-            result ≡ clock.stands complete now server times }
+            result ≡ ((complete && clock.has_waited times now) && (not (is_leader server.memory.role) && nat_lt server.store.term term_limit)) }
         ensures complete { result ≡ true → complete ≡ true }
         ensures term { result ≡ true → term < 4294967295 }
     {
         let wait = 2000 + u64::from(self.word) % 2001;
         complete
+            && now.saturating_sub(self.since) >= wait
             && self.role != Role::Leader
             && term < u32::MAX
-            && now.saturating_sub(self.since) >= wait
     }
 
     /// It is a candidate of the next term, and votes for itself.
@@ -84,15 +87,15 @@ impl Raft {
         requires peers { (i : ℕ) → i < length peers.now → slice_index_or peers.now i 0 ≤ 125 }
         requires complete { length peers.now + 1 ≡ self.old.size }
         requires fits { Fits self.old (durable_state d.old) }
-        ensures puts { DoesPuts (stand_puts self.old.me (store_of (durable_state d.old))) d.old d.new result }
+        ensures puts { DoesPuts (stand_puts self.old.me (store_of (durable_state d.old))) d.old d.new (result_err result) }
         ensures stands { (members : List ℕ) (server : Plain) (times : Times) → StandsFor self.old members (durable_state d.old) server times →
             OnOk result (StandsFor self.new (self.old.me ∷ peers.now) (durable_state d.new)
             (record { store = put_all server.store (stand_puts self.old.me server.store); memory = stand_memory self.old.me server.memory })
             (clock.stand (given_tick now word) times)) }
         ensures fits { OnOk result (Fits self.new (durable_state d.new)) }
         ensures role { OnOk result (self.new.role ≡ Candidate) }
-        ensures me { self.new.me ≡ self.old.me }
-        ensures size { self.new.size ≡ self.old.size }
+        ensures me { raft_me self.new ≡ raft_me self.old }
+        ensures size { raft_size self.new ≡ raft_size self.old }
     {
         vote_for_itself(d, self.me)?;
         self.role = Role::Candidate;
@@ -107,13 +110,13 @@ impl Raft {
     pub(crate) fn win<D: Disk>(&mut self, d: &mut Durable<D>) -> Result<(), Fault>
         requires role { self.old.role ≢ Follower }
         requires fits { Fits self.old (durable_state d.old) }
-        ensures puts { DoesPuts (win_puts (store_of (durable_state d.old))) d.old d.new result }
+        ensures puts { DoesPuts (win_puts (store_of (durable_state d.old))) d.old d.new (result_err result) }
         ensures stands { (members : List ℕ) (server : Plain) (times : Times) → StandsFor self.old members (durable_state d.old) server times →
             OnOk result (StandsFor self.new members (durable_state d.new)
             (record { store = put_all server.store (win_puts server.store); memory = win_memory server.store server.memory }) (clock.win times)) }
         ensures fits { OnOk result (Fits self.new (durable_state d.new)) }
-        ensures me { self.new.me ≡ self.old.me }
-        ensures size { self.new.size ≡ self.old.size }
+        ensures me { raft_me self.new ≡ raft_me self.old }
+        ensures size { raft_size self.new ≡ raft_size self.old }
     {
         self.role = Role::Leader;
         self.told = d.commit();
@@ -127,10 +130,10 @@ fn vote_for_itself<D: Disk>(d: &mut Durable<D>, me: u8) -> Result<(), Fault>
     requires term { (durable_state d.old).term < 4294967295 }
     requires least { 1 ≤ me }
     requires most { me ≤ 125 }
-    ensures puts { DoesPuts (stand_puts me (store_of (durable_state d.old))) d.old d.new result }
+    ensures puts { DoesPuts (stand_puts me (store_of (durable_state d.old))) d.old d.new (result_err result) }
     ensures state { OnOk result (durable_state d.new ≡ record (durable_state d.old) { term = (durable_state d.old).term + 1; vote = me }) }
 {
-    puts_in_turn::<D, (), ()>();
+    puts_in_turn::<D>();
     d.set_term(d.term() + 1)?;
     d.set_vote(me)
 }
@@ -161,12 +164,12 @@ fn all_members(me: u8, peers: &[u8]) -> ArrayVec<u8, 5>
 
 /// A new leader appends a blank, where its log is not all committed and has room.
 fn add_blank<D: Disk>(d: &mut Durable<D>) -> Result<(), Fault>
-    ensures puts { DoesPuts (win_puts (store_of (durable_state d.old))) d.old d.new result }
+    ensures puts { DoesPuts (win_puts (store_of (durable_state d.old))) d.old d.new (result_err result) }
     ensures vote { OnOk result ((durable_state d.new).vote ≡ (durable_state d.old).vote) }
     ensures commit { OnOk result ((durable_state d.new).commit ≡ (durable_state d.old).commit) }
     ensures log { OnOk result (length (durable_state d.old).log ≤ length (durable_state d.new).log) }
 {
-    puts_in_turn::<D, (), ()>();
+    puts_in_turn::<D>();
     if wants_blank(d) {
         d.append(blank(d.term()))?;
     }

@@ -1,23 +1,81 @@
 //! Laws of the definitions, each the contract of a function that does nothing.
 
-ghost use Rattle.std.specs.Prelude.{◌≡◌, ◌++◌, [], List, Result, Ok, Err};
+ghost use Rattle.std.specs.Prelude.{◌≡◌, ◌≤◌, ◌++◌, take, [], ℕ, List, Some, None, Option};
 ghost use Rattle.kv_store.specs.declared.fault.Fault.{Fault};
 ghost use Rattle.raft_log.specs.declared.durable.Durable.{Durable};
-ghost use Rattle.raft_model.specs.Server.{Put};
-ghost use Rattle.raft_core.specs.StoredPuts.{DoesPuts};
+ghost use Rattle.raft_log.specs.DurableViews.{durable_state};
+ghost use Rattle.raft_log.specs.Stored.{Stored, after_puts};
+ghost use Rattle.raft_model.specs.Handlers.{plain_after_all, puts_of_all};
+ghost use Rattle.raft_model.specs.Moves.{Move};
+ghost use Rattle.raft_model.specs.Server.{Plain, Put, put_all};
+ghost use Rattle.raft_core.specs.declared.raft.Raft.{Raft};
+ghost use Rattle.raft_core.specs.Fits.{Fits};
+ghost use Rattle.raft_core.specs.Handled.{LeavesMoves, MakesMoves};
+ghost use Rattle.raft_core.specs.RaftViews.{raft_members};
+ghost use Rattle.raft_core.specs.Stands.{StandsFor};
+ghost use Rattle.raft_core.specs.StoredPuts.{AreOfNodes, DoesPuts, KeepsFaults, VoteForNodes, store_of, stored_puts};
+ghost use Rattle.raft_core.specs.Times.{Given, Times, times_after_all};
 
 use disk_model::Disk;
 
 /// Puts that were made by two calls, one after the other, are those of both. Where the first call failed
 /// there is no second, and a call without puts changes nothing.
-pub fn puts_in_turn<D: Disk, T, U>()
-    ensures nothing { (durable : Durable D D.Disk) (value : U) → DoesPuts [] durable durable (Ok value) }
-    ensures joined { (xs ys : List Put) (old mid new : Durable D D.Disk) (value : T) (result : Result U Fault) →
-        DoesPuts xs old mid (Ok value) → DoesPuts ys mid new result → DoesPuts (xs ++ ys) old new result }
-    ensures cut_off { (xs ys : List Put) (old new : Durable D D.Disk) (fault : Fault) (result : Result U Fault) → result ≡ Err fault →
-        DoesPuts {T = T} xs old new (Err fault) → DoesPuts (xs ++ ys) old new result }
+pub fn puts_in_turn<D: Disk>()
+    ensures nothing { (durable : Durable D D.Disk) → DoesPuts [] durable durable None }
+    ensures joined { (xs ys : List Put) (old mid new : Durable D D.Disk) (failed : Option Fault) →
+        DoesPuts xs old mid None → DoesPuts ys mid new failed → DoesPuts (xs ++ ys) old new failed }
+    ensures faults { (old mid new : Durable D D.Disk) (failed : Option Fault) →
+        KeepsFaults old mid None → KeepsFaults mid new failed → KeepsFaults old new failed }
+    ensures cut_off { (xs ys : List Put) (old new : Durable D D.Disk) (fault : Fault) →
+        DoesPuts xs old new (Some fault) → DoesPuts (xs ++ ys) old new (Some fault) }
 {
-    raft_log::laws::puts_in_turn::<D, T, U>();
-    raft_log::laws::puts_in_turn::<D, U, U>();
-    raft_log::laws::a_state_is_durable::<D>();
+    raft_log::laws::puts_in_turn::<D>();
 }
+
+/// Moves that were made by two calls of a step, one after the other, are those of both. Each call was
+/// given what it was given: the times are those that the second leaves, which began with those of the
+/// first. Where the first call failed there is no second, and a call without moves changes nothing.
+pub fn moves_in_turn<D: Disk>()
+    ensures nothing { (members : List ℕ) (member step : ℕ) (server : Plain) (times : Times) (durable : Durable D D.Disk) (raft : Raft) →
+        StandsFor raft members (durable_state durable) server times → LeavesMoves members member step [] server times durable durable raft None }
+    ensures joined { (members : List ℕ) (member step : ℕ) (xs ys : List Move) (server : Plain) (first second : Times)
+        (old mid new : Durable D D.Disk) (before after : Raft) (failed : Option Fault) →
+        LeavesMoves members member step xs server first old mid before None →
+        LeavesMoves members member step ys (plain_after_all members member step server xs) second mid new after failed →
+        LeavesMoves members member step (xs ++ ys) server second old new after failed }
+    ensures cut_off { (members : List ℕ) (member step : ℕ) (xs ys : List Move) (server : Plain) (first second : Times)
+        (old new : Durable D D.Disk) (raft after : Raft) (fault : Fault) →
+        LeavesMoves members member step xs server first old new raft (Some fault) →
+        LeavesMoves members member step (xs ++ ys) server second old new after (Some fault) }
+    ensures times { (members : List ℕ) (member step : ℕ) (given : Given) (xs ys : List Move) (server : Plain) (times : Times) →
+        times_after_all members member step given server (xs ++ ys) times
+        ≡ times_after_all members member step given (plain_after_all members member step server xs) ys
+        (times_after_all members member step given server xs times) }
+{
+    puts_in_turn::<D>();
+    raft_model::laws::law_joined();
+}
+
+/// What is stored after the puts of a member is what the machine's server has after them, and so after
+/// some of the first of them: a stop leaves the server that the machine has then. The machine's vote for
+/// node 0 would be stored as none; no move of a member makes one.
+pub fn puts_are_stored()
+    ensures votes { (members : List ℕ) (member step : ℕ) (server : Plain) (moves : List Move) → 1 ≤ member → AreOfNodes moves →
+        VoteForNodes (puts_of_all members member step server moves) }
+    ensures same { (puts : List Put) (state : Stored) → VoteForNodes puts →
+        store_of (after_puts (stored_puts puts state) state) ≡ put_all (store_of state) puts }
+    ensures front { (puts : List Put) (state : Stored) (count : ℕ) → VoteForNodes puts →
+        store_of (after_puts (take count (stored_puts puts state)) state) ≡ put_all (store_of state) (take count puts) }
+{}
+
+/// Every member, with whatever it has stored, stands for some server and some times, and counts the
+/// members of its last election. So what a call says of each server that the member stands for, and
+/// names no server, it says of the member.
+pub fn every_member_stands()
+    ensures { (raft : Raft) (state : Stored) → (server : Plain) × (times : Times) × StandsFor raft (raft_members raft) state server times }
+{}
+
+/// That a member fits what it has stored has one proof, as a ghost field of a struct has.
+pub fn a_fit_is_one()
+    ensures { (raft : Raft) (state : Stored) (a b : Fits raft state) → a ≡ b }
+{}

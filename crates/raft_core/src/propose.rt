@@ -1,22 +1,20 @@
-ghost use Rattle.std.specs.Prelude.{◌≡◌, ◌≢◌, ◌↔◌, ◌≤◌, ◌<◌, ◌∷◌, [], ℕ, List, IsTrue, OnOk, Ok, length};
+ghost use Rattle.std.specs.Prelude.{◌≡◌, ◌≢◌, ◌↔◌, ◌⊎◌, ◌≤◌, ◌<◌, IsTrue, OnOk, Ok, length};
 ghost use Rattle.can_frame.specs.declared.step.Role.TheVariants.{Leader};
-ghost use Rattle.can_frame.specs.Log.{log_limit};
+ghost use Rattle.can_frame.specs.Log.{HasNodeId, HasUid, log_limit};
 ghost use Rattle.can_frame.specs.Zeros.{zeros};
 ghost use Rattle.raft_log.specs.DurableViews.{durable_state};
-ghost use Rattle.raft_model.specs.Moves.{MayPropose};
-ghost use Rattle.raft_model.specs.Moves.Move.{ProposeEntry};
-ghost use Rattle.raft_model.specs.Server.{Plain};
-ghost use Rattle.raft_core.specs.Taken.{IsTaken, proposal};
-ghost use Rattle.raft_core.specs.Times.{Given, Times};
+ghost use Rattle.raft_core.specs.Taken.{IsTaken};
 
 use crate::laws::puts_in_turn;
 use crate::raft::Raft;
-use can_frame::{Entry, NodeId, Role, Uid};
+use can_frame::laws::logs_stay_injective;
+use can_frame::{Entry, NodeId, Role, Uid, has_node_id, has_uid, is_zero};
 use disk_model::Disk;
 use kv_store::Fault;
 use raft_log::Durable;
+use raft_log::laws::a_durable_state_is_kept;
 
-/// What becomes of a proposal.
+/// What becomes of a proposal, or of a reservation.
 #[derive(Clone, Copy, Debug, PartialEq, Eq)]
 pub enum Proposed {
     /// The entry stands at the end of the leader's log. Once a quorum has it, it can be committed.
@@ -27,18 +25,19 @@ pub enum Proposed {
     /// The log has 127 entries, and takes no more.
     LogFull,
 
-    /// The unique ID or the node ID stands in the log already.
+    /// The unique ID that was to be given a node ID, or the node ID, stands in the log already.
     Taken,
 }
 
 impl Raft {
-    ghost use Rattle.raft_core.specs.declared.propose.Proposed.TheVariants.{Added, NotLeader, LogFull, Taken};
+    ghost use Rattle.raft_core.specs.declared.propose.Proposed.TheVariants.{NotLeader, LogFull, Taken};
     ghost use Rattle.raft_core.specs.Fits.{Fits};
-    ghost use Rattle.raft_core.specs.Handled.{MakesMoves};
-    ghost use Rattle.raft_core.specs.Stands.{StandsFor};
+    ghost use Rattle.raft_core.specs.Proposing.{Appends};
+    ghost use Rattle.raft_core.specs.RaftViews.{raft_role};
 
     /// A leader appends an entry that gives a node ID of 1 to 125 to a unique ID that is not all zeros.
-    /// Where it answers anything but `Added`, nothing changes.
+    /// Where it answers `NotLeader`, `LogFull` or `Taken`, nothing changes; the first of these that holds
+    /// is answered. A fault is one of the disk.
     pub fn propose<D: Disk>(
         &mut self,
         d: &mut Durable<D>,
@@ -48,19 +47,50 @@ impl Raft {
         requires uid { uid.now ≢ zeros }
         requires node { node ≤ 125 }
         requires fits { Fits self.old (durable_state d.old) }
-        ensures moves { (members : List ℕ) (step : ℕ) (server : Plain) (times : Times) → StandsFor self.old members (durable_state d.old) server times →
-            (given : Given) → let entry = proposal server.store.term uid.now node in MayPropose server entry →
-            MakesMoves members self.old.me step given (ProposeEntry entry ∷ []) server times d.old d.new self.new result }
-        ensures added { OnOk result ((members : List ℕ) (server : Plain) (times : Times) → StandsFor self.old members (durable_state d.old) server times →
-            (result ≡ Ok Added) ↔ MayPropose server (proposal server.store.term uid.now node)) }
-        ensures not_leader { OnOk result ((result ≡ Ok NotLeader) ↔ (self.old.role ≢ Leader)) }
-        ensures full { OnOk result ((result ≡ Ok LogFull) ↔ ((self.old.role ≡ Leader) × (length (durable_state d.old).log ≡ log_limit))) }
-        ensures taken { OnOk result ((result ≡ Ok Taken) ↔ ((self.old.role ≡ Leader) × (length (durable_state d.old).log < log_limit) × IsTaken (durable_state d.old).log uid.now node)) }
-        ensures unchanged { OnOk result ((result ≢ Ok Added) → d.new ≡ d.old) }
+        ensures appends { Appends self.old uid.now node d.old d.new result }
+        ensures not_leader { (result ≡ Ok NotLeader) ↔ (raft_role self.old ≢ Leader) }
+        ensures full { (result ≡ Ok LogFull) ↔ ((raft_role self.old ≡ Leader) × (length (durable_state d.old).log ≡ log_limit)) }
+        ensures taken { (result ≡ Ok Taken) ↔ ((raft_role self.old ≡ Leader) × (length (durable_state d.old).log < log_limit) ×
+            (HasUid (durable_state d.old).log uid.now ⊎ HasNodeId (durable_state d.old).log node)) }
         ensures same { self.new ≡ self.old }
         ensures fits { OnOk result (Fits self.new (durable_state d.new)) }
     {
-        puts_in_turn::<D, (), Proposed>();
+        self.add(d, uid, node)
+    }
+
+    /// A leader appends an entry that keeps a node ID of 1 to 125 back: of a node that is on the bus and
+    /// tells no unique ID, or one that is recorded for another. No device is given this node ID, and the
+    /// entry is told to nobody. `Taken` asks for the node ID alone. Where it answers `NotLeader`,
+    /// `LogFull` or `Taken`, nothing changes; the first of these that holds is answered. A fault is one of
+    /// the disk.
+    pub fn reserve<D: Disk>(&mut self, d: &mut Durable<D>, node: NodeId) -> Result<Proposed, Fault>
+        requires node { node ≤ 125 }
+        requires fits { Fits self.old (durable_state d.old) }
+        ensures appends { Appends self.old zeros node d.old d.new result }
+        ensures not_leader { (result ≡ Ok NotLeader) ↔ (raft_role self.old ≢ Leader) }
+        ensures full { (result ≡ Ok LogFull) ↔ ((raft_role self.old ≡ Leader) × (length (durable_state d.old).log ≡ log_limit)) }
+        ensures taken { (result ≡ Ok Taken) ↔ ((raft_role self.old ≡ Leader) × (length (durable_state d.old).log < log_limit) ×
+            HasNodeId (durable_state d.old).log node) }
+        ensures same { self.new ≡ self.old }
+        ensures fits { OnOk result (Fits self.new (durable_state d.new)) }
+    {
+        self.add(d, &[0; 16], node)
+    }
+
+    /// A leader appends an entry of its term with a node ID, for a unique ID or for none.
+    fn add<D: Disk>(&self, d: &mut Durable<D>, uid: &Uid, node: NodeId) -> Result<Proposed, Fault>
+        requires node { node ≤ 125 }
+        requires fits { Fits self.now (durable_state d.old) }
+        ensures appends { Appends self.now uid.now node d.old d.new result }
+        ensures not_leader { (result ≡ Ok NotLeader) ↔ (raft_role self.now ≢ Leader) }
+        ensures full { (result ≡ Ok LogFull) ↔ ((raft_role self.now ≡ Leader) × (length (durable_state d.old).log ≡ log_limit)) }
+        ensures taken { (result ≡ Ok Taken) ↔ ((raft_role self.now ≡ Leader) × (length (durable_state d.old).log < log_limit) ×
+            IsTaken (durable_state d.old).log uid.now node) }
+        ensures fits { OnOk result (Fits self.now (durable_state d.new)) }
+    {
+        puts_in_turn::<D>();
+        a_durable_state_is_kept::<D>();
+        logs_stay_injective();
         if self.role != Role::Leader {
             return Ok(Proposed::NotLeader);
         }
@@ -79,10 +109,9 @@ impl Raft {
     }
 }
 
-/// Whether an entry of the log has this unique ID or this node ID.
+/// Whether the log has this node ID, or this unique ID, where it is not all zeros.
 fn is_taken(log: &[Entry], uid: &Uid, node: u8) -> bool
     ensures { IsTrue result ↔ IsTaken log.now uid.now node }
 {
-    log.iter()
-        .any(|entry| entry.uid == *uid || entry.node == node)
+    has_node_id(log, node) || !is_zero(uid) && has_uid(log, uid)
 }

@@ -1,4 +1,5 @@
 ghost use Rattle.std.specs.Prelude.{◌≡◌, ◌≢◌, ◌<◌, ◌≤◌, ℕ, List, Bool, OnOk, length, nat_le, slice_index_or};
+ghost use Rattle.std.specs.Result.{result_err};
 ghost use Rattle.arrayvec.specs.ArrayVec.{array_vec_len};
 ghost use Rattle.can_frame.specs.declared.step.Role.TheVariants.{Follower};
 ghost use Rattle.raft_log.specs.DurableViews.{durable_state};
@@ -45,6 +46,7 @@ pub struct Raft {
     ghost most: { me ≤ 125 },
     ghost five: { size ≤ 5 },
     ghost short: { array_vec_len members ≤ 5 },
+    ghost table: { length peers ≡ 128 },
     ghost numbered: { (i : ℕ) → i < length members.items → slice_index_or members.items i 0 < 128 },
     ghost complete: { role ≢ Follower → array_vec_len members ≡ size },
 }
@@ -62,6 +64,7 @@ pub(crate) enum Cause {
 impl Raft {
     ghost use Rattle.raft_core.specs.Backs.{Backs};
     ghost use Rattle.raft_core.specs.Fits.{Fits};
+    ghost use Rattle.raft_core.specs.RaftViews.{raft_me, raft_role, raft_size};
     ghost use Rattle.raft_core.specs.Roles.{StepsDown};
     ghost use Rattle.raft_core.specs.Stands.{StandsFor, role_of};
     ghost use Rattle.raft_core.specs.StoredPuts.{DoesPuts, store_of};
@@ -77,8 +80,8 @@ impl Raft {
         requires five { size ≤ 5 }
         ensures stands { (members : List ℕ) (state : Stored) → StandsFor result members state (record { store = store_of state; memory = opened }) (opened_times now word) }
         ensures fits { (state : Stored) → Fits result state }
-        ensures me { result.me ≡ me }
-        ensures size { result.size ≡ size }
+        ensures me { raft_me result ≡ me }
+        ensures size { raft_size result ≡ size }
     {
         Raft {
             me,
@@ -93,7 +96,7 @@ impl Raft {
     }
 
     pub fn role(&self) -> Role
-        ensures role { result ≡ self.now.role }
+        ensures role { result ≡ raft_role self.now }
         ensures stands { (members : List ℕ) (state : Stored) (server : Plain) (times : Times) → StandsFor self.now members state server times → server.memory.role ≡ role_of result }
     {
         self.role
@@ -116,17 +119,17 @@ impl Raft {
         term: u32,
         now: u64,
     ) -> Result<(), Fault>
-        ensures puts { DoesPuts (term_puts (store_of (durable_state d.old)) term) d.old d.new result }
+        ensures puts { DoesPuts (term_puts (store_of (durable_state d.old)) term) d.old d.new (result_err result) }
         ensures stands { (members : List ℕ) (server : Plain) (times : Times) → StandsFor self.old members (durable_state d.old) server times →
             OnOk result (StandsFor self.new members (durable_state d.new) (record { store = with_term server.store term; memory = term_memory server term }) (clock.raise now term server times)) }
         ensures fits { Fits self.old (durable_state d.old) → OnOk result (Fits self.new (durable_state d.new)) }
-        ensures me { self.new.me ≡ self.old.me }
-        ensures size { self.new.size ≡ self.old.size }
+        ensures me { raft_me self.new ≡ raft_me self.old }
+        ensures size { raft_size self.new ≡ raft_size self.old }
         ensures role { OnOk result (self.new.role ≢ Follower → self.new.role ≡ self.old.role) }
         ensures term { OnOk result (term ≤ (durable_state d.new).term) }
         ensures log { OnOk result ((durable_state d.new).log ≡ (durable_state d.old).log) }
     {
-        puts_in_turn::<D, (), ()>();
+        puts_in_turn::<D>();
         if d.term() < term {
             d.set_term(term)?;
             self.step_down(now);

@@ -10,6 +10,7 @@ use crate::raft::Raft;
 use can_frame::{NodeId, Role, Uid, is_zero};
 use disk_model::Disk;
 use raft_log::Durable;
+use raft_log::laws::a_durable_state_is_kept;
 
 /// What a leader is to tell next of its committed entries.
 #[derive(Clone, Copy, Debug, PartialEq, Eq)]
@@ -26,14 +27,17 @@ pub enum Telling {
 
 impl Raft {
     ghost use Rattle.raft_core.specs.Fits.{Fits};
+    ghost use Rattle.raft_core.specs.RaftViews.{raft_me, raft_size, raft_told};
     ghost use Rattle.raft_core.specs.Stands.{StandsFor};
-    ghost use Rattle.raft_core.specs.Telling.{IsTelling, IsToTell};
+    ghost use Rattle.raft_core.specs.Telling.{IsTelling, IsToTell, TellsNext};
 
     /// What is to be told next: the entry after the last that was told, where it is committed.
     pub fn tell<D: Disk>(&self, d: &Durable<D>) -> Telling
         requires fits { Fits self.now (durable_state d.now) }
-        ensures { (members : List ℕ) (server : Plain) (times : Times) → StandsFor self.now members (durable_state d.now) server times → IsToTell server result }
+        ensures says { (members : List ℕ) (server : Plain) (times : Times) → StandsFor self.now members (durable_state d.now) server times → IsToTell server result }
+        ensures next { TellsNext self.now (durable_state d.now) result }
     {
+        a_durable_state_is_kept::<D>();
         if self.role != Role::Leader || self.told >= d.commit() {
             return Telling::Nothing;
         }
@@ -47,13 +51,13 @@ impl Raft {
 
     /// The entry at the place after the last was told, or passed over.
     pub fn told(&mut self, place: u8)
-        requires { place ≡ self.old.told + 1 }
+        requires { place ≡ raft_told self.old + 1 }
         ensures moves { (members : List ℕ) (step : ℕ) (state : Stored) (server : Plain) (times : Times) → StandsFor self.old members state server times →
-            (given : Given) (move : Move) → IsTelling server move →
-            StandsFor self.new members state (plain_after_all members self.old.me step server (move ∷ [])) (times_after_all members self.old.me step given server (move ∷ []) times) }
-        ensures fits { (state : Stored) → Fits self.old state → self.old.told < state.commit → Fits self.new state }
-        ensures me { self.new.me ≡ self.old.me }
-        ensures size { self.new.size ≡ self.old.size }
+            (given : Given) (move : Move) → IsTelling move →
+            StandsFor self.new members state (plain_after_all members (raft_me self.old) step server (move ∷ [])) (times_after_all members (raft_me self.old) step given server (move ∷ []) times) }
+        ensures fits { (state : Stored) → Fits self.old state → raft_told self.old < state.commit → Fits self.new state }
+        ensures me { raft_me self.new ≡ raft_me self.old }
+        ensures size { raft_size self.new ≡ raft_size self.old }
     {
         self.told = place;
     }

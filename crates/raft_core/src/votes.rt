@@ -1,4 +1,5 @@
 ghost use Rattle.std.specs.Prelude.{◌≡◌, ◌==◌, ◌↔◌, ◌≤◌, ◌∷◌, [], ℕ, List, true, false, IsTrue, OnOk, IfOk, Some, Ok, length, if◌then◌else◌};
+ghost use Rattle.std.specs.Result.{result_err};
 ghost use Rattle.can_frame.specs.declared.step.Role.TheVariants.{Candidate};
 ghost use Rattle.can_frame.specs.Log.{last_term};
 ghost use Rattle.raft_log.specs.DurableViews.{durable_state};
@@ -11,7 +12,7 @@ ghost use Rattle.raft_model.specs.Moves.{MayGrant, counts, has_quorum, vote_puts
 ghost use Rattle.raft_model.specs.Moves.Move.{TakeVoteRequest, TakeVoteAnswer};
 ghost use Rattle.raft_model.specs.Server.{Plain, put_all};
 ghost use Rattle.raft_core.specs.Handled.{answer_of, vote_request_of};
-ghost use Rattle.raft_core.specs.StoredPuts.{DoesPuts, store_of};
+ghost use Rattle.raft_core.specs.StoredPuts.{DoesPuts, KeepsFaults, store_of};
 ghost use Rattle.raft_core.specs.Times as clock;
 ghost use Rattle.raft_core.specs.Times.{Times, given_at, is_awaited};
 
@@ -27,6 +28,7 @@ use raft_model::laws::law_decisions;
 impl Raft {
     ghost use Rattle.raft_core.specs.Fits.{Fits};
     ghost use Rattle.raft_core.specs.Handled.{MakesMoves};
+    ghost use Rattle.raft_core.specs.RaftViews.{raft_me, raft_size};
     ghost use Rattle.raft_core.specs.Stands.{StandsFor, role_of};
 
     /// A candidate's vote request came from the node `from`. The vote is granted in the member's own term
@@ -43,14 +45,15 @@ impl Raft {
         requires most { from ≤ 125 }
         requires fits { Fits self.old (durable_state d.old) }
         ensures moves { (members : List ℕ) (step : ℕ) (server : Plain) (times : Times) → StandsFor self.old members (durable_state d.old) server times →
-            (made_in : ℕ) → let request = vote_request_of req.now made_in from self.old.me in let granted = grants (with_term server.store request.term) request in
-            MakesMoves members self.old.me step (given_at now) (TakeVoteRequest request granted ∷ []) server times d.old d.new self.new result ×
+            (made_in : ℕ) → let request = vote_request_of req.now made_in from (raft_me self.old) in let granted = grants (with_term server.store request.term) request in
+            MakesMoves members (raft_me self.old) step (given_at now) (TakeVoteRequest request granted ∷ []) server times d.old d.new self.new (result_err result) ×
             IfOk result (λ answer. (answer.term ≡ (with_term server.store request.term).term) × (answer.granted ≡ granted)) }
+        ensures fault { KeepsFaults d.old d.new (result_err result) }
         ensures fits { OnOk result (Fits self.new (durable_state d.new)) }
-        ensures me { self.new.me ≡ self.old.me }
-        ensures size { self.new.size ≡ self.old.size }
+        ensures me { raft_me self.new ≡ raft_me self.old }
+        ensures size { raft_size self.new ≡ raft_size self.old }
     {
-        puts_in_turn::<D, (), VoteAnswer>();
+        puts_in_turn::<D>();
         law_decisions();
         self.raise(d, req.term, now)?;
         if !may_grant(d, from, req) {
@@ -83,13 +86,14 @@ impl Raft {
             is_awaited server times from false id ≡ false → (result ≡ Ok false) × (self.new ≡ self.old) × (d.new ≡ d.old) }
         ensures moves { (members : List ℕ) (step : ℕ) (server : Plain) (times : Times) → StandsFor self.old members (durable_state d.old) server times →
             is_awaited server times from false id ≡ true → (made_in : ℕ) (request : Request) → server.memory.pending from ≡ Some request →
-            MakesMoves members self.old.me step (given_at now) (TakeVoteAnswer (answer_of made_in from request ans.now.term ans.now.granted) ∷ []) server times d.old d.new self.new result ×
+            MakesMoves members (raft_me self.old) step (given_at now) (TakeVoteAnswer (answer_of made_in from request ans.now.term ans.now.granted) ∷ []) server times d.old d.new self.new (result_err result) ×
             IfOk result (λ taken. IsTrue taken) }
+        ensures fault { KeepsFaults d.old d.new (result_err result) }
         ensures fits { OnOk result (Fits self.new (durable_state d.new)) }
-        ensures me { self.new.me ≡ self.old.me }
-        ensures size { self.new.size ≡ self.old.size }
+        ensures me { raft_me self.new ≡ raft_me self.old }
+        ensures size { raft_size self.new ≡ raft_size self.old }
     {
-        puts_in_turn::<D, (), bool>();
+        puts_in_turn::<D>();
         if !self.awaits_vote(from, id) {
             return Ok(false);
         }
@@ -117,8 +121,8 @@ impl Raft {
         ensures stands { (members : List ℕ) (state : Stored) (server : Plain) (times : Times) → StandsFor self.old members state server times →
             StandsFor self.new members state server (record times { answered = at times.answered from true }) }
         ensures fits { (state : Stored) → Fits self.old state → Fits self.new state }
-        ensures me { self.new.me ≡ self.old.me }
-        ensures size { self.new.size ≡ self.old.size }
+        ensures me { raft_me self.new ≡ raft_me self.old }
+        ensures size { raft_size self.new ≡ raft_size self.old }
     {
         self.peers[from as usize].answered = true;
     }
@@ -129,8 +133,8 @@ impl Raft {
         ensures stands { (members : List ℕ) (state : Stored) (server : Plain) (times : Times) → StandsFor self.old members state server times →
             StandsFor self.new members state (record server { memory = record server.memory { votes = at server.memory.votes from true } }) times }
         ensures fits { (state : Stored) → Fits self.old state → Fits self.new state }
-        ensures me { self.new.me ≡ self.old.me }
-        ensures size { self.new.size ≡ self.old.size }
+        ensures me { raft_me self.new ≡ raft_me self.old }
+        ensures size { raft_size self.new ≡ raft_size self.old }
         ensures role { self.new.role ≡ self.old.role }
     {
         self.peers[from as usize].voted = true;
@@ -142,17 +146,18 @@ impl Raft {
         requires role { self.old.role ≡ Candidate }
         requires fits { Fits self.old (durable_state d.old) }
         ensures puts { (members : List ℕ) (server : Plain) (times : Times) → StandsFor self.old members (durable_state d.old) server times →
-            DoesPuts (if has_quorum members (at server.memory.votes from true) then win_puts server.store else []) d.old d.new result }
+            DoesPuts (if has_quorum members (at server.memory.votes from true) then win_puts server.store else []) d.old d.new (result_err result) }
         ensures stands { (members : List ℕ) (server : Plain) (times : Times) → StandsFor self.old members (durable_state d.old) server times →
             let counted = record server.memory { votes = at server.memory.votes from true } in
             OnOk result (StandsFor self.new members (durable_state d.new)
             (if has_quorum members counted.votes then record { store = put_all server.store (win_puts server.store); memory = win_memory server.store counted } else record server { memory = counted })
             (if has_quorum members counted.votes then clock.win times else times)) }
+        ensures fault { KeepsFaults d.old d.new (result_err result) }
         ensures fits { OnOk result (Fits self.new (durable_state d.new)) }
-        ensures me { self.new.me ≡ self.old.me }
-        ensures size { self.new.size ≡ self.old.size }
+        ensures me { raft_me self.new ≡ raft_me self.old }
+        ensures size { raft_size self.new ≡ raft_size self.old }
     {
-        puts_in_turn::<D, (), ()>();
+        puts_in_turn::<D>();
         self.count(from);
         if self.has_quorum(Cause::Candidacy) {
             self.win(d)?;
@@ -165,10 +170,10 @@ impl Raft {
 fn vote<D: Disk>(d: &mut Durable<D>, node: u8) -> Result<(), Fault>
     requires least { 1 ≤ node }
     requires most { node ≤ 125 }
-    ensures puts { DoesPuts (vote_puts (store_of (durable_state d.old)).vote node) d.old d.new result }
+    ensures puts { DoesPuts (vote_puts (store_of (durable_state d.old)).vote node) d.old d.new (result_err result) }
     ensures state { OnOk result (durable_state d.new ≡ record (durable_state d.old) { vote = if (durable_state d.old).vote == 0 then node else (durable_state d.old).vote }) }
 {
-    puts_in_turn::<D, (), ()>();
+    puts_in_turn::<D>();
     if d.vote() == 0 {
         d.set_vote(node)?;
     }

@@ -1,6 +1,6 @@
 //! Append requests.
 
-use super::member::{Member, View, blank, pair, stored};
+use super::member::{Member, View, blank, pair, reservation, stored};
 use crate::Role;
 use can_frame::Entry;
 use dsdl_codec::{AppendAnswer, AppendRequest};
@@ -47,10 +47,6 @@ fn an_entry_that_may_not_stand_is_refused(rt: HostRuntime) {
             request(1, 1, 3, Some(new)),
         ),
         (
-            "a node ID without a unique ID",
-            request(2, 3, 3, Some(pair(3, 0, 5))),
-        ),
-        (
             "a unique ID without a node ID",
             request(2, 3, 3, Some(pair(3, 10, 0))),
         ),
@@ -65,6 +61,10 @@ fn an_entry_that_may_not_stand_is_refused(rt: HostRuntime) {
         ),
         ("a unique ID again", request(2, 3, 3, Some(pair(3, 7, 122)))),
         ("a node ID again", request(2, 3, 3, Some(pair(3, 10, 125)))),
+        (
+            "a recorded node ID reserved",
+            request(2, 3, 3, Some(reservation(3, 125))),
+        ),
     ];
     for (name, request) in broken {
         assert_eq!(rt; after(follower(), &request), refused, "{name}");
@@ -82,6 +82,11 @@ fn an_entry_that_may_stand_is_taken(rt: HostRuntime) {
             "a blank",
             request(2, 3, 2, Some(blank(3))),
             (4, 2, blank(3)),
+        ),
+        (
+            "a reservation",
+            request(2, 3, 2, Some(reservation(3, 5))),
+            (4, 2, reservation(3, 5)),
         ),
         (
             "in place of another term",

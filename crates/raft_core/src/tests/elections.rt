@@ -115,7 +115,7 @@ fn hear(member: Member, heard: Heard, now: u64) -> Option<Member> {
         }
         Heard::Tick => return member.tick(now, 0),
         Heard::Append(term, prev_term) => append(term, prev_term, None),
-        Heard::Broken => append(2, 2, Some(pair(2, 0, 5))),
+        Heard::Broken => append(2, 2, Some(pair(2, 9, 0))),
     };
     let (member, _) = member.append_request(2, &request, now)?;
     Some(member)

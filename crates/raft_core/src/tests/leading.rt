@@ -2,7 +2,7 @@
 
 ghost use Rattle.std.specs.Prelude.{◌≤◌, ◌<◌};
 
-use super::member::{Member, View, blank, pair, stored};
+use super::member::{Member, View, blank, pair, reservation, stored};
 use crate::{Call, Pending, Proposed, Raft, Role, Telling};
 use can_frame::{Entry, NodeId};
 use dsdl_codec::AppendRequest;
@@ -45,6 +45,51 @@ fn a_leader_proposes_what_is_new_where_there_is_room(rt: HostRuntime) {
     assert_eq!(rt; proposed(leader(), 8, 125), taken);
     assert_eq!(rt; proposed(full(), 8, 124), log_full);
     assert_eq!(rt; proposed(full(), 7, 125), log_full);
+}
+
+/// What becomes of a reservation, and last and the last entry after it.
+fn reserved(member: Option<Member>, node: u8) -> Option<(Proposed, u8, Entry)> {
+    let (member, reserved) = member?.reserve(node)?;
+    let last = member.durable.last();
+    Some((reserved, last, member.durable.entry(last)))
+}
+
+/// The leader of term 2 with a pair, and two blanks, of which the second is its own.
+fn beside_blanks() -> Option<Member> {
+    Member::leader(stored(1, &[pair(1, 7, 125), blank(1)], 1)?)
+}
+
+/// The leader of term 2 with a pair, and a reservation of 124.
+fn beside_reservation() -> Option<Member> {
+    let (member, _) = leader()?.reserve(124)?;
+    Some(member)
+}
+
+#[test]
+fn a_leader_reserves_a_node_id_that_is_not_recorded(rt: HostRuntime) {
+    let old = pair(1, 7, 125);
+    let not_leader = Some((Proposed::NotLeader, 1, old));
+    let taken = Some((Proposed::Taken, 1, old));
+    let added = Some((Proposed::Added, 2, reservation(2, 124)));
+    let log_full = Some((Proposed::LogFull, 127, blank(1)));
+    let after_blanks = Some((Proposed::Added, 4, reservation(2, 124)));
+    assert_eq!(rt; reserved(follower(), 124), not_leader);
+    assert_eq!(rt; reserved(leader(), 124), added);
+    assert_eq!(rt; reserved(leader(), 125), taken);
+    assert_eq!(rt; reserved(full(), 124), log_full);
+    assert_eq!(rt; reserved(full(), 125), log_full);
+    assert_eq!(rt; reserved(beside_blanks(), 124), after_blanks);
+}
+
+#[test]
+fn a_reservation_keeps_its_node_id_back_and_no_other(rt: HostRuntime) {
+    let taken = Some((Proposed::Taken, 2, reservation(2, 124)));
+    let second = Some((Proposed::Added, 3, reservation(2, 123)));
+    let given = Some((Proposed::Added, 3, pair(2, 8, 123)));
+    assert_eq!(rt; reserved(beside_reservation(), 124), taken);
+    assert_eq!(rt; proposed(beside_reservation(), 8, 124), taken);
+    assert_eq!(rt; reserved(beside_reservation(), 123), second);
+    assert_eq!(rt; proposed(beside_reservation(), 8, 123), given);
 }
 
 /// What is seen of a leader while an entry of an older term and the blank of its own are acknowledged.
@@ -130,6 +175,32 @@ fn an_entry_of_an_older_term_is_committed_with_one_of_the_leaders_own(
         ],
     };
     assert_eq!(rt; commits(), Some((requests, want)));
+    Ok(())
+}
+
+/// What a leader tells, in order, once all of its log is committed: a reservation, a pair and the blank of
+/// its win.
+fn tells() -> Option<[Telling; 4]> {
+    let entries = [pair(1, 7, 125), reservation(2, 50), pair(2, 8, 124)];
+    let member = Member::leader(stored(3, &entries, 1)?)?;
+    let (member, _) = append(member, 1, true)?;
+    let (member, second) = member.tell()?;
+    let (member, third) = member.tell()?;
+    let (member, fourth) = member.tell()?;
+    let (_, end) = member.tell()?;
+    Some([second, third, fourth, end])
+}
+
+#[test]
+fn a_reservation_is_told_to_nobody(rt: HostRuntime) -> Result<(), Fail> {
+    let node = NodeId::new(124).ok_or("no node")?;
+    let want = [
+        Telling::Skip(2),
+        Telling::Pair(3, [8; 16], node),
+        Telling::Skip(4),
+        Telling::Nothing,
+    ];
+    assert_eq!(rt; tells(), Some(want));
     Ok(())
 }
 

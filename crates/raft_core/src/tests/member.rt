@@ -3,7 +3,7 @@
 ghost use Rattle.std.specs.Prelude.{◌<◌, ◌≤◌};
 ghost use Rattle.std.proofs.Props.{props};
 ghost use Rattle.raft_core.specs.Fits.{Fits};
-ghost use Rattle.raft_core.specs.OneFit.{ReachesUpTo-prop};
+ghost use Rattle.raft_core.specs.OneFit.{Fits-prop};
 ghost use Rattle.raft_log.specs.DurableViews.{durable_state};
 
 use crate::{Call, Proposed, Raft, Role, Telling};
@@ -18,6 +18,15 @@ pub(super) fn pair(term: u32, byte: u8, node: u8) -> Entry {
         term,
         uid: [byte; 16],
         node,
+    }
+}
+
+/// The entry that keeps a node ID back.
+pub(super) fn reservation(term: u32, node: u8) -> Entry {
+    Entry {
+        term,
+        node,
+        ..Entry::default()
     }
 }
 
@@ -58,7 +67,7 @@ pub(super) type View = (Role, u32, u8, u8, u8);
 pub(super) struct Member {
     pub raft: Raft,
     pub durable: Durable<MemoryDisk>,
-    ghost fits: { Fits raft (durable_state durable) } by { Prim.hlevel (props, ReachesUpTo-prop) },
+    ghost fits: { Fits raft (durable_state durable) } by { Prim.hlevel (props, Fits-prop) },
 }
 
 impl Member {
@@ -210,6 +219,19 @@ impl Member {
         }
         let proposed = raft.propose(&mut durable, &uid, node).ok()?;
         Some((Member { raft, durable }, proposed))
+    }
+
+    pub fn reserve(self, node: u8) -> Option<(Member, Proposed)> {
+        let Member {
+            mut raft,
+            mut durable,
+        } = self;
+        let node = NodeId::new(node)?;
+        if node.get() > 125 {
+            return None;
+        }
+        let reserved = raft.reserve(&mut durable, node).ok()?;
+        Some((Member { raft, durable }, reserved))
     }
 
     pub fn commit(self) -> Option<Member> {

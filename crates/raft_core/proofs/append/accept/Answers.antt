@@ -13,7 +13,7 @@ returns-then-not-has_previous-clause-puts g c = λ step from to v ruled.
     let r = append_request_of c.args.req.now step from to in
     refused_so (store_of s) r v c.args.d.now
     (no_previous s r (λ fits. let h = c.has_previous.ensures.1 (fits.previous, fits.previous_term) in search (rules, h)) v ruled)
-    (c.puts_in_turn.ensures.nothing c.args.d.now _)
+    (c.puts_in_turn.ensures.nothing c.args.d.now)
 
 pub returns-in-None-clause-puts : goal.returns-in-None-clause-puts
 returns-in-None-clause-puts g c = λ step from to v ruled.

@@ -6,4 +6,4 @@ use Rattle.raft_core.proofs.votes.vote.Goals as goal
 
 pub returns-else-vote-eq0-clause-puts : goal.returns-else-vote-eq0-clause-puts
 returns-else-vote-eq0-clause-puts g c =
-    none_made _ c.args.d.now _ (no_vote (durable_state c.args.d.now).vote c.args.node (λ none. search (rules, none))) (c.puts_in_turn.ensures.nothing c.args.d.now _)
+    none_made _ c.args.d.now _ (no_vote (durable_state c.args.d.now).vote c.args.node (λ none. search (rules, none))) (c.puts_in_turn.ensures.nothing c.args.d.now)

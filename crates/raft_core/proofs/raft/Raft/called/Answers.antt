@@ -12,8 +12,8 @@ use Rattle.raft_core.proofs.raft.Raft.called.Goals as goal
 pub last_place-requires : goal.last_place-requires
 last_place-requires g c =
     let state = durable_state c.args.d.now in
-    let room = c.args.d.now.storable.room in
-    let owed = append_owed c.args.self.now state (search rules) c.args.peer c.args.now (omega arith) c.in-Append.request
+    let room = (c.a_durable_state_is_kept.ensures c.args.d.now).storable.room in
+    let owed = append_owed c.args.self.now state c.args.peer c.args.now (omega arith) c.in-Append.request
     (subst (Owes c.args.self.now state c.args.peer c.args.now) c.in-Append.is c.requires.owed) c.requires.fits in
     omega (arith, owed.0, room)
 
@@ -27,9 +27,9 @@ returns g c =
     ] in
     record {
       moves = λ members p t st move due.
-          called_stands raft _ (search rules) (durable_state c.args.d.now) c.args.peer (omega arith) c.match-what.kept call
+          called_stands raft _ (durable_state c.args.d.now) c.args.peer (omega arith) c.match-what.kept call
           (record { role = refl; told = refl; me = refl; known = refl; since = refl; word = refl; peers = refl }) members p t st raft.me c.args.what.now made (c.requires.owed members c.args.step p t st) move due;
-      fits = called_fits raft _ (search rules) (durable_state c.args.d.now) c.args.peer (omega arith) c.match-what.kept call
+      fits = called_fits raft _ (durable_state c.args.d.now) c.args.peer (omega arith) c.match-what.kept call
           (record { role = refl; told = refl; me = refl; known = refl; since = refl; word = refl; peers = refl }) c.args.what.now made c.requires.owed c.requires.fits;
       me = refl;
       size = refl;

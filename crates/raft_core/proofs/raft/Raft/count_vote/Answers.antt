@@ -40,7 +40,7 @@ returns-else-has_quorum-clause-puts g c = λ members p t st.
     let p1 : Plain = record p { memory = record p.memory { votes = votes } } in
     let st1 = c.count.ensures.stands members (durable_state c.args.d.now) p t st in
     let quorum = sym (counted_as c.count.new.self members (durable_state c.args.d.now) p1 t st1 (c.count.ensures.role ∙ c.requires.role) c.has_quorum.result c.has_quorum.ensures) ∙ c.if-has_quorum.false in
-    no_puts members p t votes c.args.d.now _ c.count.new.self _ quorum (c.puts_in_turn.ensures.nothing c.args.d.now _)
+    no_puts members p t votes c.args.d.now _ c.count.new.self _ quorum (c.puts_in_turn.ensures.nothing c.args.d.now)
 
 pub returns-else-has_quorum-clause-stands : goal.returns-else-has_quorum-clause-stands
 returns-else-has_quorum-clause-stands g c = λ members p t st.

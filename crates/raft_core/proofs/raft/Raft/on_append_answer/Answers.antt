@@ -1,5 +1,5 @@
 use Rattle.std.proofs.Common.{rules, ◌≡◌, ◌≤◌, true, false, refl, sym, subst, ap, ◌∙◌, length, arith}
-use Rattle.std.specs.Prelude.{Ok, nat_lt}
+use Rattle.std.specs.Prelude.{Some, None, nat_lt}
 use Rattle.raft_log.specs.DurableViews.{durable_state}
 use Rattle.raft_model.specs.Moves.{ended, term_puts}
 use Rattle.raft_model.specs.Moves.Move.{TakeAppendAnswer}
@@ -9,7 +9,6 @@ use Rattle.raft_core.specs.StoredPuts.{DoesPuts}
 use Rattle.raft_core.specs.Times.{end_call, given_at}
 use Rattle.raft_core.proofs.Answering.{leader_stays, matched, not_higher, not_matched, unraised}
 use Rattle.raft_core.proofs.Moving.{one_move_failed}
-use Rattle.raft_core.proofs.Puts.{answers, fails}
 use Rattle.raft_core.proofs.raft.Raft.on_append_answer.Goals as goal
 
 pub returns-in_default-clause-moves : goal.returns-in_default-clause-moves
@@ -25,10 +24,9 @@ returns-in_err-raise-clause-refused g c = λ members p t st not.
 pub returns-in_err-raise-clause-moves : goal.returns-in_err-raise-clause-moves
 returns-in_err-raise-clause-moves g c = λ members n p t st awaited step r is.
     let old = c.args.d.now in
-    let a = answer_of step c.args.from r c.args.ans.now.term c.args.ans.now.success in
-    let puts = fails _ old _ c.in_err-raise.field-0.0 c.from_residual.result (search rules) c.in_err-raise.ensures.puts in (
+    let a = answer_of step c.args.from r c.args.ans.now.term c.args.ans.now.success in (
       one_move_failed members c.args.self.now.me n (given_at c.args.now) (TakeAppendAnswer a) p t old _ c.raise.new.self _ c.in_err-raise.field-0.0 (search rules)
-          (subst (λ (z : Store). DoesPuts (term_puts z a.term) old c.raise.new.d c.from_residual.result) (sym st.store) puts),
+          (subst (λ (z : Store). DoesPuts (term_puts z a.term) old c.raise.new.d (Some c.in_err-raise.field-0.0)) (sym st.store) c.in_err-raise.ensures.puts),
       search rules,
     )
 
@@ -47,8 +45,8 @@ returns-then-not-leads-clause-moves g c = λ members n p t st awaited step r is.
     let none = λ (low : nat_lt p.store.term a.term ≡ false).
     let st3 = unraised c.raise.new.self members (durable_state c.raise.new.d) p1 t1 c.args.now a.term low st2 in
     sym (c.leads.ensures.leads p1 a st3.role (ap (λ (z : Store). z.term) st3.store ∙ sym c.term.ensures) refl) ∙ c.if-not-leads.true in (
-      not_matched members c.args.self.now.me n (given_at c.args.now) p t a old c.raise.new.d c.raise.new.self _ none
-          (subst (λ (z : Store). DoesPuts (term_puts z a.term) old c.raise.new.d (Ok true)) (sym st.store) (answers _ old _ _ true c.in_ok-raise.ensures.puts)) st2,
+      not_matched members c.args.self.now.me n (given_at c.args.now) p t a old c.raise.new.d c.raise.new.self none
+          (subst (λ (z : Store). DoesPuts (term_puts z a.term) old c.raise.new.d None) (sym st.store) c.in_ok-raise.ensures.puts) st2,
       refl,
     )
 
@@ -60,13 +58,13 @@ move_on-requires-clause-reach g c =
     let leads = c.if-not-leads.ensures.leader refl in
     let led = leader_stays c.end_call.new.self c.raise.new.self c.in_ok-raise.ensures.role leads in
     let within = c.in-Some.ensures.within (durable_state c.args.d.now) c.requires.fits (sym c.end_call.ensures.role ∙ led) in
-    omega (arith, within, c.args.d.now.storable.room)
+    omega (arith, within, (c.a_durable_state_is_kept.ensures c.args.d.now).storable.room)
 
 pub move_on-requires-clause-matched : goal.move_on-requires-clause-matched
 move_on-requires-clause-matched g c = λ d.
     let leads = c.if-not-leads.ensures.leader refl in
     let fits = c.in_ok-raise.ensures.fits (c.end_call.ensures.fits (durable_state c.args.d.now) c.requires.fits) in
-    omega (arith, (fits.peers leads c.args.from d (omega (arith, c.requires.most))).matched, c.raise.new.d.storable.room)
+    omega (arith, (fits.peers leads c.args.from d (omega (arith, c.requires.most))).matched, (c.a_durable_state_is_kept.ensures c.raise.new.d).storable.room)
 
 pub returns-clause-refused : goal.returns-clause-refused
 returns-clause-refused g c = λ members p t st not.
@@ -84,8 +82,8 @@ returns-clause-moves g c = λ members n p t st awaited step r is.
     let low = not_higher p1 a.term c.raise.new.self.role st2.role (λ h. cc (sym leads ∙ h)) in
     let st3 = unraised c.raise.new.self members (durable_state c.raise.new.d) p1 t1 c.args.now a.term low st2 in
     let so = sym (c.leads.ensures.leads p1 a st3.role (ap (λ (z : Store). z.term) st3.store ∙ sym c.term.ensures) refl) ∙ c.if-not-leads.false in (
-      matched members c.args.self.now.me n (given_at c.args.now) p t a old c.raise.new.d _ _ low so
-          (subst (λ (z : Store). DoesPuts (term_puts z a.term) old c.raise.new.d (Ok true)) (sym st.store) (answers _ old _ _ true c.in_ok-raise.ensures.puts))
+      matched members c.args.self.now.me n (given_at c.args.now) p t a old c.raise.new.d _ low so
+          (subst (λ (z : Store). DoesPuts (term_puts z a.term) old c.raise.new.d None) (sym st.store) c.in_ok-raise.ensures.puts)
           (c.move_on.ensures.stands members (durable_state c.raise.new.d) p1 t1 st3 leads a refl refl ((c.in-Some.ensures.some members (durable_state old) p t st).1 r is)),
       refl,
     )

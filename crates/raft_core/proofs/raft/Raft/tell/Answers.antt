@@ -3,16 +3,16 @@ use Rattle.can_frame.specs.declared.entry.Entry.{Entry}
 use Rattle.can_frame.specs.Log.{IsWellFormed}
 use Rattle.can_frame.specs.Zeros.{zeros}
 use Rattle.raft_log.specs.DurableViews.{durable_state}
-use Rattle.raft_core.proofs.Skipping.{entry_next, no_device, skips}
+use Rattle.raft_core.proofs.TellNext.{entry_next, no_device, skips}
 use Rattle.raft_core.proofs.raft.Raft.tell.Goals.{in_default-via-in-Some+else-not-is_zero, in_default-via-in_default}
 use Rattle.raft_core.proofs.raft.Raft.tell.Goals as goal
 
-pub returns-in_default : goal.returns-in_default
-returns-in_default g c = λ members p t st.
+pub returns-in_default-clause-says : goal.returns-in_default-clause-says
+returns-in_default-clause-says g c = λ members p t st.
     let state = durable_state c.args.d.now in
     let told = c.args.self.now.told in
     let within : told < length state.log = omega arith in
-    let formed : IsWellFormed c.entry-entry.result = subst IsWellFormed (sym (c.entry-entry.ensures ∙ entry_next state.log told)) (c.args.d.now.storable.follows told within).formed in
+    let formed : IsWellFormed c.entry-entry.result = subst IsWellFormed (sym (c.entry-entry.ensures ∙ entry_next state.log told)) ((c.a_durable_state_is_kept.ensures c.args.d.now).storable.follows told within).formed in
     let zero : c.entry-entry.result.uid ≡ zeros = elim c.in_default.branch [
       | in_default-via-in-Some+else-not-is_zero w ↦ search rules
       | in_default-via-in_default w ↦ no_device c.entry-entry.result formed (search rules)

@@ -1,76 +1,80 @@
-use Rattle.std.proofs.Common.{rules, ◌≡◌, ◌++◌, [], Bool, true, false, sym, subst, ap, ◌∙◌}
-use Rattle.std.specs.Prelude.{Ok, if◌then◌else◌}
+use Rattle.std.proofs.Common.{rules, ◌≡◌, ◌++◌, ◌∷◌, [], ℕ, List, Bool, true, false, Some, None, sym, subst, ap, ◌∙◌}
+use Rattle.std.specs.Prelude.{if◌then◌else◌}
 use Rattle.raft_log.specs.DurableViews.{durable_state}
 use Rattle.raft_model.specs.Moves.{has_quorum, own_vote, stand_memory, stand_puts, win_memory, win_puts}
 use Rattle.raft_model.specs.Server.{Plain, Store, put_all}
 use Rattle.raft_core.specs.Stands.{StandsFor}
 use Rattle.raft_core.specs.StoredPuts.{DoesPuts, store_of}
-use Rattle.raft_core.specs.Times.{given_tick, stand, stands, win}
+use Rattle.raft_core.specs.Times.{given_tick, stand, win}
 use Rattle.raft_core.proofs.Moving.{put_then}
-use Rattle.raft_core.proofs.Puts.{fails}
-use Rattle.raft_core.proofs.Ticking.{counted_as, stand_failed, stays, stood}
+use Rattle.raft_core.proofs.Ticking.{counted_as, stand_failed, stands, stays, stood}
 use Rattle.raft_core.proofs.raft.Raft.tick.Goals as goal
 
 pub returns-then-not-may_stand-clause-moves : goal.returns-then-not-may_stand-clause-moves
-returns-then-not-may_stand-clause-moves g c = λ members n p t st all.
+returns-then-not-may_stand-clause-moves g c = λ members n p t st.
+    let raft = c.args.self.now in
     let same = c.may_stand.ensures.stands p t st.role (ap (λ (z : Store). z.term) st.store ∙ sym c.term.ensures) st.since st.word in
-    stays members c.args.self.now.me n (given_tick c.args.now c.args.word) p t c.args.complete c.args.d.now c.args.self.now st _ (sym same ∙ c.if-not-may_stand.true) (c.puts_in_turn.ensures.nothing c.args.d.now _)
+    stays members (raft.me ∷ c.args.peers.now) raft.me n (given_tick c.args.now c.args.word) p t c.args.complete c.args.d.now raft st (sym same ∙ c.if-not-may_stand.true) (c.puts_in_turn.ensures.nothing c.args.d.now)
 
 pub returns-in_err-stand-clause-moves : goal.returns-in_err-stand-clause-moves
-returns-in_err-stand-clause-moves g c = λ members n p t st all.
+returns-in_err-stand-clause-moves g c = λ members n p t st.
     let raft = c.args.self.now in
+    let list : List ℕ = raft.me ∷ c.args.peers.now in
     let old = c.args.d.now in
     let given = given_tick c.args.now c.args.word in
     let same = c.may_stand.ensures.stands p t st.role (ap (λ (z : Store). z.term) st.store ∙ sym c.term.ensures) st.since st.word in
     let yes_stand : stands c.args.complete given.now p t ≡ true = sym same ∙ c.if-not-may_stand.false in
-    stand_failed members raft.me n given p t c.args.complete old raft st c.stand.new.d _ _ yes_stand c.in_err-stand.field-0.0 (search rules)
-    (c.puts_in_turn.ensures.cut_off (stand_puts raft.me (store_of (durable_state old))) (if has_quorum members (own_vote raft.me) then win_puts (put_all p.store (stand_puts raft.me p.store)) else []) old _ c.in_err-stand.field-0.0 _ (search rules) c.in_err-stand.ensures.puts)
+    stand_failed members list raft.me n given p t c.args.complete old c.stand.new.d _ st.store yes_stand _ c.in_err-stand.field-0.0 (search rules)
+    (c.puts_in_turn.ensures.cut_off (stand_puts raft.me (store_of (durable_state old))) (if has_quorum list (own_vote raft.me) then win_puts (put_all p.store (stand_puts raft.me p.store)) else []) old _ c.in_err-stand.field-0.0 c.in_err-stand.ensures.puts)
 
 pub returns-in_err-win-clause-moves : goal.returns-in_err-win-clause-moves
-returns-in_err-win-clause-moves g c = λ members n p t st all.
+returns-in_err-win-clause-moves g c = λ members n p t st.
     let raft = c.args.self.now in
+    let list : List ℕ = raft.me ∷ c.args.peers.now in
     let old = c.args.d.now in
     let mid = c.stand.new.d in
     let given = given_tick c.args.now c.args.word in
+    let broken = Some c.in_err-win.field-0.0 in
     let same = c.may_stand.ensures.stands p t st.role (ap (λ (z : Store). z.term) st.store ∙ sym c.term.ensures) st.since st.word in
     let yes_stand : stands c.args.complete given.now p t ≡ true = sym same ∙ c.if-not-may_stand.false in
     let p2 : Plain = record { store = put_all p.store (stand_puts raft.me p.store); memory = stand_memory raft.me p.memory } in
-    let st2 = subst (λ l. StandsFor c.stand.new.self l (durable_state mid) p2 (stand given t)) (sym (all (c.may_stand.ensures.complete c.if-not-may_stand.false))) (c.in_ok-stand.ensures.stands members p t st) in
-    let quorum : has_quorum members (own_vote raft.me) ≡ true = sym (counted_as c.stand.new.self members (durable_state mid) p2 (stand given t) st2 c.in_ok-stand.ensures.role c.has_quorum.result c.has_quorum.ensures) ∙ c.if-has_quorum.true in
-    let won = fails (win_puts (store_of (durable_state mid))) mid c.win.new.d c.in_err-win.field-0.0 c.from_residual-in_err-win.result (search rules) c.in_err-win.ensures.puts in
-    stand_failed members raft.me n given p t c.args.complete old raft st c.win.new.d _ _ yes_stand c.in_err-win.field-0.0 (search rules)
-    (subst (λ (b : Bool). DoesPuts (stand_puts raft.me (store_of (durable_state old)) ++ (if b then win_puts (put_all p.store (stand_puts raft.me p.store)) else [])) old c.win.new.d c.from_residual-in_err-win.result) (sym quorum)
-    (c.puts_in_turn.ensures.joined (stand_puts raft.me (store_of (durable_state old))) (win_puts (put_all p.store (stand_puts raft.me p.store))) old mid c.win.new.d _ _ c.in_ok-stand.ensures.puts
-    (subst (λ (z : Store). DoesPuts (win_puts z) mid c.win.new.d c.from_residual-in_err-win.result) (sym st2.store) won)))
+    let st2 = c.in_ok-stand.ensures.stands members p t st in
+    let quorum : has_quorum list (own_vote raft.me) ≡ true = sym (counted_as c.stand.new.self list (durable_state mid) p2 (stand given t) st2 c.in_ok-stand.ensures.role c.has_quorum.result c.has_quorum.ensures) ∙ c.if-has_quorum.true in
+    stand_failed members list raft.me n given p t c.args.complete old c.win.new.d _ st.store yes_stand _ c.in_err-win.field-0.0 (search rules)
+    (subst (λ (b : Bool). DoesPuts (stand_puts raft.me (store_of (durable_state old)) ++ (if b then win_puts (put_all p.store (stand_puts raft.me p.store)) else [])) old c.win.new.d broken) (sym quorum)
+    (c.puts_in_turn.ensures.joined (stand_puts raft.me (store_of (durable_state old))) (win_puts (put_all p.store (stand_puts raft.me p.store))) old mid c.win.new.d broken c.in_ok-stand.ensures.puts
+    (subst (λ (z : Store). DoesPuts (win_puts z) mid c.win.new.d broken) (sym st2.store) c.in_err-win.ensures.puts)))
 
 pub returns-in_ok-win-clause-moves : goal.returns-in_ok-win-clause-moves
-returns-in_ok-win-clause-moves g c = λ members n p t st all.
+returns-in_ok-win-clause-moves g c = λ members n p t st.
     let raft = c.args.self.now in
+    let list : List ℕ = raft.me ∷ c.args.peers.now in
     let old = c.args.d.now in
     let mid = c.stand.new.d in
     let given = given_tick c.args.now c.args.word in
     let same = c.may_stand.ensures.stands p t st.role (ap (λ (z : Store). z.term) st.store ∙ sym c.term.ensures) st.since st.word in
     let yes_stand : stands c.args.complete given.now p t ≡ true = sym same ∙ c.if-not-may_stand.false in
     let p2 : Plain = record { store = put_all p.store (stand_puts raft.me p.store); memory = stand_memory raft.me p.memory } in
-    let st2 = subst (λ l. StandsFor c.stand.new.self l (durable_state mid) p2 (stand given t)) (sym (all (c.may_stand.ensures.complete c.if-not-may_stand.false))) (c.in_ok-stand.ensures.stands members p t st) in
-    let quorum : has_quorum members (own_vote raft.me) ≡ true = sym (counted_as c.stand.new.self members (durable_state mid) p2 (stand given t) st2 c.in_ok-stand.ensures.role c.has_quorum.result c.has_quorum.ensures) ∙ c.if-has_quorum.true in
-    stood members raft.me n given p t c.args.complete old raft st c.win.new.d _ _ yes_stand true quorum
-    (c.puts_in_turn.ensures.joined (stand_puts raft.me (store_of (durable_state old))) (win_puts (put_all p.store (stand_puts raft.me p.store))) old mid c.win.new.d _ _ c.in_ok-stand.ensures.puts
-    (subst (λ (z : Store). DoesPuts {T = Unit {0}} (win_puts z) mid c.win.new.d (Ok c.in_ok-win.field-0)) (sym st2.store) c.in_ok-win.ensures.puts))
-    (subst (λ (z : Store). StandsFor c.win.new.self members (durable_state c.win.new.d) (record { store = z; memory = win_memory p.store (stand_memory raft.me p.memory) }) (win (stand given t)))
-    (sym (put_then (stand_puts raft.me p.store) (win_puts (put_all p.store (stand_puts raft.me p.store))) p.store)) (c.in_ok-win.ensures.stands members p2 (stand given t) st2))
+    let st2 = c.in_ok-stand.ensures.stands members p t st in
+    let quorum : has_quorum list (own_vote raft.me) ≡ true = sym (counted_as c.stand.new.self list (durable_state mid) p2 (stand given t) st2 c.in_ok-stand.ensures.role c.has_quorum.result c.has_quorum.ensures) ∙ c.if-has_quorum.true in
+    stood members list raft.me n given p t c.args.complete old c.win.new.d _ st.store yes_stand true quorum
+    (c.puts_in_turn.ensures.joined (stand_puts raft.me (store_of (durable_state old))) (win_puts (put_all p.store (stand_puts raft.me p.store))) old mid c.win.new.d _ c.in_ok-stand.ensures.puts
+    (subst (λ (z : Store). DoesPuts (win_puts z) mid c.win.new.d None) (sym st2.store) c.in_ok-win.ensures.puts))
+    (subst (λ (z : Store). StandsFor c.win.new.self list (durable_state c.win.new.d) (record { store = z; memory = win_memory p.store (stand_memory raft.me p.memory) }) (win (stand given t)))
+    (sym (put_then (stand_puts raft.me p.store) (win_puts (put_all p.store (stand_puts raft.me p.store))) p.store)) (c.in_ok-win.ensures.stands list p2 (stand given t) st2))
 
 pub returns-else-has_quorum-clause-moves : goal.returns-else-has_quorum-clause-moves
-returns-else-has_quorum-clause-moves g c = λ members n p t st all.
+returns-else-has_quorum-clause-moves g c = λ members n p t st.
     let raft = c.args.self.now in
+    let list : List ℕ = raft.me ∷ c.args.peers.now in
     let old = c.args.d.now in
     let mid = c.stand.new.d in
     let given = given_tick c.args.now c.args.word in
     let same = c.may_stand.ensures.stands p t st.role (ap (λ (z : Store). z.term) st.store ∙ sym c.term.ensures) st.since st.word in
     let yes_stand : stands c.args.complete given.now p t ≡ true = sym same ∙ c.if-not-may_stand.false in
     let p2 : Plain = record { store = put_all p.store (stand_puts raft.me p.store); memory = stand_memory raft.me p.memory } in
-    let st2 = subst (λ l. StandsFor c.stand.new.self l (durable_state mid) p2 (stand given t)) (sym (all (c.may_stand.ensures.complete c.if-not-may_stand.false))) (c.in_ok-stand.ensures.stands members p t st) in
-    let quorum : has_quorum members (own_vote raft.me) ≡ false = sym (counted_as c.stand.new.self members (durable_state mid) p2 (stand given t) st2 c.in_ok-stand.ensures.role c.has_quorum.result c.has_quorum.ensures) ∙ c.if-has_quorum.false in
-    stood members raft.me n given p t c.args.complete old raft st mid _ _ yes_stand false quorum
-    (c.puts_in_turn.ensures.joined (stand_puts raft.me (store_of (durable_state old))) [] old mid mid _ _ c.in_ok-stand.ensures.puts (c.puts_in_turn.ensures.nothing mid _))
+    let st2 = c.in_ok-stand.ensures.stands members p t st in
+    let quorum : has_quorum list (own_vote raft.me) ≡ false = sym (counted_as c.stand.new.self list (durable_state mid) p2 (stand given t) st2 c.in_ok-stand.ensures.role c.has_quorum.result c.has_quorum.ensures) ∙ c.if-has_quorum.false in
+    stood members list raft.me n given p t c.args.complete old mid _ st.store yes_stand false quorum
+    (c.puts_in_turn.ensures.joined (stand_puts raft.me (store_of (durable_state old))) [] old mid mid _ c.in_ok-stand.ensures.puts (c.puts_in_turn.ensures.nothing mid))
     st2

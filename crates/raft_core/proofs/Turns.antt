@@ -1,0 +1,49 @@
+-- Moves of two calls of a step, one after the other.
+use Rattle.std.proofs.Common.{◌≡◌, ℕ, List, [], ◌∷◌, ◌++◌, Option, Some, None, refl, sym, subst}
+use Rattle.std.specs.Prelude.{IfNone}
+use Rattle.disk_model.specs.declared.disk.Disk.{Ghosts}
+use Rattle.kv_store.specs.declared.fault.Fault.{Fault}
+use Rattle.raft_log.specs.declared.durable.Durable.{Durable}
+use Rattle.raft_log.specs.DurableViews.{durable_state}
+use Rattle.raft_model.specs.Handlers.{plain_after, plain_after_all, puts_of_all}
+use Rattle.raft_model.specs.Moves.{Move}
+use Rattle.raft_model.specs.Server.{Plain, Put}
+use Rattle.raft_core.specs.declared.raft.Raft.{Raft}
+use Rattle.raft_core.specs.Handled.{LeavesMoves}
+use Rattle.raft_core.specs.Stands.{StandsFor}
+use Rattle.raft_core.specs.StoredPuts.{DoesPuts}
+use Rattle.raft_core.specs.Times.{Given, Times, times_after, times_after_all}
+
+module _ (members : List ℕ) (m n : ℕ) where
+  pub times_joined : (given : Given) (xs ys : List Move) (p : Plain) (t : Times)
+      → times_after_all members m n given p (xs ++ ys) t ≡ times_after_all members m n given (plain_after_all members m n p xs) ys (times_after_all members m n given p xs t)
+  times_joined given [] ys p t = refl
+  times_joined given (x ∷ xs) ys p t = times_joined given xs ys (plain_after members m n p x) (times_after members m given p x t)
+
+  module _ (xs ys : List Move) (p : Plain) where
+    abbrev firsts : List Put
+    firsts = puts_of_all members m n p xs
+
+    abbrev p1 : Plain
+    p1 = plain_after_all members m n p xs
+
+    pub joined : {D : Type 0} {disk : Ghosts D} (t1 t2 : Times) (old mid new : Durable D disk) (before after : Raft) (failed : Option Fault)
+        → puts_of_all members m n p (xs ++ ys) ≡ firsts ++ puts_of_all members m n p1 ys
+        → plain_after_all members m n p (xs ++ ys) ≡ plain_after_all members m n p1 ys
+        → ((puts more : List Put) → DoesPuts puts old mid None → DoesPuts more mid new failed → DoesPuts (puts ++ more) old new failed)
+        → LeavesMoves members m n xs p t1 old mid before None → LeavesMoves members m n ys p1 t2 mid new after failed
+        → LeavesMoves members m n (xs ++ ys) p t2 old new after failed
+    joined t1 t2 old mid new before after failed all_puts server law first second = record {
+      puts = subst (λ (l : List Put). DoesPuts l old new failed) (sym all_puts) (law firsts (puts_of_all members m n p1 ys) first.puts second.puts);
+      after = subst (λ (x : Plain). IfNone failed (StandsFor after members (durable_state new) x t2)) (sym server) second.after;
+    }
+
+    pub cut_off : {D : Type 0} {disk : Ghosts D} (t1 t2 : Times) (old new : Durable D disk) (raft after : Raft) (fault : Fault)
+        → puts_of_all members m n p (xs ++ ys) ≡ firsts ++ puts_of_all members m n p1 ys
+        → ((puts more : List Put) → DoesPuts puts old new (Some fault) → DoesPuts (puts ++ more) old new (Some fault))
+        → LeavesMoves members m n xs p t1 old new raft (Some fault)
+        → LeavesMoves members m n (xs ++ ys) p t2 old new after (Some fault)
+    cut_off t1 t2 old new raft after fault all_puts law first = record {
+      puts = subst (λ (l : List Put). DoesPuts l old new (Some fault)) (sym all_puts) (law firsts (puts_of_all members m n p1 ys) first.puts);
+      after = tt;
+    }
