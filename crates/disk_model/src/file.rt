@@ -22,16 +22,19 @@ pub struct FileDisk {
 }
 
 impl FileDisk {
-    /// The disk in the file at this path. A missing file is made, of zeros; it and its name are on the
-    /// device before the disk is handed out. A stop of the machine while it is made may leave a shorter
-    /// file, which is refused from then on until it is taken away.
+    /// The disk in the file at this path. A missing file is made, of zeros. The file and its name are on
+    /// the device before the disk is handed out, so a stop of the machine does not lose them; one that
+    /// falls while the file is made may leave a shorter file, which is refused from then on until it is
+    /// taken away.
     ///
     /// It fails, and changes nothing, where the file has another length, is locked, is a folder or may
-    /// not be read and written, and where a missing one cannot be made: its folder is missing, or the
-    /// device is full.
+    /// not be read and written, where a missing one cannot be made, as in a missing folder or on a full
+    /// device, and where a sync fails.
     pub fn open<R: Files<File = File>>(rt: &R, path: &str) -> Result<FileDisk, Failed> {
         match OpenOptions::new().read(true).write(true).open(rt, path) {
-            Ok(file) if is_free(&file) && has_size(&file) => Ok(FileDisk { file, faults: 0 }),
+            Ok(file) if is_free(&file) && has_size(&file) && is_kept(rt, &file, path) => {
+                Ok(FileDisk { file, faults: 0 })
+            }
             Err(error) if error.kind() == ErrorKind::NotFound => FileDisk::make(rt, path),
             _ => Err(Failed),
         }
@@ -42,10 +45,10 @@ impl FileDisk {
         let Ok(file) = File::create_new(rt, path) else {
             return Err(Failed);
         };
-        if is_free(&file) && is_zeroed(&file) && is_named(rt, path) {
+        if is_free(&file) && is_zeroed(&file) && is_kept(rt, &file, path) {
             return Ok(FileDisk { file, faults: 0 });
         }
-        // Where it cannot be taken away either, it is refused by its length.
+        // A file that cannot be taken away either has another length, or is one of zeros.
         let _ = fs::remove_file(rt, path);
         Err(Failed)
     }
@@ -77,19 +80,19 @@ fn has_size(file: &File) -> bool {
     }
 }
 
-/// Fills an empty file with zeros, and syncs it.
+/// Fills an empty file with zeros.
 fn is_zeroed(file: &File) -> bool {
-    file.write_all_at(&[0; IMAGE], 0).is_ok() && file.sync_all().is_ok()
+    file.write_all_at(&[0; IMAGE], 0).is_ok()
 }
 
-/// Syncs the folder of a file, so that a stop does not lose its name.
-fn is_named<R: Files<File = File>>(rt: &R, path: &str) -> bool {
+/// Syncs a file and its folder, which has its name.
+fn is_kept<R: Files<File = File>>(rt: &R, file: &File, path: &str) -> bool {
     let folder = match Path::new(path).parent() {
         Some(folder) if !folder.as_str().is_empty() => folder,
         _ => Path::new("."),
     };
     match File::open(rt, folder) {
-        Ok(folder) => folder.sync_all().is_ok(),
+        Ok(folder) => file.sync_all().is_ok() && folder.sync_all().is_ok(),
         Err(_) => false,
     }
 }
