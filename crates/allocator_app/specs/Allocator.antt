@@ -3,6 +3,7 @@
 -- libuavcan's distributed server; the Raft paper, figure 2.)
 use Rattle.std.specs.Prelude.{ℕ, ◌+◌, ◌-◌, ◌/◌, ◌%◌, min, max, nat_le, nat_lt, nat_eq, Bool, true, false, ◌&&◌, ◌||◌, not, List, [], ◌∷◌, ◌++◌, length, slice_index_or, Option, Some, None, position, map, if◌then◌else◌}
 use Rattle.std.specs.List.{list_any, range_with_len}
+use Rattle.can_frame.specs.Cutting.{frame_count}
 use Rattle.can_frame.specs.declared.identifier.Ident.{Ident}
 use Rattle.can_frame.specs.declared.identifier.Kind.TheVariants.{Message}
 use Rattle.can_frame.specs.declared.entry.Entry.{Entry}
@@ -15,7 +16,7 @@ use Rattle.dsdl_codec.specs.Allocation.{allocation_bytes}
 use Rattle.dsdl_codec.specs.declared.node_status.NodeStatus.{NodeStatus}
 use Rattle.dsdl_codec.specs.NodeStatus.{node_status_bytes}
 use Rattle.transfer_tx.specs.declared.outgoing.Outgoing.{Outgoing}
-use Rattle.transfer_tx.specs.Queue.{Queued, frame_count, queued_frames}
+use Rattle.transfer_tx.specs.Queue.{Queued, queued_frames}
 use Rattle.id_selector.specs.Choice.{chosen}
 use Rattle.allocator_app.specs.Bytes.{is_zero, same_bytes}
 

@@ -1,25 +1,13 @@
 -- The frames of a transfer, one after the other.
-use Rattle.std.proofs.Common.{◌≡◌, ℕ, zero, suc, ◌+◌, ◌-◌, ◌/◌, ◌≤◌, ◌<◌, true, false, List, [], ◌∷◌, ◌++◌, length, take, drop, get_or, refl, ap, ◌∙◌, arith, nat_le, nat_eq, inl, inr, length-append, length-drop, append_assoc, add-one, eq-eqb}
+use Rattle.std.proofs.Common.{◌≡◌, ℕ, zero, suc, ◌+◌, ◌-◌, ◌/◌, ◌≤◌, ◌<◌, true, false, List, [], ◌∷◌, ◌++◌, length, take, drop, get_or, refl, ap, ◌∙◌, arith, nat_le, nat_eq, length-append, length-drop, append_assoc, add-one, eq-eqb}
 use Rattle.std.proofs.lemmas.Bool.{le-leb, lt-leb}
-use Rattle.std.proofs.lemmas.Bool.Decides.{leb_tells}
-use Rattle.can_frame.specs.Cutting.{Piece, bytes_cut, cut, frame_bytes, frames_of, tail_at}
+use Rattle.can_frame.specs.Cutting.{Piece, bytes_cut, cut, frame_bytes, frame_count, frames_of, tail_at}
 use Rattle.can_frame.specs.Identifier.{identifier_number}
 use Rattle.transfer_tx.specs.declared.marked.Marked.{Marked}
 use Rattle.transfer_tx.specs.declared.outgoing.Outgoing.{Outgoing}
-use Rattle.transfer_tx.specs.Queue.{Queued, frame_count, marked, queued_frames}
+use Rattle.transfer_tx.specs.Queue.{Queued, marked, queued_frames}
 use Rattle.transfer_tx.specs.Run.{of_identifier}
 use Rattle.transfer_tx.specs.Views.{queued_of}
-
-length-cut : (id place more : ℕ) (bytes : List ℕ) → length (cut id place more bytes) ≡ suc more
-length-cut id place zero bytes = refl
-length-cut id place (suc more) bytes = ap suc (length-cut id (suc place) more (drop 7 bytes))
-
--- one frame, and one for each seven further bytes
-pub count-cut : (signature : ℕ) (payload : List ℕ) → suc ((length (bytes_cut signature payload) - 1) / 7) ≡ frame_count (length payload)
-count-cut signature payload = elim (leb_tells (length payload) 7) [
-  | inl short ↦ let t : nat_le (length payload) 7 ≡ true = short.0 in let h : length payload ≤ 7 = short.1 in rw t (omega arith)
-  | inr long ↦ let t : nat_le (length payload) 7 ≡ false = long.0 in let h : 7 < length payload = long.1 in rw t (omega arith)
-]
 
 pub count_of_short : (n : ℕ) → n ≤ 7 → frame_count n ≡ 1
 count_of_short n h = let t : nat_le n 7 ≡ true = le-leb _ _ h in rw t refl
@@ -27,17 +15,9 @@ count_of_short n h = let t : nat_le n 7 ≡ true = le-leb _ _ h in rw t refl
 pub count_of_long : (n : ℕ) → 7 < n → frame_count n ≡ (n - 6) / 7 + 2
 count_of_long n h = let t : nat_le n 7 ≡ false = lt-leb _ _ h in rw t (omega arith)
 
-pub length-frames_of : (signature id : ℕ) (payload : List ℕ) → length (frames_of signature id payload) ≡ frame_count (length payload)
-unfolding frames_of
-length-frames_of signature id payload = length-cut id 0 _ _ ∙ count-cut signature payload
-
 length-marked : (id step re place : ℕ) (pieces : List Piece) → length (marked id step re place pieces) ≡ length pieces
 length-marked id step re place [] = refl
 length-marked id step re place (piece ∷ pieces) = ap suc (length-marked id step re (suc place) pieces)
-
-pub length-queued_frames : (what : Outgoing) (step re : ℕ) → length (queued_frames what step re) ≡ frame_count (length what.payload.items)
-unfolding queued_frames
-length-queued_frames what step re = length-marked _ step re 0 _ ∙ length-frames_of what.signature what.id what.payload.items
 
 marked-by_place : (id step re place k : ℕ) (pieces : List Piece) (d : Queued) (e : Piece) → k < length pieces →
     get_or (marked id step re place pieces) k d ≡ record { id = id; bytes = frame_bytes (get_or pieces k e); mark = record { step = step; re = re; place = place + k } }
@@ -47,19 +27,6 @@ marked-by_place id step re place (suc k) (piece ∷ pieces) d e h =
     let p : suc place + k ≡ place + suc k = omega arith in
     marked-by_place id step re (suc place) k pieces d e (omega arith)
     ∙ ap (λ at. record { id = id; bytes = frame_bytes (get_or pieces k e); mark = record { step = step; re = re; place = at } }) p
-
-pub queued_frames-by_place : (what : Outgoing) (step re k : ℕ) (d : Queued) (e : Piece) → k < frame_count (length what.payload.items) →
-    get_or (queued_frames what step re) k d ≡ record {
-      id = identifier_number what.ident;
-      bytes = frame_bytes (get_or (frames_of what.signature what.id what.payload.items) k e);
-      mark = record { step = step; re = re; place = k };
-    }
-unfolding queued_frames
-queued_frames-by_place what step re k d e h =
-    let n = length-frames_of what.signature what.id what.payload.items in
-    let p : 0 + k ≡ k = omega arith in
-    marked-by_place _ step re 0 k (frames_of what.signature what.id what.payload.items) d e (omega arith)
-    ∙ ap (λ at. record { id = identifier_number what.ident; bytes = frame_bytes (get_or (frames_of what.signature what.id what.payload.items) k e); mark = record { step = step; re = re; place = at } }) p
 
 one_identifier : (id step re place : ℕ) (pieces : List Piece) → of_identifier id (marked id step re place pieces) ≡ marked id step re place pieces
 one_identifier id step re place [] = refl
@@ -95,6 +62,25 @@ pub offered_frames : (what : Outgoing) (step re id : ℕ) (bytes : List ℕ) (be
 unfolding queued_frames frames_of
 offered_frames what step re id bytes before now number same e = rw (number, same, e) refl
 
-pub offered_count : (what : Outgoing) (step re : ℕ) (now : List Queued) →
-    length (now ++ queued_frames what step re) ≡ length now + frame_count (length what.payload.items)
-offered_count what step re now = length-append now (queued_frames what step re) ∙ ap (λ n. length now + n) (length-queued_frames what step re)
+-- ---- how many frames a transfer has, where each cutting has as many as its payload calls for
+module _ (counted : (signature id : ℕ) (payload : List ℕ) → length (frames_of signature id payload) ≡ frame_count (length payload)) where
+  pub length-queued_frames : (what : Outgoing) (step re : ℕ) → length (queued_frames what step re) ≡ frame_count (length what.payload.items)
+  unfolding queued_frames
+  length-queued_frames what step re = length-marked _ step re 0 _ ∙ counted what.signature what.id what.payload.items
+
+  pub queued_frames-by_place : (what : Outgoing) (step re k : ℕ) (d : Queued) (e : Piece) → k < frame_count (length what.payload.items) →
+      get_or (queued_frames what step re) k d ≡ record {
+        id = identifier_number what.ident;
+        bytes = frame_bytes (get_or (frames_of what.signature what.id what.payload.items) k e);
+        mark = record { step = step; re = re; place = k };
+      }
+  unfolding queued_frames
+  queued_frames-by_place what step re k d e h =
+      let n = counted what.signature what.id what.payload.items in
+      let p : 0 + k ≡ k = omega arith in
+      marked-by_place _ step re 0 k (frames_of what.signature what.id what.payload.items) d e (omega arith)
+      ∙ ap (λ at. record { id = identifier_number what.ident; bytes = frame_bytes (get_or (frames_of what.signature what.id what.payload.items) k e); mark = record { step = step; re = re; place = at } }) p
+
+  pub offered_count : (what : Outgoing) (step re : ℕ) (now : List Queued) →
+      length (now ++ queued_frames what step re) ≡ length now + frame_count (length what.payload.items)
+  offered_count what step re now = length-append now (queued_frames what step re) ∙ ap (λ n. length now + n) (length-queued_frames what step re)

@@ -1,5 +1,5 @@
 -- The queue of a sender: the frames that wait, in the order in which they were offered.
-use Rattle.std.specs.Prelude.{ℕ, suc, ◌+◌, ◌/◌, ◌<◌, ◌≤◌, ◌++◌, zero, nat_le, Bool, List, [], ◌∷◌, length, option_to_list, if◌then◌else◌, Option, find, remove, slice_index_or}
+use Rattle.std.specs.Prelude.{ℕ, suc, ◌<◌, ◌≤◌, ◌++◌, zero, nat_le, Bool, List, [], ◌∷◌, length, option_to_list, Option, find, remove, slice_index_or}
 use Rattle.std.specs.List.{list_all, position_or_len}
 use Rattle.can_frame.specs.declared.mark.Mark.{Mark}
 use Rattle.can_frame.specs.Cutting.{Piece, frame_bytes, frames_of}
@@ -23,10 +23,6 @@ marked id step re place (piece ∷ pieces) =
 -- the frames of a transfer, as a step offers them
 unfoldable pub queued_frames : Outgoing → ℕ → ℕ → List Queued
 queued_frames what step re = marked (identifier_number what.ident) step re 0 (frames_of what.signature what.id what.payload.items)
-
--- how many frames a payload of so many bytes has
-abbrev pub frame_count : ℕ → ℕ
-frame_count bytes = if nat_le bytes 7 then 1 else (bytes + 8) / 7
 
 -- ---- the next frame out
 

@@ -1,11 +1,12 @@
 ghost use Rattle.std.specs.Prelude.{◌≡◌, ℕ, ◌+◌, ◌-◌, ◌/◌, ◌<◌, ◌≤◌, ◌^◌, List, ◌++◌, length, map};
 ghost use Rattle.arrayvec.specs.ArrayVec.{array_vec_len};
-ghost use Rattle.can_frame.specs.Cutting.{bytes_cut, cut, frame_bytes, frames_of, tail_at};
-ghost use Rattle.transfer_tx.specs.Queue.{frame_count, marked};
+ghost use Rattle.can_frame.specs.Cutting.{bytes_cut, cut, frame_bytes, frame_count, frames_of, tail_at};
+ghost use Rattle.transfer_tx.specs.Queue.{marked};
 ghost use Rattle.transfer_tx.specs.Views.{queued_of};
 
 use crate::{Marked, Sender};
 use arrayvec::ArrayVec;
+use can_frame::laws::lengths_of_cuttings;
 use can_frame::{Frame, Mark, Tail, crc};
 
 /// How many frames a payload of `len` bytes is cut into: 1 for at most 7 bytes; a longer one goes
@@ -14,6 +15,7 @@ pub fn frames_needed(len: usize) -> usize
     ensures count { result ≡ frame_count len }
     ensures cutting { (signature id : ℕ) (payload : List ℕ) → length payload ≡ len → length (frames_of signature id payload) ≡ result }
 {
+    lengths_of_cuttings();
     if len <= 7 { 1 } else { (len - 6) / 7 + 2 }
 }
 

@@ -1,11 +1,13 @@
 //! Laws of the definitions, each the contract of a function that does nothing.
 
 ghost use Rattle.std.specs.Prelude.{◌≡◌, ℕ, ◌<◌, Some, List, ◌++◌, length, remove, slice_index_or};
-ghost use Rattle.can_frame.specs.Cutting.{Piece, frame_bytes, frames_of};
+ghost use Rattle.can_frame.specs.Cutting.{Piece, frame_bytes, frame_count, frames_of};
 ghost use Rattle.can_frame.specs.Identifier.{identifier_number};
 ghost use Rattle.transfer_tx.specs.declared.outgoing.Outgoing.{Outgoing};
-ghost use Rattle.transfer_tx.specs.Queue.{GoesNext, Queued, frame_count, left_behind, next_out, queued_frames};
+ghost use Rattle.transfer_tx.specs.Queue.{GoesNext, Queued, left_behind, next_out, queued_frames};
 ghost use Rattle.transfer_tx.specs.Run.{Event, came_out, of_identifier, offered, still_queued};
+
+use can_frame::laws::lengths_of_cuttings;
 
 /// The frames of a transfer, one by one: each has the identifier of the transfer, the bytes that the
 /// cutting gives to its place, and the mark of its place.
@@ -17,7 +19,9 @@ pub fn frames_by_place()
           bytes = frame_bytes (slice_index_or (frames_of what.signature what.id what.payload.items) place e);
           mark = record { step = step; re = re; place = place };
         } }
-{}
+{
+    lengths_of_cuttings();
+}
 
 /// What goes out next is the frame than which none has a lower identifier and none before it the
 /// same; the others stay in their order.

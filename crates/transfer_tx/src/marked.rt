@@ -1,3 +1,5 @@
+ghost use Rattle.std.specs.Prelude.{◌≡◌, [], ◌∷◌};
+
 use can_frame::{Frame, Mark};
 
 /// A frame, and the mark that rides beside it.
@@ -7,8 +9,11 @@ pub struct Marked {
     pub mark: Mark,
 }
 
-/// A blank for the unused places of a list of fixed capacity.
+/// A blank for the unused places of a list of fixed capacity: a blank frame, marked by no step.
 impl Default for Marked {
+    ghost is_default = { λ marked. (marked.frame.id ≡ 0) × (marked.frame.bytes.items ≡ 0 ∷ [])
+        × (marked.mark ≡ record { step = 0; re = 0; place = 0 }) };
+
     fn default() -> Marked {
         Marked {
             frame: Frame::default(),

@@ -1,11 +1,13 @@
 ghost use Rattle.std.specs.Prelude.{◌≡◌, ◌↔◌, ◌+◌, ◌<◌, ◌≤◌, ℕ, [], ◌∷◌, ◌++◌, length, IfOk, IsErr, IsNone, OnErr, OnOk, map, option_map, option_to_list, reverse};
+ghost use Rattle.can_frame.specs.Cutting.{frame_count};
 ghost use Rattle.can_frame.specs.Identifier.{IsIdentifier};
-ghost use Rattle.transfer_tx.specs.Queue.{frame_count, id_at, in_order_of_going, left_behind, next_out, queued_frames};
+ghost use Rattle.transfer_tx.specs.Queue.{id_at, in_order_of_going, left_behind, next_out, queued_frames};
 ghost use Rattle.transfer_tx.specs.Views.{queued_of};
 
 use crate::cutting::{Stamp, bytes_to_cut};
 use crate::{Marked, Outgoing, frames_needed};
 use arrayvec::ArrayVec;
+use can_frame::laws::lengths_of_cuttings;
 use std::marker::Model;
 
 /// The queue has too little room for all the frames of a transfer.
@@ -81,6 +83,7 @@ impl<const Q: usize> Sender<Q> {
         ensures count { OnOk result (length self.new ≡ length self.old + frame_count (length what.now.payload.items)) }
         ensures err { OnErr result (self.new ≡ self.old) }
     {
+        lengths_of_cuttings();
         let payload = what.payload.as_slice();
         if self.room() < frames_needed(payload.len()) {
             return Err(NoRoom);

@@ -10,4 +10,4 @@ returns-clause-ok g c =
     c.write.ensures.number (c.as_slice.ensures.value ∙ c.bytes_to_cut-bytes.ensures.bytes ∙ ap (bytes_cut c.args.what.now.signature) c.as_slice-payload.ensures.value) refl
 
 pub returns-clause-count : goal.returns-clause-count
-returns-clause-count g c = ap length (returns-clause-ok g c) ∙ offered_count c.args.what.now c.args.step c.args.re c.args.self.now
+returns-clause-count g c = ap length (returns-clause-ok g c) ∙ offered_count c.lengths_of_cuttings.ensures.count c.args.what.now c.args.step c.args.re c.args.self.now
