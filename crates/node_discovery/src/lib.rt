@@ -15,7 +15,9 @@
 //!
 //! A node is offline 3,000 ms after its last status (`uavcan.protocol.NodeStatus`). Nodes are asked by
 //! `uavcan.protocol.GetNodeInfo`; a query waits 1,000 ms for its answer, and a node is asked again no
-//! sooner. Node IDs of devices are 1 to 125; 126 and 127 are kept for tools.
+//! sooner. A node that has answered none of five queries or more of its spell is silent 1,000 ms after
+//! the last of them. Who is asked next, whether someone is unknown and who is silent are said twice, as
+//! functions of the list and as relations, and [`laws`] say that these are one. Node IDs of devices are 1 to 125; 126 and 127 are kept for tools.
 #![tactic(auto)]
 
 pub mod laws;
