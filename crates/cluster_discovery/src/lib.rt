@@ -13,7 +13,10 @@
 //! The one contract: a new cluster stands for its start and the empty list, each call leaves a cluster
 //! that stands for the list with what the call took in front, and answers what the list says, for each
 //! list that the cluster stands for. Whatever was heard, the member list begins with the member
-//! itself, has 1 to 125 alone and none twice, and is no longer than the size.
+//! itself, has 1 to 125 alone and none twice, and is no longer than the size; who is new in it was named
+//! by the message; and once it is complete it stays as it is. [`laws`] say this of the definitions, and
+//! [`Cluster::members`], [`Cluster::complete`] and [`Cluster::heard`] of each value, without a list of
+//! events.
 //!
 //! The rules are those of the UAVCAN v0 specification, "Redundant allocators"; a Discovery is due every
 //! 1,000 ms while the list is not complete.
