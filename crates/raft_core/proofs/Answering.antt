@@ -10,7 +10,9 @@ use Rattle.raft_log.specs.declared.durable.Durable.{Durable}
 use Rattle.raft_log.specs.DurableViews.{durable_state}
 use Rattle.raft_log.specs.Stored.{Stored}
 use Rattle.raft_model.specs.Messages.{Answer}
-use Rattle.raft_model.specs.Moves.{counted, counts, ended, has_quorum, is_leader, matched_memory, memory_after, puts, term_memory, term_puts, win_memory, win_puts, with_term}
+use Rattle.raft_model.specs.Moves.{memory_after, puts}
+use Rattle.raft_model.specs.Moves.Appending.{matched_memory}
+use Rattle.raft_model.specs.Moves.Elections.{counted, counts, ended, has_quorum, is_leader, term_memory, term_puts, win_memory, win_puts, with_term}
 use Rattle.raft_model.specs.Moves.Move.{TakeAppendAnswer, TakeVoteAnswer}
 use Rattle.raft_model.specs.Server.{Memory, Plain, Put, Store, put_all, Role as MachineRole}
 use Rattle.raft_model.specs.Server.Put.{PutTerm, PutVote}

@@ -9,9 +9,10 @@ use Rattle.kv_store.specs.declared.fault.Fault.{Fault}
 use Rattle.raft_log.specs.declared.durable.Durable.{Durable}
 use Rattle.raft_log.specs.DurableViews.{durable_state}
 use Rattle.raft_model.specs.Messages.{Request}
-use Rattle.raft_model.specs.Moves.{IsJudged, IsOutdated, IsRuled, Verdict, append_puts, is_accepted, term_memory, term_puts, with_term}
+use Rattle.raft_model.specs.Moves.Appending.{IsJudged, IsOutdated, IsRuled, Verdict, append_puts, is_accepted}
+use Rattle.raft_model.specs.Moves.Elections.{term_memory, term_puts, with_term}
 use Rattle.raft_model.specs.Moves.Move.{TakeAppendRequest}
-use Rattle.raft_model.specs.Moves.Verdict.{Outdated}
+use Rattle.raft_model.specs.Moves.Appending.Verdict.{Outdated}
 use Rattle.raft_model.specs.Server.{Plain, Put, Store, put_all}
 use Rattle.raft_core.specs.declared.raft.Raft.{Raft}
 use Rattle.raft_core.specs.Handled.{MakesMoves}

@@ -11,8 +11,8 @@ use Rattle.raft_log.specs.Calls.{KeepsFault, MakesPuts}
 use Rattle.raft_log.specs.DurableViews.{durable_state}
 use Rattle.raft_log.specs.Stored.{Put as StoredPut}
 use Rattle.raft_model.specs.Messages.{Request, items, reach}
-use Rattle.raft_model.specs.Moves.{Verdict, append_puts, is_accepted}
-use Rattle.raft_model.specs.Moves.Verdict.{Refused, Held, Added}
+use Rattle.raft_model.specs.Moves.Appending.{Verdict, append_puts, is_accepted}
+use Rattle.raft_model.specs.Moves.Appending.Verdict.{Refused, Held, Added}
 use Rattle.raft_model.specs.Server.{Put, Store}
 use Rattle.raft_model.specs.Server.Put.{PutEntry, PutLonger, PutShorter, PutCommit}
 use Rattle.raft_core.specs.Appending.{commit_puts, cut_to, write_puts}

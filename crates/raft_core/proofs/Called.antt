@@ -7,7 +7,8 @@ use Rattle.raft_log.specs.Stored.{Stored}
 use Rattle.raft_model.specs.Handlers.{plain_after}
 use Rattle.raft_model.specs.Lists.{at}
 use Rattle.raft_model.specs.Messages.{Request, items, reach}
-use Rattle.raft_model.specs.Moves.{Move, append_request, vote_request}
+use Rattle.raft_model.specs.Moves.{Move}
+use Rattle.raft_model.specs.Moves.Leading.{append_request, vote_request}
 use Rattle.raft_model.specs.Moves.Move.{CallForVote, CallToAppend}
 use Rattle.raft_model.specs.Server.{Plain, Role as MachineRole}
 use Rattle.raft_model.specs.Lists.{at_here, at_other}

@@ -10,7 +10,7 @@ use Rattle.dsdl_codec.specs.declared.append_request.AppendRequest.{AppendRequest
 use Rattle.dsdl_codec.specs.declared.vote_request.VoteRequest.{VoteRequest}
 use Rattle.raft_log.specs.Stored.{Stored}
 use Rattle.raft_model.specs.Messages.{Request, items}
-use Rattle.raft_model.specs.Moves.{append_request, entry_after}
+use Rattle.raft_model.specs.Moves.Leading.{append_request, entry_after}
 use Rattle.raft_model.specs.Moves.Move.{CallForVote, CallToAppend}
 use Rattle.raft_model.specs.Server.{Plain, Store, Role as MachineRole}
 use Rattle.raft_core.specs.declared.calls.Call.TheVariants.{Vote, Append}

@@ -10,7 +10,8 @@ use Rattle.raft_log.specs.declared.durable.Durable.{Durable}
 use Rattle.raft_log.specs.DurableViews.{durable_state}
 use Rattle.raft_model.specs.Decisions.{commit_index}
 use Rattle.raft_model.specs.Duty.{commit_moves, commit_phase}
-use Rattle.raft_model.specs.Moves.{CanCommit, IsCommitIndex, is_leader}
+use Rattle.raft_model.specs.Moves.Elections.{is_leader}
+use Rattle.raft_model.specs.Moves.Leading.{CanCommit, IsCommitIndex}
 use Rattle.raft_model.specs.Moves.Move.{CommitTo}
 use Rattle.raft_model.specs.Server.{Plain, Store, Role as MachineRole}
 use Rattle.raft_model.specs.Server.Put.{PutCommit}

@@ -10,9 +10,10 @@ use Rattle.raft_log.specs.DurableViews.{durable_state}
 use Rattle.raft_log.specs.Stored.{Stored, Put as StoredPut}
 use Rattle.raft_model.specs.Handlers.{plain_after}
 use Rattle.raft_model.specs.Messages.{Request, reach}
-use Rattle.raft_model.specs.Moves.{IsCurrent, IsJudged, IsOutdated, IsRuled, Verdict, append_memory, append_puts, term_memory, term_puts, with_term}
+use Rattle.raft_model.specs.Moves.Appending.{IsCurrent, IsJudged, IsOutdated, IsRuled, Verdict, append_memory, append_puts}
+use Rattle.raft_model.specs.Moves.Elections.{term_memory, term_puts, with_term}
 use Rattle.raft_model.specs.Moves.Move.{TakeAppendRequest}
-use Rattle.raft_model.specs.Moves.Verdict.{Outdated, Refused, Held, Added}
+use Rattle.raft_model.specs.Moves.Appending.Verdict.{Outdated, Refused, Held, Added}
 use Rattle.raft_model.specs.Server.{Memory, Plain, Put, Store, put_all, Role as MachineRole}
 use Rattle.raft_model.specs.Server.Put.{PutTerm, PutVote, PutShorter, PutCommit}
 use Rattle.raft_core.specs.declared.raft.Raft.{Raft}

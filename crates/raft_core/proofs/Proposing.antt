@@ -13,7 +13,7 @@ use Rattle.raft_log.specs.declared.durable.Durable.{Durable}
 use Rattle.raft_log.specs.DurableViews.{durable_state}
 use Rattle.raft_log.specs.MayFollow.{IsStorable, MayFollow}
 use Rattle.raft_log.specs.Stored.{Stored, Put as StoredPut}
-use Rattle.raft_model.specs.Moves.{MayPropose}
+use Rattle.raft_model.specs.Moves.Leading.{MayPropose}
 use Rattle.raft_model.specs.Moves.Move.{ProposeEntry}
 use Rattle.raft_model.specs.Server.{Plain, Store, Role as MachineRole}
 use Rattle.raft_model.specs.Server.Put.{PutEntry, PutLonger}

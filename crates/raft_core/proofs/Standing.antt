@@ -5,7 +5,7 @@ use Rattle.std.proofs.lemmas.Bool.Decides.{eqb_tells}
 use Rattle.std.proofs.lemmas.List.{get_or-replicate, length-replicate}
 use Rattle.can_frame.specs.declared.step.Role.TheVariants.{Candidate}
 use Rattle.raft_log.specs.Stored.{Stored}
-use Rattle.raft_model.specs.Moves.{stand_memory, stand_puts}
+use Rattle.raft_model.specs.Moves.Elections.{stand_memory, stand_puts}
 use Rattle.raft_model.specs.Server.{Plain, Store, put_all, Role as MachineRole}
 use Rattle.raft_model.specs.Server.Put.{PutTerm, PutVote}
 use Rattle.raft_core.specs.declared.peer.Peer.{Peer}

@@ -9,7 +9,7 @@ use Rattle.can_frame.specs.declared.step.Role.TheVariants.{Leader}
 use Rattle.can_frame.specs.Log.{IsPair, IsWellFormed, blank, entry_at}
 use Rattle.can_frame.specs.Zeros.{zeros}
 use Rattle.raft_log.specs.Stored.{Stored}
-use Rattle.raft_model.specs.Moves.{is_leader}
+use Rattle.raft_model.specs.Moves.Elections.{is_leader}
 use Rattle.raft_model.specs.Server.{Plain, Role as MachineRole}
 use Rattle.raft_core.specs.declared.raft.Raft.{Raft}
 use Rattle.raft_core.specs.declared.tell.Telling.TheVariants.{Nothing, Skip, Pair}

@@ -9,7 +9,7 @@ use Rattle.raft_log.specs.declared.durable.Durable.{Durable}
 use Rattle.raft_log.specs.DurableViews.{durable_state}
 use Rattle.raft_log.specs.Stored.{Stored}
 use Rattle.raft_model.specs.Lists.{how_many}
-use Rattle.raft_model.specs.Moves.{has_quorum, is_leader, own_vote, stand_memory, stand_puts, win_memory, win_puts, term_limit}
+use Rattle.raft_model.specs.Moves.Elections.{has_quorum, is_leader, own_vote, stand_memory, stand_puts, win_memory, win_puts, term_limit}
 use Rattle.raft_model.specs.Moves.Move.{TimeOut}
 use Rattle.raft_model.specs.Server.{Plain, Put, Store, put_all, quorum}
 use Rattle.raft_core.specs.declared.raft.Cause.TheVariants.{Candidacy}

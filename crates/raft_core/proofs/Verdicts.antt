@@ -9,8 +9,8 @@ use Rattle.raft_log.specs.MayFollow.{MayFollow}
 use Rattle.raft_log.specs.Stored.{Stored}
 use Rattle.raft_model.specs.Log.{term_at}
 use Rattle.raft_model.specs.Messages.{Request}
-use Rattle.raft_model.specs.Moves.{Adds, HasPrevious, IsBadEntry, IsRuled, IsThere, Verdict}
-use Rattle.raft_model.specs.Moves.Verdict.{Outdated, Refused, Held, Added}
+use Rattle.raft_model.specs.Moves.Appending.{Adds, HasPrevious, IsBadEntry, IsRuled, IsThere, Verdict}
+use Rattle.raft_model.specs.Moves.Appending.Verdict.{Outdated, Refused, Held, Added}
 use Rattle.raft_core.specs.StoredPuts.{store_of}
 
 none_some : {A : Type 0} (x : A) → None ≡ Some x → ⊥

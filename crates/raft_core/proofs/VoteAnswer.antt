@@ -5,7 +5,7 @@ use Rattle.disk_model.specs.declared.disk.Disk.{Ghosts}
 use Rattle.kv_store.specs.declared.fault.Fault.{Fault}
 use Rattle.raft_log.specs.declared.durable.Durable.{Durable}
 use Rattle.raft_log.specs.DurableViews.{durable_state}
-use Rattle.raft_model.specs.Moves.{has_quorum, win_memory, win_puts}
+use Rattle.raft_model.specs.Moves.Elections.{has_quorum, win_memory, win_puts}
 use Rattle.raft_model.specs.Server.{Plain, Put, Store, put_all}
 use Rattle.raft_core.specs.declared.raft.Raft.{Raft}
 use Rattle.raft_core.specs.Stands.{StandsFor}

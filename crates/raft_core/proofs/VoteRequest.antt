@@ -10,7 +10,7 @@ use Rattle.raft_log.specs.declared.durable.Durable.{Durable}
 use Rattle.raft_log.specs.DurableViews.{durable_state}
 use Rattle.raft_log.specs.Stored.{Stored}
 use Rattle.raft_model.specs.Messages.{Request}
-use Rattle.raft_model.specs.Moves.{IsGranted, MayGrant, grant_puts, term_memory, term_puts, vote_puts, with_term}
+use Rattle.raft_model.specs.Moves.Elections.{IsGranted, MayGrant, grant_puts, term_memory, term_puts, vote_puts, with_term}
 use Rattle.raft_model.specs.Moves.Move.{TakeVoteRequest}
 use Rattle.raft_model.specs.Server.{Plain, Store, put_all, Role as MachineRole}
 use Rattle.raft_model.specs.Server.Put.{PutVote}

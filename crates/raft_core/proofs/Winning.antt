@@ -10,7 +10,7 @@ use Rattle.kv_store.specs.declared.fault.Fault.{Fault}
 use Rattle.raft_log.specs.declared.durable.Durable.{Durable}
 use Rattle.raft_log.specs.DurableViews.{durable_state}
 use Rattle.raft_log.specs.Stored.{Stored}
-use Rattle.raft_model.specs.Moves.{adds_blank, win_memory, win_puts}
+use Rattle.raft_model.specs.Moves.Elections.{adds_blank, win_memory, win_puts}
 use Rattle.raft_model.specs.Server.{Plain, Store, opened, put_all, Role as MachineRole}
 use Rattle.raft_model.specs.Server.Put.{PutEntry, PutLonger}
 use Rattle.raft_core.specs.declared.peer.Peer.{Peer}

@@ -7,7 +7,7 @@ use Rattle.kv_store.specs.declared.fault.Fault.{Fault}
 use Rattle.outside.specs.Faults.{Rose}
 use Rattle.raft_log.specs.declared.durable.Durable.{Durable}
 use Rattle.raft_log.specs.DurableViews.{durable_disk, durable_state}
-use Rattle.raft_model.specs.Moves.{MayPropose}
+use Rattle.raft_model.specs.Moves.Leading.{MayPropose}
 use Rattle.raft_model.specs.Moves.Move.{ProposeEntry}
 use Rattle.raft_model.specs.Server.{Plain, Put}
 use Rattle.raft_model.specs.Server.Put.{PutEntry, PutLonger}

@@ -3,7 +3,8 @@ use Rattle.std.specs.Prelude.{◌≡◌, ◌≢◌, ◌⊎◌, ⊤, ℕ, ◌+◌
 use Rattle.can_frame.specs.Zeros.{zeros}
 use Rattle.raft_log.specs.Stored.{Stored}
 use Rattle.raft_model.specs.Duty.{tell_phase}
-use Rattle.raft_model.specs.Moves.{Move, pair_at}
+use Rattle.raft_model.specs.Moves.{Move}
+use Rattle.raft_model.specs.Moves.Leading.{pair_at}
 use Rattle.raft_model.specs.Moves.Move.{TellNothing, TellPair}
 use Rattle.raft_model.specs.Server.{Plain}
 use Rattle.raft_core.specs.declared.raft.Raft.{Raft}

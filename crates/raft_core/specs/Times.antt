@@ -6,9 +6,10 @@ use Rattle.raft_model.specs.Messages.{Request}
 use Rattle.raft_model.specs.Server.{Plain, Role}
 use Rattle.raft_model.specs.Server.Role.{Follower, Candidate, Leader}
 use Rattle.raft_model.specs.Handlers.{plain_after}
-use Rattle.raft_model.specs.Moves.{Move, counted, counts, has_quorum, own_vote}
+use Rattle.raft_model.specs.Moves.{Move}
+use Rattle.raft_model.specs.Moves.Elections.{counted, counts, has_quorum, own_vote}
 use Rattle.raft_model.specs.Moves.Move.{TimeOut, TakeVoteRequest, TakeVoteAnswer, TakeAppendRequest, TakeAppendAnswer, ProposeEntry, CommitTo, TellPair, TellNothing, CallForVote, CallToAppend, AnswerAgain, GiveUp}
-use Rattle.raft_model.specs.Moves.Verdict.{Outdated, Refused, Held, Added}
+use Rattle.raft_model.specs.Moves.Appending.Verdict.{Outdated, Refused, Held, Added}
 
 -- a call that waits for its answer
 pub record Sending : Type 0 where

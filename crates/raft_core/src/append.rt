@@ -6,7 +6,8 @@ ghost use Rattle.raft_log.specs.DurableViews.{durable_state};
 ghost use Rattle.raft_log.specs.MayFollow.{MayFollow};
 ghost use Rattle.raft_log.specs.Stored.{Stored};
 ghost use Rattle.raft_model.specs.Log.{term_at};
-ghost use Rattle.raft_model.specs.Moves.{IsRuled, Verdict, append_puts, is_accepted, is_leader, matched_after, next_after, with_term};
+ghost use Rattle.raft_model.specs.Moves.Appending.{IsRuled, Verdict, append_puts, is_accepted, matched_after, next_after};
+ghost use Rattle.raft_model.specs.Moves.Elections.{is_leader, with_term};
 ghost use Rattle.raft_model.specs.Decisions.{judges};
 ghost use Rattle.raft_model.specs.Messages.{Answer, Request};
 ghost use Rattle.raft_model.specs.Messages as messages;
@@ -47,10 +48,16 @@ impl Raft {
         now: u64,
     ) -> Result<AppendAnswer, Fault>
         requires fits { Fits self.old (durable_state d.old) }
-        ensures moves { (members : List ℕ) (step : ℕ) (server : Plain) (times : Times) → StandsFor self.old members (durable_state d.old) server times →
-            (made_in : ℕ) → let request = append_request_of req.now made_in from (raft_me self.old) in let verdict = judges server request in
-            MakesMoves members (raft_me self.old) step (given_at now) (TakeAppendRequest request verdict ∷ []) server times d.old d.new self.new (result_err result) ×
-            IfOk result (λ answer. (answer.term ≡ (with_term server.store request.term).term) × (answer.success ≡ is_accepted verdict)) }
+        ensures moves { (members : List ℕ) (step : ℕ) (server : Plain) (times : Times) →
+            StandsFor self.old members (durable_state d.old) server times →
+            (made_in : ℕ) →
+            let request = append_request_of req.now made_in from (raft_me self.old) in
+            let verdict = judges server request in
+            MakesMoves members (raft_me self.old) step (given_at now)
+            (TakeAppendRequest request verdict ∷ []) server times
+            d.old d.new self.new (result_err result) ×
+            IfOk result (λ answer. (answer.term ≡ (with_term server.store request.term).term) ×
+            (answer.success ≡ is_accepted verdict)) }
         ensures fault { KeepsFaults d.old d.new (result_err result) }
         ensures fits { OnOk result (Fits self.new (durable_state d.new)) }
         ensures me { raft_me self.new ≡ raft_me self.old }
@@ -86,11 +93,17 @@ impl Raft {
     ) -> Result<bool, Fault>
         requires most { from ≤ 125 }
         requires fits { Fits self.old (durable_state d.old) }
-        ensures refused { (members : List ℕ) (server : Plain) (times : Times) → StandsFor self.old members (durable_state d.old) server times →
-            is_awaited server times from true id ≡ false → (result ≡ Ok false) × (self.new ≡ self.old) × (d.new ≡ d.old) }
-        ensures moves { (members : List ℕ) (step : ℕ) (server : Plain) (times : Times) → StandsFor self.old members (durable_state d.old) server times →
-            is_awaited server times from true id ≡ true → (made_in : ℕ) (request : Request) → server.memory.pending from ≡ Some request →
-            MakesMoves members (raft_me self.old) step (given_at now) (TakeAppendAnswer (answer_of made_in from request ans.now.term ans.now.success) ∷ []) server times d.old d.new self.new (result_err result) ×
+        ensures refused { (members : List ℕ) (server : Plain) (times : Times) →
+            StandsFor self.old members (durable_state d.old) server times →
+            is_awaited server times from true id ≡ false → (result ≡ Ok false) ×
+            (self.new ≡ self.old) × (d.new ≡ d.old) }
+        ensures moves { (members : List ℕ) (step : ℕ) (server : Plain) (times : Times) →
+            StandsFor self.old members (durable_state d.old) server times →
+            is_awaited server times from true id ≡ true → (made_in : ℕ) (request : Request) →
+            server.memory.pending from ≡ Some request →
+            MakesMoves members (raft_me self.old) step (given_at now)
+            (TakeAppendAnswer (answer_of made_in from request ans.now.term ans.now.success) ∷ [])
+            server times d.old d.new self.new (result_err result) ×
             IfOk result (λ taken. IsTrue taken) }
         ensures fault { KeepsFaults d.old d.new (result_err result) }
         ensures fits { OnOk result (Fits self.new (durable_state d.new)) }
@@ -113,7 +126,9 @@ impl Raft {
 
     /// Whether the answer is to a leader of this term.
     fn leads(&self, term: u32, ans: &AppendAnswer) -> bool
-        ensures leads { (server : Plain) (answer : Answer) → server.memory.role ≡ role_of self.now.role → server.store.term ≡ term → answer.term ≡ ans.now.term →
+        ensures leads { (server : Plain) (answer : Answer) →
+            server.memory.role ≡ role_of self.now.role → server.store.term ≡ term →
+            answer.term ≡ ans.now.term →
             result ≡ (is_leader server.memory.role && (answer.term == server.store.term)) }
         ensures leader { result ≡ true → self.now.role ≡ Leader }
     {
@@ -125,10 +140,13 @@ impl Raft {
         requires most { from ≤ 125 }
         requires reach { reach ≤ 127 }
         requires matched { (none : Peer) → (slice_index_or self.old.peers from none).matched ≤ 127 }
-        ensures stands { (members : List ℕ) (state : Stored) (server : Plain) (times : Times) → StandsFor self.old members state server times → self.old.role ≡ Leader →
-            (answer : Answer) → answer.from ≡ from → answer.success ≡ success → messages.reach answer.request ≡ reach →
+        ensures stands { (members : List ℕ) (state : Stored) (server : Plain) (times : Times) →
+            StandsFor self.old members state server times → self.old.role ≡ Leader →
+            (answer : Answer) → answer.from ≡ from → answer.success ≡ success →
+            messages.reach answer.request ≡ reach →
             StandsFor self.new members state (record server { memory = record server.memory { matched = at server.memory.matched from (matched_after server.memory answer); next = at server.memory.next from (next_after server.memory answer) } }) times }
-        ensures fits { (state : Stored) → Fits self.old state → reach ≤ length state.log → Fits self.new state }
+        ensures fits { (state : Stored) → Fits self.old state → reach ≤ length state.log →
+            Fits self.new state }
         ensures me { raft_me self.new ≡ raft_me self.old }
         ensures size { raft_size self.new ≡ raft_size self.old }
     {
@@ -146,8 +164,12 @@ impl Raft {
 /// The rules on the log and the entry, with the puts of what they say; whether they accept the request.
 fn accept<D: Disk>(d: &mut Durable<D>, req: &AppendRequest) -> Result<bool, Fault>
     requires { req.now.term ≡ (durable_state d.old).term }
-    ensures puts { (step from to : ℕ) (verdict : Verdict) → let request = append_request_of req.now step from to in IsRuled (store_of (durable_state d.old)) request verdict →
-        DoesPuts (append_puts (store_of (durable_state d.old)) request verdict) d.old d.new (result_err result) × IfOk result (λ success. success ≡ is_accepted verdict) }
+    ensures puts { (step from to : ℕ) (verdict : Verdict) →
+        let request = append_request_of req.now step from to in
+        IsRuled (store_of (durable_state d.old)) request verdict →
+        DoesPuts (append_puts (store_of (durable_state d.old)) request verdict)
+        d.old d.new (result_err result) ×
+        IfOk result (λ success. success ≡ is_accepted verdict) }
     ensures fault { KeepsFaults d.old d.new (result_err result) }
     ensures commit { OnOk result ((durable_state d.old).commit ≤ (durable_state d.new).commit) }
 {
@@ -166,9 +188,14 @@ fn take_entry<D: Disk>(d: &mut Durable<D>, req: &AppendRequest, entry: Entry) ->
     requires term { req.now.term ≡ (durable_state d.old).term }
     requires entry { req.now.entry ≡ Some entry }
     requires previous { req.now.prev_index ≤ length (durable_state d.old).log }
-    requires previous_term { term_at (durable_state d.old).log req.now.prev_index ≡ req.now.prev_term }
-    ensures puts { (step from to : ℕ) (verdict : Verdict) → let request = append_request_of req.now step from to in IsRuled (store_of (durable_state d.old)) request verdict →
-        DoesPuts (append_puts (store_of (durable_state d.old)) request verdict) d.old d.new (result_err result) × IfOk result (λ success. success ≡ is_accepted verdict) }
+    requires previous_term { term_at (durable_state d.old).log req.now.prev_index
+        ≡ req.now.prev_term }
+    ensures puts { (step from to : ℕ) (verdict : Verdict) →
+        let request = append_request_of req.now step from to in
+        IsRuled (store_of (durable_state d.old)) request verdict →
+        DoesPuts (append_puts (store_of (durable_state d.old)) request verdict)
+        d.old d.new (result_err result) ×
+        IfOk result (λ success. success ≡ is_accepted verdict) }
     ensures fault { KeepsFaults d.old d.new (result_err result) }
     ensures commit { OnOk result ((durable_state d.old).commit ≤ (durable_state d.new).commit) }
 {
@@ -188,14 +215,16 @@ fn take_entry<D: Disk>(d: &mut Durable<D>, req: &AppendRequest, entry: Entry) ->
 
 /// The request stands on the log.
 fn has_previous<D: Disk>(d: &Durable<D>, req: &AppendRequest) -> bool
-    ensures { IsTrue result ↔ ((req.now.prev_index ≤ length (durable_state d.now).log) × (term_at (durable_state d.now).log req.now.prev_index ≡ req.now.prev_term)) }
+    ensures { IsTrue result ↔ ((req.now.prev_index ≤ length (durable_state d.now).log) ×
+        (term_at (durable_state d.now).log req.now.prev_index ≡ req.now.prev_term)) }
 {
     req.prev_index <= d.last() && d.entry(req.prev_index).term == req.prev_term
 }
 
 /// The log has an entry of this term after the previous place.
 fn is_there<D: Disk>(d: &Durable<D>, previous: u8, term: u32) -> bool
-    ensures { IsTrue result ↔ ((previous < length (durable_state d.now).log) × (term_at (durable_state d.now).log (previous + 1) ≡ term)) }
+    ensures { IsTrue result ↔ ((previous < length (durable_state d.now).log) ×
+        (term_at (durable_state d.now).log (previous + 1) ≡ term)) }
 {
     previous < d.last() && d.entry(previous + 1).term == term
 }
@@ -203,7 +232,8 @@ fn is_there<D: Disk>(d: &Durable<D>, previous: u8, term: u32) -> bool
 /// The entry may come into the log after the previous place, which is cut there.
 fn may_add<D: Disk>(d: &Durable<D>, previous: u8, entry: &Entry) -> bool
     requires { previous ≤ length (durable_state d.now).log }
-    ensures { IsTrue result ↔ ((previous < log_limit) × ((durable_state d.now).commit ≤ previous) × MayFollow (take previous (durable_state d.now).log) (durable_state d.now).term entry.now) }
+    ensures { IsTrue result ↔ ((previous < log_limit) × ((durable_state d.now).commit ≤ previous) ×
+        MayFollow (take previous (durable_state d.now).log) (durable_state d.now).term entry.now) }
 {
     previous < 127
         && d.commit() <= previous
@@ -213,7 +243,8 @@ fn may_add<D: Disk>(d: &Durable<D>, previous: u8, entry: &Entry) -> bool
 /// The log is accepted as it is: what the request commits of it is committed. Answers true.
 fn hold<D: Disk>(d: &mut Durable<D>, place: u8) -> Result<bool, Fault>
     requires { place ≤ length (durable_state d.old).log }
-    ensures puts { DoesPuts (commit_puts (store_of (durable_state d.old)) place) d.old d.new (result_err result) }
+    ensures puts { DoesPuts (commit_puts (store_of (durable_state d.old)) place)
+        d.old d.new (result_err result) }
     ensures commit { OnOk result ((durable_state d.old).commit ≤ (durable_state d.new).commit) }
     ensures accepted { IfOk result (λ success. IsTrue success) }
 {
@@ -230,8 +261,10 @@ fn write<D: Disk>(d: &mut Durable<D>, previous: u8, entry: Entry) -> Result<(), 
     requires room { previous < log_limit }
     requires kept { (durable_state d.old).commit ≤ previous }
     requires follows { MayFollow (take previous (durable_state d.old).log) (durable_state d.old).term entry }
-    ensures puts { DoesPuts (write_puts (store_of (durable_state d.old)) previous entry) d.old d.new (result_err result) }
-    ensures log { OnOk result ((durable_state d.new).log ≡ take previous (durable_state d.old).log ++ (entry ∷ [])) }
+    ensures puts { DoesPuts (write_puts (store_of (durable_state d.old)) previous entry)
+        d.old d.new (result_err result) }
+    ensures log { OnOk result ((durable_state d.new).log
+        ≡ take previous (durable_state d.old).log ++ (entry ∷ [])) }
     ensures commit { OnOk result ((durable_state d.new).commit ≡ (durable_state d.old).commit) }
 {
     puts_in_turn::<D>();
@@ -243,8 +276,10 @@ fn write<D: Disk>(d: &mut Durable<D>, previous: u8, entry: Entry) -> Result<(), 
 fn cut<D: Disk>(d: &mut Durable<D>, previous: u8) -> Result<(), Fault>
     requires inside { previous ≤ length (durable_state d.old).log }
     requires kept { (durable_state d.old).commit ≤ previous }
-    ensures puts { DoesPuts (cut_to (store_of (durable_state d.old)) previous) d.old d.new (result_err result) }
-    ensures state { OnOk result (durable_state d.new ≡ record (durable_state d.old) { log = take previous (durable_state d.old).log }) }
+    ensures puts { DoesPuts (cut_to (store_of (durable_state d.old)) previous)
+        d.old d.new (result_err result) }
+    ensures state { OnOk result (durable_state d.new
+        ≡ record (durable_state d.old) { log = take previous (durable_state d.old).log }) }
 {
     puts_in_turn::<D>();
     if previous < d.last() {

@@ -6,7 +6,8 @@ ghost use Rattle.raft_core.specs.Handled.{moves_of_expire};
 ghost use Rattle.raft_model.specs.Handlers.{plain_after_all};
 ghost use Rattle.raft_model.specs.Lists.{In};
 ghost use Rattle.raft_model.specs.Messages.{Request, items, reach};
-ghost use Rattle.raft_model.specs.Moves.{Move, ended};
+ghost use Rattle.raft_model.specs.Moves.{Move};
+ghost use Rattle.raft_model.specs.Moves.Elections.{ended};
 ghost use Rattle.raft_model.specs.Server.{Plain};
 ghost use Rattle.raft_core.specs.Times as clock;
 ghost use Rattle.raft_core.specs.Times.{Sending, Times, given_at, given_call, is_awaited, overdue, times_after_all};
@@ -52,9 +53,14 @@ impl Raft {
 
     /// Calls that were made 1,000 ms ago, or earlier, are given up.
     pub fn expire(&mut self, now: u64)
-        ensures moves { (members : List ℕ) (step : ℕ) (state : Stored) (server : Plain) (times : Times) → StandsFor self.old members state server times →
-            (nodes : List ℕ) → ((node : ℕ) → node < 128 → server.memory.pending node ≢ None → In node nodes) → let moves = moves_of_expire (overdue times now nodes) in
-            StandsFor self.new members state (plain_after_all members (raft_me self.old) step server moves) (times_after_all members (raft_me self.old) step (given_at now) server moves times) }
+        ensures moves { (members : List ℕ) (step : ℕ) (state : Stored)
+            (server : Plain) (times : Times) →
+            StandsFor self.old members state server times →
+            (nodes : List ℕ) → ((node : ℕ) → node < 128 → server.memory.pending node ≢ None →
+            In node nodes) → let moves = moves_of_expire (overdue times now nodes) in
+            StandsFor self.new members state
+            (plain_after_all members (raft_me self.old) step server moves)
+            (times_after_all members (raft_me self.old) step (given_at now) server moves times) }
         ensures fits { (state : Stored) → Fits self.old state → Fits self.new state }
         ensures me { raft_me self.new ≡ raft_me self.old }
         ensures size { raft_size self.new ≡ raft_size self.old }
@@ -101,9 +107,13 @@ impl Raft {
         requires most { peer ≤ 125 }
         requires fits { Fits self.old (durable_state d.now) }
         requires owed { Owes self.old (durable_state d.now) peer now what.now }
-        ensures moves { (members : List ℕ) (server : Plain) (times : Times) → StandsFor self.old members (durable_state d.now) server times →
+        ensures moves { (members : List ℕ) (server : Plain) (times : Times) →
+            StandsFor self.old members (durable_state d.now) server times →
             (move : Move) → owed server times peer now ≡ Some move →
-            StandsFor self.new members (durable_state d.now) (plain_after_all members (raft_me self.old) step server (move ∷ [])) (times_after_all members (raft_me self.old) step (given_call now id) server (move ∷ []) times) }
+            StandsFor self.new members (durable_state d.now)
+            (plain_after_all members (raft_me self.old) step server (move ∷ []))
+            (times_after_all members (raft_me self.old) step
+            (given_call now id) server (move ∷ []) times) }
         ensures fits { Fits self.new (durable_state d.now) }
         ensures me { raft_me self.new ≡ raft_me self.old }
         ensures size { raft_size self.new ≡ raft_size self.old }
@@ -128,9 +138,15 @@ impl Raft {
     /// The call to a peer that waits for its answer.
     pub fn pending(&self, peer: u8) -> Option<Pending>
         requires { peer ≤ 125 }
-        ensures some { IfSome result (λ pending. (members : List ℕ) (state : Stored) (server : Plain) (times : Times) → StandsFor self.now members state server times →
-            (request : Request) × (sending : Sending) × (server.memory.pending peer ≡ Some request) × (times.sending peer ≡ Some sending) × IsPending pending request sending) }
-        ensures none { IsNone result → (members : List ℕ) (state : Stored) (server : Plain) (times : Times) → StandsFor self.now members state server times → server.memory.pending peer ≡ None }
+        ensures some { IfSome result (λ pending. (members : List ℕ) (state : Stored)
+            (server : Plain) (times : Times) →
+            StandsFor self.now members state server times →
+            (request : Request) × (sending : Sending) ×
+            (server.memory.pending peer ≡ Some request) × (times.sending peer ≡ Some sending) ×
+            IsPending pending request sending) }
+        ensures none { IsNone result →
+            (members : List ℕ) (state : Stored) (server : Plain) (times : Times) →
+            StandsFor self.now members state server times → server.memory.pending peer ≡ None }
     {
         let call = self.peers[peer as usize].call?;
         Some(Pending {
@@ -147,7 +163,9 @@ impl Raft {
     /// Whether the call to a node that waits under a transfer ID asks for its vote.
     pub(crate) fn awaits_vote(&self, from: u8, id: u8) -> bool
         requires { from ≤ 125 }
-        ensures { (members : List ℕ) (state : Stored) (server : Plain) (times : Times) → StandsFor self.now members state server times → result ≡ is_awaited server times from false id }
+        ensures { (members : List ℕ) (state : Stored) (server : Plain) (times : Times) →
+            StandsFor self.now members state server times →
+            result ≡ is_awaited server times from false id }
     {
         matches!(self.peers[from as usize].asked_under(id), Some(Asked::Vote))
     }
@@ -155,10 +173,17 @@ impl Raft {
     /// The place up to which the append call to a node goes that waits under a transfer ID.
     pub(crate) fn awaited_reach(&self, from: u8, id: u8) -> Option<u8>
         requires { from ≤ 125 }
-        ensures some { IfSome result (λ place. (members : List ℕ) (state : Stored) (server : Plain) (times : Times) → StandsFor self.now members state server times →
-            (is_awaited server times from true id ≡ true) × ((request : Request) → server.memory.pending from ≡ Some request → reach request ≡ place)) }
-        ensures none { IsNone result → (members : List ℕ) (state : Stored) (server : Plain) (times : Times) → StandsFor self.now members state server times → is_awaited server times from true id ≡ false }
-        ensures within { IfSome result (λ place. (state : Stored) → Fits self.now state → self.now.role ≡ Leader → place ≤ length state.log) }
+        ensures some { IfSome result (λ place. (members : List ℕ) (state : Stored)
+            (server : Plain) (times : Times) →
+            StandsFor self.now members state server times →
+            (is_awaited server times from true id ≡ true) × ((request : Request) →
+            server.memory.pending from ≡ Some request → reach request ≡ place)) }
+        ensures none { IsNone result →
+            (members : List ℕ) (state : Stored) (server : Plain) (times : Times) →
+            StandsFor self.now members state server times →
+            is_awaited server times from true id ≡ false }
+        ensures within { IfSome result (λ place. (state : Stored) → Fits self.now state →
+            self.now.role ≡ Leader → place ≤ length state.log) }
     {
         match self.peers[from as usize].asked_under(id) {
             Some(Asked::Append(place)) => Some(place),
@@ -169,8 +194,10 @@ impl Raft {
     /// The call to a node waits no more.
     pub(crate) fn end_call(&mut self, from: u8)
         requires { from ≤ 125 }
-        ensures stands { (members : List ℕ) (state : Stored) (server : Plain) (times : Times) → StandsFor self.old members state server times →
-            StandsFor self.new members state (record server { memory = ended server.memory from }) (clock.end_call from times) }
+        ensures stands { (members : List ℕ) (state : Stored) (server : Plain) (times : Times) →
+            StandsFor self.old members state server times →
+            StandsFor self.new members state (record server { memory = ended server.memory from })
+            (clock.end_call from times) }
         ensures fits { (state : Stored) → Fits self.old state → Fits self.new state }
         ensures me { raft_me self.new ≡ raft_me self.old }
         ensures size { raft_size self.new ≡ raft_size self.old }

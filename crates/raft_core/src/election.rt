@@ -4,7 +4,7 @@ ghost use Rattle.arrayvec.specs.ArrayVec.{array_vec_len};
 ghost use Rattle.can_frame.specs.Log as log;
 ghost use Rattle.can_frame.specs.declared.step.Role.TheVariants.{Follower, Candidate};
 ghost use Rattle.raft_log.specs.DurableViews.{durable_state};
-ghost use Rattle.raft_model.specs.Moves.{adds_blank, is_leader, stand_memory, stand_puts, term_limit, win_memory, win_puts};
+ghost use Rattle.raft_model.specs.Moves.Elections.{adds_blank, is_leader, stand_memory, stand_puts, term_limit, win_memory, win_puts};
 ghost use Rattle.raft_model.specs.Server.{Plain, put_all};
 ghost use Rattle.raft_core.specs.Peers.{fresh, voter};
 ghost use Rattle.raft_core.specs.StoredPuts.{DoesPuts, KeepsFaults, store_of};
@@ -41,9 +41,12 @@ impl Raft {
         requires peers { (i : ℕ) → i < length peers.now → slice_index_or peers.now i 0 ≤ 125 }
         requires complete { complete ≡ true → length peers.now + 1 ≡ raft_size self.old }
         requires fits { Fits self.old (durable_state d.old) }
-        ensures moves { (members : List ℕ) (step : ℕ) (server : Plain) (times : Times) → StandsFor self.old members (durable_state d.old) server times →
-            let moves = moves_of_tick complete now server times in let counted = counted_at moves members (raft_me self.old ∷ peers.now) in
-            MakesMoves counted (raft_me self.old) step (given_tick now word) moves server times d.old d.new self.new (result_err result) }
+        ensures moves { (members : List ℕ) (step : ℕ) (server : Plain) (times : Times) →
+            StandsFor self.old members (durable_state d.old) server times →
+            let moves = moves_of_tick complete now server times in
+            let counted = counted_at moves members (raft_me self.old ∷ peers.now) in
+            MakesMoves counted (raft_me self.old) step (given_tick now word) moves server times
+            d.old d.new self.new (result_err result) }
         ensures fault { KeepsFaults d.old d.new (result_err result) }
         ensures fits { OnOk result (Fits self.new (durable_state d.new)) }
         ensures me { raft_me self.new ≡ raft_me self.old }
@@ -63,8 +66,11 @@ impl Raft {
     /// Whether the wait for an election has passed, of one that knows all members, is no leader and is
     /// below the highest term.
     fn may_stand(&self, complete: bool, term: u32, now: u64) -> bool
-        ensures stands { (server : Plain) (times : Times) → server.memory.role ≡ role_of self.now.role → server.store.term ≡ term → times.since ≡ self.now.since → times.word ≡ self.now.word →
-            result ≡ ((complete && clock.has_waited times now) && (not (is_leader server.memory.role) && nat_lt server.store.term term_limit)) }
+        ensures stands { (server : Plain) (times : Times) →
+            server.memory.role ≡ role_of self.now.role → server.store.term ≡ term →
+            times.since ≡ self.now.since → times.word ≡ self.now.word →
+            result ≡ ((complete && clock.has_waited times now)
+            && (not (is_leader server.memory.role) && nat_lt server.store.term term_limit)) }
         ensures complete { result ≡ true → complete ≡ true }
         ensures term { result ≡ true → term < 4294967295 }
     {
@@ -87,8 +93,10 @@ impl Raft {
         requires peers { (i : ℕ) → i < length peers.now → slice_index_or peers.now i 0 ≤ 125 }
         requires complete { length peers.now + 1 ≡ self.old.size }
         requires fits { Fits self.old (durable_state d.old) }
-        ensures puts { DoesPuts (stand_puts self.old.me (store_of (durable_state d.old))) d.old d.new (result_err result) }
-        ensures stands { (members : List ℕ) (server : Plain) (times : Times) → StandsFor self.old members (durable_state d.old) server times →
+        ensures puts { DoesPuts (stand_puts self.old.me (store_of (durable_state d.old)))
+            d.old d.new (result_err result) }
+        ensures stands { (members : List ℕ) (server : Plain) (times : Times) →
+            StandsFor self.old members (durable_state d.old) server times →
             OnOk result (StandsFor self.new (self.old.me ∷ peers.now) (durable_state d.new)
             (record { store = put_all server.store (stand_puts self.old.me server.store); memory = stand_memory self.old.me server.memory })
             (clock.stand (given_tick now word) times)) }
@@ -110,8 +118,10 @@ impl Raft {
     pub(crate) fn win<D: Disk>(&mut self, d: &mut Durable<D>) -> Result<(), Fault>
         requires role { self.old.role ≢ Follower }
         requires fits { Fits self.old (durable_state d.old) }
-        ensures puts { DoesPuts (win_puts (store_of (durable_state d.old))) d.old d.new (result_err result) }
-        ensures stands { (members : List ℕ) (server : Plain) (times : Times) → StandsFor self.old members (durable_state d.old) server times →
+        ensures puts { DoesPuts (win_puts (store_of (durable_state d.old)))
+            d.old d.new (result_err result) }
+        ensures stands { (members : List ℕ) (server : Plain) (times : Times) →
+            StandsFor self.old members (durable_state d.old) server times →
             OnOk result (StandsFor self.new members (durable_state d.new)
             (record { store = put_all server.store (win_puts server.store); memory = win_memory server.store server.memory }) (clock.win times)) }
         ensures fits { OnOk result (Fits self.new (durable_state d.new)) }
@@ -130,8 +140,10 @@ fn vote_for_itself<D: Disk>(d: &mut Durable<D>, me: u8) -> Result<(), Fault>
     requires term { (durable_state d.old).term < 4294967295 }
     requires least { 1 ≤ me }
     requires most { me ≤ 125 }
-    ensures puts { DoesPuts (stand_puts me (store_of (durable_state d.old))) d.old d.new (result_err result) }
-    ensures state { OnOk result (durable_state d.new ≡ record (durable_state d.old) { term = (durable_state d.old).term + 1; vote = me }) }
+    ensures puts { DoesPuts (stand_puts me (store_of (durable_state d.old)))
+        d.old d.new (result_err result) }
+    ensures state { OnOk result (durable_state d.new
+        ≡ record (durable_state d.old) { term = (durable_state d.old).term + 1; vote = me }) }
 {
     puts_in_turn::<D>();
     d.set_term(d.term() + 1)?;
@@ -164,7 +176,8 @@ fn all_members(me: u8, peers: &[u8]) -> ArrayVec<u8, 5>
 
 /// A new leader appends a blank, where its log is not all committed and has room.
 fn add_blank<D: Disk>(d: &mut Durable<D>) -> Result<(), Fault>
-    ensures puts { DoesPuts (win_puts (store_of (durable_state d.old))) d.old d.new (result_err result) }
+    ensures puts { DoesPuts (win_puts (store_of (durable_state d.old)))
+        d.old d.new (result_err result) }
     ensures vote { OnOk result ((durable_state d.new).vote ≡ (durable_state d.old).vote) }
     ensures commit { OnOk result ((durable_state d.new).commit ≡ (durable_state d.old).commit) }
     ensures log { OnOk result (length (durable_state d.old).log ≤ length (durable_state d.new).log) }

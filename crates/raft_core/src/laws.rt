@@ -36,20 +36,27 @@ pub fn puts_in_turn<D: Disk>()
 /// given what it was given: the times are those that the second leaves, which began with those of the
 /// first. Where the first call failed there is no second, and a call without moves changes nothing.
 pub fn moves_in_turn<D: Disk>()
-    ensures nothing { (members : List ℕ) (member step : ℕ) (server : Plain) (times : Times) (durable : Durable D D.Disk) (raft : Raft) →
-        StandsFor raft members (durable_state durable) server times → LeavesMoves members member step [] server times durable durable raft None }
-    ensures joined { (members : List ℕ) (member step : ℕ) (xs ys : List Move) (server : Plain) (first second : Times)
+    ensures nothing { (members : List ℕ) (member step : ℕ) (server : Plain) (times : Times)
+        (durable : Durable D D.Disk) (raft : Raft) →
+        StandsFor raft members (durable_state durable) server times →
+        LeavesMoves members member step [] server times durable durable raft None }
+    ensures joined { (members : List ℕ) (member step : ℕ) (xs ys : List Move) (server : Plain)
+        (first second : Times)
         (old mid new : Durable D D.Disk) (before after : Raft) (failed : Option Fault) →
         LeavesMoves members member step xs server first old mid before None →
-        LeavesMoves members member step ys (plain_after_all members member step server xs) second mid new after failed →
+        LeavesMoves members member step ys (plain_after_all members member step server xs)
+        second mid new after failed →
         LeavesMoves members member step (xs ++ ys) server second old new after failed }
-    ensures cut_off { (members : List ℕ) (member step : ℕ) (xs ys : List Move) (server : Plain) (first second : Times)
+    ensures cut_off { (members : List ℕ) (member step : ℕ) (xs ys : List Move) (server : Plain)
+        (first second : Times)
         (old new : Durable D D.Disk) (raft after : Raft) (fault : Fault) →
         LeavesMoves members member step xs server first old new raft (Some fault) →
         LeavesMoves members member step (xs ++ ys) server second old new after (Some fault) }
-    ensures times { (members : List ℕ) (member step : ℕ) (given : Given) (xs ys : List Move) (server : Plain) (times : Times) →
+    ensures times { (members : List ℕ) (member step : ℕ) (given : Given) (xs ys : List Move)
+        (server : Plain) (times : Times) →
         times_after_all members member step given server (xs ++ ys) times
-        ≡ times_after_all members member step given (plain_after_all members member step server xs) ys
+        ≡ times_after_all members member step given
+        (plain_after_all members member step server xs) ys
         (times_after_all members member step given server xs times) }
 {
     puts_in_turn::<D>();
@@ -60,19 +67,22 @@ pub fn moves_in_turn<D: Disk>()
 /// some of the first of them: a stop leaves the server that the machine has then. The machine's vote for
 /// node 0 would be stored as none; no move of a member makes one.
 pub fn puts_are_stored()
-    ensures votes { (members : List ℕ) (member step : ℕ) (server : Plain) (moves : List Move) → 1 ≤ member → AreOfNodes moves →
+    ensures votes { (members : List ℕ) (member step : ℕ) (server : Plain) (moves : List Move) →
+        1 ≤ member → AreOfNodes moves →
         VoteForNodes (puts_of_all members member step server moves) }
     ensures same { (puts : List Put) (state : Stored) → VoteForNodes puts →
         store_of (after_puts (stored_puts puts state) state) ≡ put_all (store_of state) puts }
     ensures front { (puts : List Put) (state : Stored) (count : ℕ) → VoteForNodes puts →
-        store_of (after_puts (take count (stored_puts puts state)) state) ≡ put_all (store_of state) (take count puts) }
+        store_of (after_puts (take count (stored_puts puts state)) state)
+        ≡ put_all (store_of state) (take count puts) }
 {}
 
 /// Every member, with whatever it has stored, stands for some server and some times, and counts the
 /// members of its last election. So what a call says of each server that the member stands for, and
 /// names no server, it says of the member.
 pub fn every_member_stands()
-    ensures { (raft : Raft) (state : Stored) → (server : Plain) × (times : Times) × StandsFor raft (raft_members raft) state server times }
+    ensures { (raft : Raft) (state : Stored) → (server : Plain) × (times : Times) ×
+        StandsFor raft (raft_members raft) state server times }
 {}
 
 /// That a member fits what it has stored has one proof, as a ghost field of a struct has.

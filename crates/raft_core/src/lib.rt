@@ -9,14 +9,17 @@
 //! for such a pair (`specs/Stands.antt`). The one contract: each call makes moves of the machine
 //! (`specs/Handled.antt`), with exactly their puts, in order; and where no put fails, it leaves a `Raft`
 //! that stands for the server and the times after those moves. Where a put fails, the puts before it are
-//! done, and the `Raft` is not to be used again.
+//! done, and the `Raft` is not to be used again. The fault is one of the disk, counted in this call, and is
+//! kept; where the stored state had failed before, nothing changes (`specs/StoredPuts.antt`).
+//! [`laws`] joins the calls of a step.
 //!
 //! A `Raft` fits what is stored (`specs/Fits.antt`); every call that takes the stored state asks for
 //! this, and keeps it.
 //!
 //! The rules are those of the Raft paper ("In Search of an Understandable Consensus Algorithm", figure 2),
 //! as libuavcan's distributed server of node IDs uses them: a leader sends one entry at a time, and it
-//! appends a blank when it wins.
+//! appends a blank when it wins. An entry may also keep a node ID back, of a node that tells no unique ID: it
+//! is replicated and committed as a pair is, and told to nobody.
 #![tactic(auto)]
 
 mod append;

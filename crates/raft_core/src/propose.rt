@@ -49,8 +49,10 @@ impl Raft {
         requires fits { Fits self.old (durable_state d.old) }
         ensures appends { Appends self.old uid.now node d.old d.new result }
         ensures not_leader { (result ≡ Ok NotLeader) ↔ (raft_role self.old ≢ Leader) }
-        ensures full { (result ≡ Ok LogFull) ↔ ((raft_role self.old ≡ Leader) × (length (durable_state d.old).log ≡ log_limit)) }
-        ensures taken { (result ≡ Ok Taken) ↔ ((raft_role self.old ≡ Leader) × (length (durable_state d.old).log < log_limit) ×
+        ensures full { (result ≡ Ok LogFull) ↔ ((raft_role self.old ≡ Leader) ×
+            (length (durable_state d.old).log ≡ log_limit)) }
+        ensures taken { (result ≡ Ok Taken) ↔ ((raft_role self.old ≡ Leader) ×
+            (length (durable_state d.old).log < log_limit) ×
             (HasUid (durable_state d.old).log uid.now ⊎ HasNodeId (durable_state d.old).log node)) }
         ensures same { self.new ≡ self.old }
         ensures fits { OnOk result (Fits self.new (durable_state d.new)) }
@@ -68,8 +70,10 @@ impl Raft {
         requires fits { Fits self.old (durable_state d.old) }
         ensures appends { Appends self.old zeros node d.old d.new result }
         ensures not_leader { (result ≡ Ok NotLeader) ↔ (raft_role self.old ≢ Leader) }
-        ensures full { (result ≡ Ok LogFull) ↔ ((raft_role self.old ≡ Leader) × (length (durable_state d.old).log ≡ log_limit)) }
-        ensures taken { (result ≡ Ok Taken) ↔ ((raft_role self.old ≡ Leader) × (length (durable_state d.old).log < log_limit) ×
+        ensures full { (result ≡ Ok LogFull) ↔ ((raft_role self.old ≡ Leader) ×
+            (length (durable_state d.old).log ≡ log_limit)) }
+        ensures taken { (result ≡ Ok Taken) ↔ ((raft_role self.old ≡ Leader) ×
+            (length (durable_state d.old).log < log_limit) ×
             HasNodeId (durable_state d.old).log node) }
         ensures same { self.new ≡ self.old }
         ensures fits { OnOk result (Fits self.new (durable_state d.new)) }
@@ -83,8 +87,10 @@ impl Raft {
         requires fits { Fits self.now (durable_state d.old) }
         ensures appends { Appends self.now uid.now node d.old d.new result }
         ensures not_leader { (result ≡ Ok NotLeader) ↔ (raft_role self.now ≢ Leader) }
-        ensures full { (result ≡ Ok LogFull) ↔ ((raft_role self.now ≡ Leader) × (length (durable_state d.old).log ≡ log_limit)) }
-        ensures taken { (result ≡ Ok Taken) ↔ ((raft_role self.now ≡ Leader) × (length (durable_state d.old).log < log_limit) ×
+        ensures full { (result ≡ Ok LogFull) ↔ ((raft_role self.now ≡ Leader) ×
+            (length (durable_state d.old).log ≡ log_limit)) }
+        ensures taken { (result ≡ Ok Taken) ↔ ((raft_role self.now ≡ Leader) ×
+            (length (durable_state d.old).log < log_limit) ×
             IsTaken (durable_state d.old).log uid.now node) }
         ensures fits { OnOk result (Fits self.now (durable_state d.new)) }
     {

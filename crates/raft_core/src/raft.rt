@@ -5,7 +5,7 @@ ghost use Rattle.can_frame.specs.declared.step.Role.TheVariants.{Follower};
 ghost use Rattle.raft_log.specs.DurableViews.{durable_state};
 ghost use Rattle.raft_log.specs.Stored.{Stored};
 ghost use Rattle.raft_model.specs.Lists.{how_many};
-ghost use Rattle.raft_model.specs.Moves.{term_memory, term_puts, with_term};
+ghost use Rattle.raft_model.specs.Moves.Elections.{term_memory, term_puts, with_term};
 ghost use Rattle.raft_model.specs.Server.{Plain, quorum, opened};
 
 use crate::laws::puts_in_turn;
@@ -78,7 +78,9 @@ impl Raft {
         requires most { me ≤ 125 }
         requires some { 1 ≤ size }
         requires five { size ≤ 5 }
-        ensures stands { (members : List ℕ) (state : Stored) → StandsFor result members state (record { store = store_of state; memory = opened }) (opened_times now word) }
+        ensures stands { (members : List ℕ) (state : Stored) →
+            StandsFor result members state (record { store = store_of state; memory = opened })
+            (opened_times now word) }
         ensures fits { (state : Stored) → Fits result state }
         ensures me { raft_me result ≡ me }
         ensures size { raft_size result ≡ size }
@@ -97,7 +99,8 @@ impl Raft {
 
     pub fn role(&self) -> Role
         ensures role { result ≡ raft_role self.now }
-        ensures stands { (members : List ℕ) (state : Stored) (server : Plain) (times : Times) → StandsFor self.now members state server times → server.memory.role ≡ role_of result }
+        ensures stands { (members : List ℕ) (state : Stored) (server : Plain) (times : Times) →
+            StandsFor self.now members state server times → server.memory.role ≡ role_of result }
     {
         self.role
     }
@@ -119,10 +122,15 @@ impl Raft {
         term: u32,
         now: u64,
     ) -> Result<(), Fault>
-        ensures puts { DoesPuts (term_puts (store_of (durable_state d.old)) term) d.old d.new (result_err result) }
-        ensures stands { (members : List ℕ) (server : Plain) (times : Times) → StandsFor self.old members (durable_state d.old) server times →
-            OnOk result (StandsFor self.new members (durable_state d.new) (record { store = with_term server.store term; memory = term_memory server term }) (clock.raise now term server times)) }
-        ensures fits { Fits self.old (durable_state d.old) → OnOk result (Fits self.new (durable_state d.new)) }
+        ensures puts { DoesPuts (term_puts (store_of (durable_state d.old)) term)
+            d.old d.new (result_err result) }
+        ensures stands { (members : List ℕ) (server : Plain) (times : Times) →
+            StandsFor self.old members (durable_state d.old) server times →
+            OnOk result (StandsFor self.new members (durable_state d.new)
+            (record { store = with_term server.store term; memory = term_memory server term })
+            (clock.raise now term server times)) }
+        ensures fits { Fits self.old (durable_state d.old) →
+            OnOk result (Fits self.new (durable_state d.new)) }
         ensures me { raft_me self.new ≡ raft_me self.old }
         ensures size { raft_size self.new ≡ raft_size self.old }
         ensures role { OnOk result (self.new.role ≢ Follower → self.new.role ≡ self.old.role) }
@@ -153,7 +161,8 @@ impl Raft {
 
     fn backs(&self, node: u8, cause: Cause) -> bool
         requires { node < 128 }
-        ensures { (test : ℕ → Bool) → Backs self.now.me self.now.peers cause test → result ≡ test node }
+        ensures { (test : ℕ → Bool) → Backs self.now.me self.now.peers cause test →
+            result ≡ test node }
     {
         match cause {
             Cause::Candidacy => self.peers[node as usize].voted,

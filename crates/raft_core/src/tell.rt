@@ -34,7 +34,8 @@ impl Raft {
     /// What is to be told next: the entry after the last that was told, where it is committed.
     pub fn tell<D: Disk>(&self, d: &Durable<D>) -> Telling
         requires fits { Fits self.now (durable_state d.now) }
-        ensures says { (members : List ℕ) (server : Plain) (times : Times) → StandsFor self.now members (durable_state d.now) server times → IsToTell server result }
+        ensures says { (members : List ℕ) (server : Plain) (times : Times) →
+            StandsFor self.now members (durable_state d.now) server times → IsToTell server result }
         ensures next { TellsNext self.now (durable_state d.now) result }
     {
         a_durable_state_is_kept::<D>();
@@ -52,10 +53,15 @@ impl Raft {
     /// The entry at the place after the last was told, or passed over.
     pub fn told(&mut self, place: u8)
         requires { place ≡ raft_told self.old + 1 }
-        ensures moves { (members : List ℕ) (step : ℕ) (state : Stored) (server : Plain) (times : Times) → StandsFor self.old members state server times →
+        ensures moves { (members : List ℕ) (step : ℕ) (state : Stored)
+            (server : Plain) (times : Times) →
+            StandsFor self.old members state server times →
             (given : Given) (move : Move) → IsTelling move →
-            StandsFor self.new members state (plain_after_all members (raft_me self.old) step server (move ∷ [])) (times_after_all members (raft_me self.old) step given server (move ∷ []) times) }
-        ensures fits { (state : Stored) → Fits self.old state → raft_told self.old < state.commit → Fits self.new state }
+            StandsFor self.new members state
+            (plain_after_all members (raft_me self.old) step server (move ∷ []))
+            (times_after_all members (raft_me self.old) step given server (move ∷ []) times) }
+        ensures fits { (state : Stored) → Fits self.old state → raft_told self.old < state.commit →
+            Fits self.new state }
         ensures me { raft_me self.new ≡ raft_me self.old }
         ensures size { raft_size self.new ≡ raft_size self.old }
     {

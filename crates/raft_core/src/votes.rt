@@ -8,7 +8,7 @@ ghost use Rattle.raft_model.specs.Decisions.{grants};
 ghost use Rattle.raft_model.specs.Messages.{Answer, Request};
 ghost use Rattle.raft_model.specs.Lists.{at};
 ghost use Rattle.raft_model.specs.Log.{NotAbove};
-ghost use Rattle.raft_model.specs.Moves.{MayGrant, counts, has_quorum, vote_puts, win_memory, win_puts, with_term};
+ghost use Rattle.raft_model.specs.Moves.Elections.{MayGrant, counts, has_quorum, vote_puts, win_memory, win_puts, with_term};
 ghost use Rattle.raft_model.specs.Moves.Move.{TakeVoteRequest, TakeVoteAnswer};
 ghost use Rattle.raft_model.specs.Server.{Plain, put_all};
 ghost use Rattle.raft_core.specs.Handled.{answer_of, vote_request_of};
@@ -44,10 +44,15 @@ impl Raft {
         requires least { 1 ≤ from }
         requires most { from ≤ 125 }
         requires fits { Fits self.old (durable_state d.old) }
-        ensures moves { (members : List ℕ) (step : ℕ) (server : Plain) (times : Times) → StandsFor self.old members (durable_state d.old) server times →
-            (made_in : ℕ) → let request = vote_request_of req.now made_in from (raft_me self.old) in let granted = grants (with_term server.store request.term) request in
-            MakesMoves members (raft_me self.old) step (given_at now) (TakeVoteRequest request granted ∷ []) server times d.old d.new self.new (result_err result) ×
-            IfOk result (λ answer. (answer.term ≡ (with_term server.store request.term).term) × (answer.granted ≡ granted)) }
+        ensures moves { (members : List ℕ) (step : ℕ) (server : Plain) (times : Times) →
+            StandsFor self.old members (durable_state d.old) server times →
+            (made_in : ℕ) → let request = vote_request_of req.now made_in from (raft_me self.old) in
+            let granted = grants (with_term server.store request.term) request in
+            MakesMoves members (raft_me self.old) step (given_at now)
+            (TakeVoteRequest request granted ∷ []) server times
+            d.old d.new self.new (result_err result) ×
+            IfOk result (λ answer. (answer.term ≡ (with_term server.store request.term).term) ×
+            (answer.granted ≡ granted)) }
         ensures fault { KeepsFaults d.old d.new (result_err result) }
         ensures fits { OnOk result (Fits self.new (durable_state d.new)) }
         ensures me { raft_me self.new ≡ raft_me self.old }
@@ -82,11 +87,17 @@ impl Raft {
     ) -> Result<bool, Fault>
         requires most { from ≤ 125 }
         requires fits { Fits self.old (durable_state d.old) }
-        ensures refused { (members : List ℕ) (server : Plain) (times : Times) → StandsFor self.old members (durable_state d.old) server times →
-            is_awaited server times from false id ≡ false → (result ≡ Ok false) × (self.new ≡ self.old) × (d.new ≡ d.old) }
-        ensures moves { (members : List ℕ) (step : ℕ) (server : Plain) (times : Times) → StandsFor self.old members (durable_state d.old) server times →
-            is_awaited server times from false id ≡ true → (made_in : ℕ) (request : Request) → server.memory.pending from ≡ Some request →
-            MakesMoves members (raft_me self.old) step (given_at now) (TakeVoteAnswer (answer_of made_in from request ans.now.term ans.now.granted) ∷ []) server times d.old d.new self.new (result_err result) ×
+        ensures refused { (members : List ℕ) (server : Plain) (times : Times) →
+            StandsFor self.old members (durable_state d.old) server times →
+            is_awaited server times from false id ≡ false → (result ≡ Ok false) ×
+            (self.new ≡ self.old) × (d.new ≡ d.old) }
+        ensures moves { (members : List ℕ) (step : ℕ) (server : Plain) (times : Times) →
+            StandsFor self.old members (durable_state d.old) server times →
+            is_awaited server times from false id ≡ true → (made_in : ℕ) (request : Request) →
+            server.memory.pending from ≡ Some request →
+            MakesMoves members (raft_me self.old) step (given_at now)
+            (TakeVoteAnswer (answer_of made_in from request ans.now.term ans.now.granted) ∷ [])
+            server times d.old d.new self.new (result_err result) ×
             IfOk result (λ taken. IsTrue taken) }
         ensures fault { KeepsFaults d.old d.new (result_err result) }
         ensures fits { OnOk result (Fits self.new (durable_state d.new)) }
@@ -109,7 +120,10 @@ impl Raft {
 
     /// Whether an answer counts: a grant, for a candidate of this term.
     fn counts(&self, term: u32, ans: &VoteAnswer) -> bool
-        ensures counts { (server : Plain) (answer : Answer) → server.memory.role ≡ role_of self.now.role → server.store.term ≡ term → answer.term ≡ ans.now.term → answer.success ≡ ans.now.granted → result ≡ counts server answer }
+        ensures counts { (server : Plain) (answer : Answer) →
+            server.memory.role ≡ role_of self.now.role → server.store.term ≡ term →
+            answer.term ≡ ans.now.term → answer.success ≡ ans.now.granted →
+            result ≡ counts server answer }
         ensures candidate { result ≡ true → self.now.role ≡ Candidate }
     {
         self.role == Role::Candidate && ans.term == term && ans.granted
@@ -118,7 +132,8 @@ impl Raft {
     /// A node answered the vote request of this term: it is not asked again.
     fn note_answer(&mut self, from: u8)
         requires { from ≤ 125 }
-        ensures stands { (members : List ℕ) (state : Stored) (server : Plain) (times : Times) → StandsFor self.old members state server times →
+        ensures stands { (members : List ℕ) (state : Stored) (server : Plain) (times : Times) →
+            StandsFor self.old members state server times →
             StandsFor self.new members state server (record times { answered = at times.answered from true }) }
         ensures fits { (state : Stored) → Fits self.old state → Fits self.new state }
         ensures me { raft_me self.new ≡ raft_me self.old }
@@ -130,7 +145,8 @@ impl Raft {
     /// The vote of a node counts.
     fn count(&mut self, from: u8)
         requires { from ≤ 125 }
-        ensures stands { (members : List ℕ) (state : Stored) (server : Plain) (times : Times) → StandsFor self.old members state server times →
+        ensures stands { (members : List ℕ) (state : Stored) (server : Plain) (times : Times) →
+            StandsFor self.old members state server times →
             StandsFor self.new members state (record server { memory = record server.memory { votes = at server.memory.votes from true } }) times }
         ensures fits { (state : Stored) → Fits self.old state → Fits self.new state }
         ensures me { raft_me self.new ≡ raft_me self.old }
@@ -145,9 +161,13 @@ impl Raft {
         requires most { from ≤ 125 }
         requires role { self.old.role ≡ Candidate }
         requires fits { Fits self.old (durable_state d.old) }
-        ensures puts { (members : List ℕ) (server : Plain) (times : Times) → StandsFor self.old members (durable_state d.old) server times →
-            DoesPuts (if has_quorum members (at server.memory.votes from true) then win_puts server.store else []) d.old d.new (result_err result) }
-        ensures stands { (members : List ℕ) (server : Plain) (times : Times) → StandsFor self.old members (durable_state d.old) server times →
+        ensures puts { (members : List ℕ) (server : Plain) (times : Times) →
+            StandsFor self.old members (durable_state d.old) server times →
+            DoesPuts
+            (if has_quorum members (at server.memory.votes from true) then win_puts server.store else [])
+            d.old d.new (result_err result) }
+        ensures stands { (members : List ℕ) (server : Plain) (times : Times) →
+            StandsFor self.old members (durable_state d.old) server times →
             let counted = record server.memory { votes = at server.memory.votes from true } in
             OnOk result (StandsFor self.new members (durable_state d.new)
             (if has_quorum members counted.votes then record { store = put_all server.store (win_puts server.store); memory = win_memory server.store counted } else record server { memory = counted })
@@ -170,8 +190,10 @@ impl Raft {
 fn vote<D: Disk>(d: &mut Durable<D>, node: u8) -> Result<(), Fault>
     requires least { 1 ≤ node }
     requires most { node ≤ 125 }
-    ensures puts { DoesPuts (vote_puts (store_of (durable_state d.old)).vote node) d.old d.new (result_err result) }
-    ensures state { OnOk result (durable_state d.new ≡ record (durable_state d.old) { vote = if (durable_state d.old).vote == 0 then node else (durable_state d.old).vote }) }
+    ensures puts { DoesPuts (vote_puts (store_of (durable_state d.old)).vote node)
+        d.old d.new (result_err result) }
+    ensures state { OnOk result (durable_state d.new
+        ≡ record (durable_state d.old) { vote = if (durable_state d.old).vote == 0 then node else (durable_state d.old).vote }) }
 {
     puts_in_turn::<D>();
     if d.vote() == 0 {
@@ -183,7 +205,8 @@ fn vote<D: Disk>(d: &mut Durable<D>, node: u8) -> Result<(), Fault>
 /// Whether a vote may be granted in the member's term.
 fn may_grant<D: Disk>(d: &Durable<D>, from: u8, req: &VoteRequest) -> bool
     requires { 1 ≤ from }
-    ensures { (step to : ℕ) → IsTrue result ↔ MayGrant (store_of (durable_state d.now)) (vote_request_of req.now step from to) }
+    ensures { (step to : ℕ) → IsTrue result ↔
+        MayGrant (store_of (durable_state d.now)) (vote_request_of req.now step from to) }
 {
     let free = d.vote() == 0 || d.vote() == from;
     req.term == d.term() && free && is_not_behind(d, req)
@@ -192,7 +215,8 @@ fn may_grant<D: Disk>(d: &Durable<D>, from: u8, req: &VoteRequest) -> bool
 /// The candidate's log is not behind: its last term is above the member's, or is the same and its last
 /// place not below.
 fn is_not_behind<D: Disk>(d: &Durable<D>, req: &VoteRequest) -> bool
-    ensures { IsTrue result ↔ NotAbove (last_term (durable_state d.now).log) (length (durable_state d.now).log) req.now.last_term req.now.last_index }
+    ensures { IsTrue result ↔
+        NotAbove (last_term (durable_state d.now).log) (length (durable_state d.now).log) req.now.last_term req.now.last_index }
 {
     let last_term = d.entry(d.last()).term;
     last_term < req.last_term || last_term == req.last_term && d.last() <= req.last_index

@@ -1,6 +1,6 @@
 use Rattle.std.proofs.Common.{rules}
 use Rattle.raft_log.specs.DurableViews.{durable_state}
-use Rattle.raft_model.specs.Moves.{HasPrevious}
+use Rattle.raft_model.specs.Moves.Appending.{HasPrevious}
 use Rattle.raft_core.specs.Handled.{append_request_of}
 use Rattle.raft_core.specs.StoredPuts.{store_of}
 use Rattle.raft_core.proofs.Appending.{held_without, refused_so}

@@ -2,7 +2,7 @@ use Rattle.std.proofs.Common.{rules, ℕ, ◌+◌, subst, refl}
 use Rattle.std.specs.Prelude.{min}
 use Rattle.std.specs.Result.{result_err}
 use Rattle.raft_log.specs.DurableViews.{durable_state}
-use Rattle.raft_model.specs.Moves.{HasPrevious}
+use Rattle.raft_model.specs.Moves.Appending.{HasPrevious}
 use Rattle.raft_core.specs.Appending.{commit_puts, write_puts}
 use Rattle.raft_core.specs.Handled.{append_request_of}
 use Rattle.raft_core.specs.StoredPuts.{DoesPuts, store_of}

@@ -1,6 +1,6 @@
 use Rattle.std.proofs.Common.{◌≤◌, ◌<◌, ℕ, List, length}
 use Rattle.raft_log.specs.DurableViews.{durable_state}
-use Rattle.raft_model.specs.Moves.{CanCommit}
+use Rattle.raft_model.specs.Moves.Leading.{CanCommit}
 use Rattle.raft_model.specs.Server.{Plain}
 use Rattle.raft_core.specs.Stands.{StandsFor}
 use Rattle.raft_core.specs.Times.{Times}

@@ -2,7 +2,8 @@ use Rattle.std.proofs.Common.{rules, subst, refl}
 use Rattle.std.specs.Prelude.{Some, None}
 use Rattle.raft_log.specs.DurableViews.{durable_state}
 use Rattle.raft_model.specs.Decisions.{judges}
-use Rattle.raft_model.specs.Moves.{append_puts, term_puts, with_term}
+use Rattle.raft_model.specs.Moves.Appending.{append_puts}
+use Rattle.raft_model.specs.Moves.Elections.{term_puts, with_term}
 use Rattle.raft_core.specs.Handled.{append_request_of}
 use Rattle.raft_core.specs.StoredPuts.{DoesPuts, store_of}
 use Rattle.raft_core.specs.Times.{given_at}

@@ -1,7 +1,7 @@
 use Rattle.std.proofs.Common.{rules, ◌≡◌, ◌++◌, true, false, refl, sym, subst, ap, ◌∙◌}
 use Rattle.std.specs.Prelude.{Some, None, nat_lt}
 use Rattle.raft_log.specs.DurableViews.{durable_state}
-use Rattle.raft_model.specs.Moves.{counted, ended, term_puts}
+use Rattle.raft_model.specs.Moves.Elections.{counted, ended, term_puts}
 use Rattle.raft_model.specs.Server.{Plain, Store}
 use Rattle.raft_core.specs.Handled.{answer_of}
 use Rattle.raft_core.specs.StoredPuts.{DoesPuts, store_of}

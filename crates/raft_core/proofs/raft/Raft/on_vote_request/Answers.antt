@@ -2,7 +2,7 @@ use Rattle.std.proofs.Common.{rules, [], refl, subst}
 use Rattle.std.specs.Prelude.{Some}
 use Rattle.raft_log.specs.DurableViews.{durable_state}
 use Rattle.raft_model.specs.Decisions.{grants}
-use Rattle.raft_model.specs.Moves.{MayGrant, grant_puts, term_puts, vote_puts, with_term}
+use Rattle.raft_model.specs.Moves.Elections.{MayGrant, grant_puts, term_puts, vote_puts, with_term}
 use Rattle.raft_core.specs.Handled.{vote_request_of}
 use Rattle.raft_core.specs.StoredPuts.{DoesPuts, store_of}
 use Rattle.raft_core.specs.Times.{given_at}

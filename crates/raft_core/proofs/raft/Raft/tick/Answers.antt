@@ -1,7 +1,7 @@
 use Rattle.std.proofs.Common.{rules, ◌≡◌, ◌++◌, ◌∷◌, [], ℕ, List, Bool, true, false, Some, None, sym, subst, ap, ◌∙◌}
 use Rattle.std.specs.Prelude.{if◌then◌else◌}
 use Rattle.raft_log.specs.DurableViews.{durable_state}
-use Rattle.raft_model.specs.Moves.{has_quorum, own_vote, stand_memory, stand_puts, win_memory, win_puts}
+use Rattle.raft_model.specs.Moves.Elections.{has_quorum, own_vote, stand_memory, stand_puts, win_memory, win_puts}
 use Rattle.raft_model.specs.Server.{Plain, Store, put_all}
 use Rattle.raft_core.specs.Stands.{StandsFor}
 use Rattle.raft_core.specs.StoredPuts.{DoesPuts, store_of}
