@@ -89,12 +89,7 @@ fn joined(front: &[u8], back: &[u8]) -> ArrayVec<u8, 16>
     ensures { result.items ≡ front.now ++ back.now }
 {
     let mut bytes = ArrayVec::new();
-    match bytes.try_extend_from_slice(front) {
-        Ok(()) => {}
-        Err(_) => unreachable!(),
-    }
-    match bytes.try_extend_from_slice(back) {
-        Ok(()) => bytes,
-        Err(_) => unreachable!(),
-    }
+    bytes.try_extend_from_slice(front).unwrap();
+    bytes.try_extend_from_slice(back).unwrap();
+    bytes
 }

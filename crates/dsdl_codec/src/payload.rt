@@ -16,10 +16,7 @@ pub fn append(payload: &mut Payload, bytes: &[u8])
     ensures items { payload.new.items ≡ payload.old.items ++ bytes.now }
     ensures len { array_vec_len payload.new ≡ array_vec_len payload.old + length bytes.now }
 {
-    match payload.try_extend_from_slice(bytes) {
-        Ok(()) => {}
-        Err(_) => unreachable!(),
-    }
+    payload.try_extend_from_slice(bytes).unwrap();
 }
 
 /// A field of `N` bytes, and what is left.

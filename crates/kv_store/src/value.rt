@@ -26,10 +26,8 @@ pub fn value_of(bytes: &[u8]) -> Value
     ensures { result.items ≡ bytes.now }
 {
     let mut value = Value::new();
-    match value.try_extend_from_slice(bytes) {
-        Ok(()) => value,
-        Err(_) => unreachable!(),
-    }
+    value.try_extend_from_slice(bytes).unwrap();
+    value
 }
 
 /// The value in the copy of a key that its selector chooses. None where its length is too large.

@@ -168,10 +168,8 @@ fn all_members(me: u8, peers: &[u8]) -> ArrayVec<u8, 5>
 {
     let mut members = ArrayVec::new();
     members.push(me);
-    match members.try_extend_from_slice(peers) {
-        Ok(()) => members,
-        Err(_) => unreachable!(),
-    }
+    members.try_extend_from_slice(peers).unwrap();
+    members
 }
 
 /// A new leader appends a blank, where its log is not all committed and has room.

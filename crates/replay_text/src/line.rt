@@ -37,10 +37,7 @@ impl Line {
         ensures text { self.new ≡ self.old ++ text.now }
         ensures len { length self.new ≡ length self.old + length text.now }
     {
-        match self.bytes.try_extend_from_slice(text) {
-            Ok(()) => {}
-            Err(_) => unreachable!(),
-        }
+        self.bytes.try_extend_from_slice(text).unwrap();
     }
 
     /// Appends a number in decimal.

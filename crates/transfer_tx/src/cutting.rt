@@ -27,20 +27,11 @@ pub(crate) fn bytes_to_cut(signature: u64, payload: &[u8]) -> ArrayVec<u8, 378>
 {
     let mut bytes = ArrayVec::new();
     if payload.len() > 7 {
-        extend(&mut bytes, &crc(signature, payload).to_le_bytes());
+        let crc = crc(signature, payload).to_le_bytes();
+        bytes.try_extend_from_slice(&crc).unwrap();
     }
-    extend(&mut bytes, payload);
+    bytes.try_extend_from_slice(payload).unwrap();
     bytes
-}
-
-fn extend(bytes: &mut ArrayVec<u8, 378>, more: &[u8])
-    requires { array_vec_len bytes.old + length more.now ≤ 378 }
-    ensures { bytes.new.items ≡ bytes.old.items ++ more.now }
-{
-    match bytes.try_extend_from_slice(more) {
-        Ok(()) => {}
-        Err(_) => unreachable!(),
-    }
 }
 
 /// What the frames of one transfer have in common.
@@ -91,10 +82,8 @@ impl Stamp {
             id: self.transfer_id,
         };
         let mut kept = ArrayVec::new();
-        match kept.try_extend_from_slice(bytes) {
-            Ok(()) => kept.push(tail.write()),
-            Err(_) => unreachable!(),
-        }
+        kept.try_extend_from_slice(bytes).unwrap();
+        kept.push(tail.write());
         Marked {
             frame: Frame {
                 id: self.id,

@@ -168,6 +168,9 @@ mod tests {
             assert_eq!(rt; sent, len);
             assert_eq!(rt; next(&mut two), Ok(Received::Junk));
         }
+        let wide = [0x20, 0, 0, 0, 1, 0xc0];
+        assert_eq!(rt; third.send_to(&wide, to)?, wide.len());
+        assert_eq!(rt; next(&mut two), Ok(Received::Junk));
         assert_eq!(rt; third.send_to(&[8; 13], to)?, 13);
         let eights = RawFrame {
             id: 0x0808_0808,
