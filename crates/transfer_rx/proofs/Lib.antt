@@ -8,6 +8,7 @@ pub mod Cuts
 pub mod Cuttings
 pub mod Deliveries
 pub mod Earlier
+pub mod Filled
 pub mod Found
 pub mod InTurn
 pub mod Keeps
@@ -16,6 +17,7 @@ pub mod Marks
 pub mod Origin
 pub mod Places
 pub mod Pointwise
+pub mod Room
 pub mod Soundness
 pub mod Steps
 pub mod Unmarking

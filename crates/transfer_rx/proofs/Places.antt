@@ -1,11 +1,12 @@
 -- What places stand for, when old sessions are left out and when a session is set.
-use Rattle.std.proofs.Common.{◌≡◌, ℕ, ◌-◌, ◌≤◌, ◌<◌, true, false, List, [], length, get_or, Option, Some, None, refl, sym, ◌∙◌, subst, arith, nat_le, set, inl, inr, replicate}
-use Rattle.std.proofs.lemmas.Bool.{le-leb, lt-leb}
+use Rattle.std.proofs.Common.{◌≡◌, ℕ, ◌-◌, ◌≢◌, ◌≤◌, ◌<◌, ◌+◌, true, false, List, [], ◌∷◌, length, get_or, Option, Some, None, refl, sym, ◌∙◌, subst, arith, nat_le, set, inl, inr, replicate}
+use Rattle.std.specs.Prelude.{IfSome}
+use Rattle.std.proofs.lemmas.Bool.{cases_Bool, le-leb, lt-leb}
 use Rattle.std.proofs.Math.ListN.{get_or-map}
 use Rattle.std.proofs.lemmas.List.{length-map, length-set, get_or-set_same, get_or-set_other, get_or-replicate, length-replicate}
 use Rattle.std.proofs.lemmas.Bool.Decides.{eqb_tells}
 use Rattle.transfer_rx.specs.declared.progress.Progress.{Progress}
-use Rattle.transfer_rx.specs.Sessions.{Session}
+use Rattle.transfer_rx.specs.Sessions.{Session, is_recent}
 use Rattle.transfer_rx.specs.Stands.{Keeps, Holds}
 use Rattle.transfer_rx.specs.Places.{Places, Stand, kept, left}
 
@@ -45,38 +46,64 @@ all_left now places progress bytes size each = record {
   each = λ i h. subst (λ o. Holds (get_or progress i None) (get_or bytes i []) o) (sym (left-by_place now places i)) (each i h);
 }
 
-set_here : (progress : List (Option Progress)) (bytes : List (List ℕ)) (left : Places) (place : ℕ) (p : Progress)
-    (after : List ℕ) (session : Session) → length left ≡ length progress → place < length progress → place < length bytes →
-    Keeps p after session → (i : ℕ) → i ≡ place →
-    Holds (get_or (set progress place (Some p)) i None) (get_or (set bytes place after) i []) (get_or (set left place (Some session)) i None)
-set_here progress bytes left place p after session size h w k i e =
-    let a : get_or (set progress place (Some p)) place None ≡ Some p = get_or-set_same progress place (Some p) None h in
-    let b : get_or (set bytes place after) place [] ≡ after = get_or-set_same bytes place after [] w in
-    let d : get_or (set left place (Some session)) place None ≡ Some session = get_or-set_same left place (Some session) None (omega arith) in
-    subst (λ j. Holds (get_or (set progress place (Some p)) j None) (get_or (set bytes place after) j []) (get_or (set left place (Some session)) j None)) (sym e)
-    (subst (λ x. Holds x (get_or (set bytes place after) place []) (get_or (set left place (Some session)) place None)) (sym a)
-    (subst (λ x. Holds (Some p) x (get_or (set left place (Some session)) place None)) (sym b)
-    (subst (λ x. Holds (Some p) after x) (sym d) k)))
-
--- a place that is set anew, where its bytes change with it
-pub set_stands : (progress : List (Option Progress)) (bytes : List (List ℕ)) (left : Places) (place : ℕ) (p : Progress)
-    (after : List ℕ) (session : Session) → Stand progress bytes left → place < length progress → place < length bytes →
-    Keeps p after session → Stand (set progress place (Some p)) (set bytes place after) (set left place (Some session))
-set_stands progress bytes left place p after session s h w k = record {
+-- a place that is set anew, where its chain changes with it and no other one does
+pub set_stands : (progress : List (Option Progress)) (chains after : List (List ℕ)) (left : Places) (place : ℕ) (p : Progress) (session : Session) →
+    Stand progress chains left → place < length progress → ((i : ℕ) → i ≢ place → get_or after i [] ≡ get_or chains i []) →
+    Keeps p (get_or after place []) session → Stand (set progress place (Some p)) after (set left place (Some session))
+set_stands progress chains after left place p session s h others k = record {
   size = length-set left place (Some session) ∙ s.size ∙ sym (length-set progress place (Some p));
   each = λ i l.
       let l' : i < length progress = subst (λ n. i < n) (length-set progress place (Some p)) l in
       elim (eqb_tells i place) [
-        | inl same ↦ set_here progress bytes left place p after session s.size h w k i same.1
+        | inl same ↦
+            let a : get_or (set progress place (Some p)) place None ≡ Some p = get_or-set_same progress place (Some p) None h in
+            let d : get_or (set left place (Some session)) place None ≡ Some session = get_or-set_same left place (Some session) None (omega (arith, s.size)) in
+            subst (λ j. Holds (get_or (set progress place (Some p)) j None) (get_or after j []) (get_or (set left place (Some session)) j None)) (sym same.1)
+            (subst (λ x. Holds x (get_or after place []) (get_or (set left place (Some session)) place None)) (sym a)
+            (subst (λ x. Holds (Some p) (get_or after place []) x) (sym d) k))
         | inr other ↦
             let a : get_or (set progress place (Some p)) i None ≡ get_or progress i None = get_or-set_other progress place i (Some p) None other.1 in
-            let b : get_or (set bytes place after) i [] ≡ get_or bytes i [] = get_or-set_other bytes place i after [] other.1 in
             let d : get_or (set left place (Some session)) i None ≡ get_or left i None = get_or-set_other left place i (Some session) None other.1 in
-            subst (λ x. Holds x (get_or (set bytes place after) i []) (get_or (set left place (Some session)) i None)) (sym a)
-            (subst (λ x. Holds (get_or progress i None) x (get_or (set left place (Some session)) i None)) (sym b)
-            (subst (λ x. Holds (get_or progress i None) (get_or bytes i []) x) (sym d) (s.each i l')))
+            subst (λ x. Holds x (get_or after i []) (get_or (set left place (Some session)) i None)) (sym a)
+            (subst (λ x. Holds (get_or progress i None) x (get_or (set left place (Some session)) i None)) (sym (others i other.1))
+            (subst (λ x. Holds (get_or progress i None) (get_or chains i []) x) (sym d) (s.each i l')))
       ];
 }
+
+-- ---- old sessions are forgotten, place by place
+
+same_chain : (o : Option Progress) (chain after : List ℕ) (there : Option Session) → Holds o chain there → IfSome o (λ p. after ≡ chain) → Holds o after there
+same_chain None chain after None h e = tt
+same_chain None chain after (Some session) h e = absurd h
+same_chain (Some p) chain after there h e = subst (λ b. Holds (Some p) b there) (sym e) h
+
+pub one_more_kept : (now place : ℕ) (progress : List (Option Progress)) (chains after : List (List ℕ)) (kept_there : Option Progress) (places : Places) →
+    place < length progress → ((i : ℕ) → i ≢ place → get_or after i [] ≡ get_or chains i []) →
+    IfSome kept_there (λ p. get_or after place [] ≡ get_or chains place []) →
+    ((i : ℕ) → i < place → Holds (get_or progress i None) (get_or chains i []) (kept now (get_or places i None))) →
+    Holds kept_there (get_or chains place []) (kept now (get_or places place None)) →
+    (i : ℕ) → i < place + 1 → Holds (get_or (set progress place kept_there) i None) (get_or after i []) (kept now (get_or places i None))
+one_more_kept now place progress chains after kept_there places h others same done here i l = elim (eqb_tells i place) [
+  | inl own ↦
+      subst (λ j. Holds (get_or (set progress place kept_there) j None) (get_or after j []) (kept now (get_or places j None))) (sym own.1)
+      (subst (λ x. Holds x (get_or after place []) (kept now (get_or places place None))) (sym (get_or-set_same progress place kept_there None h))
+      (same_chain kept_there (get_or chains place []) (get_or after place []) (kept now (get_or places place None)) here same))
+  | inr other ↦
+      let ne = other.1 in
+      subst (λ x. Holds x (get_or after i []) (kept now (get_or places i None))) (sym (get_or-set_other progress place i kept_there None other.1))
+      (subst (λ x. Holds (get_or progress i None) x (kept now (get_or places i None))) (sym (others i other.1)) (done i (omega arith)))
+]
+
+kept_twice : (now : ℕ) (o : Option Session) → kept now (kept now o) ≡ kept now o
+kept_twice now None = refl
+kept_twice now (Some session) = elim (cases_Bool (is_recent now session)) [
+  | inl t ↦ let t' : is_recent now session ≡ true = t in rw (t', t') refl
+  | inr f ↦ let f' : is_recent now session ≡ false = f in rw f' refl
+]
+
+pub left_twice : (now : ℕ) (places : Places) → left now (left now places) ≡ left now places
+left_twice now [] = refl
+left_twice now (o ∷ places) = λ i. kept_twice now o i ∷ left_twice now places i
 
 abbrev no_progress : Option Progress
 no_progress = None

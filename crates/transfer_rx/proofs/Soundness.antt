@@ -28,14 +28,14 @@ use Rattle.transfer_rx.proofs.Steps.{anonymous, key-after, of_session, unwanted}
 
 -- ---- a frame that goes on
 
-grows_only : (wrong lacks end : Bool) (whole : Bool) (payload : List ℕ) →
+pub grows_only : (wrong lacks end : Bool) (whole : Bool) (payload : List ℕ) →
     cond wrong (Spoils Length) (cond lacks (Spoils NoBlock) (cond end (cond whole (Delivers payload) (Spoils Crc)) Grows)) ≡ Grows →
-    (wrong ≡ false) × (end ≡ false)
+    (wrong ≡ false) × (end ≡ false) × (lacks ≡ false)
 grows_only true lacks end whole payload h = absurd cc
 grows_only false true end whole payload h = absurd cc
 grows_only false false true true payload h = absurd cc
 grows_only false false true false payload h = absurd cc
-grows_only false false false whole payload h = (refl, refl)
+grows_only false false false whole payload h = (refl, refl, refl)
 
 seven_only : (size count : ℕ) (same : Bool) → nat_eq size 7 ≡ same → not same || nat_lt 378 (7 * count + size) ≡ false → size ≡ 7
 seven_only size count true e h = eqb-true size 7 e

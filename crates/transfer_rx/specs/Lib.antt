@@ -1,4 +1,5 @@
 pub mod Acceptance
+pub mod Filled
 pub mod Keys
 pub mod Marks
 pub mod Memory

@@ -7,7 +7,7 @@ use Rattle.transfer_rx.specs.Sessions.{Session}
 
 -- what a receiver keeps stands for the sessions of the definition
 abbrev pub StandsFor : {F : Type 0} {S N : ℕ} → Receiver F S N → List Session → Type 0
-StandsFor receiver sessions = StandFor receiver.sessions.progress receiver.sessions.bytes sessions
+StandsFor receiver sessions = StandFor receiver.sessions.progress receiver.sessions.pool sessions
 
 -- what a receiver was made with
 abbrev pub setting_of : {F : Type 0} {S N : ℕ} → Receiver F S N → Setting

@@ -1,10 +1,11 @@
 -- Where a frame comes, in the code and in the definition.
-use Rattle.std.specs.Prelude.{◌≡◌, ℕ, ◌<◌, false, length, List, Some, None, Ok, Err}
+use Rattle.std.specs.Prelude.{◌≡◌, ℕ, ◌<◌, false, length, get_or, [], List, Some, None, Ok, Err}
 use Rattle.can_frame.specs.Cutting.{Piece}
 use Rattle.transfer_rx.specs.declared.key.Key.{Key}
 use Rattle.transfer_rx.specs.declared.progress.Found.{Found}
 use Rattle.transfer_rx.specs.declared.turn.Turn.{Turn}
 use Rattle.transfer_rx.specs.declared.turn.Turn.TheVariants.{Refused, Out, Next}
+use Rattle.transfer_rx.specs.Filled.{Fills}
 use Rattle.transfer_rx.specs.Sessions.{Session, others, session_for}
 use Rattle.transfer_rx.specs.Outcome.{out_of_turn, outcome}
 use Rattle.transfer_rx.specs.Places.{Finds, Places}
@@ -17,10 +18,11 @@ pub record GoesOn (found : Found) (piece : Piece) : Type 0 where
   pub open_end : piece.tail.end ≡ false
 
 -- what can be done without a look at the definition
-abbrev pub IsRoomy : ℕ → Piece → Turn → Type 0
-IsRoomy places piece (Refused why) = Unit {0}
-IsRoomy places piece (Out found why) = found.place < places
-IsRoomy places piece (Next found verdict) = (found.place < places) × IfPart verdict (GoesOn found piece)
+abbrev pub IsRoomy : ℕ → List (List ℕ) → Piece → Turn → Type 0
+IsRoomy places chains piece (Refused why) = Unit {0}
+IsRoomy places chains piece (Out found why) = (found.place < places) × Fills found.progress (get_or chains found.place [])
+IsRoomy places chains piece (Next found verdict) =
+    (found.place < places) × Fills found.progress (get_or chains found.place []) × IfPart verdict (GoesOn found piece)
 
 -- a frame comes to its session
 pub record ComesTo (most : ℕ) (bytes : List (List ℕ)) (key : Key) (piece : Piece) (now : ℕ) (places : Places) (sessions : List Session) (found : Found) : Type 0 where

@@ -8,7 +8,7 @@
 //!
 //! The one contract: for every list of sessions that a receiver stands for, [`Receiver::take`] gives
 //! the definition's answer to a frame and leaves a receiver that stands for the sessions afterwards;
-//! [`Receiver::peek`] tells what it would deliver. The code keeps places, bytes, counts and a moment
+//! [`Receiver::peek`] tells what it would deliver. The code keeps places, chains of a pool of blocks, counts and a moment
 //! (`specs/Places.antt`); none of these shows in a public clause. [`laws`] says what the definition
 //! means: it delivers exactly cuttings, and each undamaged transfer that comes in order.
 //!

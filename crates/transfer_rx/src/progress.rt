@@ -27,6 +27,7 @@ pub struct Found {
 
 impl Progress {
     ghost use Rattle.can_frame.specs.Cutting.{Piece, tail_at};
+    ghost use Rattle.transfer_rx.specs.Filled.{Fills};
     ghost use Rattle.transfer_rx.specs.Marks.{is_whole};
     ghost use Rattle.transfer_rx.specs.Outcome.{out_of_turn, session_blocks};
     ghost use Rattle.transfer_rx.specs.Reassembly.{cut_off, grown};
@@ -36,7 +37,8 @@ impl Progress {
     /// A session that begins with a frame.
     pub fn opened(key: Key, tail: &Tail, now: u64) -> Progress
         requires { tail.now.id < 32 }
-        ensures { (bytes : List ℕ) → Keeps result bytes (opened key tail.now now) }
+        ensures none { result.taken ≡ 0 }
+        ensures keeps { (bytes : List ℕ) → Keeps result bytes (opened key tail.now now) }
     {
         Progress {
             key,
@@ -51,7 +53,8 @@ impl Progress {
     /// Begun anew by a first frame whose ID is neither the expected one nor the one before it.
     pub fn restarted(self, tail: &Tail) -> Progress
         requires { tail.now.id < 32 }
-        ensures { (bytes : List ℕ) (session : Session) → Keeps self bytes session → Keeps result bytes (restarted tail.now session) }
+        ensures filled { (chain : List ℕ) → Fills self chain → Fills result chain }
+        ensures keeps { (bytes : List ℕ) (session : Session) → Keeps self bytes session → Keeps result bytes (restarted tail.now session) }
     {
         if tail.start && tail.id != self.expected && (tail.id + 1) % 32 != self.expected {
             return self.emptied(tail.id, self.moment);
@@ -77,7 +80,8 @@ impl Progress {
 
     /// At a cut the session waits for the next transfer.
     pub fn cut_off(self, now: u64) -> Progress
-        ensures { (bytes after : List ℕ) (session : Session) → Keeps self bytes session → Keeps result after (cut_off now session) }
+        ensures none { result.taken ≡ 0 }
+        ensures keeps { (bytes after : List ℕ) (session : Session) → Keeps self bytes session → Keeps result after (cut_off now session) }
     {
         self.emptied((self.expected + 1) % 32, now)
     }
@@ -85,7 +89,8 @@ impl Progress {
     /// With nothing taken, and an ID to wait for.
     fn emptied(self, expected: u8, moment: u64) -> Progress
         requires { expected < 32 }
-        ensures { (bytes : List ℕ) → Keeps result bytes (record { key = self.key; expected = expected; taken = []; marks = []; moment = moment }) }
+        ensures none { result.taken ≡ 0 }
+        ensures keeps { (bytes : List ℕ) → Keeps result bytes (record { key = self.key; expected = expected; taken = []; marks = []; moment = moment }) }
     {
         Progress {
             key: self.key,

@@ -23,7 +23,7 @@ pub struct Receiver<F, const S: usize, const N: usize> {
     me: u8,
     rows: ArrayVec<AcceptRow, 16>,
     accept: F,
-    sessions: Sessions<S>,
+    sessions: Sessions<S, N>,
 }
 
 impl<F: Fn(Kind, u16) -> Option<u64> + Copy, const S: usize, const N: usize> Receiver<F, S, N> {
@@ -70,8 +70,8 @@ impl<F: Fn(Kind, u16) -> Option<u64> + Copy, const S: usize, const N: usize> Rec
         if is_anonymous(wanted.ident.kind) {
             return alone(wanted.ident, frame, mark);
         }
-        let turn = self.sessions.turn(&wanted, frame, now, N);
         self.sessions.forget(now);
+        let turn = self.sessions.turn(&wanted, frame, now, N);
         self.sessions.settle(turn, wanted.ident, frame, mark, now)
     }
 

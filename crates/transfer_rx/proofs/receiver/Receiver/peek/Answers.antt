@@ -17,6 +17,6 @@ returns-then-is_anonymous-clause-answer g c = λ sessions s.
 
 pub returns-clause-answer : goal.returns-clause-answer
 returns-clause-answer g c = λ sessions s.
-    c.foretell.ensures.delivery g.row.S g.row.N c.in-Ok.wanted.signature c.args.now c.args.self.now.sessions.bytes (left c.args.now s.places) (remembered c.args.now sessions)
+    c.foretell.ensures.delivery g.row.S g.row.N c.in-Ok.wanted.signature c.args.now c.args.self.now.sessions.pool (left c.args.now s.places) (remembered c.args.now sessions)
     (c.turn-turn.ensures.turn s.places (remembered c.args.now sessions) s.stand (forget c.args.now s.places sessions s.arranged))
     ∙ ap (λ (x : Step). delivered x.answer) (sym (of_session (record { rows = c.args.self.now.rows.items; me = c.args.self.now.me; sessions = g.row.S; blocks = g.row.N }) sessions (arrival_of c.args.frame.now c.args.mark c.args.now) c.in-Ok.wanted (sym c.wanted.ensures.wanted ∙ c.in-Ok.is) (sym c.is_anonymous.ensures ∙ c.if-is_anonymous.false)))

@@ -6,6 +6,6 @@ use Rattle.transfer_rx.proofs.sessions.Sessions.blocks_besides.Given as goal
 abbrev pub invariant-loop-place : goal.invariant-loop-place
 invariant-loop-place g l = record {
   few : l.used ≤ 14 * l.place;
-  used : (places : Places) → Stand l.self.progress l.self.bytes places →
+  used : (places : Places) → Stand l.self.progress l.self.pool places →
       l.used ≡ sum_by blocks_at (take l.place (set (left l.now places) l.except None));
 }

@@ -9,7 +9,7 @@ pub returns-in-Some-clause-found : goal.returns-in-Some-clause-found
 returns-in-Some-clause-found g c = λ places sessions s a.
     let size : length c.args.self.now.progress ≡ g.row.S = search rules in
     let same : length (left c.args.now places) ≡ length places = length-map places (kept c.args.now) in
-    own_found c.args.self.now.bytes c.args.key (left c.args.now places) sessions c.in-Some.found a
+    own_found c.args.self.now.pool c.args.key (left c.args.now places) sessions c.in-Some.found a
     (omega (arith, s.size, c.in-Some.ensures.place)) (c.in-Some.ensures.found places s)
 
 pub loop-place-preserved : goal.loop-place-preserved

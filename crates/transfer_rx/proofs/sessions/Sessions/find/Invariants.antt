@@ -5,5 +5,5 @@ use Rattle.transfer_rx.proofs.sessions.Sessions.find.Given as goal
 -- no place before this one has the key's session
 abbrev pub invariant-loop-place : goal.invariant-loop-place
 invariant-loop-place g l =
-    (places : Places) → Stand l.self.progress l.self.bytes places →
+    (places : Places) → Stand l.self.progress l.self.pool places →
     (j : ℕ) → j < l.place → has_key l.key (get_or (left l.now places) j None) ≡ false

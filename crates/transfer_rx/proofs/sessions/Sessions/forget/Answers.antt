@@ -1,12 +1,38 @@
-use Rattle.std.proofs.Common.{◌≡◌, length, get_or, None, [], arith, rules, subst, sym, ◌∙◌}
-use Rattle.transfer_rx.specs.Places.{kept}
+use Rattle.std.proofs.Common.{◌≡◌, ◌≢◌, length, get_or, None, [], ap, arith, rules, subst, sym, ◌∙◌}
+use Rattle.std.proofs.lemmas.List.{get_or-set_other, get_or_default, length-set}
 use Rattle.transfer_rx.specs.Stands.{Holds}
-use Rattle.transfer_rx.proofs.Places.{all_left}
+use Rattle.transfer_rx.proofs.Places.{all_left, one_more_kept}
 use Rattle.transfer_rx.proofs.sessions.Sessions.forget.Goals as goal
 
-pub returns-clause-places : goal.returns-clause-places
-returns-clause-places g c = λ places s.
+pub loop-place-preserved : goal.loop-place-preserved
+loop-place-preserved g c =
+    let size : length c.args.self.now.progress ≡ g.row.S = search rules in
+    let same = c.loop-place.invariant.size in
+    let there = c.loop-place-test.true in
+    let own = get_or_default c.loop-place.self.progress c.loop-place.place c.index-self-place.result None (omega arith)
+    ∙ c.loop-place.invariant.left c.loop-place.place (omega arith) in
+    record {
+      done = λ places s i l.
+          rw c.keep.ensures.progress
+          (one_more_kept c.args.now c.loop-place.place c.loop-place.self.progress c.loop-place.self.pool c.keep.new.self.pool c.unless_old-progress.result places
+          (omega arith) c.keep.ensures.others c.keep.ensures.kept (c.loop-place.invariant.done places s)
+          (c.unless_old-progress.ensures.kept (get_or c.loop-place.self.pool c.loop-place.place []) (get_or places c.loop-place.place None)
+          (subst (λ p. Holds p (get_or c.loop-place.self.pool c.loop-place.place []) (get_or places c.loop-place.place None)) (sym own)
+          (subst (λ b. Holds (get_or c.args.self.now.progress c.loop-place.place None) b (get_or places c.loop-place.place None))
+          (sym (c.loop-place.invariant.chains c.loop-place.place (omega arith))) (s.each c.loop-place.place (omega arith))))) i l);
+      left = λ i l.
+          let ne : i ≢ c.loop-place.place = λ e. omega arith in
+          ap (λ progress. get_or progress i None) c.keep.ensures.progress
+          ∙ get_or-set_other c.loop-place.self.progress c.loop-place.place i c.unless_old-progress.result None ne
+          ∙ c.loop-place.invariant.left i (omega arith);
+      chains = λ i l.
+          let ne : i ≢ c.loop-place.place = λ e. omega arith in
+          c.keep.ensures.others i ne ∙ c.loop-place.invariant.chains i (omega arith);
+      size = ap length c.keep.ensures.progress ∙ length-set c.loop-place.self.progress c.loop-place.place c.unless_old-progress.result ∙ same;
+    }
+
+pub returns : goal.returns
+returns g c = λ places s.
     let size : length c.args.self.now.progress ≡ g.row.S = search rules in
     all_left c.args.now places _ _ (s.size ∙ sym c.loop-place.invariant.size)
-    (λ i h. subst (λ b. Holds (get_or c.loop-place.self.progress i None) (get_or b i []) (kept c.args.now (get_or places i None)))
-    (sym c.loop-place.invariant.bytes) (c.loop-place.invariant.done places s i (omega (arith, c.loop-place.invariant.size))))
+    (λ i h. c.loop-place.invariant.done places s i (omega (arith, c.loop-place.invariant.size)))

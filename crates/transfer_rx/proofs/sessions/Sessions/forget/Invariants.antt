@@ -6,9 +6,9 @@ use Rattle.transfer_rx.proofs.sessions.Sessions.forget.Given as goal
 -- the places before this one are done, the others are as they were
 abbrev pub invariant-loop-place : goal.invariant-loop-place
 invariant-loop-place g l = record {
-  done : (places : Places) → Stand l.fn.self.progress l.fn.self.bytes places → (i : ℕ) → i < l.place →
-      Holds (get_or l.self.progress i None) (get_or l.fn.self.bytes i []) (kept l.now (get_or places i None));
+  done : (places : Places) → Stand l.fn.self.progress l.fn.self.pool places → (i : ℕ) → i < l.place →
+      Holds (get_or l.self.progress i None) (get_or l.self.pool i []) (kept l.now (get_or places i None));
   left : (i : ℕ) → l.place ≤ i → get_or l.self.progress i None ≡ get_or l.fn.self.progress i None;
+  chains : (i : ℕ) → l.place ≤ i → get_or l.self.pool i [] ≡ get_or l.fn.self.pool i [];
   size : length l.self.progress ≡ length l.fn.self.progress;
-  bytes : l.self.bytes ≡ l.fn.self.bytes;
 }

@@ -10,7 +10,7 @@ returns-then-is_none-clause-free g c = λ places sessions s a.
     let size : length c.args.self.now.progress ≡ g.row.S = search rules in
     let same : length (left c.args.now places) ≡ length places = length-map places (kept c.args.now) in
     let free : get_or (left c.args.now places) c.loop-place.place None ≡ None =
-    free_here c.recent.result _ (get_or (left c.args.now places) c.loop-place.place None) (c.recent.ensures places s) (c.is_none.ensures ∙ ap not c.if-is_none.true) in
+    free_here c.recent.result _ (get_or (left c.args.now places) c.loop-place.place None) (c.recent.ensures.recent places s) (c.is_none.ensures ∙ ap not c.if-is_none.true) in
     let room : length sessions < length (left c.args.now places) =
     has_room (left c.args.now places) sessions c.loop-place.place a (omega (arith, s.size)) free in
     (omega (arith, s.size), free)
@@ -18,7 +18,7 @@ returns-then-is_none-clause-free g c = λ places sessions s a.
 pub loop-place-preserved : goal.loop-place-preserved
 loop-place-preserved g c = λ places s.
     below_more _ _ (c.loop-place.invariant places s)
-    (taken_here c.recent.result _ (get_or (left c.args.now places) c.loop-place.place None) (c.recent.ensures places s) (c.is_none.ensures ∙ ap not c.if-is_none.false))
+    (taken_here c.recent.result _ (get_or (left c.args.now places) c.loop-place.place None) (c.recent.ensures.recent places s) (c.is_none.ensures ∙ ap not c.if-is_none.false))
 
 pub returns-clause-free : goal.returns-clause-free
 returns-clause-free g c = λ places sessions s a.

@@ -7,13 +7,13 @@ use Rattle.transfer_rx.proofs.sessions.Sessions.session_for.Goals as goal
 
 pub returns-in-Some-clause-found : goal.returns-in-Some-clause-found
 returns-in-Some-clause-found g c = λ places sessions s a.
-    as_found g.row.S c.args.self.now.bytes c.args.key c.args.tail.now c.args.now (left c.args.now places) sessions
-    c.in-Some.found c.restarted.result (c.in-Some.ensures.found places sessions s a) c.restarted.ensures
+    as_found g.row.S c.args.self.now.pool c.args.key c.args.tail.now c.args.now (left c.args.now places) sessions
+    c.in-Some.found c.restarted.result (c.in-Some.ensures.found places sessions s a) c.restarted.ensures.keeps
 
 pub returns-then-not-tail-clause-found : goal.returns-then-not-tail-clause-found
 returns-then-not-tail-clause-found g c = λ places sessions s a.
-    as_dropped g.row.S c.args.self.now.bytes c.args.key c.args.tail.now c.args.now (left c.args.now places) sessions Start
-    (no_start g.row.S c.args.self.now.bytes c.args.key c.args.tail.now c.args.now (left c.args.now places) sessions
+    as_dropped g.row.S c.args.self.now.pool c.args.key c.args.tail.now c.args.now (left c.args.now places) sessions Start
+    (no_start g.row.S c.args.self.now.pool c.args.key c.args.tail.now c.args.now (left c.args.now places) sessions
     (c.in_default.ensures.found places sessions s a) c.if-not-tail.true)
 
 pub returns-in-Some-free-clause-found : goal.returns-in-Some-free-clause-found
@@ -21,12 +21,12 @@ returns-in-Some-free-clause-found g c = λ places sessions s a.
     let size : length c.args.self.now.progress ≡ g.row.S = search rules in
     let same : length (left c.args.now places) ≡ length places = length-map places (kept c.args.now) in
     let free = c.in-Some-free.ensures.free places sessions s a in
-    as_opened g.row.S c.args.self.now.bytes c.args.key c.args.tail.now c.args.now (left c.args.now places) sessions
+    as_opened g.row.S c.args.self.now.pool c.args.key c.args.tail.now c.args.now (left c.args.now places) sessions
     c.in-Some-free.place c.opened.result (c.in_default.ensures.found places sessions s a) c.if-not-tail.false free.0
-    (omega (arith, s.size, c.in-Some-free.ensures.place)) free.1 c.opened.ensures
+    (omega (arith, s.size, c.in-Some-free.ensures.place)) free.1 c.opened.ensures.keeps
 
 pub returns-in-None-clause-found : goal.returns-in-None-clause-found
 returns-in-None-clause-found g c = λ places sessions s a.
-    as_dropped g.row.S c.args.self.now.bytes c.args.key c.args.tail.now c.args.now (left c.args.now places) sessions NoSession
-    (no_room g.row.S c.args.self.now.bytes c.args.key c.args.tail.now c.args.now (left c.args.now places) sessions
+    as_dropped g.row.S c.args.self.now.pool c.args.key c.args.tail.now c.args.now (left c.args.now places) sessions NoSession
+    (no_room g.row.S c.args.self.now.pool c.args.key c.args.tail.now c.args.now (left c.args.now places) sessions
     (c.in_default.ensures.found places sessions s a) c.if-not-tail.false (c.in-None.ensures.free places sessions s a))

@@ -1,8 +1,9 @@
-use Rattle.std.proofs.Common.{◌≡◌, true, false, length, sym, ◌∙◌, ap}
+use Rattle.std.proofs.Common.{◌≡◌, true, false, [], get_or, length, sym, ◌∙◌, ap}
 use Rattle.can_frame.specs.Cutting.{Piece}
 use Rattle.can_frame.specs.Piece.{piece_of}
 use Rattle.can_frame.specs.declared.tail.Tail.{Tail}
 use Rattle.transfer_rx.specs.Sessions.{others}
+use Rattle.transfer_rx.proofs.Filled.{front_of}
 use Rattle.transfer_rx.proofs.InTurn.{no_part, in_turn_part, in_turn_own, end_length, part_length, spoiled_length, spoiled_blocks, goes_on, ends}
 use Rattle.transfer_rx.proofs.sessions.Sessions.verdict.Goals as goal
 
@@ -39,7 +40,7 @@ returns-then-tail-clause-verdict g c = λ places sessions key session s a f t.
     (sym c.if-lacks_blocks.false ∙ c.lacks_blocks.ensures places sessions key session piece s a f (sym tail) size) end
     (c.assemble.ensures.payload piece.tail.id session.taken piece (in_turn_part piece.tail session t f.keeps.part) (sym f.keeps.taken)
     (sym c.data-data.ensures.bytes) (in_turn_own piece.tail session true t end)
-    f.keeps.collected)
+    (front_of c.args.found.now.progress (get_or c.args.self.now.pool c.args.found.now.place []) c.bytes_at.result c.bytes_at.ensures.bytes c.requires.filled ∙ f.keeps.collected))
 
 pub returns-then-is_wrong_part-clause-verdict : goal.returns-then-is_wrong_part-clause-verdict
 returns-then-is_wrong_part-clause-verdict g c = λ places sessions key session s a f t.

@@ -1,0 +1,21 @@
+use Rattle.std.proofs.Common.{◌≡◌, [], None, get_or, length, ◌∙◌, arith, rules}
+use Rattle.transfer_rx.proofs.Filled.{kept_length, same_place, set_filled}
+use Rattle.transfer_rx.proofs.sessions.Sessions.keep.Goals as goal
+
+pub invariant_of-self : goal.invariant_of-self
+invariant_of-self g c =
+    let size : length c.args.self.now.progress ≡ g.row.S = search rules in
+    record {
+      few = c.args.self.now.few;
+      chains = c.keep_at.ensures.size ∙ c.args.self.now.chains;
+      filled =
+          rw c.keep_at.ensures.kept
+          (set_filled c.args.self.now.progress c.args.self.now.pool c.keep_at.new.pool c.args.place c.args.progress c.args.self.now.filled (omega (arith, c.requires.place))
+          c.keep_at.ensures.others
+          (kept_length c.args.progress (get_or c.args.self.now.pool c.args.place []) (get_or c.keep_at.new.pool c.args.place [])
+          (get_or c.args.self.now.progress c.args.place None) (c.args.self.now.filled c.args.place (omega (arith, c.requires.place))) c.requires.same
+          (same_place c.args.progress c.keep_at.new.pool c.args.self.now.pool c.args.place c.keep_at.ensures.same) c.keep_at.ensures.empty));
+    }
+
+pub returns-clause-kept : goal.returns-clause-kept
+returns-clause-kept g c = same_place c.args.progress c.keep_at.new.pool c.args.self.now.pool c.args.place c.keep_at.ensures.same

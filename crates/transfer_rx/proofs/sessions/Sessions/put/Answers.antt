@@ -1,0 +1,28 @@
+use Rattle.std.proofs.Common.{◌≡◌, length, Some, ◌∙◌, ap, arith, rules}
+use Rattle.transfer_rx.specs.Filled.{emptied}
+use Rattle.transfer_rx.proofs.Filled.{emptied_keeps, emptied_other, exact, length-emptied, set_filled}
+use Rattle.transfer_rx.proofs.Places.{set_stands}
+use Rattle.transfer_rx.proofs.sessions.Sessions.put.Goals as goal
+
+pub invariant_of-self : goal.invariant_of-self
+invariant_of-self g c =
+    let size : length c.args.self.now.progress ≡ g.row.S = search rules in
+    let pool = c.args.self.now.pool in
+    record {
+      few = c.args.self.now.few;
+      chains = ap length c.set_place.ensures.pool ∙ length-emptied c.args.progress.taken c.args.place pool ∙ c.args.self.now.chains;
+      filled =
+          rw (c.set_place.ensures.kept, c.set_place.ensures.pool)
+          (set_filled c.args.self.now.progress pool (emptied c.args.progress.taken c.args.place pool) c.args.place (Some c.args.progress) c.args.self.now.filled
+          (omega arith) (emptied_other c.args.progress.taken c.args.place pool)
+          (exact c.args.progress c.args.place pool (omega (arith, c.args.self.now.chains)) c.requires.filled));
+    }
+
+pub returns : goal.returns
+returns g c = λ places session s k.
+    let size : length c.args.self.now.progress ≡ g.row.S = search rules in
+    let pool = c.args.self.now.pool in
+    rw (c.set_place.ensures.kept, c.set_place.ensures.pool)
+    (set_stands c.args.self.now.progress pool (emptied c.args.progress.taken c.args.place pool) places c.args.place c.args.progress session s
+    (omega arith) (emptied_other c.args.progress.taken c.args.place pool)
+    (emptied_keeps c.args.progress c.args.place pool (omega (arith, c.args.self.now.chains)) session k))
