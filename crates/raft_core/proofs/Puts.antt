@@ -1,5 +1,5 @@
 -- Puts of the machine as they are made of a stored state, one after another.
-use Rattle.std.proofs.Common.{◌≡◌, ◌⊎◌, inl, inr, ℕ, List, [], ◌∷◌, ◌++◌, Option, Some, None, refl, sym, ap, subst, ◌∙◌}
+use Rattle.std.proofs.Common.{◌≡◌, ◌⊎◌, inl, inr, List, [], ◌∷◌, ◌++◌, Option, Some, None, refl, sym, ap, subst, ◌∙◌}
 use Rattle.std.specs.Prelude.{Bool, true, false, Result, Ok, Err, OnOk, IfSome, is_ok, is_none}
 use Rattle.std.specs.Result.{result_err}
 use Rattle.disk_model.specs.declared.disk.Disk.{Ghosts}

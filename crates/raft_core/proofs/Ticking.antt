@@ -1,5 +1,5 @@
 -- The exits of a tick.
-use Rattle.std.proofs.Common.{◌≡◌, ℕ, Bool, true, false, List, [], ◌∷◌, ◌++◌, sym, ap, subst, ◌∙◌}
+use Rattle.std.proofs.Common.{◌≡◌, ℕ, Bool, true, false, List, [], ◌++◌, sym, ap, subst, ◌∙◌}
 use Rattle.std.specs.Prelude.{Option, Some, None, Result, Err, if◌then◌else◌, nat_le, nat_lt, not, ◌&&◌}
 use Rattle.std.specs.Result.{result_err}
 use Rattle.can_frame.specs.declared.step.Role.TheVariants.{Follower, Candidate}

@@ -1,10 +1,8 @@
 -- Which verdict the rules on log and entry give, told by what the tests of the code say.
-use Rattle.std.proofs.Common.{◌≡◌, ◌↔◌, ◌⊎◌, inl, inr, ℕ, zero, suc, ◌+◌, ◌<◌, ◌≤◌, List, [], ◌∷◌, ◌++◌, Some, None, length, take, get_or, refl, sym, ap, subst, ◌∙◌, arith}
-use Rattle.std.proofs.lemmas.List.{get_or-take, get_or_append_left, length-take-le, length-append}
-use Rattle.std.proofs.Math.Seq.{get_or-append_seam}
-use Rattle.std.proofs.lemmas.Bool.Decides.{leb_tells}
+use Rattle.std.proofs.Common.{◌≡◌, ◌↔◌, ◌⊎◌, inl, inr, ℕ, zero, suc, ◌+◌, ◌<◌, ◌≤◌, List, [], ◌∷◌, ◌++◌, Some, None, length, take, refl, sym, ap, subst, ◌∙◌, arith}
+use Rattle.std.proofs.lemmas.List.{get_or-take, length-take-le}
 use Rattle.can_frame.specs.declared.entry.Entry.{Entry}
-use Rattle.can_frame.specs.Log.{AreDistinct, IsDistinctFromAll, IsInjective, blank, entry_at, last_term, log_limit}
+use Rattle.can_frame.specs.Log.{IsDistinctFromAll, IsInjective, blank, entry_at, last_term, log_limit}
 use Rattle.raft_log.specs.MayFollow.{MayFollow}
 use Rattle.raft_log.specs.Stored.{Stored}
 use Rattle.raft_model.specs.Log.{term_at}

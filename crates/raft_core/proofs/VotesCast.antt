@@ -1,11 +1,10 @@
 -- Who the puts of a member vote for, and what is stored after some of the first of its puts.
-use Rattle.std.proofs.Common.{◌≡◌, ℕ, zero, suc, ◌≤◌, Bool, true, false, List, [], ◌∷◌, ◌++◌, take, Some, None, refl, sym, ap, subst, ◌∙◌}
+use Rattle.std.proofs.Common.{◌≡◌, ℕ, zero, suc, ◌≤◌, Bool, true, false, List, [], ◌∷◌, ◌++◌, take, None, refl, ap, ◌∙◌}
 use Rattle.std.specs.Prelude.{if◌then◌else◌, nat_lt}
 use Rattle.raft_log.specs.Stored.{Stored, after_put, after_puts, Put as StoredPut}
 use Rattle.raft_model.specs.Handlers.{plain_after, puts_of_all}
 use Rattle.raft_model.specs.Messages.{Request}
 use Rattle.raft_model.specs.Moves.{Move, puts}
-use Rattle.raft_model.specs.Moves.Appending.{append_puts}
 use Rattle.raft_model.specs.Moves.Elections.{counted, counting_puts, counts, grant_puts, has_quorum, own_vote, stand_puts, term_puts, win_puts, with_term}
 use Rattle.raft_model.specs.Moves.Move.{TimeOut, TakeVoteRequest, TakeVoteAnswer, TakeAppendRequest, TakeAppendAnswer, ProposeEntry, CommitTo, TellPair, TellNothing, CallForVote, CallToAppend, AnswerAgain, GiveUp}
 use Rattle.raft_model.specs.Server.{Plain, Put, Store, put_all}

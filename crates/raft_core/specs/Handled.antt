@@ -1,5 +1,5 @@
 -- What a call of a member does: it makes moves of the message machine.
-use Rattle.std.specs.Prelude.{ℕ, Bool, true, false, ◌&&◌, List, [], ◌∷◌, Option, None, Some, IfNone}
+use Rattle.std.specs.Prelude.{ℕ, Bool, true, false, ◌&&◌, List, [], ◌∷◌, Option, None, IfNone}
 use Rattle.disk_model.specs.declared.disk.Disk.{Ghosts}
 use Rattle.kv_store.specs.declared.fault.Fault.{Fault}
 use Rattle.dsdl_codec.specs.declared.append_request.AppendRequest.{AppendRequest}

@@ -5,7 +5,6 @@ use Rattle.std.proofs.Props.{props}
 use Rattle.raft_log.specs.Stored.{Stored}
 use Rattle.raft_core.specs.declared.peer.Asked.{Asked}
 use Rattle.raft_core.specs.declared.peer.Asked.TheVariants.{Vote, Append}
-use Rattle.raft_core.specs.declared.peer.Peer.{Peer}
 use Rattle.raft_core.specs.declared.peer.Waiting.{Waiting}
 use Rattle.raft_core.specs.declared.raft.Raft.{Raft}
 use Rattle.raft_core.specs.Fits.{AsksUpTo, Fits, ReachesUpTo}

@@ -1,5 +1,5 @@
 -- What a leader is to tell next.
-use Rattle.std.specs.Prelude.{◌≡◌, ◌≢◌, ◌⊎◌, ⊤, ℕ, ◌+◌, ◌≤◌, Bool, List, [], ◌∷◌, if◌then◌else◌}
+use Rattle.std.specs.Prelude.{◌≡◌, ◌≢◌, ◌⊎◌, ⊤, ℕ, ◌+◌, ◌≤◌, Bool, [], ◌∷◌, if◌then◌else◌}
 use Rattle.can_frame.specs.Zeros.{zeros}
 use Rattle.raft_log.specs.Stored.{Stored}
 use Rattle.raft_model.specs.Duty.{tell_phase}

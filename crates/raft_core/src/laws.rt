@@ -10,7 +10,7 @@ ghost use Rattle.raft_model.specs.Moves.{Move};
 ghost use Rattle.raft_model.specs.Server.{Plain, Put, put_all};
 ghost use Rattle.raft_core.specs.declared.raft.Raft.{Raft};
 ghost use Rattle.raft_core.specs.Fits.{Fits};
-ghost use Rattle.raft_core.specs.Handled.{LeavesMoves, MakesMoves};
+ghost use Rattle.raft_core.specs.Handled.{LeavesMoves};
 ghost use Rattle.raft_core.specs.RaftViews.{raft_members};
 ghost use Rattle.raft_core.specs.Stands.{StandsFor};
 ghost use Rattle.raft_core.specs.StoredPuts.{AreOfNodes, DoesPuts, KeepsFaults, VoteForNodes, store_of, stored_puts};

@@ -1,4 +1,4 @@
-use Rattle.std.proofs.Common.{rules, refl, ap, subst, ◌∙◌, slice_index_or, arith}
+use Rattle.std.proofs.Common.{refl, ap, subst, ◌∙◌, slice_index_or, arith}
 use Rattle.raft_log.specs.DurableViews.{durable_state}
 use Rattle.raft_core.specs.declared.peer.Asked.TheVariants.{Append}
 use Rattle.raft_core.specs.declared.peer.Waiting.{Waiting}
