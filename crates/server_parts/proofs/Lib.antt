@@ -1,0 +1,6 @@
+pub mod Delivering
+pub mod Ends
+pub mod Extending
+pub mod Extends
+pub mod Lists
+pub mod Zeroed

@@ -1,0 +1,112 @@
+-- What a server does when it reads its clock, in order: Discovery where it is due, NodeStatus where it is due, the tick
+-- of Raft, the record of a node that told its unique ID or stays silent, a query to one that did not tell it.
+use Rattle.std.specs.Prelude.{ℕ, ◌-◌, Bool, not, ◌&&◌, ◌||◌, nat_le, List, [], ◌∷◌, Option, None, Some, find, is_some, if◌then◌else◌}
+use Rattle.can_frame.specs.declared.entry.Entry.{Entry}
+use Rattle.can_frame.specs.declared.step.What.TheVariants.{Disc, InfoQ, Stat}
+use Rattle.can_frame.specs.Zeros.{zeros}
+use Rattle.cluster_discovery.specs.Members.{is_due, Sent as SentAt}
+use Rattle.dsdl_codec.specs.declared.discovery.Discovery.{Discovery}
+use Rattle.dsdl_codec.specs.Discovery.{discovery_bytes}
+use Rattle.dsdl_codec.specs.NodeStatus.{node_status_bytes}
+use Rattle.node_discovery.specs.History.{Asked, identity, is_silent}
+use Rattle.node_discovery.specs.Watch.{devices, history, next_query, of_node}
+use Rattle.raft_core.specs.Handled.{moves_of_tick}
+use Rattle.raft_core.specs.Taken.{proposal}
+use Rattle.raft_core.specs.Times.{given_at, given_tick}
+use Rattle.raft_model.specs.Moves.{Move}
+use Rattle.raft_model.specs.Moves.Elections.{is_leader}
+use Rattle.raft_model.specs.Moves.Move.{ProposeEntry}
+use Rattle.server_parts.specs.Transfers.{has_room, id_of}
+use Rattle.server_parts.specs.TimedServer.{Timed, is_known, is_zero, known, knows_all, may_propose, members_of, recorded_at, start_of, status_of}
+use Rattle.server_parts.specs.Going.{Going, sends, takes}
+
+-- ---- Discovery: one that finds no room counts as sent
+
+abbrev pub discovery_of : Timed → Discovery
+discovery_of t = record { size = t.size; known = record { items = members_of t } }
+
+abbrev pub with_discovery : Going → Going
+with_discovery g = record g { timed = record g.timed { heard = SentAt g.timed.now ∷ g.timed.heard } }
+
+abbrev pub tells_members : ℕ → Going → Going
+tells_members step g = with_discovery (sends step Disc 0 (discovery_bytes (discovery_of g.timed)) None g)
+
+abbrev pub discovery_phase : ℕ → Going → Going
+discovery_phase step g = if is_due (start_of g.timed) g.timed.heard g.timed.now then tells_members step g else g
+
+-- ---- NodeStatus: 1,000 ms after the last one or the opening, whether that one fitted or not
+
+abbrev pub with_status : Going → Going
+with_status g = record g { timed = record g.timed { status_at = g.timed.now } }
+
+abbrev pub tells_status : ℕ → Going → Going
+tells_status step g = with_status (sends step Stat 0 (node_status_bytes (status_of g.timed)) None g)
+
+abbrev pub status_phase : ℕ → Going → Going
+status_phase step g = if nat_le 1000 (g.timed.now - g.timed.status_at) then tells_status step g else g
+
+-- ---- the tick of Raft
+
+abbrev pub election_moves : Timed → List Move
+election_moves t = moves_of_tick (knows_all t) t.now t.plain t.times
+
+abbrev pub election_phase : ℕ → ℕ → Going → Going
+election_phase step word g = takes step (given_tick g.timed.now word) (election_moves g.timed) g
+
+-- ---- the log: a leader records a pair, or keeps back a node ID
+
+abbrev pub proposes : ℕ → List ℕ → ℕ → Going → Going
+proposes step uid node g = takes step (given_at g.timed.now) (ProposeEntry (proposal g.timed.plain.store.term uid node) ∷ []) g
+
+abbrev pub reserves : ℕ → ℕ → Going → Going
+reserves step node g = proposes step zeros node g
+
+-- it told its unique ID, or stays silent; and it is online, and not known
+abbrev pub is_candidate : Timed → ℕ → Bool
+is_candidate t node =
+    not (is_known t node) && (is_some (identity (history node t.watch) t.now) || is_silent (history node t.watch) t.now)
+
+-- the least such node
+abbrev pub candidate : Timed → Option ℕ
+candidate t = find (is_candidate t) devices
+
+-- a unique ID that was told, where it is some device's and does not stand in the log
+abbrev pub if_new : List Entry → Option (List ℕ) → Option (List ℕ)
+if_new log None = None
+if_new log (Some uid) = if is_zero uid || is_some (recorded_at log uid) then None else Some uid
+
+abbrev pub new_uid : Timed → ℕ → Option (List ℕ)
+new_uid t node = if_new t.plain.store.log (identity (history node t.watch) t.now)
+
+-- it is proposed with a new unique ID, and else reserved
+abbrev pub records_as : ℕ → ℕ → Option (List ℕ) → Going → Going
+records_as step node None g = reserves step node g
+records_as step node (Some uid) g = proposes step uid node g
+
+abbrev pub records_node : ℕ → Option ℕ → Going → Going
+records_node step None g = g
+records_node step (Some node) g = records_as step node (new_uid g.timed node) g
+
+abbrev pub record_phase : ℕ → Going → Going
+record_phase step g = if may_propose g.timed then records_node step (candidate g.timed) g else g
+
+-- ---- a query for a unique ID, to the least node that is due; the request of GetNodeInfo is empty
+
+-- one that fitted is noted, any other is owed again
+abbrev pub with_query : ℕ → ℕ → Going → Going
+with_query node id g = record g { timed = record g.timed { watch = of_node node (Asked id g.timed.now) ∷ g.timed.watch } }
+
+abbrev pub asks : ℕ → Option ℕ → Going → Going
+asks step None g = g
+asks step (Some node) g =
+    if has_room g.timed.queue [] then with_query node (id_of g.timed.ids InfoQ node) (sends step InfoQ node [] None g)
+    else sends step InfoQ node [] None g
+
+abbrev pub query_phase : ℕ → Going → Going
+query_phase step g =
+    if is_leader g.timed.plain.memory.role then asks step (next_query g.timed.watch (known g.timed) g.timed.now) g else g
+
+-- ---- in order
+
+abbrev pub ticks : ℕ → ℕ → Going → Going
+ticks step word g = query_phase step (record_phase step (election_phase step word (status_phase step (discovery_phase step g))))
