@@ -1,0 +1,35 @@
+-- What the transfers of a step say.
+use Rattle.std.proofs.Common.{◌≡◌, ℕ, List, [], ◌∷◌, ◌++◌, inl, inr, refl, sym, ◌∙◌, ap, subst}
+use Rattle.std.specs.Prelude.{⊤}
+use Rattle.cluster_discovery.specs.Members.{Start}
+use Rattle.raft_model.specs.Lists.{In}
+use Rattle.server_parts.specs.Going.{Going}
+use Rattle.server_parts.specs.Step.{Event, step}
+use Rattle.server_parts.specs.TimedServer.{Timed}
+use Rattle.server_parts.specs.Transfers.{Offer}
+use Rattle.server_laws.specs.Saying.{IsSaid}
+use Rattle.server_laws.proofs.Lists.{in_append}
+use Rattle.server_laws.proofs.Walk.{step_keeps}
+
+abbrev Says : ℕ → ℕ → Offer → Type 0
+Says number me offer = IsSaid number me offer.what offer.to offer.re offer.payload offer.says
+
+-- all that was offered so far says what it should
+abbrev AllSay : ℕ → ℕ → Going → Type 0
+AllSay number me g = (g.timed.me ≡ me) × ((offer : Offer) → In offer g.offers → Says number me offer)
+
+one_says : (number me own : ℕ) (offers : List Offer) (new : Offer) → own ≡ me → ((offer : Offer) → In offer offers → Says number me offer)
+    → Says number own new → (offer : Offer) → In offer (offers ++ new ∷ []) → Says number me offer
+one_says number me own offers new same h said offer i = elim (in_append offer offers (new ∷ []) i) [
+  | inl j ↦ h offer j
+  | inr (inl e) ↦ subst (λ (o : Offer). Says number me o) (sym e) (subst (λ (m : ℕ). Says number m new) same said)
+  | inr (inr j) ↦ absurd j
+]
+
+pub all_say : (t : Timed) (number : ℕ) (event : Event) (offer : Offer) → In offer (step t number event).going.offers → Says number t.me offer
+all_say t number event =
+    (step_keeps number (AllSay number t.me) (λ d. ⊤) (λ given moves g h. h)
+    (λ what to payload says g is said h. (h.0, one_says number t.me g.timed.me g.offers _ h.0 h.1 said))
+    (λ what d payload says g is kind comes said h. (h.0, one_says number t.me g.timed.me g.offers _ h.0 h.1 said))
+    (λ u g like h. (ap (λ (s : Start). s.me) like.start ∙ h.0, h.1)) (λ g h. h) (λ d message g comes kind other read h. h) t event
+    (λ arrival is d e. tt) (refl, λ offer i. absurd i)).1

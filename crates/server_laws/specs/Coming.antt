@@ -1,0 +1,107 @@
+-- When the moves of a step may come in the message machine.
+use Rattle.std.specs.Prelude.{◌≡◌, ◌≢◌, ⊤, ℕ, true, false, List, Option, Some}
+use Rattle.can_frame.specs.declared.identifier.Kind.{Kind}
+use Rattle.can_frame.specs.declared.identifier.Kind.TheVariants.{Anonymous, Message as Broadcast, Request as RequestKind, Response}
+use Rattle.can_frame.specs.Log.{IsInjective}
+use Rattle.dsdl_codec.specs.declared.append_answer.AppendAnswer.{AppendAnswer}
+use Rattle.dsdl_codec.specs.declared.append_request.AppendRequest.{AppendRequest}
+use Rattle.dsdl_codec.specs.declared.vote_answer.VoteAnswer.{VoteAnswer}
+use Rattle.dsdl_codec.specs.declared.vote_request.VoteRequest.{VoteRequest}
+use Rattle.dsdl_codec.specs.AppendAnswer.{append_answer_of}
+use Rattle.dsdl_codec.specs.AppendRequest.{append_request_of}
+use Rattle.dsdl_codec.specs.VoteAnswer.{vote_answer_of}
+use Rattle.dsdl_codec.specs.VoteRequest.{vote_request_of}
+use Rattle.raft_core.specs.Handled as handled
+use Rattle.raft_core.specs.Times.{Times, is_awaited}
+use Rattle.raft_model.specs.Fit.{IsFit}
+use Rattle.raft_model.specs.Handlers.{puts_of_all}
+use Rattle.raft_model.specs.Lists.{In}
+use Rattle.raft_model.specs.Members.{IsAll}
+use Rattle.raft_model.specs.Messages.{Message, Request}
+use Rattle.raft_model.specs.Messages.Message.{Answers, Requests}
+use Rattle.raft_model.specs.Server.{Plain}
+use Rattle.raft_model.specs.Server.Role.{Follower}
+use Rattle.raft_model.specs.Stops.{AllCome, Site, all_moved}
+use Rattle.transfer_rx.specs.Reassembly.{Answer, Delivery, answer}
+use Rattle.transfer_rx.specs.Reassembly.Answer.{Continues, Drops, Gives}
+use Rattle.server_parts.specs.Accepted.{setting_for}
+use Rattle.server_parts.specs.Going.{Going, messages}
+use Rattle.server_parts.specs.Services.{is_listed}
+use Rattle.server_parts.specs.Step.{Event, at_step, begins}
+use Rattle.server_parts.specs.Step.Event.{Rx, Tick}
+use Rattle.server_parts.specs.TimedServer.{Timed, knows_all, members_of}
+
+-- ---- what a delivered transfer of a member says is in the bag
+
+pub record RequestsFrom (bag : List Message) (me : ℕ) (d : Delivery) : Type 0 where
+  pub votes : (request : VoteRequest) → vote_request_of d.payload ≡ Some request
+      → In (Requests (handled.vote_request_of request d.mark.step d.ident.source me)) bag
+  pub appends : (request : AppendRequest) → append_request_of d.payload ≡ Some request
+      → In (Requests (handled.append_request_of request d.mark.step d.ident.source me)) bag
+
+-- a response that the pending call takes answers that very call
+pub record AnswersFrom (bag : List Message) (plain : Plain) (times : Times) (d : Delivery) (call : Request) : Type 0 where
+  pub votes : (says : VoteAnswer) → vote_answer_of d.payload ≡ Some says → is_awaited plain times d.ident.source false d.id ≡ true
+      → In (Answers (handled.answer_of d.mark.step d.ident.source call says.term says.granted)) bag
+  pub appends : (says : AppendAnswer) → append_answer_of d.payload ≡ Some says → is_awaited plain times d.ident.source true d.id ≡ true
+      → In (Answers (handled.answer_of d.mark.step d.ident.source call says.term says.success)) bag
+
+abbrev pub SaysFrom : List Message → Timed → Delivery → Kind → Type 0
+SaysFrom bag t d Anonymous = ⊤
+SaysFrom bag t d Broadcast = ⊤
+SaysFrom bag t d RequestKind = is_listed d t ≡ true → RequestsFrom bag t.me d
+SaysFrom bag t d Response = is_listed d t ≡ true
+    → (call : Request) → t.plain.memory.pending d.ident.source ≡ Some call → AnswersFrom bag t.plain t.times d call
+
+abbrev pub AnswerFrom : List Message → Timed → Answer → Type 0
+AnswerFrom bag t (Gives d) = SaysFrom bag t d d.ident.kind
+AnswerFrom bag t Continues = ⊤
+AnswerFrom bag t (Drops why) = ⊤
+
+-- at the step's moment, when the calls of 1,000 ms are given up
+abbrev pub TakesFrom : ℕ → List Message → Timed → Event → Type 0
+TakesFrom number bag t (Tick now word) = ⊤
+TakesFrom number bag t (Rx arrival) =
+    let then_ : Timed = (begins number arrival.moment t).timed in
+    AnswerFrom bag then_ (answer (setting_for then_.me) then_.sessions (at_step then_ arrival))
+
+-- ---- where a step may come
+
+-- the pending calls are the server's own
+abbrev pub OwnCalls : ℕ → (ℕ → Option Request) → Type 0
+OwnCalls me pending = (peer : ℕ) (request : Request) → pending peer ≡ Some request → request.from ≡ me
+
+-- where the server knows as many members as there are, it knows those that there are; and whoever is no Follower does
+pub record KnowsMembers (t : Timed) (members : List ℕ) : Type 0 where
+  pub all : knows_all t ≡ true → IsAll (members_of t) members
+  pub counting : t.plain.memory.role ≢ Follower → knows_all t ≡ true
+
+pub record MayStep (t : Timed) (number : ℕ) (event : Event) (members : List ℕ) (bag : List Message) : Type 0 where
+  pub knows : KnowsMembers t members
+  pub fit : IsFit t.me t.plain
+  pub calls : OwnCalls t.me t.plain.memory.pending
+  pub injective : IsInjective t.plain.store.log
+  pub takes : TakesFrom number bag t event
+
+-- a step of this server that has called nobody yet
+pub record Begins (t : Timed) (site : Site) : Type 0 where
+  pub plain : site.plain ≡ t.plain
+  pub called : (peer : ℕ) → In peer site.called → ⊥
+
+-- the step went as a step of the machine: its moves may come, with its puts in order, they leave its server, and offer what it said
+pub record IsOfTheMachine (members : List ℕ) (me number : ℕ) (bag : List Message) (site : Site) (going : Going) : Type 0 where
+  pub come : AllCome members me number bag site going.moves
+  pub puts : going.puts ≡ puts_of_all members me number site.plain going.moves
+  pub leave : (all_moved members me number site going.moves).plain ≡ going.timed.plain
+  pub say : (message : Message) → In message (messages number going) → In message (all_moved members me number site going.moves).offered
+
+-- what a server keeps, whatever step it takes
+pub record KeepsOrder (t : Timed) : Type 0 where
+  pub counting : t.plain.memory.role ≢ Follower → knows_all t ≡ true
+  pub fit : IsFit t.me t.plain
+  pub calls : OwnCalls t.me t.plain.memory.pending
+
+-- of every step that may come, in a cluster of these members, over these messages
+abbrev pub WhereItMayStep : (List ℕ → List Message → Timed → ℕ → Event → Type 0) → Type 0
+WhereItMayStep Fact = (t : Timed) (number : ℕ) (event : Event) (members : List ℕ) (bag : List Message)
+    → MayStep t number event members bag → Fact members bag t number event

@@ -1,0 +1,135 @@
+//! Laws of a step that ends, each the contract of a function that does nothing.
+
+ghost use Rattle.std.specs.Prelude.{◌≡◌, ◌≢◌, ◌⊎◌, ◌<◌, ◌≤◌, ℕ, true, List, length, max};
+ghost use Rattle.raft_core.specs.Times.{has_waited};
+ghost use Rattle.raft_model.specs.Duty.{CommitDuty, TickDuty};
+ghost use Rattle.raft_model.specs.Lists.{In};
+ghost use Rattle.raft_model.specs.Messages.{Message};
+ghost use Rattle.raft_model.specs.Moves.Elections.{term_limit};
+ghost use Rattle.raft_model.specs.Server.{Store};
+ghost use Rattle.raft_model.specs.Server.Role.{Leader};
+ghost use Rattle.raft_model.specs.Stops.{Site};
+ghost use Rattle.server_laws.specs.Apart.{AreAllApart, OneByName};
+ghost use Rattle.server_laws.specs.Coming.{Begins, IsOfTheMachine, KeepsOrder, WhereItMayStep};
+ghost use Rattle.server_laws.specs.Listing.{IsNamed};
+ghost use Rattle.server_laws.specs.Phases.{InEveryStep, TellsDuly, when_committed, when_seen, when_told};
+ghost use Rattle.server_laws.specs.Saying.{IsSaid};
+ghost use Rattle.server_laws.specs.Sound.{FromSound, IsInRange, IsSound};
+ghost use Rattle.server_parts.specs.Ending.{call_phase};
+ghost use Rattle.server_parts.specs.Step.{Event, popped, step};
+ghost use Rattle.server_parts.specs.Step.Event.{Tick};
+ghost use Rattle.server_parts.specs.TimedServer.{Timed, knows_all, members_of, opening};
+ghost use Rattle.server_parts.specs.Transfers.{Offer};
+
+use can_frame::laws::{identifiers_both_ways, logs_stay_injective};
+use cluster_discovery::laws::{a_complete_list_stays, members_stay, new_members_were_named};
+use id_selector::laws::chosen_is_the_choice;
+use raft_model::laws::{law_decisions, law_duty, law_fit, law_handlers, law_joined, law_members};
+use transfer_rx::laws::deliveries_are_whole_transfers;
+
+/// The transfers of a step are told apart by their kind, their destination and their transfer ID: two
+/// that fitted, of one kind and to one node, are Allocations with different transfer IDs; so there is one
+/// of each name. They are at most eight.
+pub fn transfers_of_a_step_are_apart()
+    ensures apart { InEveryStep (λ going. AreAllApart going.offers) }
+    ensures one { InEveryStep (λ going. OneByName going.offers) }
+    ensures few { (t : Timed) (number : ℕ) (event : Event) → t.size ≤ 5 →
+        length (step t number event).going.offers ≤ 8 }
+{}
+
+/// A server that opens is sound, each step keeps it sound, and so does handing out a frame. The
+/// transfers of a sound server have transfer IDs below 32, and a node as their destination, or 0 for
+/// messages. Its own node ID and the size of its cluster never change.
+pub fn steps_stay_in_range()
+    ensures opening { (me size : ℕ) (store : Store) (now word : ℕ) → size ≤ 5 →
+        IsSound (opening me size store now word) }
+    ensures step { FromSound (λ going. IsSound going.timed) }
+    ensures popped { (t : Timed) → IsSound t → IsSound (popped t) }
+    ensures transfers { FromSound (λ going. (offer : Offer) → In offer going.offers →
+        IsInRange offer) }
+    ensures me { (t : Timed) (number : ℕ) (event : Event) →
+        (step t number event).going.timed.me ≡ t.me }
+    ensures size { (t : Timed) (number : ℕ) (event : Event) →
+        (step t number event).going.timed.size ≡ t.size }
+{
+    identifiers_both_ways();
+    deliveries_are_whole_transfers();
+}
+
+/// Requests and answers of Raft are said by their bytes: each transfer of a step that carries one is made
+/// by this member in this step, goes to the node that the request is for or that asked, and has its bytes;
+/// a response names the step of the request that it answers. No other transfer says any, and what an
+/// Allocation says is read from its payload.
+pub fn what_transfers_say()
+    ensures { (t : Timed) (number : ℕ) (event : Event) (offer : Offer) →
+        In offer (step t number event).going.offers →
+        IsSaid number t.me offer.what offer.to offer.re offer.payload offer.says }
+{}
+
+/// A step is one of the message machine, where what is delivered to it was said by a member: its moves
+/// may come, one after another; its puts are theirs, in order; they leave its server; and the requests,
+/// answers and pairs of the transfers that fitted are offered by them. What of this the next step asks for,
+/// each step keeps.
+pub fn moves_of_a_step()
+    ensures moves { WhereItMayStep (λ members bag t number event. (site : Site) →
+        Begins t site → IsOfTheMachine members t.me number bag site (step t number event).going) }
+    ensures keeps { WhereItMayStep (λ members bag t number event.
+        KeepsOrder (step t number event).going.timed) }
+    ensures opening { (me size : ℕ) (store : Store) (now word : ℕ) →
+        KeepsOrder (opening me size store now word) }
+    ensures popped { (t : Timed) → KeepsOrder t → KeepsOrder (popped t) }
+{
+    logs_stay_injective();
+    chosen_is_the_choice();
+    a_complete_list_stays();
+    law_decisions();
+    law_duty();
+    law_fit();
+    law_handlers();
+    law_joined();
+    law_members();
+}
+
+/// The list of members after a step: who is new on it was named by the Discovery that the step was
+/// delivered, who was on it stays, and a list that is complete does not change.
+pub fn members_of_a_step()
+    ensures named { (t : Timed) (number : ℕ) (event : Event) (node : ℕ) →
+        In node (members_of (step t number event).going.timed) →
+        In node (members_of t) ⊎ IsNamed t number event node }
+    ensures stay { (t : Timed) (number : ℕ) (event : Event) (node : ℕ) →
+        In node (members_of t) → In node (members_of (step t number event).going.timed) }
+    ensures complete { (t : Timed) (number : ℕ) (event : Event) → knows_all t ≡ true →
+        members_of (step t number event).going.timed ≡ members_of t }
+{
+    a_complete_list_stays();
+    members_stay();
+    new_members_were_named();
+}
+
+/// What a step owes that ends. A leader has committed as far as the members let it, counted over all of
+/// them, and tells one place of its log at most, where there is room for its frames. Whoever has waited
+/// for an election, knows all members and does not lead, is Candidate or Leader of the next term when the
+/// step is over, where there is a next term.
+pub fn duty_of_a_step()
+    ensures phases { (t : Timed) (number : ℕ) (event : Event) →
+        (step t number event).going ≡ call_phase number (when_told t number event) }
+    ensures commit { WhereItMayStep (λ members bag t number event.
+        let seen = when_seen t number event in seen.timed.plain.memory.role ≡ Leader →
+        CommitDuty members t.me seen.timed.plain (when_committed t number event).timed.plain) }
+    ensures tell { (t : Timed) (number : ℕ) (event : Event) →
+        TellsDuly number (when_committed t number event) (when_told t number event) }
+    ensures tick { (t : Timed) (number now word : ℕ) → knows_all t ≡ true →
+        has_waited t.times (max t.now now) ≡ true → t.plain.memory.role ≢ Leader →
+        t.plain.store.term < term_limit →
+        TickDuty t.plain (step t number (Tick now word)).going.timed.plain }
+{
+    logs_stay_injective();
+    chosen_is_the_choice();
+    a_complete_list_stays();
+    law_decisions();
+    law_duty();
+    law_fit();
+    law_handlers();
+    law_joined();
+    law_members();
+}
