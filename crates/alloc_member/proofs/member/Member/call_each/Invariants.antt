@@ -1,0 +1,15 @@
+use Rattle.std.specs.Prelude.{◌≡◌, ◌≤◌, ◌+◌, ℕ, drop}
+use Rattle.raft_log.specs.declared.durable.Durable.{Durable}
+use Rattle.server_parts.specs.Ending.{calls_all}
+use Rattle.server_parts.specs.Going.{Going}
+use Rattle.alloc_member.specs.Stands.{IsGoing, IsReady, ListsUpTo}
+use Rattle.alloc_member.proofs.member.Member.call_each.Given as goal
+
+-- what the calls to the other peers make of the step by now is what all calls make of it
+abbrev pub invariant-loop-peer : goal.invariant-loop-peer
+invariant-loop-peer g l = record {
+  going : (start : Durable g.row.D.Denot g.D.Disk) (begun : Going) → IsGoing start l.fn.self l.fn.offered begun →
+      (h : Going) × IsGoing start l.self l.offered h × (calls_all l.fn.offered.step (drop l.peer-index l.peers) h ≡ calls_all l.fn.offered.step l.peers begun);
+  ready : IsReady l.self;
+  lists : ListsUpTo l.peer-index 0 l.fn.offered l.offered;
+}

@@ -1,0 +1,41 @@
+use Rattle.std.proofs.Common.{refl, sym, ap, subst, ◌∙◌, ◌≡◌, List, ℕ}
+use Rattle.std.specs.Prelude.{None}
+use Rattle.std.specs.Result.{result_err}
+use Rattle.alloc_exchange.specs.declared.heard.Heard.{Heard}
+use Rattle.alloc_exchange.specs.declared.heard.Heard.TheVariants.{FollowUp}
+use Rattle.can_frame.specs.declared.step.What.TheVariants.{Alloc}
+use Rattle.server_parts.specs.Exchange.{allocation_payload, answers_request, with_request}
+use Rattle.server_parts.specs.Going.{Going, sends}
+use Rattle.alloc_member.specs.Stands.{GoesTo, IsGoing}
+use Rattle.alloc_member.proofs.Taking.{is_going}
+use Rattle.alloc_member.proofs.member.Member.take_allocation.Goals as goal
+
+pub returns-in-FollowUp-clause-goes : goal.returns-in-FollowUp-clause-goes
+returns-in-FollowUp-clause-goes g c start going h =
+    let s = c.args.offered.now.step in
+    let g1 : Going = with_request c.args.message.now going in
+    subst (λ (heard : Heard). GoesTo start c.follow_up.new.self c.follow_up.new.offered (answers_request c.args.offered.now.step heard g1) None) (sym c.in-FollowUp.is ∙ c.hear.ensures.answer going.timed h.stands)
+    (is_going start c.follow_up.new.self c.follow_up.new.offered (answers_request s (FollowUp c.in-FollowUp.bytes) g1)
+    (subst (λ (bytes : List ℕ). IsGoing start c.follow_up.new.self c.follow_up.new.offered (sends s Alloc 0 (allocation_payload 0 bytes) None g1)) c.deref.ensures.0
+    (c.follow_up.ensures.going start g1 (c.hear.ensures.going c.args.offered.now start going h))))
+
+pub returns-in-Whole-clause-goes : goal.returns-in-Whole-clause-goes
+returns-in-Whole-clause-goes g c start going h =
+    let s = c.args.offered.now.step in
+    let g1 : Going = with_request c.args.message.now going in
+    subst (λ (heard : Heard). GoesTo start c.hear_whole.new.self c.hear_whole.new.offered (answers_request c.args.offered.now.step heard g1) (result_err c.hear_whole.result)) (sym c.in-Whole.is ∙ c.hear.ensures.answer going.timed h.stands)
+    (c.hear_whole.ensures.goes start g1 (c.hear.ensures.going c.args.offered.now start going h))
+
+pub returns-in-Ignored-clause-goes : goal.returns-in-Ignored-clause-goes
+returns-in-Ignored-clause-goes g c start going h =
+    let s = c.args.offered.now.step in
+    let g1 : Going = with_request c.args.message.now going in
+    subst (λ (heard : Heard). GoesTo start c.hear.new.self c.args.offered.now (answers_request s heard g1) None) (sym c.in-Ignored.is ∙ c.hear.ensures.answer going.timed h.stands)
+    (is_going start c.hear.new.self c.args.offered.now g1 (c.hear.ensures.going c.args.offered.now start going h))
+
+pub returns-in-Denied-clause-goes : goal.returns-in-Denied-clause-goes
+returns-in-Denied-clause-goes g c start going h =
+    let s = c.args.offered.now.step in
+    let g1 : Going = with_request c.args.message.now going in
+    subst (λ (heard : Heard). GoesTo start c.hear.new.self c.args.offered.now (answers_request s heard g1) None) (sym c.in-Denied.is ∙ c.hear.ensures.answer going.timed h.stands)
+    (is_going start c.hear.new.self c.args.offered.now g1 (c.hear.ensures.going c.args.offered.now start going h))

@@ -1,0 +1,49 @@
+use Rattle.std.proofs.Common.{ap, subst, ◌∙◌, ◌≡◌, ℕ}
+use Rattle.std.specs.Prelude.{Some}
+use Rattle.std.specs.Result.{result_err}
+use Rattle.server_parts.specs.Going.{Going}
+use Rattle.alloc_member.specs.Stands.{GoesTo, IsGoing}
+use Rattle.server_parts.specs.Tick.{discovery_phase, election_phase, record_phase, query_phase, status_phase}
+use Rattle.alloc_member.proofs.Taking.{given_on, goes_failed, is_going}
+use Rattle.alloc_member.proofs.member.Member.tick.Goals as goal
+
+pub returns-in_err-elect-clause-goes : goal.returns-in_err-elect-clause-goes
+returns-in_err-elect-clause-goes g c start going h =
+    let s = c.args.offered.now.step in
+    let g1 : Going = discovery_phase s going in
+    let g2 : Going = status_phase s g1 in
+    let g3 : Going = election_phase s c.args.word g2 in
+    let g4 : Going = record_phase s g3 in
+    let fault : result_err c.from_residual.result ≡ Some c.in_err-elect.field-0.0 = given_on _ _ c.from_residual.ensures.0 c.from_residual.ensures.1 in
+    let h1 = c.tell_members.ensures.going start going h in
+    let h2 = subst (λ (n : ℕ). IsGoing start c.tell_status.new.self c.tell_status.new.offered (status_phase n g1)) c.tell_members.ensures.lists.step (c.tell_status.ensures.going start g1 h1) in
+    goes_failed start c.elect.new.self c.tell_status.new.offered c.tell_status.new.offered g3 (query_phase s g4) c.in_err-elect.field-0.0 c.puts_go_on.ensures (result_err c.elect.result) (result_err c.from_residual.result)
+    (c.phases_add_puts.ensures.records s g3) (ap result_err c.in_err-elect.was) fault (c.elect.ensures.goes c.tell_status.new.offered s start g2 h2)
+
+pub returns-in_err-record_node-clause-goes : goal.returns-in_err-record_node-clause-goes
+returns-in_err-record_node-clause-goes g c start going h =
+    let s = c.args.offered.now.step in
+    let g1 : Going = discovery_phase s going in
+    let g2 : Going = status_phase s g1 in
+    let g3 : Going = election_phase s c.args.word g2 in
+    let g4 : Going = record_phase s g3 in
+    let fault : result_err c.from_residual-in_err-record_node.result ≡ Some c.in_err-record_node.field-0.0 = given_on _ _ c.from_residual-in_err-record_node.ensures.0 c.from_residual-in_err-record_node.ensures.1 in
+    let h1 = c.tell_members.ensures.going start going h in
+    let h2 = subst (λ (n : ℕ). IsGoing start c.tell_status.new.self c.tell_status.new.offered (status_phase n g1)) c.tell_members.ensures.lists.step (c.tell_status.ensures.going start g1 h1) in
+    let h3 = (c.elect.ensures.goes c.tell_status.new.offered s start g2 h2).going (ap result_err c.in_ok-elect.was) in
+    goes_failed start c.record_node.new.self c.tell_status.new.offered c.tell_status.new.offered g4 (query_phase s g4) c.in_err-record_node.field-0.0 c.puts_go_on.ensures (result_err c.record_node.result) _
+    (c.phases_add_puts.ensures.query s g4) (ap result_err c.in_err-record_node.was) fault (c.record_node.ensures.goes c.tell_status.new.offered s start g3 h3)
+
+pub returns-clause-goes : goal.returns-clause-goes
+returns-clause-goes g c start going h =
+    let s = c.args.offered.now.step in
+    let g1 : Going = discovery_phase s going in
+    let g2 : Going = status_phase s g1 in
+    let g3 : Going = election_phase s c.args.word g2 in
+    let g4 : Going = record_phase s g3 in
+    let h1 = c.tell_members.ensures.going start going h in
+    let h2 = subst (λ (n : ℕ). IsGoing start c.tell_status.new.self c.tell_status.new.offered (status_phase n g1)) c.tell_members.ensures.lists.step (c.tell_status.ensures.going start g1 h1) in
+    let h3 = (c.elect.ensures.goes c.tell_status.new.offered s start g2 h2).going (ap result_err c.in_ok-elect.was) in
+    let h4 = (c.record_node.ensures.goes c.tell_status.new.offered s start g3 h3).going (ap result_err c.in_ok-record_node.was) in
+    is_going start c.ask_node.new.self c.ask_node.new.offered _
+    (subst (λ (n : ℕ). IsGoing start c.ask_node.new.self c.ask_node.new.offered (query_phase n g4)) (c.tell_status.ensures.lists.step ∙ c.tell_members.ensures.lists.step) (c.ask_node.ensures.going start g4 h4))
