@@ -21,8 +21,8 @@ use Rattle.alloc_member.proofs.Noting.{noted_moves}
 pub node_low : (entry : Entry) → IsWellFormed entry → entry.node < 128
 node_low entry formed =
     elim (cases_lt entry.node 128) as (λ _. entry.node < 128) [
-      inl low ↦ low
-    | inr high ↦ (let most : entry.node ≤ 125 = (formed (λ blank. omega (arith, blank.0, high)) (λ kept. omega (arith, kept.most, high))).most in absurd (omega (arith, most, high)))
+      | inl low ↦ low
+      | inr high ↦ (let most : entry.node ≤ 125 = (formed (λ blank. omega (arith, blank.0, high)) (λ kept. omega (arith, kept.most, high))).most in absurd (omega (arith, most, high)))
     ]
 
 -- within a list it does not matter what is read past its end

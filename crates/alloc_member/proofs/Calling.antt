@@ -44,13 +44,17 @@ append_bytes request sent says =
 pub calls_as : (step peer : ℕ) (g : Going) (call : Call) (move : Move) → Says g.timed.me step g.timed.plain peer call move
     → (request : Request) × (calls_owed step (Some move) g ≡ calls_by step (what_of call) peer move request (bytes_of call) g)
 calls_as step peer g (Vote asked) move says =
-    let sent : Request = vote_request g.timed.me step g.timed.plain.store peer in
-    (sent, subst (λ (m : Move). calls_owed step (Some m) g ≡ calls_by step VoteQ peer m sent (vote_request_bytes asked) g) (sym says.0)
-    (ap (λ (bytes : List ℕ). calls_by step VoteQ peer (CallForVote peer) sent bytes g) (vote_bytes asked sent says.1)))
+    let sent : Request = vote_request g.timed.me step g.timed.plain.store peer in (
+      sent,
+      subst (λ (m : Move). calls_owed step (Some m) g ≡ calls_by step VoteQ peer m sent (vote_request_bytes asked) g) (sym says.0)
+          (ap (λ (bytes : List ℕ). calls_by step VoteQ peer (CallForVote peer) sent bytes g) (vote_bytes asked sent says.1)),
+    )
 calls_as step peer g (Append asked) move says =
-    let sent : Request = append_request g.timed.me step g.timed.plain.store peer says.0 true in
-    (sent, subst (λ (m : Move). calls_owed step (Some m) g ≡ calls_by step AppQ peer m sent (append_request_bytes asked 0) g) (sym says.1)
-    (ap (λ (bytes : List ℕ). calls_by step AppQ peer (CallToAppend peer says.0 true) sent bytes g) (append_bytes asked sent says.2)))
+    let sent : Request = append_request g.timed.me step g.timed.plain.store peer says.0 true in (
+      sent,
+      subst (λ (m : Move). calls_owed step (Some m) g ≡ calls_by step AppQ peer m sent (append_request_bytes asked 0) g) (sym says.1)
+          (ap (λ (bytes : List ℕ). calls_by step AppQ peer (CallToAppend peer says.0 true) sent bytes g) (append_bytes asked sent says.2)),
+    )
 
 -- a call makes no puts
 pub call_is_quiet : (members : List ℕ) (me step : ℕ) (plain : Plain) (peer : ℕ) (call : Call) (move : Move) → Says me step plain peer call move

@@ -1,5 +1,5 @@
 -- A member notes what it did: the step goes on.
-use Rattle.std.proofs.Common.{◌≡◌, ◌≢◌, ℕ, List, [], ◌++◌, ap, subst, sym, ◌∙◌, refl}
+use Rattle.std.proofs.Common.{◌≡◌, ◌≢◌, ℕ, List, [], ◌++◌, ap, subst, sym, ◌∙◌}
 use Rattle.std.specs.Prelude.{None}
 use Rattle.disk_model.specs.declared.disk.Disk.{Ghosts}
 use Rattle.alloc_exchange.specs.declared.exchange.Exchange.{Exchange}
@@ -25,7 +25,7 @@ use Rattle.raft_model.specs.Moves.{Move}
 use Rattle.raft_model.specs.Server.{Plain, Put}
 use Rattle.alloc_member.specs.declared.member.Member.{Member}
 use Rattle.server_parts.specs.declared.offered.Offered.{Offered}
-use Rattle.server_parts.specs.TimedServer.{Timed, members_of, start_of}
+use Rattle.server_parts.specs.TimedServer.{members_of, start_of}
 use Rattle.server_parts.specs.Going.{Going, takes}
 use Rattle.alloc_member.specs.Stands.{IsGoing}
 use Rattle.alloc_member.proofs.Lists.{append_none}

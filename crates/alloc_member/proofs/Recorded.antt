@@ -1,6 +1,5 @@
 -- Whether a node ID stands in a log, as a test and as a fact.
-use Rattle.std.proofs.Common.{◌≡◌, ◌<◌, ◌+◌, ℕ, zero, suc, Bool, true, false, List, [], ◌∷◌, length, ◌||◌, refl, sym, ap, ◌∙◌, arith}
-use Rattle.std.specs.List.{list_any}
+use Rattle.std.proofs.Common.{◌≡◌, ◌<◌, ℕ, zero, suc, Bool, true, false, List, [], ◌∷◌, length, ◌||◌, refl, sym, ap, ◌∙◌, arith}
 use Rattle.std.specs.Prelude.{nat_eq, slice_index_or}
 use Rattle.std.proofs.lemmas.Bool.Decides.{nat_tests}
 use Rattle.can_frame.specs.declared.entry.Entry.{Entry}
@@ -19,6 +18,7 @@ any_has (entry ∷ log) node is = by (λ h. any_has log node h) (nat_eq entry.no
   where
     later : HasNodeId log node → HasNodeId (entry ∷ log) node
     later h = record { place = suc h.place; within = omega (arith, h.within); same = h.same }
+
     by : (is_recorded log node ≡ true → HasNodeId log node) → (b : Bool) → nat_eq entry.node node ≡ b → HasNodeId (entry ∷ log) node
     by rest true here = record { place = 0; within = omega arith; same = equal entry.node node here }
     by rest false not = later (rest (sym (ap (λ (b : Bool). b || is_recorded log node) not) ∙ is))

@@ -1,6 +1,6 @@
 -- A transfer is offered: the step goes on.
-use Rattle.std.proofs.Common.{◌≡◌, ℕ, Bool, true, false, List, [], ◌∷◌, ◌++◌, length, Option, Some, None, refl, sym, ap, subst, ◌∙◌}
-use Rattle.std.specs.Prelude.{map, filter_map, Result, Ok, if◌then◌else◌}
+use Rattle.std.proofs.Common.{◌≡◌, ℕ, Bool, true, false, List, [], ◌∷◌, ◌++◌, Option, Some, None, refl, sym, ap, ◌∙◌}
+use Rattle.std.specs.Prelude.{map, filter_map}
 use Rattle.std.proofs.lemmas.List.{map-append}
 use Rattle.std.proofs.lemmas.List.Elements.{filter_map-append}
 use Rattle.arrayvec.specs.ArrayVec.{ArrayVec}
@@ -8,21 +8,14 @@ use Rattle.can_frame.specs.declared.step.Sent.{Sent}
 use Rattle.can_frame.specs.declared.step.What.{What}
 use Rattle.disk_model.specs.declared.disk.Disk.{Ghosts}
 use Rattle.raft_log.specs.declared.durable.Durable.{Durable}
-use Rattle.raft_log.specs.DurableViews.{durable_state}
-use Rattle.raft_core.specs.declared.raft.Raft.{Raft}
-use Rattle.raft_core.specs.Stands as raft
-use Rattle.raft_core.specs.StoredPuts.{DoesPuts}
-use Rattle.alloc_exchange.specs.Stands as exchange
-use Rattle.node_discovery.specs.Stands as watch
-use Rattle.cluster_discovery.specs.Stands as cluster
 use Rattle.raft_model.specs.Messages.{Message}
 use Rattle.transfer_tx.specs.Queue.{Queued, queued_frames}
 use Rattle.alloc_member.specs.declared.member.Member.{Member}
 use Rattle.server_parts.specs.declared.offered.Offered.{Offered}
-use Rattle.server_parts.specs.TimedServer.{Timed, members_of, start_of}
+use Rattle.server_parts.specs.TimedServer.{Timed}
 use Rattle.server_parts.specs.Transfers.{Given, Ids, Offer, given_in, has_room, id_of, outgoing, sent_of}
 use Rattle.server_parts.specs.Outbox.{Waiting, counted_if, queued_if}
-use Rattle.server_parts.specs.Going.{Going, answers, given_by_offer, newly_given, one_given, pairs, sends, sents}
+use Rattle.server_parts.specs.Going.{Going, answers, given_by_offer, newly_given, one_given, sends}
 use Rattle.alloc_member.specs.Stands.{IsGoing, ListsGiven, StandsFor}
 use Rattle.alloc_member.proofs.Lists.{append_none}
 

@@ -1,5 +1,5 @@
 -- Moves are made: the step goes on, up to the first put that fails.
-use Rattle.std.proofs.Common.{◌≡◌, ℕ, Bool, true, false, List, [], ◌∷◌, ◌++◌, refl, sym, ap, subst, ◌∙◌}
+use Rattle.std.proofs.Common.{◌≡◌, ℕ, List, [], ◌++◌, sym, ap, subst, ◌∙◌}
 use Rattle.std.specs.Result.{result_err}
 use Rattle.std.specs.Prelude.{Result, Ok, Err, IsErr, IsErrAnd, Option, None, Some, IfNone}
 use Rattle.disk_model.specs.declared.disk.Disk.{Ghosts}
@@ -14,13 +14,10 @@ use Rattle.raft_core.specs.Times.{Given, times_after_all}
 use Rattle.raft_model.specs.Handlers.{plain_after_all, puts_of_all}
 use Rattle.raft_model.specs.Moves.{Move}
 use Rattle.raft_model.specs.Server.{Put}
-use Rattle.alloc_exchange.specs.Stands as exchange
-use Rattle.node_discovery.specs.Stands as watch
-use Rattle.cluster_discovery.specs.Stands as cluster
 use Rattle.alloc_member.specs.declared.member.Member.{Member}
 use Rattle.server_parts.specs.declared.offered.Offered.{Offered}
-use Rattle.server_parts.specs.TimedServer.{Timed, members_of, start_of}
-use Rattle.server_parts.specs.Going.{Going, moved, takes}
+use Rattle.server_parts.specs.TimedServer.{members_of}
+use Rattle.server_parts.specs.Going.{Going, takes}
 use Rattle.alloc_member.specs.Stands.{GoesTo, IsGoing}
 use Rattle.alloc_member.specs.Puts.{PutsGoOn}
 use Rattle.server_parts.specs.Extends.{Extends}

@@ -1,9 +1,8 @@
 -- A request of a candidate or leader, with the member's own number and moments.
-use Rattle.std.proofs.Common.{◌≡◌, ℕ, Bool, List, [], ◌∷◌, ap, subst, ◌∙◌, refl}
+use Rattle.std.proofs.Common.{◌≡◌, ℕ, Bool, List, [], ◌∷◌, ap, subst, ◌∙◌}
 use Rattle.std.specs.Prelude.{Option}
 use Rattle.disk_model.specs.declared.disk.Disk.{Ghosts}
 use Rattle.dsdl_codec.specs.declared.append_request.AppendRequest.{AppendRequest}
-use Rattle.dsdl_codec.specs.declared.vote_answer.VoteAnswer.{VoteAnswer}
 use Rattle.dsdl_codec.specs.declared.vote_request.VoteRequest.{VoteRequest}
 use Rattle.dsdl_codec.specs.Verdict.{verdict_bytes}
 use Rattle.kv_store.specs.declared.fault.Fault.{Fault}

@@ -61,11 +61,7 @@ impl<D: Disk> Member<D> {
         Ok(Seen::Took)
     }
 
-    fn take_allocation(
-        &mut self,
-        message: &Allocation,
-        offered: &mut Offered,
-    ) -> Result<(), Fault>
+    fn take_allocation(&mut self, message: &Allocation, offered: &mut Offered) -> Result<(), Fault>
         requires ready { IsReady self.old }
         requires room { array_vec_len offered.old.sent < 12 }
         requires pairs { array_vec_len offered.old.answers < 2 }
@@ -122,12 +118,7 @@ impl<D: Disk> Member<D> {
 
     /// A recorded pair is answered again once it is committed, whatever the role. Another unique ID
     /// is recorded, unless it is zeros.
-    fn hear_whole(
-        &mut self,
-        uid: &Uid,
-        preference: u8,
-        offered: &mut Offered,
-    ) -> Result<(), Fault>
+    fn hear_whole(&mut self, uid: &Uid, preference: u8, offered: &mut Offered) -> Result<(), Fault>
         requires ready { IsReady self.old }
         requires room { array_vec_len offered.old.sent < 12 }
         requires pairs { array_vec_len offered.old.answers < 2 }

@@ -37,8 +37,7 @@ impl<D: Disk> Member<D> {
         requires id { request.now.id < 32 }
         requires room { array_vec_len offered.old.sent < 12 }
         ensures sees { SeesOn self.old self.new offered.old offered.new
-            (asks_info offered.old.step (delivery_of request.now) request.now.payload.items) result
-            }
+            (asks_info offered.old.step (delivery_of request.now) request.now.payload.items) result }
         ensures ready { IsReady self.new }
         ensures lists { ListsUpTo 1 0 offered.old offered.new }
     {

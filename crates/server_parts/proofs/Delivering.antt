@@ -1,5 +1,5 @@
 -- What is done with a whole transfer only adds puts.
-use Rattle.std.proofs.Common.{◌≡◌, ℕ, Bool, true, false, List, [], ◌∷◌, Option, Some, None, refl}
+use Rattle.std.proofs.Common.{ℕ, Bool, true, false, List, [], ◌∷◌, Option, Some, None, refl}
 use Rattle.std.specs.Prelude.{◌&&◌, nat_eq, nat_lt, not, slice_index_or, if◌then◌else◌}
 use Rattle.alloc_exchange.specs.declared.heard.Heard.{Heard}
 use Rattle.alloc_exchange.specs.declared.heard.Heard.TheVariants.{Denied, FollowUp, Ignored, Whole}
@@ -30,8 +30,8 @@ use Rattle.raft_model.specs.Moves.{Move}
 use Rattle.raft_model.specs.Moves.Elections.{with_term}
 use Rattle.raft_model.specs.Moves.Move.{AnswerAgain, TakeAppendRequest, TakeVoteRequest}
 use Rattle.transfer_rx.specs.Reassembly.{Answer, Continues, Delivery, Drops, Gives}
-use Rattle.server_parts.specs.Delivered.{Sight, asks_info, by_kind, delivers, hears_discovery, hears_status, message, reads, request, response}
-use Rattle.server_parts.specs.Exchange.{answers_again, answers_or_records, answers_request, hears_allocation, hears_whole, may_follow, records, records_at, with_request}
+use Rattle.server_parts.specs.Delivered.{asks_info, by_kind, delivers, hears_discovery, hears_status, message, reads, request, response}
+use Rattle.server_parts.specs.Exchange.{answers_or_records, answers_request, hears_allocation, hears_whole, may_follow, records, records_at, with_request}
 use Rattle.server_parts.specs.Extends.{Extends}
 use Rattle.server_parts.specs.Going.{Going, takes}
 use Rattle.server_parts.specs.Services.{answers_append, answers_append_request, answers_call, answers_vote, answers_vote_request, append_answered, ends_append_call, ends_vote_call, hears_info, is_listed, takes_append_answer, takes_append_request, takes_vote_answer, takes_vote_request, tells_info, vote_answered}

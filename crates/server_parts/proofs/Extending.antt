@@ -1,5 +1,5 @@
 -- The parts of a tick only add puts.
-use Rattle.std.proofs.Common.{◌≡◌, ◌-◌, ℕ, List, [], ◌∷◌, Option, Some, None, refl}
+use Rattle.std.proofs.Common.{◌-◌, ℕ, List, [], ◌∷◌, Option, Some, None, refl}
 use Rattle.std.specs.Prelude.{nat_le}
 use Rattle.can_frame.specs.Zeros.{zeros}
 use Rattle.cluster_discovery.specs.Members.{is_due}

@@ -25,8 +25,15 @@ impl Model for Counters {
 
     ghost Value = { Ids };
 
-    ghost view = { λ c. record { alloc = c.alloc; disc = c.disc; stat = c.stat; info = c.info; vote
-        = c.vote; append = c.append } };
+    ghost view = { λ c. record {
+      alloc = c.alloc;
+      disc = c.disc;
+      stat = c.stat;
+      info = c.info;
+      vote
+          = c.vote;
+      append = c.append;
+    } };
 
     ghost invariant = { λ c. (c.alloc < 32) × (c.disc < 32) × (c.stat < 32) × ((node : ℕ) →
         slice_index c.info node < 32) × ((node : ℕ) → slice_index c.vote node < 32) × ((node : ℕ) →

@@ -83,10 +83,13 @@ impl Outbox {
     pub fn send(&mut self, what: What, to: u8, payload: Payload, step: u64) -> bool
         requires { IsIdentifier (transfers.ident_of self.old.me what to) }
         ensures fitted { result ≡ has_room self.old.queue payload.items }
-        ensures next { self.new ≡ record self.old { queue = queued_if result self.old.queue
-            (queued_frames (outgoing self.old.me what to
-            (id_of self.old.ids what to) payload.items) step 0); ids = counted_if result what to
-            self.old.ids } }
+        ensures next { self.new ≡ record self.old {
+          queue = queued_if result self.old.queue
+              (queued_frames (outgoing self.old.me what to
+              (id_of self.old.ids what to) payload.items) step 0);
+          ids = counted_if result what to
+              self.old.ids;
+        } }
     {
         let id = self.ids.next(what, to);
         let fitted = self.put(what, to, id, payload, step, 0);
@@ -109,8 +112,10 @@ impl Outbox {
         requires ident { IsIdentifier (transfers.ident_of self.old.me what to) }
         requires id { id < 32 }
         ensures fitted { result ≡ has_room self.old.queue payload.items }
-        ensures next { self.new ≡ record self.old { queue = queued_if result self.old.queue
-            (queued_frames (outgoing self.old.me what to id payload.items) step re) } }
+        ensures next { self.new ≡ record self.old {
+          queue = queued_if result self.old.queue
+              (queued_frames (outgoing self.old.me what to id payload.items) step re);
+        } }
     {
         self.put(what, to, id, payload, step, re)
     }
@@ -119,8 +124,10 @@ impl Outbox {
         requires ident { IsIdentifier (transfers.ident_of self.old.me what to) }
         requires id { id < 32 }
         ensures fitted { result ≡ has_room self.old.queue payload.items }
-        ensures next { self.new ≡ record self.old { queue = queued_if result self.old.queue
-            (queued_frames (outgoing self.old.me what to id payload.items) step re) } }
+        ensures next { self.new ≡ record self.old {
+          queue = queued_if result self.old.queue
+              (queued_frames (outgoing self.old.me what to id payload.items) step re);
+        } }
     {
         let transfer = Outgoing {
             ident: ident_of(self.me, what, to),

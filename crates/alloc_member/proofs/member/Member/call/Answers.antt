@@ -1,15 +1,14 @@
-use Rattle.std.proofs.Common.{◌≡◌, true, false, List, ℕ, ◌∷◌, [], refl, sym, ap, subst, ◌∙◌, Option, Some, None}
+use Rattle.std.proofs.Common.{◌≡◌, List, ℕ, ◌∷◌, [], refl, sym, ap, subst, ◌∙◌, Option, Some, None}
 use Rattle.raft_core.specs.Calls.{Owes, Says, owed}
 use Rattle.raft_core.specs.RaftViews.{raft_me}
 use Rattle.raft_core.specs.Stands as raft
 use Rattle.raft_core.specs.Times.{given_call, times_after_all}
 use Rattle.raft_log.specs.DurableViews.{durable_state}
 use Rattle.raft_model.specs.Handlers.{plain_after_all}
-use Rattle.raft_model.specs.Messages.{Request}
 use Rattle.raft_model.specs.Messages.Message.{Requests}
 use Rattle.raft_model.specs.Moves.{Move}
-use Rattle.server_parts.specs.Ending.{calls_by, calls_owed}
-use Rattle.server_parts.specs.Going.{Going, sends, takes}
+use Rattle.server_parts.specs.Ending.{calls_owed}
+use Rattle.server_parts.specs.Going.{Going, sends}
 use Rattle.server_parts.specs.Outbox.{Waiting}
 use Rattle.server_parts.specs.TimedServer.{members_of}
 use Rattle.server_parts.specs.Transfers.{given_in, has_room, id_of}

@@ -1,4 +1,4 @@
-use Rattle.std.specs.Prelude.{◌≡◌, ◌≤◌, ◌+◌, ℕ, drop}
+use Rattle.std.specs.Prelude.{◌≡◌, drop}
 use Rattle.raft_log.specs.declared.durable.Durable.{Durable}
 use Rattle.server_parts.specs.Ending.{calls_all}
 use Rattle.server_parts.specs.Going.{Going}

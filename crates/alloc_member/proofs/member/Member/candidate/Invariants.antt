@@ -1,4 +1,4 @@
-use Rattle.std.proofs.Common.{◌≡◌, ℕ, ◌-◌, find}
+use Rattle.std.proofs.Common.{◌≡◌, ◌-◌, find}
 use Rattle.std.specs.List.{range_with_len}
 use Rattle.alloc_member.specs.Stands.{StandsFor}
 use Rattle.server_parts.specs.Tick.{candidate, is_candidate}

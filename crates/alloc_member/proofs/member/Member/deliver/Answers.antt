@@ -1,4 +1,4 @@
-use Rattle.std.proofs.Common.{sym, subst, ◌≡◌}
+use Rattle.std.proofs.Common.{sym, subst}
 use Rattle.std.specs.Prelude.{Ok}
 use Rattle.can_frame.specs.declared.identifier.Kind.{Kind}
 use Rattle.server_parts.specs.Delivered.{by_kind, delivers, message}

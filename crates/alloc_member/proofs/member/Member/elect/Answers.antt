@@ -1,6 +1,6 @@
 use Rattle.std.proofs.Common.{sym, ◌∙◌}
 use Rattle.server_parts.specs.TimedServer.{members_of, start_of}
-use Rattle.alloc_member.proofs.Electing.{complete_is, counted_same, elects, first_and_others}
+use Rattle.alloc_member.proofs.Electing.{complete_is, elects, first_and_others}
 use Rattle.alloc_member.proofs.Taking.{took_moves}
 use Rattle.std.specs.Result.{result_err}
 use Rattle.alloc_member.proofs.member.Member.elect.Goals as goal

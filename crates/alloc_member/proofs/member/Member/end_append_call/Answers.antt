@@ -1,4 +1,4 @@
-use Rattle.std.proofs.Common.{ap, subst, sym, ◌∙◌, ◌≡◌, ◌∷◌, [], ℕ, true, false}
+use Rattle.std.proofs.Common.{ap, subst, sym, ◌∙◌, ◌∷◌, [], ℕ, true}
 use Rattle.std.specs.Prelude.{Option}
 use Rattle.std.specs.Result.{result_err}
 use Rattle.kv_store.specs.declared.fault.Fault.{Fault}

@@ -1,4 +1,4 @@
-use Rattle.std.proofs.Common.{ap, subst, sym, ◌∙◌, ◌≡◌, List, ℕ}
+use Rattle.std.proofs.Common.{ap, subst, ◌∙◌, List, ℕ}
 use Rattle.std.specs.Prelude.{None}
 use Rattle.can_frame.specs.declared.step.What.TheVariants.{Alloc}
 use Rattle.server_parts.specs.Going.{sends}

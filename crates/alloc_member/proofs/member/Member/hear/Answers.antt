@@ -1,4 +1,4 @@
-use Rattle.std.proofs.Common.{ap, subst, ◌∙◌, ◌≡◌, Bool, ℕ}
+use Rattle.std.proofs.Common.{ap, subst, ◌∙◌, Bool, ℕ}
 use Rattle.alloc_exchange.specs.Exchange.{after, answer}
 use Rattle.alloc_exchange.specs.Stands as exchange
 use Rattle.server_parts.specs.Exchange.{may_follow}

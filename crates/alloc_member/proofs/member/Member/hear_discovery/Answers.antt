@@ -1,10 +1,9 @@
-use Rattle.std.proofs.Common.{◌≡◌, ◌≢◌, ◌∷◌, true, refl, sym, ap, ◌∙◌, List, ℕ, length}
+use Rattle.std.proofs.Common.{◌≡◌, ◌≢◌, ◌∷◌, refl, sym, ap, ◌∙◌, List, ℕ, length}
 use Rattle.can_frame.specs.declared.step.Seen.TheVariants.{Took}
 use Rattle.can_frame.specs.declared.step.Role.TheVariants.{Follower}
-use Rattle.cluster_discovery.specs.Members.{Event, Heard, is_complete, members}
+use Rattle.cluster_discovery.specs.Members.{Event, Heard, members}
 use Rattle.dsdl_codec.specs.Discovery.{discovery_of}
 use Rattle.raft_core.specs.RaftViews.{raft_role}
-use Rattle.raft_log.specs.declared.durable.Durable.{Durable}
 use Rattle.server_parts.specs.Delivered.{Sight, hears_discovery}
 use Rattle.server_parts.specs.TimedServer.{members_of, start_of}
 use Rattle.transfer_rx.specs.Told.{delivery_of}
@@ -23,6 +22,8 @@ returns-clause-sees g c offered start going h =
     let stays = λ (leads : raft_role c.args.self.now.raft ≢ Follower).
     c.a_complete_list_stays.ensures.members (start_of t) t.heard d.ident.source c.in-Some.message
     (same_number (length (members_of t)) t.size (ap (λ (list : List ℕ). length list) (sym (h.stands.raft.known leads)) ∙ c.args.self.now.raft.complete leads ∙ c.requires.raft_size ∙ h.stands.size)) in
-    read_as (λ (sight : Sight). IsGoing start (record c.args.self.now { cluster = c.heard.new.self }) offered sight.going × (Took ≡ sight.seen)) (hears_discovery d) _ c.in-Some.message going value
-    (noted_cluster start c.args.self.now offered going h c.heard.new.self events (c.heard.ensures.follows (start_of t) t.heard h.stands.cluster)
-    (counts_same c.args.self.now.raft (members_of t) (members (start_of t) events) _ t.plain t.times h.stands.raft stays), refl)
+    read_as (λ (sight : Sight). IsGoing start (record c.args.self.now { cluster = c.heard.new.self }) offered sight.going × (Took ≡ sight.seen)) (hears_discovery d) _ c.in-Some.message going value (
+      noted_cluster start c.args.self.now offered going h c.heard.new.self events (c.heard.ensures.follows (start_of t) t.heard h.stands.cluster)
+          (counts_same c.args.self.now.raft (members_of t) (members (start_of t) events) _ t.plain t.times h.stands.raft stays),
+      refl,
+    )

@@ -16,7 +16,9 @@ returns-clause-sees g c offered start going h =
     let t = going.timed in
     let d = delivery_of c.args.response.now in
     let value = c.in-Some.ensures.value ∙ ap (λ (bytes : List ℕ). node_info_of bytes) c.deref.ensures.0 in
-    read_as (λ (sight : Sight). IsGoing start (record c.args.self.now { watch = c.info.new.self }) offered sight.going × (Took ≡ sight.seen)) (hears_info d) _ c.in-Some.info going value
-    (noted_watch start c.args.self.now offered going h c.info.new.self (after_info t.watch d.ident.source d.id c.in-Some.info.uid t.now)
-    (subst (λ (now : ℕ). watch.StandsFor c.info.new.self (after_info t.watch d.ident.source d.id c.in-Some.info.uid now)) h.stands.now
-    (c.info.ensures.follows t.watch h.stands.watch)), refl)
+    read_as (λ (sight : Sight). IsGoing start (record c.args.self.now { watch = c.info.new.self }) offered sight.going × (Took ≡ sight.seen)) (hears_info d) _ c.in-Some.info going value (
+      noted_watch start c.args.self.now offered going h c.info.new.self (after_info t.watch d.ident.source d.id c.in-Some.info.uid t.now)
+          (subst (λ (now : ℕ). watch.StandsFor c.info.new.self (after_info t.watch d.ident.source d.id c.in-Some.info.uid now)) h.stands.now
+          (c.info.ensures.follows t.watch h.stands.watch)),
+      refl,
+    )

@@ -15,7 +15,9 @@ returns-clause-sees g c offered start going h =
     let t = going.timed in
     let d = delivery_of c.args.transfer.now in
     let value = c.in-Some.ensures.value ∙ ap (λ (bytes : List ℕ). node_status_of bytes) c.deref.ensures.0 in
-    read_as (λ (sight : Sight). IsGoing start (record c.args.self.now { watch = c.status.new.self }) offered sight.going × (Took ≡ sight.seen)) (λ told. hears_status d) _ _ going value
-    (noted_watch start c.args.self.now offered going h c.status.new.self (after_status t.watch d.ident.source t.now)
-    (subst (λ (now : ℕ). watch.StandsFor c.status.new.self (after_status t.watch d.ident.source now)) h.stands.now
-    (c.status.ensures t.watch h.stands.watch)), refl)
+    read_as (λ (sight : Sight). IsGoing start (record c.args.self.now { watch = c.status.new.self }) offered sight.going × (Took ≡ sight.seen)) (λ told. hears_status d) _ _ going value (
+      noted_watch start c.args.self.now offered going h c.status.new.self (after_status t.watch d.ident.source t.now)
+          (subst (λ (now : ℕ). watch.StandsFor c.status.new.self (after_status t.watch d.ident.source now)) h.stands.now
+          (c.status.ensures t.watch h.stands.watch)),
+      refl,
+    )

@@ -1,4 +1,4 @@
-use Rattle.std.proofs.Common.{◌≡◌, ◌≤◌, ◌+◌, ℕ, sym, subst}
+use Rattle.std.proofs.Common.{◌≤◌, ◌+◌, ℕ, sym, subst}
 use Rattle.alloc_member.proofs.Peers.{others_at}
 use Rattle.alloc_member.proofs.member.Member.peers.Goals as goal
 

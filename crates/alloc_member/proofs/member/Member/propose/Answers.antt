@@ -2,7 +2,6 @@ use Rattle.std.proofs.Common.{ap, subst, sym, ◌∙◌, ◌≡◌, ◌<◌, ◌
 use Rattle.std.specs.Prelude.{Option}
 use Rattle.std.specs.Result.{result_err}
 use Rattle.can_frame.specs.declared.entry.Entry.{Entry}
-use Rattle.can_frame.specs.Zeros.{zeros}
 use Rattle.kv_store.specs.declared.fault.Fault.{Fault}
 use Rattle.raft_core.specs.declared.raft.Raft.{Raft}
 use Rattle.raft_core.specs.Handled.{MakesMoves}

@@ -1,4 +1,4 @@
-use Rattle.std.proofs.Common.{ap, subst, sym, ◌∙◌, ◌≡◌, ◌<◌, ◌∷◌, [], ℕ, inl, inr, arith}
+use Rattle.std.proofs.Common.{ap, subst, sym, ◌∙◌, ◌≡◌, ◌<◌, ◌∷◌, [], ℕ, arith}
 use Rattle.std.specs.Prelude.{Option}
 use Rattle.std.specs.Result.{result_err}
 use Rattle.can_frame.specs.declared.entry.Entry.{Entry}

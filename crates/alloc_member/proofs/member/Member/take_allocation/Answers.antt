@@ -1,4 +1,4 @@
-use Rattle.std.proofs.Common.{refl, sym, ap, subst, ◌∙◌, ◌≡◌, List, ℕ}
+use Rattle.std.proofs.Common.{sym, subst, ◌∙◌, List, ℕ}
 use Rattle.std.specs.Prelude.{None}
 use Rattle.std.specs.Result.{result_err}
 use Rattle.alloc_exchange.specs.declared.heard.Heard.{Heard}

@@ -1,4 +1,4 @@
-use Rattle.std.proofs.Common.{refl, sym, subst, ◌≡◌}
+use Rattle.std.proofs.Common.{refl, sym, subst}
 use Rattle.std.specs.Prelude.{Ok}
 use Rattle.can_frame.specs.declared.step.Seen.TheVariants.{Dropped, Part}
 use Rattle.server_parts.specs.Step.{with_answer}

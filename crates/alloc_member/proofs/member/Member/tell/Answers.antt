@@ -1,4 +1,4 @@
-use Rattle.std.proofs.Common.{◌≡◌, Bool, true, false, List, ℕ, [], ◌∷◌, refl, sym, ap, subst, ◌∙◌, inl, inr, arith}
+use Rattle.std.proofs.Common.{◌≡◌, true, false, List, ℕ, [], ◌∷◌, refl, sym, ap, subst, ◌∙◌, inl, inr}
 use Rattle.std.specs.Prelude.{None}
 use Rattle.can_frame.specs.declared.entry.Entry.{Entry}
 use Rattle.can_frame.specs.declared.step.What.TheVariants.{Alloc}
@@ -6,13 +6,12 @@ use Rattle.raft_core.specs.RaftViews.{raft_told}
 use Rattle.raft_core.specs.Stands as raft
 use Rattle.raft_core.specs.Times.{given_at, times_after_all}
 use Rattle.raft_log.specs.DurableViews.{durable_state}
-use Rattle.raft_model.specs.Duty as duty
 use Rattle.raft_model.specs.Duty.{next_entry}
 use Rattle.raft_model.specs.Handlers.{plain_after_all}
 use Rattle.raft_model.specs.Moves.Move.{TellNothing, TellPair}
-use Rattle.server_parts.specs.Ending.{has_to_tell, tells_next}
-use Rattle.server_parts.specs.Exchange.{allocation_payload, gives_pair}
-use Rattle.server_parts.specs.Going.{Going, sends, takes}
+use Rattle.server_parts.specs.Ending.{has_to_tell}
+use Rattle.server_parts.specs.Exchange.{allocation_payload}
+use Rattle.server_parts.specs.Going.{Going, sends}
 use Rattle.server_parts.specs.Outbox.{Waiting}
 use Rattle.server_parts.specs.TimedServer.{is_zero, members_of}
 use Rattle.server_parts.specs.Transfers.{has_room}

@@ -1,4 +1,4 @@
-use Rattle.std.proofs.Common.{refl, ap, subst, sym, ◌∙◌, ◌≡◌, ◌-◌, ◌≤◌, List, ℕ, ◌∷◌, true, arith}
+use Rattle.std.proofs.Common.{refl, ap, subst, ◌∙◌, ◌≡◌, ◌-◌, ◌≤◌, List, ℕ, true, arith}
 use Rattle.std.specs.Prelude.{None, nat_le}
 use Rattle.can_frame.specs.declared.step.What.TheVariants.{Stat}
 use Rattle.dsdl_codec.specs.declared.node_status.NodeStatus.{NodeStatus}

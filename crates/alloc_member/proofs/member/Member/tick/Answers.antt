@@ -2,7 +2,7 @@ use Rattle.std.proofs.Common.{ap, subst, ◌∙◌, ◌≡◌, ℕ}
 use Rattle.std.specs.Prelude.{Some}
 use Rattle.std.specs.Result.{result_err}
 use Rattle.server_parts.specs.Going.{Going}
-use Rattle.alloc_member.specs.Stands.{GoesTo, IsGoing}
+use Rattle.alloc_member.specs.Stands.{IsGoing}
 use Rattle.server_parts.specs.Tick.{discovery_phase, election_phase, record_phase, query_phase, status_phase}
 use Rattle.alloc_member.proofs.Taking.{given_on, goes_failed, is_going}
 use Rattle.alloc_member.proofs.member.Member.tick.Goals as goal
