@@ -1,0 +1,55 @@
+-- What a frame would deliver, and how it is judged.
+use Rattle.std.proofs.Common.{◌≡◌, ℕ, Bool, true, List, Option, Some, None, refl, sym, ap, ◌∙◌, ◌≤◌, arith}
+use Rattle.std.specs.Prelude.{max, nat_le, ◌&&◌}
+use Rattle.can_frame.specs.declared.step.Judged.TheVariants.{Fine}
+use Rattle.transfer_rx.specs.Reassembly.{Answer, Arrival, Continues, Delivery, Drops, Gives, Setting, answer, arrival_of, delivered}
+use Rattle.transfer_rx.specs.Sessions.{Session}
+use Rattle.can_frame.specs.declared.frame.Frame.{Frame}
+use Rattle.can_frame.specs.declared.mark.Mark.{Mark}
+use Rattle.server_parts.specs.Accepted.{setting_for}
+use Rattle.server_parts.specs.Judging.{is_response, is_stale, judged, judges, misses}
+use Rattle.raft_core.specs.Times.{Sending}
+use Rattle.raft_model.specs.Messages.{Request as Call}
+use Rattle.server_parts.specs.TimedServer.{Timed}
+
+judged_none : (t : Timed) (step now : ℕ) (a : Answer) → delivered a ≡ None → judged t step now a ≡ Fine
+judged_none t step now (Gives d) none = cc
+judged_none t step now Continues none = refl
+judged_none t step now (Drops why) none = refl
+
+judged_some : (t : Timed) (step now : ℕ) (a : Answer) (d : Delivery) → delivered a ≡ Some d → judged t step now a ≡ judged t step now (Gives d)
+judged_some t step now (Gives e) d some = let same : e ≡ d = cc in ap (λ (x : Delivery). judged t step now (Gives x)) same
+judged_some t step now Continues d some = cc
+judged_some t step now (Drops why) d some = cc
+
+module _ (t : Timed) (arrival : Arrival) where
+  abbrev pub now_then : Arrival
+  now_then = record arrival { moment = max t.now arrival.moment }
+
+  pub judges_none : delivered (answer (setting_for t.me) t.sessions now_then) ≡ None → judges t arrival ≡ Fine
+  unfolding judges
+  judges_none none = judged_none t arrival.mark.step (max t.now arrival.moment) _ none
+
+  pub judges_some : (d : Delivery) → delivered (answer (setting_for t.me) t.sessions now_then) ≡ Some d → judges t arrival ≡ judged t arrival.mark.step (max t.now arrival.moment) (Gives d)
+  unfolding judges
+  judges_some d some = judged_some t arrival.mark.step (max t.now arrival.moment) _ d some
+
+-- what is foretold at the moment of a step
+pub foretold : (mine yours : Setting) (sessions : List Session) (frame : Frame) (mark : Mark) (n m : ℕ) (delivers : Option Delivery) → mine ≡ yours → n ≡ m
+    → delivers ≡ delivered (answer mine sessions (arrival_of frame mark n)) → delivered (answer yours sessions (arrival_of frame mark m)) ≡ delivers
+foretold mine yours sessions frame mark n m delivers same at tells =
+    sym (tells ∙ ap (λ (s : Setting). delivered (answer s sessions (arrival_of frame mark n))) same ∙ ap (λ (k : ℕ). delivered (answer yours sessions (arrival_of frame mark k))) at)
+
+both : (a b m : Bool) → a ≡ true → b ≡ true → m ≡ ((a && b) && m)
+both a b m x y = rw (x, y) refl
+
+at_most : (n : ℕ) → n ≤ 125 → nat_le n 125 ≡ true
+at_most n h = grind arith
+
+-- a response of a member is judged by the call to it
+pub stale_as : (t : Timed) (d : Delivery) (now : ℕ) (r : Bool) → is_response d.ident.kind ≡ true → d.ident.source ≤ 125
+    → r ≡ misses d now (t.plain.memory.pending d.ident.source) (t.times.sending d.ident.source) → r ≡ is_stale t d now
+stale_as t d now r responds device is = is ∙ both (is_response d.ident.kind) (nat_le d.ident.source 125) _ responds (at_most d.ident.source device)
+
+pub misses_as : (d : Delivery) (now : ℕ) (call call2 : Option Call) (sending sending2 : Option Sending) → call ≡ call2 → sending ≡ sending2 → misses d now call2 sending2 ≡ misses d now call sending
+misses_as d now call call2 sending sending2 e f = ap (λ (c : Option Call). misses d now c sending2) (sym e) ∙ ap (λ (s : Option Sending). misses d now call s) (sym f)

@@ -1,0 +1,63 @@
+use Rattle.std.proofs.Common.{refl, ap, subst, sym, ◌∙◌, ◌≡◌, ℕ}
+use Rattle.std.specs.Prelude.{IfOk, Option, None, Some, Result}
+use Rattle.std.specs.Result.{result_err}
+use Rattle.can_frame.specs.declared.step.Seen.{Seen}
+use Rattle.kv_store.specs.declared.fault.Fault.{Fault}
+use Rattle.raft_core.specs.StoredPuts.{DoesPuts}
+use Rattle.server_parts.specs.Accepted.{setting_for}
+use Rattle.server_parts.specs.Delivered.{Sight}
+use Rattle.server_parts.specs.Step as steps
+use Rattle.alloc_server.specs.Server.{ComesTo, event_of}
+use Rattle.alloc_server.proofs.server.Server.step.Goals as goal
+
+pub returns-in-Some-clause-steps : goal.returns-in-Some-clause-steps
+returns-in-Some-clause-steps g c t h = let sound = h.sound in cc
+
+pub returns-in-Ok-clause-steps : goal.returns-in-Ok-clause-steps
+returns-in-Ok-clause-steps g c t h =
+    let sight : Sight = steps.step t c.args.step (event_of c.args.event) in
+    let comes = subst (λ (n : ℕ). ComesTo c.args.self.now.member.durable t c.take.new.member c.take.new.receiver c.take.new.offered (steps.step t n (event_of c.args.event)) c.take.result) c.new-offered.ensures.step
+    (c.take.ensures.comes t h.member h.sessions h.setting) in
+    let none : result_err c.take.result ≡ None = ap result_err c.in-Ok.is in
+    let going = comes.sees.goes.going none in
+    let puts = subst (λ (f : Option Fault). DoesPuts sight.going.puts c.args.self.now.member.durable c.take.new.member.durable f) none comes.sees.goes.puts in
+    let faults = puts.faults.works h.works in
+    record {
+      stands = record {
+        member = going.stands;
+        sessions = comes.sessions;
+        setting = c.take.ensures.setting ∙ h.setting ∙ ap setting_for (sym comes.me);
+        sound = h.sound;
+        works = faults.kept;
+      };
+      tells = record {
+        seen = subst (λ (r : Result Seen Fault). IfOk r (λ seen. seen ≡ sight.seen)) c.in-Ok.is comes.sees.seen;
+        sent = going.sent;
+        given = going.given;
+      };
+      leaves = λ tells image left. puts.made.stop h.works tells image left;
+      made = puts.made.made h.works;
+      put = record { state = puts.made.state refl; copies = puts.made.copies refl };
+      cause = tt;
+      later = faults.later;
+      told = faults.tells;
+    }
+
+pub returns-in-Err-clause-steps : goal.returns-in-Err-clause-steps
+returns-in-Err-clause-steps g c t h =
+    let sight : Sight = steps.step t c.args.step (event_of c.args.event) in
+    let comes = subst (λ (n : ℕ). ComesTo c.args.self.now.member.durable t c.take.new.member c.take.new.receiver c.take.new.offered (steps.step t n (event_of c.args.event)) c.take.result) c.new-offered.ensures.step
+    (c.take.ensures.comes t h.member h.sessions h.setting) in
+    let failed : result_err c.take.result ≡ Some c.in-Err.fault = ap result_err c.in-Err.is in
+    let puts = subst (λ (f : Option Fault). DoesPuts sight.going.puts c.args.self.now.member.durable c.take.new.member.durable f) failed comes.sees.goes.puts in
+    let faults = puts.faults.works h.works in
+    record {
+      stands = tt;
+      tells = tt;
+      leaves = λ tells image left. puts.made.stop h.works tells image left;
+      made = puts.made.made h.works;
+      put = tt;
+      cause = faults.cause h.works;
+      later = faults.later;
+      told = faults.tells;
+    }

@@ -1,0 +1,105 @@
+-- What contracts see of a server of the code, and what it stands for.
+use Rattle.std.specs.Prelude.{◌≡◌, ◌≤◌, IfOk, ℕ, List, Option, None, OnOk, IfErr, Result, true, is_ok}
+use Rattle.disk_model.specs.declared.disk.Disk.{Ghosts}
+use Rattle.disk_model.specs.Contents.{MayLeave}
+use Rattle.disk_model.specs.Device.{Makes}
+use Rattle.kv_store.specs.declared.fault.Fault.{Fault}
+use Rattle.outside.specs.Faults.{Rose}
+use Rattle.raft_log.specs.declared.durable.Durable.{Durable}
+use Rattle.raft_log.specs.DeviceCalls.{copies_after, device_calls}
+use Rattle.raft_log.specs.DurableViews.{durable_copies, durable_disk, durable_fault, durable_state}
+use Rattle.raft_log.specs.Rules.{StandsForState}
+use Rattle.raft_log.specs.Stored.{AfterSome, after_puts}
+use Rattle.raft_core.specs.StoredPuts.{stored_puts}
+use Rattle.transfer_rx.specs.declared.receiver.Receiver.{Receiver}
+use Rattle.transfer_rx.specs.StandsFor as receiver
+use Rattle.transfer_rx.specs.StandsFor.{accept_of, setting_of}
+use Rattle.transfer_tx.specs.Queue.{Queued}
+use Rattle.server_parts.specs.declared.event.Event.{Event as CodeEvent}
+use Rattle.server_parts.specs.declared.event.Event.TheVariants.{Tick as TickCode, Rx as RxCode}
+use Rattle.server_parts.specs.declared.event.Outcome.{Outcome}
+use Rattle.alloc_member.specs.declared.member.Member.{Member}
+use Rattle.alloc_server.specs.declared.server.Server.{Server}
+use Rattle.can_frame.specs.declared.step.Seen.{Seen}
+use Rattle.server_parts.specs.declared.offered.Offered.{Offered}
+use Rattle.transfer_rx.specs.Reassembly.{arrival_of}
+use Rattle.raft_model.specs.Server.{Put}
+use Rattle.server_parts.specs.Accepted.{setting_for}
+use Rattle.server_parts.specs.Going.{pairs, sents}
+use Rattle.alloc_member.specs.Stands as member
+use Rattle.server_parts.specs.Delivered.{Sight}
+use Rattle.server_parts.specs.Step.{Event, Rx, Tick}
+use Rattle.server_parts.specs.TimedServer.{Timed}
+
+-- an event of the code
+abbrev pub event_of : CodeEvent → Event
+event_of (TickCode now word) = Tick now word
+event_of (RxCode frame mark now) = Rx (arrival_of frame mark now)
+
+-- what a finished step tells
+pub record Tells (outcome : Outcome) (sight : Sight) : Type 0 where
+  pub seen : outcome.seen ≡ sight.seen
+  pub sent : outcome.sent.items ≡ sents sight.going
+  pub given : outcome.answers.items ≡ pairs sight.going
+
+module _ {D F : Type 0} {disk : Ghosts D} where
+  abbrev pub durable_of : Server D F disk → Durable D disk
+  durable_of server = server.member.durable
+
+  abbrev pub disk_of : Server D F disk → D
+  disk_of server = durable_disk server.member.durable
+
+  -- the frames that wait for the bus
+  abbrev pub queued : Server D F disk → List Queued
+  queued server = server.member.outbox.queue
+
+  -- the fault of the step that failed
+  abbrev pub fault_of : Server D F disk → Option Fault
+  fault_of server = server.fault
+
+  -- it stands for a timed server, part for part; no step has failed, nor a put
+  pub record StandsFor (server : Server D F disk) (t : Timed) : Type 0 where
+    pub member : member.StandsFor server.member t
+    pub sessions : receiver.StandsFor server.receiver t.sessions
+    pub setting : setting_of server.receiver ≡ setting_for t.me
+    pub sound : server.fault ≡ None
+    pub works : durable_fault server.member.durable ≡ None
+
+  -- the closure that was given to it
+  abbrev pub accepts : Server D F disk → F
+  accepts server = accept_of server.receiver
+
+  -- a stop at any moment of a step that makes these puts leaves the state after some of the first of them
+  abbrev pub LeavesSome : Server D F disk → Server D F disk → List Put → Type 0
+  LeavesSome old new puts = disk.tells (disk_of old) ≡ true → (image : List ℕ) → MayLeave (disk.contents (disk_of new)) image →
+      AfterSome (StandsForState image) (stored_puts puts (durable_state (durable_of old))) (durable_state (durable_of old))
+
+  -- the device calls of these puts were made, up to the first that failed
+  abbrev pub MakesCalls : {T : Type 0} → Server D F disk → Server D F disk → List Put → Result T Fault → Type 0
+  MakesCalls old new puts result = Makes disk.does (device_calls (stored_puts puts (durable_state (durable_of old))) (durable_state (durable_of old)) (durable_copies (durable_of old)))
+      (is_ok result) (disk_of old) (disk_of new)
+
+  -- a step that finishes has made them: what is stored then, and which copies are chosen
+  pub record HasPut (old new : Server D F disk) (puts : List Put) : Type 0 where
+    pub state : durable_state (durable_of new) ≡ after_puts (stored_puts puts (durable_state (durable_of old))) (durable_state (durable_of old))
+    pub copies : durable_copies (durable_of new) ≡ copies_after (stored_puts puts (durable_state (durable_of old))) (durable_state (durable_of old)) (durable_copies (durable_of old))
+
+  -- what a step does that is this of the timed server
+  pub record StepsTo (old new : Server D F disk) (sight : Sight) (result : Result Outcome Fault) : Type 0 where
+    -- where no put fails, it stands for the server afterwards, and tells what was seen and offered
+    pub stands : OnOk result (StandsFor new sight.going.timed)
+    pub tells : IfOk result (λ outcome. Tells outcome sight)
+    -- its puts are made in order, up to the first that fails
+    pub leaves : LeavesSome old new sight.going.puts
+    pub made : MakesCalls old new sight.going.puts result
+    pub put : OnOk result (HasPut old new sight.going.puts)
+    -- a fault has a cause in this step
+    pub cause : IfErr result (λ fault. (fault.count ≡ disk.faults (disk_of new)) × Rose (disk.faults (disk_of old)) (disk.faults (disk_of new)))
+    pub later : disk.faults (disk_of old) ≤ disk.faults (disk_of new)
+    pub told : disk.tells (disk_of new) ≡ disk.tells (disk_of old)
+
+-- what a step has come to: the member and its receiver, what was listed, what it saw
+pub record ComesTo {D F : Type 0} {disk : Ghosts D} (start : Durable D disk) (t : Timed) (after : Member D disk) (r : Receiver F 160 128) (offered : Offered) (sight : Sight) (result : Result Seen Fault) : Type 0 where
+  pub sees : member.SeesTo start after offered sight result
+  pub sessions : receiver.StandsFor r sight.going.timed.sessions
+  pub me : sight.going.timed.me ≡ t.me

@@ -1,0 +1,97 @@
+//! Whether a frame may be given to a server in a cluster under test.
+
+ghost use Rattle.std.specs.Prelude.{◌≡◌, ◌&&◌, Some, IsSome, nat_eq, not, if◌then◌else◌};
+ghost use Rattle.raft_core.specs.Calls.{IsPending};
+ghost use Rattle.raft_core.specs.Times.{Sending};
+ghost use Rattle.raft_model.specs.Messages.{Request};
+ghost use Rattle.transfer_rx.specs.Told.{delivery_of};
+ghost use Rattle.can_frame.specs.declared.step.Judged.TheVariants.{Fine, Stale, Torn};
+ghost use Rattle.transfer_rx.specs.Acceptance.{AnswersByRows};
+ghost use Rattle.transfer_rx.specs.Reassembly.{arrival_of};
+ghost use Rattle.server_parts.specs.Accepted as accepted;
+ghost use Rattle.server_parts.specs.Judging.{is_response, is_stale, judges, misses};
+ghost use Rattle.transfer_rx.specs.Memory.{ReceiverFitsInMemory};
+ghost use Rattle.server_parts.specs.TimedServer.{Timed};
+
+use crate::server::Server;
+use can_frame::{Frame, Judged, Kind, Mark};
+use disk_model::Disk;
+use raft_core::Pending;
+use transfer_rx::Transfer;
+
+impl<D: Disk, F: Fn(Kind, u16) -> Option<u64> + Copy> Server<D, F> {
+    ghost use Rattle.alloc_server.specs.Server.{StandsFor, accepts, fault_of};
+
+    /// What the frame would deliver in a step at this moment: `Torn` where it is a transfer whose
+    /// frames were not made together, one from outside excepted, and else `Stale` where it is a
+    /// response that a pending call would take, and answers another call. A server that has failed
+    /// delivers nothing. Nothing changes.
+    pub fn judge(&self, frame: &Frame, mark: Mark, now: u64) -> Judged
+        requires memory { ReceiverFitsInMemory F.row 160 128 }
+        requires callable { F.IsAlwaysCallable (accepts self.now) }
+        requires answers { AnswersByRows (F.post (accepts self.now)) accepted.rows }
+        ensures judged { (t : Timed) → StandsFor self.now t →
+            result ≡ judges t (arrival_of frame.now mark now) }
+        ensures failed { IsSome (fault_of self.now) → result ≡ Fine }
+    {
+        if self.failed() {
+            return Judged::Fine;
+        }
+        let now = self.member.latest.max(now);
+        let Some(transfer) = self.receiver.peek(frame, mark, now) else {
+            return Judged::Fine;
+        };
+        verdict(transfer.whole, mark.step, self.is_stale(&transfer, now))
+    }
+
+    /// A pending call that is not given up yet would take the response, and was made in another
+    /// step than the request that it answers.
+    fn is_stale(&self, transfer: &Transfer, now: u64) -> bool
+        ensures { (t : Timed) → StandsFor self.now t → result ≡ is_stale t
+            (delivery_of transfer.now) now }
+    {
+        if !is_response(transfer.ident.kind) {
+            return false;
+        }
+        if transfer.ident.source > 125 {
+            return false;
+        }
+        match self.member.raft.pending(transfer.ident.source) {
+            Some(call) => misses(&call, transfer, now),
+            None => false,
+        }
+    }
+}
+
+fn is_response(kind: Kind) -> bool
+    ensures { result ≡ is_response kind }
+{
+    match kind {
+        Kind::Message | Kind::Anonymous | Kind::Request => false,
+        Kind::Response => true,
+    }
+}
+
+/// The call would take the response, and was made in another step than the request that it answers.
+fn misses(call: &Pending, transfer: &Transfer, now: u64) -> bool
+    ensures { (request : Request) (sending : Sending) → IsPending call.now request sending →
+        result ≡ misses (delivery_of transfer.now) now (Some request) (Some sending) }
+{
+    u16::from(call.service) == transfer.ident.number
+        && call.id == transfer.id
+        && now.saturating_sub(call.sent) < 1000
+        && call.step != transfer.mark.re
+}
+
+fn verdict(whole: bool, step: u64, stale: bool) -> Judged
+    ensures { result ≡ (if not whole && not (nat_eq step 0) then Torn else
+        (if stale then Stale else Fine)) }
+{
+    if !whole && step != 0 {
+        Judged::Torn
+    } else if stale {
+        Judged::Stale
+    } else {
+        Judged::Fine
+    }
+}

@@ -1,0 +1,220 @@
+ghost use Rattle.std.specs.Prelude.{◌≡◌, ◌≤◌, ◌<◌, ◌↔◌, ℕ, [], None, Some, IsTrue, IsNone, IsSome, IfOk, IfErr, IfSome, Err, true, length, option_map};
+ghost use Rattle.can_frame.specs.Log.{entry_at};
+ghost use Rattle.disk_model.specs.Device.{Makes};
+ghost use Rattle.kv_store.specs.Image.{chosen_copy, key_count, open_calls};
+ghost use Rattle.kv_store.specs.Opening.{was_read};
+ghost use Rattle.kv_store.specs.declared.fault.Fault.{Fault};
+ghost use Rattle.kv_store.specs.declared.fault.OpenFault.TheVariants.{Fault as DiskFault, Damaged};
+ghost use Rattle.outside.specs.Faults.{Rose};
+ghost use Rattle.raft_log.specs.DurableViews.{durable_copies, durable_state};
+ghost use Rattle.raft_log.specs.Rules.{IsDamagedAt, StandsForState};
+ghost use Rattle.raft_core.specs.StoredPuts.{store_of};
+ghost use Rattle.transfer_rx.specs.Acceptance.{AnswersByRows};
+ghost use Rattle.transfer_tx.specs.Queue.{next_out};
+ghost use Rattle.transfer_tx.specs.Views.{queued_of};
+ghost use Rattle.std.proofs.Props.{props};
+ghost use Rattle.transfer_rx.specs.StandsFor.{setting_of};
+ghost use Rattle.raft_core.specs.OneFit.{ReachesUpTo-prop};
+ghost use Rattle.alloc_member.specs.Stands.{IsReady};
+ghost use Rattle.server_parts.specs.Accepted as accepted;
+ghost use Rattle.transfer_rx.specs.Memory.{ReceiverFitsInMemory};
+ghost use Rattle.server_parts.specs.Step.{popped};
+ghost use Rattle.server_parts.specs.Step as steps;
+ghost use Rattle.server_parts.specs.TimedServer.{Timed, entry_of, opening, view_of};
+
+use crate::take::take;
+use alloc_member::Member;
+use arrayvec::ArrayVec;
+use can_frame::{Entry, Kind};
+use disk_model::{Disk, MemoryDisk};
+use kv_store::{Fault, OpenRefused};
+use raft_log::Durable;
+use server_parts::{Event, Offered, Outcome, View};
+use transfer_rx::{AcceptRow, Receiver};
+use transfer_tx::Marked;
+
+/// One allocator of a cluster, with its disk.
+#[derive(Drop)]
+pub struct Server<D: Disk, F> {
+    pub(crate) member: Member<D>,
+    /// With 160 sessions, and 128 blocks of 28 bytes.
+    pub(crate) receiver: Receiver<F, 160, 128>,
+
+    /// The fault of the step that failed.
+    fault: Option<Fault>,
+
+    ghost rows: { (setting_of receiver).rows ≡ accepted.rows },
+    ghost ready: { fault ≡ None → IsReady member } by { Prim.hlevel (props, ReachesUpTo-prop) },
+}
+
+impl<D: Disk, F: Fn(Kind, u16) -> Option<u64> + Copy> Server<D, F> {
+    ghost use Rattle.alloc_server.specs.Server.{StandsFor, StepsTo, accepts, disk_of, durable_of, event_of, fault_of, queued};
+
+    /// A server of the node `me`, in a cluster of `size` members, with what its disk has stored.
+    /// The word makes its wait for an election differ from the others'.
+    pub fn open(
+        me: u8,
+        size: u8,
+        disk: D,
+        rows: ArrayVec<AcceptRow, 16>,
+        accept: F,
+        now: u64,
+        word: u32,
+    ) -> Result<Server<D, F>, OpenRefused<D>>
+        requires least { 1 ≤ me }
+        requires most { me ≤ 125 }
+        requires some { 1 ≤ size }
+        requires five { size ≤ 5 }
+        requires rows { rows.items ≡ accepted.rows }
+        requires memory { ReceiverFitsInMemory F.row 160 128 }
+        requires callable { F.IsAlwaysCallable accept }
+        requires answers { AnswersByRows (F.post accept) rows.items }
+        ensures stands { IfOk result (λ server. StandsFor server (opening me size (store_of
+            (durable_state (durable_of server))) now word)) }
+        ensures state { IfOk result (λ server. D.tells disk ≡ true →
+            StandsForState (D.contents disk).seen (durable_state (durable_of server))) }
+        ensures copies { IfOk result (λ server. D.tells disk ≡ true → (key : ℕ) → key < key_count →
+            durable_copies (durable_of server) key ≡ chosen_copy (D.contents disk).seen key) }
+        ensures accepts { IfOk result (λ server. accepts server ≡ accept) }
+        ensures made { IfOk result (λ server. Makes D.does open_calls true disk (disk_of server)) }
+        ensures damaged { IfErr result (λ refused. (key : ℕ) → refused.why ≡ Damaged key →
+            D.tells disk ≡ true → IsDamagedAt (D.contents disk).seen key) }
+        ensures fault { IfErr result (λ refused. (fault : Fault) → refused.why ≡ DiskFault fault →
+            (fault.count ≡ D.faults refused.disk) × Rose (D.faults disk) (D.faults refused.disk)) }
+        ensures refused_made { IfErr result (λ refused. Makes D.does open_calls
+            (was_read refused.why) disk refused.disk) }
+    {
+        match Durable::open(disk) {
+            Ok(durable) => Ok(Server {
+                member: Member::open(me, size, durable, now, word),
+                receiver: Receiver::new(me, rows, accept),
+                fault: None,
+            }),
+            Err(refused) => Err(refused),
+        }
+    }
+
+    /// Takes an event, in a step with a number. Where the disk fails, the step ends, what waited
+    /// for the bus is lost, and the server answers the same fault from then on.
+    pub fn step(&mut self, event: Event, step: u64) -> Result<Outcome, Fault>
+        requires memory { ReceiverFitsInMemory F.row 160 128 }
+        requires callable { F.IsAlwaysCallable (accepts self.old) }
+        requires answers { AnswersByRows (F.post (accepts self.old)) accepted.rows }
+
+        ensures steps { (t : Timed) → StandsFor self.old t →
+            StepsTo self.old self.new (steps.step t step (event_of event)) result }
+        ensures failed { IfErr result (λ fault. fault_of self.new ≡ Some fault) }
+        ensures lost { IsNone (fault_of self.old) → IfErr result (λ _. queued self.new ≡ []) }
+        ensures again { IfSome (fault_of self.old) (λ fault. (result ≡ Err fault) ×
+            (self.new ≡ self.old)) }
+        ensures accepts { accepts self.new ≡ accepts self.old }
+    {
+        if let Some(fault) = self.fault {
+            return Err(fault);
+        }
+        let mut offered = Offered::new(step);
+        match take(&mut self.member, &mut self.receiver, event, &mut offered) {
+            Ok(seen) => Ok(Outcome {
+                seen,
+                sent: offered.sent,
+                answers: offered.answers,
+            }),
+            Err(fault) => {
+                self.fault = Some(fault);
+                self.member.outbox.clear();
+                Err(fault)
+            }
+        }
+    }
+
+    /// The next frame for the bus.
+    pub fn pop(&mut self) -> Option<Marked>
+        ensures next { option_map queued_of result ≡ next_out (queued self.old) }
+        ensures rest { (t : Timed) → StandsFor self.old t → StandsFor self.new (popped t) }
+        ensures none { IsNone result ↔ (queued self.old ≡ []) }
+        ensures durable { durable_of self.new ≡ durable_of self.old }
+        ensures fault { fault_of self.new ≡ fault_of self.old }
+        ensures accepts { accepts self.new ≡ accepts self.old }
+    {
+        self.member.outbox.pop()
+    }
+
+    pub fn view(&self) -> View
+        ensures { (t : Timed) → StandsFor self.now t → result ≡ view_of t }
+    {
+        let durable = &self.member.durable;
+        View {
+            role: self.member.raft.role(),
+            term: durable.term(),
+            vote: durable.vote(),
+            last: durable.last(),
+            commit: durable.commit(),
+            queued: self.member.outbox.queued(),
+        }
+    }
+
+    /// The entry at a place of 0 to last. At place 0 stands the blank of term 0.
+    pub fn entry(&self, place: u8) -> Entry
+        requires { place ≤ length (durable_state (durable_of self.now)).log }
+        ensures entry { result ≡ entry_at (durable_state (durable_of self.now)).log place }
+        ensures stands { (t : Timed) → StandsFor self.now t → result ≡ entry_of t place }
+    {
+        self.member.durable.entry(place)
+    }
+
+    /// Whether a step has failed.
+    pub fn failed(&self) -> bool
+        ensures { IsTrue result ↔ IsSome (fault_of self.now) }
+    {
+        self.fault.is_some()
+    }
+
+    /// The disk as it stands.
+    pub fn stop(self) -> D
+        ensures { result ≡ disk_of self }
+    {
+        self.member.into_disk()
+    }
+}
+
+impl<F: Fn(Kind, u16) -> Option<u64> + Copy> Server<MemoryDisk, F> {
+    ghost use Rattle.disk_model.specs.Memory.{memory_calls, memory_contents};
+    ghost use Rattle.alloc_server.specs.Server.{StandsFor as StandsForTimed, accepts as accept_of, disk_of as disk_in, durable_of as durable_in, fault_of as fault_in};
+
+    /// `MemoryDisk::stop_at` of the disk. All else stays.
+    pub fn stop_at(&mut self, call: u64)
+        ensures calls { memory_calls (disk_in self.new) ≡ record (memory_calls (disk_in self.old))
+            { stop_in = call } }
+        ensures contents { memory_contents (disk_in self.new) ≡ memory_contents (disk_in self.old) }
+        ensures state { durable_state (durable_in self.new) ≡ durable_state (durable_in self.old) }
+        ensures copies { durable_copies (durable_in self.new) ≡ durable_copies
+            (durable_in self.old) }
+        ensures fault { fault_in self.new ≡ fault_in self.old }
+        ensures stands { (t : Timed) → StandsForTimed self.old t → StandsForTimed self.new t }
+        ensures accepts { accept_of self.new ≡ accept_of self.old }
+    {
+        self.member.durable.stop_at(call);
+    }
+
+    /// `MemoryDisk::fail_at` of the disk. All else stays.
+    pub fn fail_at(&mut self, call: u64)
+        ensures calls { memory_calls (disk_in self.new) ≡ record (memory_calls (disk_in self.old))
+            { fail_in = call } }
+        ensures contents { memory_contents (disk_in self.new) ≡ memory_contents (disk_in self.old) }
+        ensures state { durable_state (durable_in self.new) ≡ durable_state (durable_in self.old) }
+        ensures copies { durable_copies (durable_in self.new) ≡ durable_copies
+            (durable_in self.old) }
+        ensures fault { fault_in self.new ≡ fault_in self.old }
+        ensures stands { (t : Timed) → StandsForTimed self.old t → StandsForTimed self.new t }
+        ensures accepts { accept_of self.new ≡ accept_of self.old }
+    {
+        self.member.durable.fail_at(call);
+    }
+
+    /// Whether a device call has stopped the disk.
+    pub fn stopped(&self) -> bool
+        ensures { result ≡ (memory_calls (disk_in self.now)).stopped }
+    {
+        self.member.durable.stopped()
+    }
+}

@@ -1,0 +1,51 @@
+//! The part of a step that may fail.
+
+ghost use Rattle.std.specs.Prelude.{◌≡◌, OnOk};
+ghost use Rattle.alloc_member.specs.Stands.{IsFresh, IsReady, StandsFor as IsMember};
+ghost use Rattle.alloc_server.specs.Server.{ComesTo, event_of};
+ghost use Rattle.server_parts.specs.Accepted as accepted;
+ghost use Rattle.server_parts.specs.Step as steps;
+ghost use Rattle.server_parts.specs.TimedServer.{Timed};
+ghost use Rattle.transfer_rx.specs.Acceptance.{AnswersByRows};
+ghost use Rattle.transfer_rx.specs.Memory.{ReceiverFitsInMemory};
+ghost use Rattle.transfer_rx.specs.StandsFor.{StandsFor as HasSessions, accept_of, setting_of};
+
+use alloc_member::Member;
+use can_frame::{Kind, Seen};
+use disk_model::Disk;
+use kv_store::Fault;
+use server_parts::laws::phases_add_puts;
+use server_parts::{Event, Offered};
+use transfer_rx::Receiver;
+
+/// Its clock goes to the member; a frame goes to the receiver, and what it led to to the member.
+pub fn take<D: Disk, F: Fn(Kind, u16) -> Option<u64> + Copy>(
+    member: &mut Member<D>,
+    receiver: &mut Receiver<F, 160, 128>,
+    event: Event,
+    offered: &mut Offered,
+) -> Result<Seen, Fault>
+    requires memory { ReceiverFitsInMemory F.row 160 128 }
+    requires callable { F.IsAlwaysCallable (accept_of receiver.old) }
+    requires answers { AnswersByRows (F.post (accept_of receiver.old)) accepted.rows }
+    requires rows { (setting_of receiver.old).rows ≡ accepted.rows }
+    requires ready { IsReady member.old }
+    requires fresh { IsFresh offered.old }
+    ensures comes { (t : Timed) → IsMember member.old t → HasSessions receiver.old t.sessions →
+        setting_of receiver.old ≡ accepted.setting_for t.me →
+        ComesTo member.old.durable t member.new receiver.new offered.new
+        (steps.step t offered.old.step (event_of event)) result }
+    ensures ready { OnOk result (IsReady member.new) }
+    ensures accept { accept_of receiver.new ≡ accept_of receiver.old }
+    ensures setting { setting_of receiver.new ≡ setting_of receiver.old }
+{
+    phases_add_puts();
+    match event {
+        Event::Tick { now, word } => member.take_tick(now, word, offered),
+        Event::Rx { frame, mark, now } => {
+            member.begin(now);
+            let took = receiver.take(&frame, mark, member.latest);
+            member.take_answer(&took, offered)
+        }
+    }
+}
