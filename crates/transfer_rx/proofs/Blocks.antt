@@ -9,11 +9,11 @@ use Rattle.transfer_rx.specs.declared.progress.Progress.{Progress}
 use Rattle.transfer_rx.specs.Sessions.{Session, others}
 use Rattle.transfer_rx.specs.Outcome.{blocks_for, blocks_used, lacks_blocks, session_blocks}
 use Rattle.transfer_rx.specs.Places.{Arranged, IsPlaceFor, Places, blocks_at}
-use Rattle.transfer_rx.specs.Stands.{Keeps}
+use Rattle.transfer_rx.specs.Progress.{IsProgressOf}
 use Rattle.transfer_rx.proofs.Arrangement.{sum_besides}
 use Rattle.transfer_rx.proofs.Lengths.{length-joined}
 
-pub bytes_kept : (p : Progress) (bytes : List ℕ) (session : Session) → Keeps p bytes session → 7 * p.taken ≡ length (joined session.taken)
+pub bytes_kept : (p : Progress) (bytes : List ℕ) (session : Session) → IsProgressOf p bytes session → 7 * p.taken ≡ length (joined session.taken)
 bytes_kept p bytes session k = ap (λ n. 7 * n) k.taken ∙ sym (length-joined session.expected 0 session.taken k.part)
 
 pub more : (xs : Places) (i : ℕ) → i < length xs →

@@ -9,27 +9,27 @@ use Rattle.can_frame.specs.Cutting.{Piece}
 use Rattle.transfer_rx.specs.declared.key.Key.{Key}
 use Rattle.transfer_rx.specs.declared.progress.Progress.{Progress}
 use Rattle.transfer_rx.specs.declared.progress.Found.{Found}
-use Rattle.transfer_rx.specs.Places.{Arranged, FindsAs, FindsOwn, IsAt, Places, is_free}
+use Rattle.transfer_rx.specs.Places.{Arranged, IsSearchResult, IsSessionOfKey, IsSessionAtPlace, Places, is_free}
 use Rattle.transfer_rx.specs.Sessions.{Session, begun, continued, opened, restarted, restarts, session_for, session_of}
-use Rattle.transfer_rx.specs.Stands.{Holds, Keeps}
+use Rattle.transfer_rx.specs.Progress.{IsProgressAt, IsProgressOf}
 use Rattle.transfer_rx.proofs.Arrangement.{there}
 use Rattle.transfer_rx.specs.Turns.{ComesTo}
 use Rattle.transfer_rx.proofs.Found.{found-key}
 
 -- ---- a place that was looked at
 
-pub free_here : (recent : Option Progress) (bytes : List ℕ) (there : Option Session) → Holds recent bytes there → is_some recent ≡ false → there ≡ None
+pub free_here : (recent : Option Progress) (bytes : List ℕ) (there : Option Session) → IsProgressAt recent bytes there → is_some recent ≡ false → there ≡ None
 free_here None bytes None h t = refl
 free_here None bytes (Some session) h t = absurd h
 free_here (Some progress) bytes there h t = absurd cc
 
-pub taken_here : (recent : Option Progress) (bytes : List ℕ) (there : Option Session) → Holds recent bytes there → is_some recent ≡ true → is_free there ≡ false
+pub taken_here : (recent : Option Progress) (bytes : List ℕ) (there : Option Session) → IsProgressAt recent bytes there → is_some recent ≡ true → is_free there ≡ false
 taken_here None bytes there h t = absurd cc
 taken_here (Some progress) bytes None h t = absurd h
 taken_here (Some progress) bytes (Some session) h t = refl
 
 pub own_found : (bytes : List (List ℕ)) (key : Key) (places : Places) (sessions : List Session) (found : Found) → Arranged places sessions →
-    found.place < length places → IsAt bytes key places found → FindsOwn bytes key places sessions found
+    found.place < length places → IsSessionAtPlace bytes key places found → IsSessionOfKey bytes key places sessions found
 own_found bytes key places sessions found a l at =
     let own : session_of key sessions ≡ Some at.session =
     subst (λ k. session_of k sessions ≡ Some at.session) at.own (there places sessions found.place at.session a.at at.there) in
@@ -42,9 +42,9 @@ own_found bytes key places sessions found a l at =
 -- ---- the four ways
 
 module _ (most : ℕ) (bytes : List (List ℕ)) (key : Key) (tail : Tail) (now : ℕ) (places : Places) (sessions : List Session) where
-  pub as_found : (found : Found) (progress : Progress) → FindsOwn bytes key places sessions found →
-      ((b : List ℕ) (session : Session) → Keeps found.progress b session → Keeps progress b (restarted tail session)) →
-      FindsAs bytes key places sessions (Ok (record { place = found.place; progress = progress })) (session_for most key tail now sessions)
+  pub as_found : (found : Found) (progress : Progress) → IsSessionOfKey bytes key places sessions found →
+      ((b : List ℕ) (session : Session) → IsProgressOf found.progress b session → IsProgressOf progress b (restarted tail session)) →
+      IsSearchResult bytes key places sessions (Ok (record { place = found.place; progress = progress })) (session_for most key tail now sessions)
   unfolding session_for
   as_found found progress own f =
       let e : session_of key sessions ≡ Some own.session = own.own in
@@ -70,30 +70,30 @@ module _ (most : ℕ) (bytes : List (List ℕ)) (key : Key) (tail : Tail) (now :
       of_none none ∙ ap (λ start. cond start (cond (nat_lt (length sessions) most) (Ok (opened key tail now)) (Err NoSession)) (Err Start)) t
       ∙ ap (λ room. cond room (Ok (opened key tail now)) (Err NoSession)) f
 
-  pub as_dropped : (why : Why) → session_for most key tail now sessions ≡ Err why → FindsAs bytes key places sessions (Err why) (session_for most key tail now sessions)
-  as_dropped why e = subst (λ r. FindsAs bytes key places sessions (Err why) r) (sym e) refl
+  pub as_dropped : (why : Why) → session_for most key tail now sessions ≡ Err why → IsSearchResult bytes key places sessions (Err why) (session_for most key tail now sessions)
+  as_dropped why e = subst (λ r. IsSearchResult bytes key places sessions (Err why) r) (sym e) refl
 
   pub as_opened : (place : ℕ) (progress : Progress) → session_of key sessions ≡ None → tail.start ≡ true → length sessions < most →
-      place < length places → get_or places place None ≡ None → ((b : List ℕ) → Keeps progress b (opened key tail now)) →
-      FindsAs bytes key places sessions (Ok (record { place = place; progress = progress })) (session_for most key tail now sessions)
+      place < length places → get_or places place None ≡ None → ((b : List ℕ) → IsProgressOf progress b (opened key tail now)) →
+      IsSearchResult bytes key places sessions (Ok (record { place = place; progress = progress })) (session_for most key tail now sessions)
   as_opened place progress none t room present free f =
-      subst (λ r. FindsAs bytes key places sessions (Ok (record { place = place; progress = progress })) r) (sym (opens none t room))
+      subst (λ r. IsSearchResult bytes key places sessions (Ok (record { place = place; progress = progress })) r) (sym (opens none t room))
       (record { place = record { present = present; same = free ∙ sym none }; keeps = f _ })
 
 -- ---- a turn
 
 from_ok : (most : ℕ) (bytes : List (List ℕ)) (key : Key) (piece : Piece) (now : ℕ) (places : Places) (sessions : List Session) (found : Found) (r : Result Session Why) →
-    session_for most key piece.tail now sessions ≡ r → FindsAs bytes key places sessions (Ok found) r → ComesTo most bytes key piece now places sessions found
+    session_for most key piece.tail now sessions ≡ r → IsSearchResult bytes key places sessions (Ok found) r → ComesTo most bytes key piece now places sessions found
 from_ok most bytes key piece now places sessions found (Ok session) e h = record { session = session; there = e; finds = h }
 from_ok most bytes key piece now places sessions found (Err why) e h = absurd h
 
 pub comes : (most : ℕ) (bytes : List (List ℕ)) (key key' : Key) (piece : Piece) (tail : Tail) (now : ℕ) (places : Places) (sessions : List Session) (found : Found) →
-    key' ≡ key → tail ≡ piece.tail → FindsAs bytes key' places sessions (Ok found) (session_for most key' tail now sessions) →
+    key' ≡ key → tail ≡ piece.tail → IsSearchResult bytes key' places sessions (Ok found) (session_for most key' tail now sessions) →
     ComesTo most bytes key piece now places sessions found
 comes most bytes key key' piece tail now places sessions found k t h =
     from_ok most bytes key piece now places sessions found (session_for most key piece.tail now sessions) refl
-    (subst (λ x. FindsAs bytes key places sessions (Ok found) (session_for most key x now sessions)) t
-    (subst (λ x. FindsAs bytes x places sessions (Ok found) (session_for most x tail now sessions)) k h))
+    (subst (λ x. IsSearchResult bytes key places sessions (Ok found) (session_for most key x now sessions)) t
+    (subst (λ x. IsSearchResult bytes x places sessions (Ok found) (session_for most x tail now sessions)) k h))
 
 -- ---- the session keeps its key
 

@@ -9,9 +9,9 @@ use Rattle.block_pool.specs.Chains.{blocks_used, free_blocks, further_blocks}
 use Rattle.can_frame.specs.Cutting.{joined}
 use Rattle.transfer_rx.specs.declared.progress.Progress.{Progress}
 use Rattle.transfer_rx.specs.Filled.{AreFilled, Fills, HasRoomFor, emptied, taken_at}
-use Rattle.transfer_rx.specs.Places.{Places, Stand, blocks_at}
+use Rattle.transfer_rx.specs.Places.{Places, KeepPlaces, blocks_at}
 use Rattle.transfer_rx.specs.Sessions.{Session}
-use Rattle.transfer_rx.specs.Stands.{Holds, Keeps}
+use Rattle.transfer_rx.specs.Progress.{IsProgressAt, IsProgressOf}
 use Rattle.transfer_rx.proofs.Blocks.{bytes_kept}
 
 pub few_taken : (o : Option Progress) → taken_at o ≤ 54
@@ -72,7 +72,7 @@ module _ (p : Progress) (place : ℕ) (chains : List (List ℕ)) (there : place 
         rw f (sym (filled (omega arith)))
   ]
 
-  pub emptied_keeps : (session : Session) → Keeps p (get_or chains place []) session → Keeps p (get_or (emptied p.taken place chains) place []) session
+  pub emptied_keeps : (session : Session) → IsProgressOf p (get_or chains place []) session → IsProgressOf p (get_or (emptied p.taken place chains) place []) session
   emptied_keeps session k = elim (eqb_tells p.taken 0) [
     | inl none ↦
         let t : nat_eq p.taken 0 ≡ true = none.0 in
@@ -118,14 +118,14 @@ same_sums (x ∷ xs) (y ∷ ys) e h =
     let rest = same_sums xs ys (omega arith) (λ i l. h (suc i) (omega arith)) in
     sum_by-cons blocks_used x xs ∙ (λ i. one i + rest i) ∙ sym (sum_by-cons blocks_at y ys)
 
-one_place : (o : Option Progress) (chain : List ℕ) (there : Option Session) → Holds o chain there → length chain ≡ 7 * taken_at o → blocks_used chain ≡ blocks_at there
+one_place : (o : Option Progress) (chain : List ℕ) (there : Option Session) → IsProgressAt o chain there → length chain ≡ 7 * taken_at o → blocks_used chain ≡ blocks_at there
 one_place None chain None h e = let none : length chain ≡ 0 = omega arith in ap (λ n. (n + 27) / 28) none
 one_place None chain (Some session) h e = absurd h
 one_place (Some p) chain None h e = absurd h
 one_place (Some p) chain (Some session) h e = ap (λ n. (n + 27) / 28) (e ∙ bytes_kept p chain session h)
 
 module _ (blocks place : ℕ) (progress : List (Option Progress)) (chains : List (List ℕ)) (places : Places)
-    (s : Stand progress chains places) (f : AreFilled progress chains) (size : length chains ≡ length progress) (h : place < length progress) where
+    (s : KeepPlaces progress chains places) (f : AreFilled progress chains) (size : length chains ≡ length progress) (h : place < length progress) where
   -- the blocks of the pool, when one chain is of another length
   all_blocks : (chain : List ℕ) → sum_by blocks_used (set chains place chain) ≡ sum_by blocks_at (set places place None) + blocks_used chain
   all_blocks chain =
@@ -147,7 +147,7 @@ kept_length (Some p) old new before e same kept empty = ap length kept ∙ e ∙
 
 -- a frame of seven bytes fits, where the blocks beside the sessions at the other places suffice
 pub seven_more_fit : (blocks place : ℕ) (p : Progress) (progress : List (Option Progress)) (chains : List (List ℕ)) (places : Places) (more : List ℕ) →
-    Stand progress chains places → AreFilled progress chains → length chains ≡ length progress → place < length progress →
+    KeepPlaces progress chains places → AreFilled progress chains → length chains ≡ length progress → place < length progress →
     Fills p (get_or chains place []) → length more ≡ 7 → HasRoomFor blocks places place (7 * p.taken + 7) →
     free_blocks blocks (emptied p.taken place chains) < further_blocks (get_or (emptied p.taken place chains) place []) more → ⊥
 seven_more_fit blocks place p progress chains places more s f size h filled seven room full =

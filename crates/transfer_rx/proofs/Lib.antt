@@ -11,12 +11,12 @@ pub mod Earlier
 pub mod Filled
 pub mod Found
 pub mod InTurn
-pub mod Keeps
 pub mod Lengths
 pub mod Marks
 pub mod Origin
 pub mod Places
 pub mod Pointwise
+pub mod ProgressSteps
 pub mod Room
 pub mod Soundness
 pub mod Steps

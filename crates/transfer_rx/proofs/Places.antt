@@ -7,8 +7,8 @@ use Rattle.std.proofs.lemmas.List.{length-map, length-set, get_or-set_same, get_
 use Rattle.std.proofs.lemmas.Bool.Decides.{eqb_tells}
 use Rattle.transfer_rx.specs.declared.progress.Progress.{Progress}
 use Rattle.transfer_rx.specs.Sessions.{Session, is_recent}
-use Rattle.transfer_rx.specs.Stands.{Keeps, Holds}
-use Rattle.transfer_rx.specs.Places.{Places, Stand, kept, left}
+use Rattle.transfer_rx.specs.Progress.{IsProgressOf, IsProgressAt}
+use Rattle.transfer_rx.specs.Places.{Places, KeepPlaces, kept, left}
 
 pub left-by_place : (now : ℕ) (places : Places) (i : ℕ) → get_or (left now places) i None ≡ kept now (get_or places i None)
 left-by_place now places i = get_or-map (kept now) places i None
@@ -23,33 +23,33 @@ kept_old : (now : ℕ) (session : Session) (moment : ℕ) → moment ≡ session
 kept_old now session moment e h =
     let t : nat_le (now - session.moment) 2000 ≡ false = lt-leb _ _ (subst (λ m. 2000 < now - m) e h) in rw t refl
 
-pub holds_recent : (now : ℕ) (p : Progress) (bytes : List ℕ) (o : Option Session) → Holds (Some p) bytes o →
-    now - p.moment ≤ 2000 → Holds (Some p) bytes (kept now o)
+pub holds_recent : (now : ℕ) (p : Progress) (bytes : List ℕ) (o : Option Session) → IsProgressAt (Some p) bytes o →
+    now - p.moment ≤ 2000 → IsProgressAt (Some p) bytes (kept now o)
 holds_recent now p bytes None h r = h
 holds_recent now p bytes (Some session) h r = rw (kept_recent now session p.moment h.moment r) h
 
-pub holds_old : (now : ℕ) (p : Progress) (bytes : List ℕ) (o : Option Session) → Holds (Some p) bytes o →
-    2000 < now - p.moment → Holds None bytes (kept now o)
+pub holds_old : (now : ℕ) (p : Progress) (bytes : List ℕ) (o : Option Session) → IsProgressAt (Some p) bytes o →
+    2000 < now - p.moment → IsProgressAt None bytes (kept now o)
 holds_old now p bytes None h r = absurd h
 holds_old now p bytes (Some session) h r = rw (kept_old now session p.moment h.moment r) tt
 
-pub holds_none : (now : ℕ) (bytes : List ℕ) (o : Option Session) → Holds None bytes o → Holds None bytes (kept now o)
+pub holds_none : (now : ℕ) (bytes : List ℕ) (o : Option Session) → IsProgressAt None bytes o → IsProgressAt None bytes (kept now o)
 holds_none now bytes None h = tt
 holds_none now bytes (Some session) h = absurd h
 
 pub all_left : (now : ℕ) (places : Places) (progress : List (Option Progress)) (bytes : List (List ℕ)) →
     length places ≡ length progress →
-    ((i : ℕ) → i < length progress → Holds (get_or progress i None) (get_or bytes i []) (kept now (get_or places i None))) →
-    Stand progress bytes (left now places)
+    ((i : ℕ) → i < length progress → IsProgressAt (get_or progress i None) (get_or bytes i []) (kept now (get_or places i None))) →
+    KeepPlaces progress bytes (left now places)
 all_left now places progress bytes size each = record {
   size = length-map places (kept now) ∙ size;
-  each = λ i h. subst (λ o. Holds (get_or progress i None) (get_or bytes i []) o) (sym (left-by_place now places i)) (each i h);
+  each = λ i h. subst (λ o. IsProgressAt (get_or progress i None) (get_or bytes i []) o) (sym (left-by_place now places i)) (each i h);
 }
 
 -- a place that is set anew, where its chain changes with it and no other one does
 pub set_stands : (progress : List (Option Progress)) (chains after : List (List ℕ)) (left : Places) (place : ℕ) (p : Progress) (session : Session) →
-    Stand progress chains left → place < length progress → ((i : ℕ) → i ≢ place → get_or after i [] ≡ get_or chains i []) →
-    Keeps p (get_or after place []) session → Stand (set progress place (Some p)) after (set left place (Some session))
+    KeepPlaces progress chains left → place < length progress → ((i : ℕ) → i ≢ place → get_or after i [] ≡ get_or chains i []) →
+    IsProgressOf p (get_or after place []) session → KeepPlaces (set progress place (Some p)) after (set left place (Some session))
 set_stands progress chains after left place p session s h others k = record {
   size = length-set left place (Some session) ∙ s.size ∙ sym (length-set progress place (Some p));
   each = λ i l.
@@ -58,40 +58,40 @@ set_stands progress chains after left place p session s h others k = record {
         | inl same ↦
             let a : get_or (set progress place (Some p)) place None ≡ Some p = get_or-set_same progress place (Some p) None h in
             let d : get_or (set left place (Some session)) place None ≡ Some session = get_or-set_same left place (Some session) None (omega (arith, s.size)) in
-            subst (λ j. Holds (get_or (set progress place (Some p)) j None) (get_or after j []) (get_or (set left place (Some session)) j None)) (sym same.1)
-            (subst (λ x. Holds x (get_or after place []) (get_or (set left place (Some session)) place None)) (sym a)
-            (subst (λ x. Holds (Some p) (get_or after place []) x) (sym d) k))
+            subst (λ j. IsProgressAt (get_or (set progress place (Some p)) j None) (get_or after j []) (get_or (set left place (Some session)) j None)) (sym same.1)
+            (subst (λ x. IsProgressAt x (get_or after place []) (get_or (set left place (Some session)) place None)) (sym a)
+            (subst (λ x. IsProgressAt (Some p) (get_or after place []) x) (sym d) k))
         | inr other ↦
             let a : get_or (set progress place (Some p)) i None ≡ get_or progress i None = get_or-set_other progress place i (Some p) None other.1 in
             let d : get_or (set left place (Some session)) i None ≡ get_or left i None = get_or-set_other left place i (Some session) None other.1 in
-            subst (λ x. Holds x (get_or after i []) (get_or (set left place (Some session)) i None)) (sym a)
-            (subst (λ x. Holds (get_or progress i None) x (get_or (set left place (Some session)) i None)) (sym (others i other.1))
-            (subst (λ x. Holds (get_or progress i None) (get_or chains i []) x) (sym d) (s.each i l')))
+            subst (λ x. IsProgressAt x (get_or after i []) (get_or (set left place (Some session)) i None)) (sym a)
+            (subst (λ x. IsProgressAt (get_or progress i None) x (get_or (set left place (Some session)) i None)) (sym (others i other.1))
+            (subst (λ x. IsProgressAt (get_or progress i None) (get_or chains i []) x) (sym d) (s.each i l')))
       ];
 }
 
 -- ---- old sessions are forgotten, place by place
 
-same_chain : (o : Option Progress) (chain after : List ℕ) (there : Option Session) → Holds o chain there → IfSome o (λ p. after ≡ chain) → Holds o after there
+same_chain : (o : Option Progress) (chain after : List ℕ) (there : Option Session) → IsProgressAt o chain there → IfSome o (λ p. after ≡ chain) → IsProgressAt o after there
 same_chain None chain after None h e = tt
 same_chain None chain after (Some session) h e = absurd h
-same_chain (Some p) chain after there h e = subst (λ b. Holds (Some p) b there) (sym e) h
+same_chain (Some p) chain after there h e = subst (λ b. IsProgressAt (Some p) b there) (sym e) h
 
 pub one_more_kept : (now place : ℕ) (progress : List (Option Progress)) (chains after : List (List ℕ)) (kept_there : Option Progress) (places : Places) →
     place < length progress → ((i : ℕ) → i ≢ place → get_or after i [] ≡ get_or chains i []) →
     IfSome kept_there (λ p. get_or after place [] ≡ get_or chains place []) →
-    ((i : ℕ) → i < place → Holds (get_or progress i None) (get_or chains i []) (kept now (get_or places i None))) →
-    Holds kept_there (get_or chains place []) (kept now (get_or places place None)) →
-    (i : ℕ) → i < place + 1 → Holds (get_or (set progress place kept_there) i None) (get_or after i []) (kept now (get_or places i None))
+    ((i : ℕ) → i < place → IsProgressAt (get_or progress i None) (get_or chains i []) (kept now (get_or places i None))) →
+    IsProgressAt kept_there (get_or chains place []) (kept now (get_or places place None)) →
+    (i : ℕ) → i < place + 1 → IsProgressAt (get_or (set progress place kept_there) i None) (get_or after i []) (kept now (get_or places i None))
 one_more_kept now place progress chains after kept_there places h others same done here i l = elim (eqb_tells i place) [
   | inl own ↦
-      subst (λ j. Holds (get_or (set progress place kept_there) j None) (get_or after j []) (kept now (get_or places j None))) (sym own.1)
-      (subst (λ x. Holds x (get_or after place []) (kept now (get_or places place None))) (sym (get_or-set_same progress place kept_there None h))
+      subst (λ j. IsProgressAt (get_or (set progress place kept_there) j None) (get_or after j []) (kept now (get_or places j None))) (sym own.1)
+      (subst (λ x. IsProgressAt x (get_or after place []) (kept now (get_or places place None))) (sym (get_or-set_same progress place kept_there None h))
       (same_chain kept_there (get_or chains place []) (get_or after place []) (kept now (get_or places place None)) here same))
   | inr other ↦
       let ne = other.1 in
-      subst (λ x. Holds x (get_or after i []) (kept now (get_or places i None))) (sym (get_or-set_other progress place i kept_there None other.1))
-      (subst (λ x. Holds (get_or progress i None) x (kept now (get_or places i None))) (sym (others i other.1)) (done i (omega arith)))
+      subst (λ x. IsProgressAt x (get_or after i []) (kept now (get_or places i None))) (sym (get_or-set_other progress place i kept_there None other.1))
+      (subst (λ x. IsProgressAt (get_or progress i None) x (kept now (get_or places i None))) (sym (others i other.1)) (done i (omega arith)))
 ]
 
 kept_twice : (now : ℕ) (o : Option Session) → kept now (kept now o) ≡ kept now o
@@ -111,7 +111,7 @@ no_progress = None
 abbrev no_session : Option Session
 no_session = None
 
-pub all_free : (places : ℕ) (bytes : List (List ℕ)) → Stand (replicate places None) bytes (replicate places None)
+pub all_free : (places : ℕ) (bytes : List (List ℕ)) → KeepPlaces (replicate places None) bytes (replicate places None)
 all_free places bytes = record {
   size = length-replicate {A = Option Session} places None ∙ sym (length-replicate {A = Option Progress} places None);
   each = λ place l.

@@ -11,7 +11,7 @@ use Rattle.transfer_rx.specs.Filled.{HasRoomFor}
 use Rattle.transfer_rx.specs.Outcome.{Grows, blocks_for, blocks_used, cut_again, is_wrong_length, lacks_blocks, outcome, same_piece, session_blocks}
 use Rattle.transfer_rx.specs.Places.{Arranged, IsPlaceFor, Places}
 use Rattle.transfer_rx.specs.Sessions.{Session, others}
-use Rattle.transfer_rx.specs.Stands.{Keeps}
+use Rattle.transfer_rx.specs.Progress.{IsProgressOf}
 use Rattle.transfer_rx.specs.Turns.{GoesOn}
 use Rattle.transfer_rx.specs.Verdicts.{IfPart, says}
 use Rattle.transfer_rx.proofs.Arrangement.{sum_besides}
@@ -38,7 +38,7 @@ enough blocks piece taken rest open_end h =
 
 pub part_room : (verdict : Verdict) (blocks signature : ℕ) (piece : Piece) (places : Places) (sessions : List Session) (key : Key) (found : Found) (session : Session)
     (chain : List ℕ) → IfPart verdict (GoesOn found piece) → says verdict ≡ outcome blocks signature piece session.taken (others key sessions) →
-    Arranged places sessions → IsPlaceFor key places sessions found.place → Keeps found.progress chain session →
+    Arranged places sessions → IsPlaceFor key places sessions found.place → IsProgressOf found.progress chain session →
     IfPart verdict (HasRoomFor blocks places found.place (7 * found.progress.taken + 7))
 unfolding blocks_used
 part_room (Whole payload) blocks signature piece places sessions key found session chain on e a p k = tt

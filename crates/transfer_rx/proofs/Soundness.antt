@@ -22,7 +22,7 @@ use Rattle.transfer_rx.specs.Sound.{ArePossible, AreSound, IsSound}
 use Rattle.transfer_rx.proofs.Comes.{for-key}
 use Rattle.transfer_rx.proofs.Found.{filter-different, others-none, session_of-others_own, sum-ones, sum-others}
 use Rattle.transfer_rx.proofs.InTurn.{in_turn_tail}
-use Rattle.transfer_rx.proofs.Keeps.{part-push}
+use Rattle.transfer_rx.proofs.ProgressSteps.{part-push}
 use Rattle.transfer_rx.proofs.Lengths.{part_size}
 use Rattle.transfer_rx.proofs.Steps.{anonymous, key-after, of_session, unwanted}
 

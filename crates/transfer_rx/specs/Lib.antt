@@ -7,14 +7,14 @@ pub mod Origin
 pub mod Outcome
 pub mod Parts
 pub mod Places
+pub mod Progress
 pub mod Ranges
 pub mod Reassembly
 pub mod Run
 pub mod Sessions
 pub mod Sound
-pub mod Stands
-pub mod StandsFor
 pub mod Told
 pub mod Turns
 pub mod Unmarked
 pub mod Verdicts
+pub mod Views

@@ -7,16 +7,16 @@ use Rattle.transfer_rx.specs.declared.progress.Found.{Found}
 use Rattle.transfer_rx.specs.Keys.{same_key}
 use Rattle.transfer_rx.specs.Outcome.{session_blocks}
 use Rattle.transfer_rx.specs.Sessions.{AreDifferent, Session, is_recent, others, session_of}
-use Rattle.transfer_rx.specs.Stands.{Holds, Keeps}
+use Rattle.transfer_rx.specs.Progress.{IsProgressAt, IsProgressOf}
 
 -- the places, each free or with a session
 abbrev pub Places : Type 0
 Places = List (Option Session)
 
 -- each place of the code stands for what is there
-pub record Stand (progress : List (Option Progress)) (bytes : List (List ℕ)) (places : Places) : Type 0 where
+pub record KeepPlaces (progress : List (Option Progress)) (bytes : List (List ℕ)) (places : Places) : Type 0 where
   pub size : length places ≡ length progress
-  pub each : (place : ℕ) → place < length progress → Holds (get_or progress place None) (get_or bytes place []) (get_or places place None)
+  pub each : (place : ℕ) → place < length progress → IsProgressAt (get_or progress place None) (get_or bytes place []) (get_or places place None)
 
 -- the places without the sessions that are too old
 abbrev pub kept : ℕ → Option Session → Option Session
@@ -38,9 +38,9 @@ pub record Arranged (places : Places) (sessions : List Session) : Type 0 where
   pub different : AreDifferent sessions
 
 -- progress and bytes stand for sessions
-pub record StandFor (progress : List (Option Progress)) (bytes : List (List ℕ)) (sessions : List Session) : Type 0 where
+pub record KeepSessions (progress : List (Option Progress)) (bytes : List (List ℕ)) (sessions : List Session) : Type 0 where
   pub places : Places
-  pub stand : Stand progress bytes places
+  pub stand : KeepPlaces progress bytes places
   pub arranged : Arranged places sessions
 
 -- a place for a key: it has the session of the key, or is free where there is none
@@ -57,28 +57,28 @@ is_free None = true
 is_free (Some session) = false
 
 -- what was found at a place for a key is the session that a frame comes to
-pub record Finds (bytes : List (List ℕ)) (key : Key) (places : Places) (sessions : List Session) (found : Found) (session : Session) : Type 0 where
+pub record IsSessionFound (bytes : List (List ℕ)) (key : Key) (places : Places) (sessions : List Session) (found : Found) (session : Session) : Type 0 where
   pub place : IsPlaceFor key places sessions found.place
-  pub keeps : Keeps found.progress (get_or bytes found.place []) session
+  pub keeps : IsProgressOf found.progress (get_or bytes found.place []) session
 
-abbrev pub FindsAs : List (List ℕ) → Key → Places → List Session → Result Found Why → Result Session Why → Type 0
-FindsAs bytes key places sessions (Ok found) (Ok session) = Finds bytes key places sessions found session
-FindsAs bytes key places sessions (Ok found) (Err why) = ⊥
-FindsAs bytes key places sessions (Err why) (Ok session) = ⊥
-FindsAs bytes key places sessions (Err a) (Err b) = a ≡ b
+abbrev pub IsSearchResult : List (List ℕ) → Key → Places → List Session → Result Found Why → Result Session Why → Type 0
+IsSearchResult bytes key places sessions (Ok found) (Ok session) = IsSessionFound bytes key places sessions found session
+IsSearchResult bytes key places sessions (Ok found) (Err why) = ⊥
+IsSearchResult bytes key places sessions (Err why) (Ok session) = ⊥
+IsSearchResult bytes key places sessions (Err a) (Err b) = a ≡ b
 
 -- the session of a key was found, at its place
-pub record FindsOwn (bytes : List (List ℕ)) (key : Key) (places : Places) (sessions : List Session) (found : Found) : Type 0 where
+pub record IsSessionOfKey (bytes : List (List ℕ)) (key : Key) (places : Places) (sessions : List Session) (found : Found) : Type 0 where
   pub session : Session
   pub own : session_of key sessions ≡ Some session
-  pub finds : Finds bytes key places sessions found session
+  pub finds : IsSessionFound bytes key places sessions found session
 
 -- a session of the key is at the place
-pub record IsAt (bytes : List (List ℕ)) (key : Key) (places : Places) (found : Found) : Type 0 where
+pub record IsSessionAtPlace (bytes : List (List ℕ)) (key : Key) (places : Places) (found : Found) : Type 0 where
   pub session : Session
   pub there : get_or places found.place None ≡ Some session
   pub own : session.key ≡ key
-  pub keeps : Keeps found.progress (get_or bytes found.place []) session
+  pub keeps : IsProgressOf found.progress (get_or bytes found.place []) session
 
 -- what is counted of the session at a place, 0 where it is free
 abbrev pub counted : (Session → ℕ) → Option Session → ℕ

@@ -8,7 +8,7 @@ use Rattle.transfer_rx.specs.declared.turn.Turn.TheVariants.{Refused, Out, Next}
 use Rattle.transfer_rx.specs.Filled.{Fills}
 use Rattle.transfer_rx.specs.Sessions.{Session, others, session_for}
 use Rattle.transfer_rx.specs.Outcome.{out_of_turn, outcome}
-use Rattle.transfer_rx.specs.Places.{Finds, Places}
+use Rattle.transfer_rx.specs.Places.{IsSessionFound, Places}
 use Rattle.transfer_rx.specs.Verdicts.{IfPart, says}
 
 -- a frame that goes on has seven bytes, and the place has room for them
@@ -28,7 +28,7 @@ IsRoomy places chains piece (Next found verdict) =
 pub record ComesTo (most : ℕ) (bytes : List (List ℕ)) (key : Key) (piece : Piece) (now : ℕ) (places : Places) (sessions : List Session) (found : Found) : Type 0 where
   pub session : Session
   pub there : session_for most key piece.tail now sessions ≡ Ok session
-  pub finds : Finds bytes key places sessions found session
+  pub finds : IsSessionFound bytes key places sessions found session
 
 -- a turn is what the definition finds
 abbrev pub IsTurn : ℕ → List (List ℕ) → ℕ → Key → ℕ → Piece → ℕ → Places → List Session → Turn → Type 0

@@ -32,13 +32,13 @@ impl Progress {
     ghost use Rattle.transfer_rx.specs.Outcome.{out_of_turn, session_blocks};
     ghost use Rattle.transfer_rx.specs.Reassembly.{cut_off, grown};
     ghost use Rattle.transfer_rx.specs.Sessions.{Session, opened, restarted};
-    ghost use Rattle.transfer_rx.specs.Stands.{Begins, Keeps};
+    ghost use Rattle.transfer_rx.specs.Progress.{Begins, IsProgressOf};
 
     /// A session that begins with a frame.
     pub fn opened(key: Key, tail: &Tail, now: u64) -> Progress
         requires { tail.now.id < 32 }
         ensures none { result.taken ≡ 0 }
-        ensures keeps { (bytes : List ℕ) → Keeps result bytes (opened key tail.now now) }
+        ensures keeps { (bytes : List ℕ) → IsProgressOf result bytes (opened key tail.now now) }
     {
         Progress {
             key,
@@ -54,7 +54,7 @@ impl Progress {
     pub fn restarted(self, tail: &Tail) -> Progress
         requires { tail.now.id < 32 }
         ensures filled { (chain : List ℕ) → Fills self chain → Fills result chain }
-        ensures keeps { (bytes : List ℕ) (session : Session) → Keeps self bytes session → Keeps result bytes (restarted tail.now session) }
+        ensures keeps { (bytes : List ℕ) (session : Session) → IsProgressOf self bytes session → IsProgressOf result bytes (restarted tail.now session) }
     {
         if tail.start && tail.id != self.expected && (tail.id + 1) % 32 != self.expected {
             return self.emptied(tail.id, self.moment);
@@ -64,7 +64,7 @@ impl Progress {
 
     /// Why the frame is not the next piece: its ID, its start bit or its toggle.
     pub fn out_of_turn(self, tail: &Tail) -> Option<Why>
-        ensures { (bytes : List ℕ) (session : Session) → Keeps self bytes session → result ≡ out_of_turn tail.now session }
+        ensures { (bytes : List ℕ) (session : Session) → IsProgressOf self bytes session → result ≡ out_of_turn tail.now session }
     {
         if tail.id != self.expected {
             return Some(Why::TransferId);
@@ -81,7 +81,7 @@ impl Progress {
     /// At a cut the session waits for the next transfer.
     pub fn cut_off(self, now: u64) -> Progress
         ensures none { result.taken ≡ 0 }
-        ensures keeps { (bytes after : List ℕ) (session : Session) → Keeps self bytes session → Keeps result after (cut_off now session) }
+        ensures keeps { (bytes after : List ℕ) (session : Session) → IsProgressOf self bytes session → IsProgressOf result after (cut_off now session) }
     {
         self.emptied((self.expected + 1) % 32, now)
     }
@@ -90,7 +90,7 @@ impl Progress {
     fn emptied(self, expected: u8, moment: u64) -> Progress
         requires { expected < 32 }
         ensures none { result.taken ≡ 0 }
-        ensures keeps { (bytes : List ℕ) → Keeps result bytes (record { key = self.key; expected = expected; taken = []; marks = []; moment = moment }) }
+        ensures keeps { (bytes : List ℕ) → IsProgressOf result bytes (record { key = self.key; expected = expected; taken = []; marks = []; moment = moment }) }
     {
         Progress {
             key: self.key,
@@ -106,10 +106,10 @@ impl Progress {
     pub fn grown(self, mark: Mark, now: u64) -> Progress
         requires { self.taken < 54 }
         ensures taken { result.taken ≡ self.taken + 1 }
-        ensures keeps { (bytes after : List ℕ) (session : Session) (piece : Piece) → Keeps self bytes session →
+        ensures keeps { (bytes after : List ℕ) (session : Session) (piece : Piece) → IsProgressOf self bytes session →
             length piece.bytes ≡ 7 → piece.tail ≡ tail_at session.expected (length session.taken) false →
             take (7 * (self.taken + 1)) after ≡ take (7 * self.taken) bytes ++ piece.bytes →
-            Keeps result after (grown piece mark now session) }
+            IsProgressOf result after (grown piece mark now session) }
     {
         Progress {
             key: self.key,
@@ -124,14 +124,14 @@ impl Progress {
     /// The blocks that the bytes taken use.
     pub fn blocks(self) -> usize
         ensures few { result ≤ 14 }
-        ensures used { (bytes : List ℕ) (session : Session) → Keeps self bytes session → result ≡ session_blocks session }
+        ensures used { (bytes : List ℕ) (session : Session) → IsProgressOf self bytes session → result ≡ session_blocks session }
     {
         blocks_for(7 * self.taken as usize)
     }
 
     /// Whether the frames with one more have the marks of one step, in order.
     pub fn is_whole_with(self, mark: Mark) -> bool
-        ensures { (bytes : List ℕ) (session : Session) → Keeps self bytes session → result ≡ is_whole (session.marks ++ mark ∷ []) }
+        ensures { (bytes : List ℕ) (session : Session) → IsProgressOf self bytes session → result ≡ is_whole (session.marks ++ mark ∷ []) }
     {
         let step = self.step_with(mark);
         if !self.whole {
@@ -145,7 +145,7 @@ impl Progress {
 
     /// The step of the first frame.
     fn step_with(self, mark: Mark) -> u64
-        ensures { (bytes : List ℕ) (session : Session) → Keeps self bytes session → Begins result (session.marks ++ mark ∷ []) }
+        ensures { (bytes : List ℕ) (session : Session) → IsProgressOf self bytes session → Begins result (session.marks ++ mark ∷ []) }
     {
         if self.taken == 0 {
             mark.step

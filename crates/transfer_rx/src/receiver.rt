@@ -27,7 +27,7 @@ pub struct Receiver<F, const S: usize, const N: usize> {
 }
 
 impl<F: Fn(Kind, u16) -> Option<u64> + Copy, const S: usize, const N: usize> Receiver<F, S, N> {
-    ghost use Rattle.transfer_rx.specs.StandsFor.{StandsFor, accept_of, setting_of};
+    ghost use Rattle.transfer_rx.specs.Views.{HasSessions, accept_of, setting_of};
 
     /// A receiver without sessions. `me` is its own node ID, 1 to 127: it takes services for this node
     /// and no frame from it. With 0 it takes services for every node, and frames from every one.
@@ -37,7 +37,7 @@ impl<F: Fn(Kind, u16) -> Option<u64> + Copy, const S: usize, const N: usize> Rec
         requires answers { AnswersByRows (F.post accept) rows.items }
         requires most { S ≤ 1024 }
         requires blocks { N ≤ 1024 }
-        ensures sessions { StandsFor result [] }
+        ensures sessions { HasSessions result [] }
         ensures setting { setting_of result ≡ record { rows = rows.items; me = me; sessions = S; blocks = N } }
         ensures accept { accept_of result ≡ accept }
     {
@@ -55,11 +55,11 @@ impl<F: Fn(Kind, u16) -> Option<u64> + Copy, const S: usize, const N: usize> Rec
     pub fn take(&mut self, frame: &Frame, mark: Mark, now: u64) -> Took
         requires callable { F.IsAlwaysCallable (accept_of self.old) }
         requires answers { AnswersByRows (F.post (accept_of self.old)) (setting_of self.old).rows }
-        ensures answer { (sessions : List Session) → StandsFor self.old sessions →
+        ensures answer { (sessions : List Session) → HasSessions self.old sessions →
             told result ≡ answer (setting_of self.old) sessions (arrival_of frame.now mark now) }
         ensures ranges { IfDelivered result IsInRange }
-        ensures sessions { (sessions : List Session) → StandsFor self.old sessions →
-            StandsFor self.new (next (setting_of self.old) sessions (arrival_of frame.now mark now)) }
+        ensures sessions { (sessions : List Session) → HasSessions self.old sessions →
+            HasSessions self.new (next (setting_of self.old) sessions (arrival_of frame.now mark now)) }
         ensures setting { setting_of self.new ≡ setting_of self.old }
         ensures accept { accept_of self.new ≡ accept_of self.old }
     {
@@ -79,7 +79,7 @@ impl<F: Fn(Kind, u16) -> Option<u64> + Copy, const S: usize, const N: usize> Rec
     pub fn peek(&self, frame: &Frame, mark: Mark, now: u64) -> Option<Transfer>
         requires callable { F.IsAlwaysCallable (accept_of self.now) }
         requires answers { AnswersByRows (F.post (accept_of self.now)) (setting_of self.now).rows }
-        ensures answer { (sessions : List Session) → StandsFor self.now sessions →
+        ensures answer { (sessions : List Session) → HasSessions self.now sessions →
             option_map delivery_of result ≡ delivered (answer (setting_of self.now) sessions (arrival_of frame.now mark now)) }
         ensures ranges { IfSome result IsInRange }
     {

@@ -6,11 +6,11 @@ ghost use Rattle.can_frame.specs.Piece.{piece_of};
 ghost use Rattle.transfer_rx.specs.Filled.{AreFilled, Fills, HasRoomFor, emptied};
 ghost use Rattle.transfer_rx.specs.Keys.{key_of};
 ghost use Rattle.transfer_rx.specs.Outcome.{blocks_used, lacks_blocks, out_of_turn, outcome};
-ghost use Rattle.transfer_rx.specs.Places.{Arranged, Finds, FindsAs, FindsOwn, IsAt, IsPlaceFor, Places, Stand, StandFor, blocks_at, has_key, kept, left};
+ghost use Rattle.transfer_rx.specs.Places.{Arranged, IsSessionFound, IsSearchResult, IsSessionOfKey, IsSessionAtPlace, IsPlaceFor, Places, KeepPlaces, KeepSessions, blocks_at, has_key, kept, left};
 ghost use Rattle.transfer_rx.specs.Ranges.{IfDelivered, IsInRange};
 ghost use Rattle.transfer_rx.specs.Reassembly.{answer_of, grown, session_after, session_step};
 ghost use Rattle.transfer_rx.specs.Sessions.{Session, others, session_for, session_of};
-ghost use Rattle.transfer_rx.specs.Stands.{Holds, Keeps};
+ghost use Rattle.transfer_rx.specs.Progress.{IsProgressAt, IsProgressOf};
 ghost use Rattle.transfer_rx.specs.Told.{told};
 ghost use Rattle.transfer_rx.specs.Turns.{GoesOn, IsRoomy, IsTurn};
 ghost use Rattle.transfer_rx.specs.Verdicts.{IfPart, says};
@@ -41,7 +41,7 @@ impl<const S: usize, const N: usize> Sessions<S, N> {
     pub fn new() -> Sessions<S, N>
         requires most { S ≤ 1024 }
         requires blocks { N ≤ 1024 }
-        ensures { StandFor result.progress result.pool [] }
+        ensures { KeepSessions result.progress result.pool [] }
     {
         Sessions {
             progress: [None; S],
@@ -53,8 +53,8 @@ impl<const S: usize, const N: usize> Sessions<S, N> {
     fn find(&self, key: Key, now: u64) -> Option<Found>
         ensures place { IfSome result (λ found. found.place < S) }
         ensures filled { IfSome result (λ found. Fills found.progress (get_or self.now.pool found.place [])) }
-        ensures found { (places : Places) (sessions : List Session) → Stand self.now.progress self.now.pool places → Arranged (left now places) sessions →
-            MatchOption result (session_of key sessions ≡ None) (FindsOwn self.now.pool key (left now places) sessions) }
+        ensures found { (places : Places) (sessions : List Session) → KeepPlaces self.now.progress self.now.pool places → Arranged (left now places) sessions →
+            MatchOption result (session_of key sessions ≡ None) (IsSessionOfKey self.now.pool key (left now places) sessions) }
     {
         for place in 0..S {
             if let Some(found) = self.find_at(place, key, now) {
@@ -69,8 +69,8 @@ impl<const S: usize, const N: usize> Sessions<S, N> {
         requires { place < S }
         ensures place { IfSome result (λ found. found.place ≡ place) }
         ensures filled { IfSome result (λ found. Fills found.progress (get_or self.now.pool place [])) }
-        ensures found { (places : Places) → Stand self.now.progress self.now.pool places →
-            MatchOption result (has_key key (get_or (left now places) place None) ≡ false) (IsAt self.now.pool key (left now places)) }
+        ensures found { (places : Places) → KeepPlaces self.now.progress self.now.pool places →
+            MatchOption result (has_key key (get_or (left now places) place None) ≡ false) (IsSessionAtPlace self.now.pool key (left now places)) }
     {
         match self.recent(place, now) {
             Some(progress) if progress.key == key => Some(Found { place, progress }),
@@ -81,7 +81,7 @@ impl<const S: usize, const N: usize> Sessions<S, N> {
     /// The first place without a session.
     fn free(&self, now: u64) -> Option<usize>
         ensures place { IfSome result (λ place. place < S) }
-        ensures free { (places : Places) (sessions : List Session) → Stand self.now.progress self.now.pool places → Arranged (left now places) sessions →
+        ensures free { (places : Places) (sessions : List Session) → KeepPlaces self.now.progress self.now.pool places → Arranged (left now places) sessions →
             MatchOption result (length sessions ≡ S) (λ place. (length sessions < S) × (get_or (left now places) place None ≡ None)) }
     {
         for place in 0..S {
@@ -96,7 +96,7 @@ impl<const S: usize, const N: usize> Sessions<S, N> {
     fn recent(&self, place: usize, now: u64) -> Option<Progress>
         requires { place < S }
         ensures filled { IfSome result (λ progress. Fills progress (get_or self.now.pool place [])) }
-        ensures recent { (places : Places) → Stand self.now.progress self.now.pool places → Holds result (get_or self.now.pool place []) (get_or (left now places) place None) }
+        ensures recent { (places : Places) → KeepPlaces self.now.progress self.now.pool places → IsProgressAt result (get_or self.now.pool place []) (get_or (left now places) place None) }
     {
         unless_old(self.progress[place], now)
     }
@@ -106,8 +106,8 @@ impl<const S: usize, const N: usize> Sessions<S, N> {
         requires { tail.now.id < 32 }
         ensures place { IfOk result (λ found. found.place < S) }
         ensures filled { IfOk result (λ found. Fills found.progress (get_or self.now.pool found.place [])) }
-        ensures found { (places : Places) (sessions : List Session) → Stand self.now.progress self.now.pool places → Arranged (left now places) sessions →
-            FindsAs self.now.pool key (left now places) sessions result (session_for S key tail.now now sessions) }
+        ensures found { (places : Places) (sessions : List Session) → KeepPlaces self.now.progress self.now.pool places → Arranged (left now places) sessions →
+            IsSearchResult self.now.pool key (left now places) sessions result (session_for S key tail.now now sessions) }
     {
         if let Some(found) = self.find(key, now) {
             return Ok(Found {
@@ -131,7 +131,7 @@ impl<const S: usize, const N: usize> Sessions<S, N> {
     fn blocks_besides(&self, except: usize, now: u64) -> usize
         requires place { except < S }
         ensures few { result ≤ 14 * S }
-        ensures used { (places : Places) (sessions : List Session) (key : Key) → Stand self.now.progress self.now.pool places → Arranged (left now places) sessions →
+        ensures used { (places : Places) (sessions : List Session) (key : Key) → KeepPlaces self.now.progress self.now.pool places → Arranged (left now places) sessions →
             IsPlaceFor key (left now places) sessions except → result ≡ blocks_used (others key sessions) }
     {
         let mut used = 0;
@@ -145,7 +145,7 @@ impl<const S: usize, const N: usize> Sessions<S, N> {
         requires place { place < S }
         requires except { except < S }
         ensures few { result ≤ 14 }
-        ensures used { (places : Places) → Stand self.now.progress self.now.pool places → result ≡ blocks_at (get_or (set (left now places) except None) place None) }
+        ensures used { (places : Places) → KeepPlaces self.now.progress self.now.pool places → result ≡ blocks_at (get_or (set (left now places) except None) place None) }
     {
         if place == except {
             return 0;
@@ -161,8 +161,8 @@ impl<const S: usize, const N: usize> Sessions<S, N> {
         requires place { found.now.place < S }
         requires within { 7 * found.now.progress.taken + size ≤ LONGEST }
         ensures { (places : Places) (sessions : List Session) (key : Key) (session : Session) (piece : Piece) →
-            Stand self.now.progress self.now.pool places → Arranged (left now places) sessions →
-            Finds self.now.pool key (left now places) sessions found.now session → piece.tail ≡ tail.now → length piece.bytes ≡ size →
+            KeepPlaces self.now.progress self.now.pool places → Arranged (left now places) sessions →
+            IsSessionFound self.now.pool key (left now places) sessions found.now session → piece.tail ≡ tail.now → length piece.bytes ≡ size →
             result ≡ lacks_blocks blocks piece session.taken (others key sessions) }
     {
         if is_alone(tail) {
@@ -185,8 +185,8 @@ impl<const S: usize, const N: usize> Sessions<S, N> {
         requires filled { Fills found.now.progress (get_or self.now.pool found.now.place []) }
         ensures room { IfPart result (GoesOn found.now (piece_of frame.now)) }
         ensures verdict { (places : Places) (sessions : List Session) (key : Key) (session : Session) →
-            Stand self.now.progress self.now.pool places → Arranged (left now places) sessions →
-            Finds self.now.pool key (left now places) sessions found.now session → out_of_turn (piece_of frame.now).tail session ≡ None →
+            KeepPlaces self.now.progress self.now.pool places → Arranged (left now places) sessions →
+            IsSessionFound self.now.pool key (left now places) sessions found.now session → out_of_turn (piece_of frame.now).tail session ≡ None →
             says result ≡ outcome blocks signature (piece_of frame.now) session.taken (others key sessions) }
     {
         let tail = frame.tail();
@@ -213,7 +213,7 @@ impl<const S: usize, const N: usize> Sessions<S, N> {
     /// Where a frame comes, and what it leads to there.
     pub fn turn(&self, wanted: &Wanted, frame: &Frame, now: u64, blocks: usize) -> Turn
         ensures room { IsRoomy S self.now.pool (piece_of frame.now) result }
-        ensures turn { (places : Places) (sessions : List Session) → Stand self.now.progress self.now.pool places → Arranged (left now places) sessions →
+        ensures turn { (places : Places) (sessions : List Session) → KeepPlaces self.now.progress self.now.pool places → Arranged (left now places) sessions →
             IsTurn S self.now.pool blocks (key_of wanted.now.ident) wanted.now.signature (piece_of frame.now) now (left now places) sessions result }
     {
         let tail = frame.tail();
@@ -254,8 +254,8 @@ impl<const S: usize, const N: usize> Sessions<S, N> {
     fn put(&mut self, place: usize, progress: Progress)
         requires place { place < S }
         requires filled { Fills progress (get_or self.old.pool place []) }
-        ensures { (places : Places) (session : Session) → Stand self.old.progress self.old.pool places →
-            Keeps progress (get_or self.old.pool place []) session → Stand self.new.progress self.new.pool (set places place (Some session)) }
+        ensures { (places : Places) (session : Session) → KeepPlaces self.old.progress self.old.pool places →
+            IsProgressOf progress (get_or self.old.pool place []) session → KeepPlaces self.new.progress self.new.pool (set places place (Some session)) }
     {
         set_place(&mut self.progress, &mut self.pool, place, progress);
     }
@@ -273,11 +273,11 @@ impl<const S: usize, const N: usize> Sessions<S, N> {
         requires room { progress.taken < 54 }
         requires seven { length more.now ≡ 7 }
         requires filled { Fills progress (get_or self.old.pool place []) }
-        ensures fits { (places : Places) → Stand self.old.progress self.old.pool places → HasRoomFor N places place (7 * progress.taken + 7) → IsOk result }
-        ensures grown { OnOk result ((places : Places) (session : Session) (piece : Piece) → Stand self.old.progress self.old.pool places →
-            Keeps progress (get_or self.old.pool place []) session → piece.bytes ≡ more.now →
+        ensures fits { (places : Places) → KeepPlaces self.old.progress self.old.pool places → HasRoomFor N places place (7 * progress.taken + 7) → IsOk result }
+        ensures grown { OnOk result ((places : Places) (session : Session) (piece : Piece) → KeepPlaces self.old.progress self.old.pool places →
+            IsProgressOf progress (get_or self.old.pool place []) session → piece.bytes ≡ more.now →
             piece.tail ≡ tail_at session.expected (length session.taken) false →
-            Stand self.new.progress self.new.pool (set places place (Some (grown piece mark now session)))) }
+            KeepPlaces self.new.progress self.new.pool (set places place (Some (grown piece mark now session)))) }
     {
         let grown = progress.grown(mark, now);
         let cut = progress.cut_off(now);
@@ -298,13 +298,13 @@ impl<const S: usize, const N: usize> Sessions<S, N> {
         requires ident { IsIdentifier ident }
         ensures ranges { IfDelivered result IsInRange }
         ensures answer { (most signature : ℕ) (places : Places) (sessions : List Session) →
-            Stand self.old.progress self.old.pool places → Arranged places sessions →
+            KeepPlaces self.old.progress self.old.pool places → Arranged places sessions →
             IsTurn most self.old.pool N (key_of ident) signature (piece_of frame.now) now places sessions turn →
             told result ≡ (session_step most N (record { ident = ident; signature = signature }) (piece_of frame.now) mark now sessions).answer }
         ensures sessions { (most signature : ℕ) (places : Places) (sessions : List Session) →
-            Stand self.old.progress self.old.pool places → Arranged places sessions →
+            KeepPlaces self.old.progress self.old.pool places → Arranged places sessions →
             IsTurn most self.old.pool N (key_of ident) signature (piece_of frame.now) now places sessions turn →
-            StandFor self.new.progress self.new.pool (session_step most N (record { ident = ident; signature = signature }) (piece_of frame.now) mark now sessions).sessions }
+            KeepSessions self.new.progress self.new.pool (session_step most N (record { ident = ident; signature = signature }) (piece_of frame.now) mark now sessions).sessions }
     {
         match turn {
             Turn::Refused(why) => Took::Dropped(why),
@@ -331,14 +331,14 @@ impl<const S: usize, const N: usize> Sessions<S, N> {
         requires room { IfPart verdict (GoesOn found (piece_of frame.now)) }
         requires ident { IsIdentifier ident }
         ensures ranges { IfDelivered result IsInRange }
-        ensures answer { (places : Places) (session : Session) → Stand self.old.progress self.old.pool places →
+        ensures answer { (places : Places) (session : Session) → KeepPlaces self.old.progress self.old.pool places →
             IfPart verdict (HasRoomFor N places found.place (7 * found.progress.taken + 7)) →
-            Keeps found.progress (get_or self.old.pool found.place []) session →
+            IsProgressOf found.progress (get_or self.old.pool found.place []) session →
             told result ≡ answer_of ident (piece_of frame.now) mark session (says verdict) }
-        ensures session { (places : Places) (session : Session) → Stand self.old.progress self.old.pool places →
+        ensures session { (places : Places) (session : Session) → KeepPlaces self.old.progress self.old.pool places →
             IfPart verdict (HasRoomFor N places found.place (7 * found.progress.taken + 7)) →
-            Keeps found.progress (get_or self.old.pool found.place []) session → out_of_turn (piece_of frame.now).tail session ≡ None →
-            Stand self.new.progress self.new.pool (set places found.place (Some (session_after (piece_of frame.now) mark now session (says verdict)))) }
+            IsProgressOf found.progress (get_or self.old.pool found.place []) session → out_of_turn (piece_of frame.now).tail session ≡ None →
+            KeepPlaces self.new.progress self.new.pool (set places found.place (Some (session_after (piece_of frame.now) mark now session (says verdict)))) }
     {
         match verdict {
             Verdict::Whole(payload) => {
@@ -366,7 +366,7 @@ impl<const S: usize, const N: usize> Sessions<S, N> {
 
     /// Forgets the sessions that are too old. Their blocks are free again.
     pub fn forget(&mut self, now: u64)
-        ensures { (places : Places) → Stand self.old.progress self.old.pool places → Stand self.new.progress self.new.pool (left now places) }
+        ensures { (places : Places) → KeepPlaces self.old.progress self.old.pool places → KeepPlaces self.new.progress self.new.pool (left now places) }
     {
         for place in 0..S {
             let progress = unless_old(self.progress[place], now);
@@ -374,7 +374,7 @@ impl<const S: usize, const N: usize> Sessions<S, N> {
         }
     }
 
-    /// Keeps what is at a place, or clears it.
+    /// IsProgressOf what is at a place, or clears it.
     fn keep(&mut self, place: usize, progress: Option<Progress>)
         requires place { place < S }
         requires same { IfSome progress (λ p. get_or self.old.progress place None ≡ Some p) }
@@ -432,7 +432,7 @@ fn add_frame<const S: usize, const N: usize>(
     }
 }
 
-/// Keeps what is at a place, or clears it.
+/// IsProgressOf what is at a place, or clears it.
 fn keep_at<const S: usize, const N: usize>(
     kept: &mut [Option<Progress>; S],
     pool: &mut BlockPool<N, S>,
@@ -463,7 +463,7 @@ fn cut<const N: usize, const S: usize>(pool: &mut BlockPool<N, S>, place: usize,
 }
 
 fn unless_old(progress: Option<Progress>, now: u64) -> Option<Progress>
-    ensures kept { (bytes : List ℕ) (there : Option Session) → Holds progress bytes there → Holds result bytes (kept now there) }
+    ensures kept { (bytes : List ℕ) (there : Option Session) → IsProgressAt progress bytes there → IsProgressAt result bytes (kept now there) }
     ensures same { IfSome result (λ p. progress ≡ Some p) }
 {
     match progress {

@@ -6,7 +6,7 @@ ghost use Rattle.transfer_rx.specs.Places.{Places};
 ghost use Rattle.transfer_rx.specs.Ranges.{IsInRange};
 ghost use Rattle.transfer_rx.specs.Reassembly.{answer_of, delivered, session_step};
 ghost use Rattle.transfer_rx.specs.Sessions.{Session};
-ghost use Rattle.transfer_rx.specs.Stands.{Keeps};
+ghost use Rattle.transfer_rx.specs.Progress.{IsProgressOf};
 ghost use Rattle.transfer_rx.specs.Told.{delivery_of};
 ghost use Rattle.transfer_rx.specs.Turns.{IsTurn};
 ghost use Rattle.transfer_rx.specs.Verdicts.{says};
@@ -48,7 +48,7 @@ fn foretell_next(
 ) -> Option<Transfer>
     requires { IsIdentifier ident }
     ensures ranges { IfSome result IsInRange }
-    ensures delivery { (bytes : List ℕ) (session : Session) → Keeps found.progress bytes session →
+    ensures delivery { (bytes : List ℕ) (session : Session) → IsProgressOf found.progress bytes session →
         option_map delivery_of result ≡ delivered (answer_of ident (piece_of frame.now) mark session (says verdict)) }
 {
     match verdict {

@@ -2,7 +2,7 @@ ghost use Rattle.std.specs.Prelude.{◌≡◌, ◌∷◌, []};
 ghost use Rattle.transfer_rx.specs.Acceptance.{AnswersByRows, first_signature};
 ghost use Rattle.transfer_rx.specs.Memory.{ReceiverFitsInMemory};
 ghost use Rattle.transfer_rx.specs.declared.receiver.tests.TheConstants.{ALLOCATION, ANOTHER};
-ghost use Rattle.transfer_rx.specs.StandsFor.{accept_of, setting_of};
+ghost use Rattle.transfer_rx.specs.Views.{accept_of, setting_of};
 
 use super::*;
 use std::test::Fail;

@@ -2,7 +2,7 @@ use Rattle.std.proofs.Common.{sym, ◌∙◌, ap, subst}
 use Rattle.can_frame.specs.Piece.{piece_of}
 use Rattle.transfer_rx.specs.Keys.{key_of}
 use Rattle.transfer_rx.specs.Sessions.{remembered}
-use Rattle.transfer_rx.specs.Places.{Arranged, Places, StandFor, left}
+use Rattle.transfer_rx.specs.Places.{Arranged, Places, KeepSessions, left}
 use Rattle.transfer_rx.specs.Reassembly.{Step, arrival_of}
 use Rattle.transfer_rx.specs.Turns.{IsTurn}
 use Rattle.transfer_rx.proofs.Arrangement.{forget}
@@ -16,7 +16,7 @@ returns-in-Err-clause-answer g c = λ sessions s.
 
 pub returns-in-Err-clause-sessions : goal.returns-in-Err-clause-sessions
 returns-in-Err-clause-sessions g c = λ sessions s.
-    subst (λ (x : Step). StandFor c.args.self.now.sessions.progress c.args.self.now.sessions.pool x.sessions)
+    subst (λ (x : Step). KeepSessions c.args.self.now.sessions.progress c.args.self.now.sessions.pool x.sessions)
     (sym (unwanted (record { rows = c.args.self.now.rows.items; me = c.args.self.now.me; sessions = g.row.S; blocks = g.row.N }) sessions (arrival_of c.args.frame.now c.args.mark c.args.now) c.in-Err.why (sym c.wanted.ensures.wanted ∙ c.in-Err.is))) s
 
 pub returns-then-is_anonymous-clause-answer : goal.returns-then-is_anonymous-clause-answer
@@ -26,7 +26,7 @@ returns-then-is_anonymous-clause-answer g c = λ sessions s.
 
 pub returns-then-is_anonymous-clause-sessions : goal.returns-then-is_anonymous-clause-sessions
 returns-then-is_anonymous-clause-sessions g c = λ sessions s.
-    subst (λ (x : Step). StandFor c.args.self.now.sessions.progress c.args.self.now.sessions.pool x.sessions)
+    subst (λ (x : Step). KeepSessions c.args.self.now.sessions.progress c.args.self.now.sessions.pool x.sessions)
     (sym (anonymous (record { rows = c.args.self.now.rows.items; me = c.args.self.now.me; sessions = g.row.S; blocks = g.row.N }) sessions (arrival_of c.args.frame.now c.args.mark c.args.now) c.in-Ok.wanted (sym c.wanted.ensures.wanted ∙ c.in-Ok.is) (sym c.is_anonymous.ensures ∙ c.if-is_anonymous.true))) s
 
 pub returns-clause-answer : goal.returns-clause-answer
@@ -48,7 +48,7 @@ returns-clause-sessions g c = λ sessions s.
     let twice = left_twice c.args.now s.places in
     let stand = c.forget.ensures s.places s.stand in
     let arranged = forget c.args.now s.places sessions s.arranged in
-    subst (λ (x : Step). StandFor c.settle.new.self.progress c.settle.new.self.pool x.sessions)
+    subst (λ (x : Step). KeepSessions c.settle.new.self.progress c.settle.new.self.pool x.sessions)
     (sym (of_session (record { rows = c.args.self.now.rows.items; me = c.args.self.now.me; sessions = g.row.S; blocks = g.row.N }) sessions (arrival_of c.args.frame.now c.args.mark c.args.now) c.in-Ok.wanted (sym c.wanted.ensures.wanted ∙ c.in-Ok.is) (sym c.is_anonymous.ensures ∙ c.if-is_anonymous.false)))
     (c.settle.ensures.sessions g.row.S c.in-Ok.wanted.signature places recent stand arranged
     (subst (λ (p : Places). IsTurn g.row.S c.forget.new.self.pool g.row.N (key_of c.in-Ok.wanted.ident) c.in-Ok.wanted.signature (piece_of c.args.frame.now) c.args.now p recent c.turn-turn.result)

@@ -1,5 +1,5 @@
 use Rattle.std.proofs.Common.{◌≡◌}
-use Rattle.transfer_rx.specs.StandsFor.{accept_of, setting_of}
+use Rattle.transfer_rx.specs.Views.{accept_of, setting_of}
 use Rattle.transfer_rx.proofs.receiver.tests.first_wrong.Given as goal
 
 abbrev pub invariant-loop-place : goal.invariant-loop-place

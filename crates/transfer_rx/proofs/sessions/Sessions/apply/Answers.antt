@@ -1,7 +1,7 @@
 use Rattle.std.proofs.Common.{Some, ap, length, set, subst, sym, ◌∙◌}
 use Rattle.can_frame.specs.Cutting.{tail_at}
 use Rattle.can_frame.specs.Piece.{piece_of}
-use Rattle.transfer_rx.specs.Places.{Stand}
+use Rattle.transfer_rx.specs.Places.{KeepPlaces}
 use Rattle.transfer_rx.specs.Reassembly.{session_after}
 use Rattle.transfer_rx.specs.Turns.{GoesOn}
 use Rattle.transfer_rx.specs.Verdicts.{IfPart, says}
@@ -11,7 +11,7 @@ use Rattle.transfer_rx.proofs.sessions.Sessions.apply.Goals as goal
 pub returns-in-Ok-clause-session : goal.returns-in-Ok-clause-session
 returns-in-Ok-clause-session g c = λ places session s room k t.
     let on = subst (λ v. IfPart v (GoesOn c.args.found (piece_of c.args.frame.now))) c.in-Part.is c.requires.room in
-    subst (λ v. Stand c.grow.new.self.progress c.grow.new.self.pool
+    subst (λ v. KeepPlaces c.grow.new.self.progress c.grow.new.self.pool
     (set places c.args.found.place (Some (session_after (piece_of c.args.frame.now) c.args.mark c.args.now session (says v))))) (sym c.in-Part.is)
     (c.in-Ok.ensures.grown places session (piece_of c.args.frame.now) s k (sym c.data.ensures.bytes)
     (in_turn_tail (piece_of c.args.frame.now).tail session t ∙ ap (λ end. tail_at session.expected (length session.taken) end) on.open_end))

@@ -1,6 +1,6 @@
 use Rattle.std.proofs.Common.{◌≡◌, ◌≢◌, length, get_or, None, [], ap, arith, rules, subst, sym, ◌∙◌}
 use Rattle.std.proofs.lemmas.List.{get_or-set_other, get_or_default, length-set}
-use Rattle.transfer_rx.specs.Stands.{Holds}
+use Rattle.transfer_rx.specs.Progress.{IsProgressAt}
 use Rattle.transfer_rx.proofs.Places.{all_left, one_more_kept}
 use Rattle.transfer_rx.proofs.sessions.Sessions.forget.Goals as goal
 
@@ -17,8 +17,8 @@ loop-place-preserved g c =
           (one_more_kept c.args.now c.loop-place.place c.loop-place.self.progress c.loop-place.self.pool c.keep.new.self.pool c.unless_old-progress.result places
           (omega arith) c.keep.ensures.others c.keep.ensures.kept (c.loop-place.invariant.done places s)
           (c.unless_old-progress.ensures.kept (get_or c.loop-place.self.pool c.loop-place.place []) (get_or places c.loop-place.place None)
-          (subst (λ p. Holds p (get_or c.loop-place.self.pool c.loop-place.place []) (get_or places c.loop-place.place None)) (sym own)
-          (subst (λ b. Holds (get_or c.args.self.now.progress c.loop-place.place None) b (get_or places c.loop-place.place None))
+          (subst (λ p. IsProgressAt p (get_or c.loop-place.self.pool c.loop-place.place []) (get_or places c.loop-place.place None)) (sym own)
+          (subst (λ b. IsProgressAt (get_or c.args.self.now.progress c.loop-place.place None) b (get_or places c.loop-place.place None))
           (sym (c.loop-place.invariant.chains c.loop-place.place (omega arith))) (s.each c.loop-place.place (omega arith))))) i l);
       left = λ i l.
           let ne : i ≢ c.loop-place.place = λ e. omega arith in

@@ -1,13 +1,13 @@
 use Rattle.std.proofs.Common.{◌≡◌, ℕ, ◌<◌, ◌≤◌, get_or, length, None, []}
-use Rattle.transfer_rx.specs.Places.{Places, Stand, kept}
-use Rattle.transfer_rx.specs.Stands.{Holds}
+use Rattle.transfer_rx.specs.Places.{Places, KeepPlaces, kept}
+use Rattle.transfer_rx.specs.Progress.{IsProgressAt}
 use Rattle.transfer_rx.proofs.sessions.Sessions.forget.Given as goal
 
 -- the places before this one are done, the others are as they were
 abbrev pub invariant-loop-place : goal.invariant-loop-place
 invariant-loop-place g l = record {
-  done : (places : Places) → Stand l.fn.self.progress l.fn.self.pool places → (i : ℕ) → i < l.place →
-      Holds (get_or l.self.progress i None) (get_or l.self.pool i []) (kept l.now (get_or places i None));
+  done : (places : Places) → KeepPlaces l.fn.self.progress l.fn.self.pool places → (i : ℕ) → i < l.place →
+      IsProgressAt (get_or l.self.progress i None) (get_or l.self.pool i []) (kept l.now (get_or places i None));
   left : (i : ℕ) → l.place ≤ i → get_or l.self.progress i None ≡ get_or l.fn.self.progress i None;
   chains : (i : ℕ) → l.place ≤ i → get_or l.self.pool i [] ≡ get_or l.fn.self.pool i [];
   size : length l.self.progress ≡ length l.fn.self.progress;

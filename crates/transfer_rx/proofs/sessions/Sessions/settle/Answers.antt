@@ -1,7 +1,7 @@
 use Rattle.std.proofs.Common.{Some, set, sym, ◌∙◌, ap, subst}
 use Rattle.can_frame.specs.Piece.{piece_of}
 use Rattle.transfer_rx.specs.Keys.{key_of}
-use Rattle.transfer_rx.specs.Places.{StandFor}
+use Rattle.transfer_rx.specs.Places.{KeepSessions}
 use Rattle.transfer_rx.specs.Reassembly.{Step, session_after}
 use Rattle.transfer_rx.specs.Turns.{IsRoomy, IsTurn}
 use Rattle.transfer_rx.specs.Verdicts.{says}
@@ -19,7 +19,7 @@ returns-in-Refused-clause-answer g c = λ most signature places sessions s a h.
 pub returns-in-Refused-clause-sessions : goal.returns-in-Refused-clause-sessions
 returns-in-Refused-clause-sessions g c = λ most signature places sessions s a h.
     let t = subst (λ t. IsTurn most c.args.self.now.pool g.row.N (key_of c.args.ident) signature (piece_of c.args.frame.now) c.args.now places sessions t) c.in-Refused.is h in
-    subst (λ (x : Step). StandFor c.args.self.now.progress c.args.self.now.pool x.sessions)
+    subst (λ (x : Step). KeepSessions c.args.self.now.progress c.args.self.now.pool x.sessions)
     (sym (refused most g.row.N (record { ident = c.args.ident; signature = signature }) (piece_of c.args.frame.now) c.args.mark c.args.now sessions c.in-Refused.why t))
     (record { places = places; stand = s; arranged = a })
 
@@ -31,7 +31,7 @@ returns-in-Out-clause-answer g c = λ most signature places sessions s a h.
 pub returns-in-Out-clause-sessions : goal.returns-in-Out-clause-sessions
 returns-in-Out-clause-sessions g c = λ most signature places sessions s a h.
     let t = subst (λ t. IsTurn most c.args.self.now.pool g.row.N (key_of c.args.ident) signature (piece_of c.args.frame.now) c.args.now places sessions t) c.in-Out.is h in
-    subst (λ (x : Step). StandFor c.put.new.self.progress c.put.new.self.pool x.sessions)
+    subst (λ (x : Step). KeepSessions c.put.new.self.progress c.put.new.self.pool x.sessions)
     (sym (out most g.row.N (record { ident = c.args.ident; signature = signature }) (piece_of c.args.frame.now) c.args.mark c.args.now sessions t.0.session c.in-Out.why t.0.there t.1))
     (record {
       places = set places c.in-Out.found.place (Some t.0.session);
@@ -53,7 +53,7 @@ pub returns-in-Next-clause-sessions : goal.returns-in-Next-clause-sessions
 returns-in-Next-clause-sessions g c = λ most signature places sessions s a h.
     let t = subst (λ t. IsTurn most c.args.self.now.pool g.row.N (key_of c.args.ident) signature (piece_of c.args.frame.now) c.args.now places sessions t) c.in-Next.is h in
     let after = session_after (piece_of c.args.frame.now) c.args.mark c.args.now t.0.session (says c.in-Next.verdict) in
-    subst (λ (x : Step). StandFor c.apply.new.self.progress c.apply.new.self.pool x.sessions)
+    subst (λ (x : Step). KeepSessions c.apply.new.self.progress c.apply.new.self.pool x.sessions)
     (sym (next most g.row.N (record { ident = c.args.ident; signature = signature }) (piece_of c.args.frame.now) c.args.mark c.args.now sessions
     t.0.session (says c.in-Next.verdict) t.0.there t.1 t.2))
     (record {

@@ -13,7 +13,7 @@ Begins step [] = Unit {0}
 Begins step (mark ∷ marks) = mark.step ≡ step
 
 -- a place's progress and bytes stand for a session
-pub record Keeps (progress : Progress) (bytes : List ℕ) (session : Session) : Type 0 where
+pub record IsProgressOf (progress : Progress) (bytes : List ℕ) (session : Session) : Type 0 where
   pub key : progress.key ≡ session.key
   pub expected : progress.expected ≡ session.expected
   pub moment : progress.moment ≡ session.moment
@@ -24,8 +24,8 @@ pub record Keeps (progress : Progress) (bytes : List ℕ) (session : Session) : 
   pub begun : Begins progress.step session.marks
   pub whole : progress.whole ≡ is_whole session.marks
 
-abbrev pub Holds : Option Progress → List ℕ → Option Session → Type 0
-Holds None bytes None = Unit {0}
-Holds None bytes (Some session) = ⊥
-Holds (Some progress) bytes None = ⊥
-Holds (Some progress) bytes (Some session) = Keeps progress bytes session
+abbrev pub IsProgressAt : Option Progress → List ℕ → Option Session → Type 0
+IsProgressAt None bytes None = Unit {0}
+IsProgressAt None bytes (Some session) = ⊥
+IsProgressAt (Some progress) bytes None = ⊥
+IsProgressAt (Some progress) bytes (Some session) = IsProgressOf progress bytes session

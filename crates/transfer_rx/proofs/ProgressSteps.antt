@@ -10,15 +10,15 @@ use Rattle.transfer_rx.specs.declared.progress.Progress.{Progress}
 use Rattle.transfer_rx.specs.Sessions.{Session, next_id, restarted, restarts}
 use Rattle.transfer_rx.specs.Reassembly.{cut_off, grown}
 use Rattle.transfer_rx.specs.Marks.{is_whole}
-use Rattle.transfer_rx.specs.Stands.{Begins, Keeps}
+use Rattle.transfer_rx.specs.Progress.{Begins, IsProgressOf}
 use Rattle.transfer_rx.specs.Parts.{IsPart}
 
 empty : Key → ℕ → ℕ → Session
 empty key expected moment = record { key = key; expected = expected; taken = []; marks = []; moment = moment }
 
-pub cut_off_keeps : (p r : Progress) (bytes after : List ℕ) (now : ℕ) (session : Session) → Keeps p bytes session →
-    Keeps r after (record { key = p.key; expected = next_id p.expected; taken = []; marks = []; moment = now }) →
-    Keeps r after (cut_off now session)
+pub cut_off_keeps : (p r : Progress) (bytes after : List ℕ) (now : ℕ) (session : Session) → IsProgressOf p bytes session →
+    IsProgressOf r after (record { key = p.key; expected = next_id p.expected; taken = []; marks = []; moment = now }) →
+    IsProgressOf r after (cut_off now session)
 cut_off_keeps p r bytes after now session k h = rw (← k.key, ← k.expected) h
 
 pub restarts_here : (tail : Tail) (session : Session) (expected : ℕ) → expected ≡ session.expected → tail.start ≡ true →
@@ -28,10 +28,10 @@ restarts_here tail session expected e s a b =
     let y : nat_eq ((tail.id + 1) % 32) session.expected ≡ false = subst (λ v. nat_eq ((tail.id + 1) % 32) v ≡ false) e (ne_eqb _ _ b) in
     rw (s, x, y) refl
 
-pub restarted_keeps : (p r : Progress) (bytes : List ℕ) (tail : Tail) (session : Session) → Keeps p bytes session →
+pub restarted_keeps : (p r : Progress) (bytes : List ℕ) (tail : Tail) (session : Session) → IsProgressOf p bytes session →
     tail.start ≡ true → tail.id ≢ p.expected → (tail.id + 1) % 32 ≢ p.expected →
-    Keeps r bytes (record { key = p.key; expected = tail.id; taken = []; marks = []; moment = p.moment }) →
-    Keeps r bytes (restarted tail session)
+    IsProgressOf r bytes (record { key = p.key; expected = tail.id; taken = []; marks = []; moment = p.moment }) →
+    IsProgressOf r bytes (restarted tail session)
 restarted_keeps p r bytes tail session k s a b h =
     let t : restarts tail session ≡ true = restarts_here tail session p.expected k.expected s a b in
     rw (t, ← k.key, ← k.moment) h
@@ -45,11 +45,11 @@ part-push id place (first ∷ pieces) piece p n t =
     (p.0, p.1, part-push id (suc place) pieces piece p.2 n (rw e at t))
 
 pub grown_keeps : (p q : Progress) (bytes after : List ℕ) (now : ℕ) (session : Session) (piece : Piece) (mark : Mark) →
-    Keeps p bytes session → length piece.bytes ≡ 7 → piece.tail ≡ tail_at session.expected (length session.taken) false →
+    IsProgressOf p bytes session → length piece.bytes ≡ 7 → piece.tail ≡ tail_at session.expected (length session.taken) false →
     take (7 * (p.taken + 1)) after ≡ take (7 * p.taken) bytes ++ piece.bytes →
     q.key ≡ p.key → q.expected ≡ p.expected → q.taken ≡ p.taken + 1 → q.moment ≡ now →
     Begins q.step (session.marks ++ mark ∷ []) → q.whole ≡ is_whole (session.marks ++ mark ∷ []) →
-    Keeps q after (grown piece mark now session)
+    IsProgressOf q after (grown piece mark now session)
 grown_keeps p q bytes after now session piece mark k n t e qk qe qt qm qs qw =
     let one : length (session.taken ++ piece ∷ []) ≡ length session.taken + 1 = length-append session.taken (piece ∷ []) in
     let marks : length (session.marks ++ mark ∷ []) ≡ length session.marks + 1 = length-append session.marks (mark ∷ []) in

@@ -1,13 +1,13 @@
 -- What a receiver stands for.
 use Rattle.std.specs.Prelude.{ℕ, List}
 use Rattle.transfer_rx.specs.declared.receiver.Receiver.{Receiver}
-use Rattle.transfer_rx.specs.Places.{StandFor}
+use Rattle.transfer_rx.specs.Places.{KeepSessions}
 use Rattle.transfer_rx.specs.Reassembly.{Setting}
 use Rattle.transfer_rx.specs.Sessions.{Session}
 
 -- what a receiver keeps stands for the sessions of the definition
-abbrev pub StandsFor : {F : Type 0} {S N : ℕ} → Receiver F S N → List Session → Type 0
-StandsFor receiver sessions = StandFor receiver.sessions.progress receiver.sessions.pool sessions
+abbrev pub HasSessions : {F : Type 0} {S N : ℕ} → Receiver F S N → List Session → Type 0
+HasSessions receiver sessions = KeepSessions receiver.sessions.progress receiver.sessions.pool sessions
 
 -- what a receiver was made with
 abbrev pub setting_of : {F : Type 0} {S N : ℕ} → Receiver F S N → Setting
