@@ -12,8 +12,8 @@ use Rattle.raft_log.specs.Rules.{StandsForState}
 use Rattle.raft_log.specs.Stored.{AfterSome, after_puts}
 use Rattle.raft_core.specs.StoredPuts.{stored_puts}
 use Rattle.transfer_rx.specs.declared.receiver.Receiver.{Receiver}
-use Rattle.transfer_rx.specs.StandsFor as receiver
-use Rattle.transfer_rx.specs.StandsFor.{accept_of, setting_of}
+use Rattle.transfer_rx.specs.Views as receiver
+use Rattle.transfer_rx.specs.Views.{accept_of, setting_of}
 use Rattle.transfer_tx.specs.Queue.{Queued}
 use Rattle.server_parts.specs.declared.event.Event.{Event as CodeEvent}
 use Rattle.server_parts.specs.declared.event.Event.TheVariants.{Tick as TickCode, Rx as RxCode}
@@ -60,7 +60,7 @@ module _ {D F : Type 0} {disk : Ghosts D} where
   -- it stands for a timed server, part for part; no step has failed, nor a put
   pub record StandsFor (server : Server D F disk) (t : Timed) : Type 0 where
     pub member : member.StandsFor server.member t
-    pub sessions : receiver.StandsFor server.receiver t.sessions
+    pub sessions : receiver.HasSessions server.receiver t.sessions
     pub setting : setting_of server.receiver ≡ setting_for t.me
     pub sound : server.fault ≡ None
     pub works : durable_fault server.member.durable ≡ None
@@ -101,5 +101,5 @@ module _ {D F : Type 0} {disk : Ghosts D} where
 -- what a step has come to: the member and its receiver, what was listed, what it saw
 pub record ComesTo {D F : Type 0} {disk : Ghosts D} (start : Durable D disk) (t : Timed) (after : Member D disk) (r : Receiver F 160 128) (offered : Offered) (sight : Sight) (result : Result Seen Fault) : Type 0 where
   pub sees : member.SeesTo start after offered sight result
-  pub sessions : receiver.StandsFor r sight.going.timed.sessions
+  pub sessions : receiver.HasSessions r sight.going.timed.sessions
   pub me : sight.going.timed.me ≡ t.me

@@ -13,7 +13,7 @@ ghost use Rattle.transfer_rx.specs.Acceptance.{AnswersByRows};
 ghost use Rattle.transfer_tx.specs.Queue.{next_out};
 ghost use Rattle.transfer_tx.specs.Views.{queued_of};
 ghost use Rattle.std.proofs.Props.{props};
-ghost use Rattle.transfer_rx.specs.StandsFor.{setting_of};
+ghost use Rattle.transfer_rx.specs.Views.{setting_of};
 ghost use Rattle.raft_core.specs.OneFit.{ReachesUpTo-prop};
 ghost use Rattle.alloc_member.specs.Stands.{IsReady};
 ghost use Rattle.server_parts.specs.Accepted as accepted;

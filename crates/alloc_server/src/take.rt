@@ -8,7 +8,7 @@ ghost use Rattle.server_parts.specs.Step as steps;
 ghost use Rattle.server_parts.specs.TimedServer.{Timed};
 ghost use Rattle.transfer_rx.specs.Acceptance.{AnswersByRows};
 ghost use Rattle.transfer_rx.specs.Memory.{ReceiverFitsInMemory};
-ghost use Rattle.transfer_rx.specs.StandsFor.{StandsFor as HasSessions, accept_of, setting_of};
+ghost use Rattle.transfer_rx.specs.Views.{HasSessions, accept_of, setting_of};
 
 use alloc_member::Member;
 use can_frame::{Kind, Seen};

@@ -8,7 +8,7 @@ use Rattle.transfer_rx.specs.declared.accept.AcceptRow.{AcceptRow}
 use Rattle.transfer_rx.specs.Acceptance.{first_signature}
 use Rattle.transfer_rx.specs.Reassembly.{Answer, Arrival, Setting, answer, arrival_of, next}
 use Rattle.transfer_rx.specs.Sessions.{Session}
-use Rattle.transfer_rx.specs.StandsFor as receiver
+use Rattle.transfer_rx.specs.Views as receiver
 use Rattle.alloc_member.specs.Stands.{SeesTo}
 use Rattle.alloc_server.specs.Server.{ComesTo, event_of}
 use Rattle.alloc_server.proofs.take.take.Goals as goal
@@ -30,7 +30,7 @@ returns-in-Tick-clause-comes g c t h sess set =
     let g1 : Going = ticks s c.in-Tick.word g0 in
     subst (λ (e : Event). ComesTo c.args.member.now.durable t c.take_tick.new.self c.args.receiver.now c.take_tick.new.offered (step t s (event_of e)) c.take_tick.result) (sym c.in-Tick.is) (record {
       sees = c.take_tick.ensures.sees t h;
-      sessions = subst (λ (list : List Session). receiver.StandsFor c.args.receiver.now list) (sym ((c.phases_add_puts.ensures.ends s g1).sessions ∙ (c.phases_add_puts.ensures.ticks s c.in-Tick.word g0).sessions)) sess;
+      sessions = subst (λ (list : List Session). receiver.HasSessions c.args.receiver.now list) (sym ((c.phases_add_puts.ensures.ends s g1).sessions ∙ (c.phases_add_puts.ensures.ticks s c.in-Tick.word g0).sessions)) sess;
       me = (c.phases_add_puts.ensures.ends s g1).me ∙ (c.phases_add_puts.ensures.ticks s c.in-Tick.word g0).me;
     })
 
@@ -48,12 +48,12 @@ returns-in-Rx-clause-comes g c t h sess set =
     let said = c.take-took.ensures.answer t.sessions sess
     ∙ ap (λ (setting : Setting). answer setting t.sessions (arrival_of c.in-Rx.frame c.in-Rx.mark c.begin.new.self.latest)) set
     ∙ ap (λ (now : ℕ). answer (setting_for t.me) t.sessions (arrival_of c.in-Rx.frame c.in-Rx.mark now)) h1.stands.now in
-    let kept = subst (λ (now : ℕ). receiver.StandsFor c.take-took.new.self (next (setting_for t.me) t.sessions (arrival_of c.in-Rx.frame c.in-Rx.mark now))) h1.stands.now
-    (subst (λ (setting : Setting). receiver.StandsFor c.take-took.new.self (next setting t.sessions (arrival_of c.in-Rx.frame c.in-Rx.mark c.begin.new.self.latest))) set
+    let kept = subst (λ (now : ℕ). receiver.HasSessions c.take-took.new.self (next (setting_for t.me) t.sessions (arrival_of c.in-Rx.frame c.in-Rx.mark now))) h1.stands.now
+    (subst (λ (setting : Setting). receiver.HasSessions c.take-took.new.self (next setting t.sessions (arrival_of c.in-Rx.frame c.in-Rx.mark c.begin.new.self.latest))) set
     (c.take-took.ensures.sessions t.sessions sess)) in
     subst (λ (e : Event). ComesTo c.args.member.now.durable t c.take_answer.new.self c.take-took.new.self c.take_answer.new.offered (step t s (event_of e)) c.take_answer.result) (sym c.in-Rx.is) (record {
       sees = subst (λ (a : Answer). SeesTo c.args.member.now.durable c.take_answer.new.self c.take_answer.new.offered (takes_answer s a g1) c.take_answer.result) said
           (c.take_answer.ensures.sees c.args.member.now.durable g1 h1);
-      sessions = subst (λ (list : List Session). receiver.StandsFor c.take-took.new.self list) (sym ((c.phases_add_puts.ensures.ends s g2).sessions ∙ (c.phases_add_puts.ensures.answers s found g1).sessions)) kept;
+      sessions = subst (λ (list : List Session). receiver.HasSessions c.take-took.new.self list) (sym ((c.phases_add_puts.ensures.ends s g2).sessions ∙ (c.phases_add_puts.ensures.answers s found g1).sessions)) kept;
       me = (c.phases_add_puts.ensures.ends s g2).me ∙ (c.phases_add_puts.ensures.answers s found g1).me;
     })
