@@ -60,7 +60,7 @@ divided [] rest r e = refl
 divided (b ∷ bits) rest r e =
     one_step (length bits) r b (bits ++ rest) e ∙ divided bits rest (shift r b) (length_shift r b ∙ e)
 
-length_run : (bits r : List Bool) → length (run r bits) ≡ length r
+pub length_run : (bits r : List Bool) → length (run r bits) ≡ length r
 unfolding run
 length_run [] r = refl
 length_run (b ∷ bits) r = length_run bits (shift r b) ∙ length_shift r b

@@ -28,4 +28,4 @@ pub use mark::Mark;
 pub use node_id::NodeId;
 pub use step::{Judged, Role, Seen, Sent, What, Why};
 pub use tail::Tail;
-pub use transfer_crc::crc;
+pub use transfer_crc::{crc, crc_more};

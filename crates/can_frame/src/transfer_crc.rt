@@ -1,14 +1,24 @@
-ghost use Rattle.std.specs.Prelude.{◌≡◌, ◌^◌};
-ghost use Rattle.can_frame.specs.TransferCrc.{bits_of, message_bits, transfer_crc};
+ghost use Rattle.std.specs.Prelude.{◌≡◌, ◌++◌, ℕ, List};
+ghost use Rattle.can_frame.specs.TransferCrc.{bits_of, crc_of, message_bits, transfer_crc};
 ghost use Rattle.can_frame.specs.Register.{shift, run};
+
+/// What the register holds before any byte.
+const CRC_OF_NOTHING: u16 = 0xffff;
 
 /// The CRC of a payload under the signature of its data type: CRC-16/CCITT-FALSE over the eight bytes
 /// of the signature, low byte first, and the payload.
 pub fn crc(signature: u64, payload: &[u8]) -> u16
     ensures { result ≡ transfer_crc signature payload.now }
 {
-    let register = take_bytes(0xffff, &signature.to_le_bytes());
-    take_bytes(register, payload)
+    let begun = crc_more(CRC_OF_NOTHING, &signature.to_le_bytes());
+    crc_more(begun, payload)
+}
+
+/// The CRC of bytes with more behind them, from the CRC of those in front, which are not looked at again.
+pub fn crc_more(crc: u16, more: &[u8]) -> u16
+    ensures { (bytes : List ℕ) → crc ≡ crc_of bytes → result ≡ crc_of (bytes ++ more.now) }
+{
+    take_bytes(crc, more)
 }
 
 fn take_bytes(register: u16, bytes: &[u8]) -> u16
@@ -50,7 +60,9 @@ mod tests {
 
     #[test]
     fn published_values(rt: HostRuntime) {
-        assert_eq!(rt; take_bytes(0xffff, b"123456789"), 0x29b1);
+        assert_eq!(rt; crc_more(CRC_OF_NOTHING, b"123456789"), 0x29b1);
+        let front = crc_more(CRC_OF_NOTHING, b"1234");
+        assert_eq!(rt; crc_more(front, b"56789"), 0x29b1);
         assert_eq!(rt; crc(ALLOCATION, &[]), 0xf258);
         let payload = [0, 0, 1, 2, 3, 4, 5, 6, 7, 8, 9, 10, 11];
         assert_eq!(rt; crc(ALLOCATION, &payload), 0x5d58);
