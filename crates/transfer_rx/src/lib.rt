@@ -16,10 +16,13 @@
 #![tactic(auto)]
 
 mod accept;
+mod change;
+mod judge;
 mod key;
 pub mod laws;
 mod progress;
 mod receiver;
+mod search;
 mod sessions;
 mod transfer;
 mod turn;
