@@ -3,6 +3,7 @@ pub mod Arrangement
 pub mod Assembly
 pub mod Blocks
 pub mod Comes
+pub mod Chains
 pub mod Completeness
 pub mod Cuts
 pub mod Cuttings

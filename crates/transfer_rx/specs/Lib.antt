@@ -1,4 +1,5 @@
 pub mod Acceptance
+pub mod Chains
 pub mod Filled
 pub mod Keys
 pub mod Marks

@@ -9,11 +9,13 @@ ghost use Rattle.transfer_rx.specs.Sessions.{Session};
 ghost use Rattle.transfer_rx.specs.Told.{delivery_of, told};
 
 use crate::accept::{AcceptRow, Wanted};
+use crate::key::Key;
 use crate::sessions::Sessions;
 use crate::transfer::{Took, Transfer};
 use crate::turn::foretell;
 use crate::verdict::{is_alone, joined};
 use arrayvec::ArrayVec;
+use block_pool::BlockPool;
 use can_frame::{Frame, Ident, Kind, Mark, Why};
 
 /// Reassembles the transfers that its rows accept, in at most S sessions, whose frames use at most N
@@ -27,7 +29,7 @@ pub struct Receiver<F, const S: usize, const N: usize> {
 }
 
 impl<F: Fn(Kind, u16) -> Option<u64> + Copy, const S: usize, const N: usize> Receiver<F, S, N> {
-    ghost use Rattle.transfer_rx.specs.Views.{HasSessions, accept_of, setting_of};
+    ghost use Rattle.transfer_rx.specs.Views.{HasChains, HasSessions, accept_of, chain_of, chains_in, setting_of};
 
     /// A receiver without sessions. `me` is its own node ID, 1 to 127: it takes services for this node
     /// and no frame from it. With 0 it takes services for every node, and frames from every one.
@@ -92,6 +94,29 @@ impl<F: Fn(Kind, u16) -> Option<u64> + Copy, const S: usize, const N: usize> Rec
         }
         let turn = self.sessions.turn(&wanted, frame, now, N);
         foretell(turn, wanted.ident, frame, mark)
+    }
+
+    /// The pool that keeps the bytes of the sessions, each in a chain of its own; every other chain
+    /// is empty.
+    pub fn pool(&self) -> &BlockPool<N, S>
+        ensures pool { result.now ≡ chains_in self.now }
+        ensures chains { (sessions : List Session) → HasSessions self.now sessions → HasChains self.now sessions }
+    {
+        &self.sessions.pool
+    }
+
+    /// The number of the chain that has the bytes of the session of a kind, number and source, each
+    /// frame without its tail; None where there is no such session. A session that is too old is one
+    /// until the next frame comes.
+    pub fn chain_of(&self, kind: Kind, number: u16, source: u8) -> Option<usize>
+        ensures chain { result ≡ chain_of self.now (record { kind = kind; number = number; source = source }) }
+        ensures chains { (sessions : List Session) → HasSessions self.now sessions → HasChains self.now sessions }
+    {
+        self.sessions.place_of(Key {
+            kind,
+            number,
+            source,
+        })
     }
 
     /// The fields and the signature of a frame that is wanted, or why it is not.

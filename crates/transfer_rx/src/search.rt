@@ -1,4 +1,5 @@
 ghost use Rattle.std.specs.Prelude.{◌≡◌, ℕ, ◌<◌, List, [], length, get_or, false, Some, None, IfOk, IfSome, MatchOption, Option};
+ghost use Rattle.transfer_rx.specs.Chains.{is_of_key, place_of};
 ghost use Rattle.transfer_rx.specs.Filled.{Fills};
 ghost use Rattle.transfer_rx.specs.Places.{Arranged, IsSearchResult, IsSessionOfKey, IsSessionAtPlace, Places, KeepPlaces, has_key, kept, left};
 ghost use Rattle.transfer_rx.specs.Sessions.{Session, session_for, session_of};
@@ -34,6 +35,13 @@ impl<const S: usize, const N: usize> Sessions<S, N> {
             }),
             None => Err(Why::NoSession),
         }
+    }
+
+    /// The place of a key's session, too old or not.
+    pub fn place_of(&self, key: Key) -> Option<usize>
+        ensures { result ≡ place_of key self.now.progress }
+    {
+        self.progress.iter().position(|there| is_of_key(there, key))
     }
 
     /// The session of a key.
@@ -86,6 +94,15 @@ impl<const S: usize, const N: usize> Sessions<S, N> {
         ensures recent { (places : Places) → KeepPlaces self.now.progress self.now.pool places → IsProgressAt result (get_or self.now.pool place []) (get_or (left now places) place None) }
     {
         unless_old(self.progress[place], now)
+    }
+}
+
+fn is_of_key(there: &Option<Progress>, key: Key) -> bool
+    ensures { result ≡ is_of_key key there.now }
+{
+    match there {
+        Some(progress) => progress.key == key,
+        None => false,
     }
 }
 
