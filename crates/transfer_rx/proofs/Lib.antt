@@ -5,6 +5,7 @@ pub mod Blocks
 pub mod Comes
 pub mod Chains
 pub mod Completeness
+pub mod Crcs
 pub mod Cuts
 pub mod Cuttings
 pub mod Deliveries

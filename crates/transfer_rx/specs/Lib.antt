@@ -1,5 +1,6 @@
 pub mod Acceptance
 pub mod Chains
+pub mod Crcs
 pub mod Filled
 pub mod Keys
 pub mod Marks

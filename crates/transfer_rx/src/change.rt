@@ -1,6 +1,8 @@
 ghost use Rattle.std.specs.Prelude.{◌≡◌, ◌≢◌, ◌↔◌, IsErr, IsNone, IsOk, OnErr, OnOk, ℕ, ◌<◌, ◌+◌, ◌*◌, [], length, get_or, set, false, Some, None, IfSome, Option};
 ghost use Rattle.block_pool.specs.Chains.{appended, free_blocks, further_blocks};
 ghost use Rattle.can_frame.specs.Cutting.{Piece, tail_at};
+ghost use Rattle.transfer_rx.specs.declared.key.Key.{Key};
+ghost use Rattle.transfer_rx.specs.Crcs.{HasCrc, HasOwnCrc, HaveCrcs};
 ghost use Rattle.transfer_rx.specs.Filled.{Fills, HasRoomFor, emptied};
 ghost use Rattle.transfer_rx.specs.Places.{Places, KeepPlaces, kept};
 ghost use Rattle.transfer_rx.specs.Reassembly.{grown};
@@ -17,8 +19,10 @@ impl<const S: usize, const N: usize> Sessions<S, N> {
     pub fn put(&mut self, place: usize, progress: Progress)
         requires place { place < S }
         requires filled { Fills progress (get_or self.old.pool place []) }
-        ensures { (places : Places) (session : Session) → KeepPlaces self.old.progress self.old.pool places →
+        ensures session { (places : Places) (session : Session) → KeepPlaces self.old.progress self.old.pool places →
             IsProgressOf progress (get_or self.old.pool place []) session → KeepPlaces self.new.progress self.new.pool (set places place (Some session)) }
+        ensures crcs { (signature_of : Key → Option ℕ) → HasOwnCrc signature_of progress (get_or self.old.pool place []) →
+            HaveCrcs signature_of self.old.progress self.old.pool → HaveCrcs signature_of self.new.progress self.new.pool }
     {
         set_place(&mut self.progress, &mut self.pool, place, progress);
     }
@@ -29,6 +33,7 @@ impl<const S: usize, const N: usize> Sessions<S, N> {
         place: usize,
         progress: Progress,
         more: &[u8],
+        signature: u64,
         mark: Mark,
         now: u64,
     ) -> Result<(), NoBlock>
@@ -41,8 +46,11 @@ impl<const S: usize, const N: usize> Sessions<S, N> {
             IsProgressOf progress (get_or self.old.pool place []) session → piece.bytes ≡ more.now →
             piece.tail ≡ tail_at session.expected (length session.taken) false →
             KeepPlaces self.new.progress self.new.pool (set places place (Some (grown piece mark now session)))) }
+        ensures crcs { (signature_of : Key → Option ℕ) → signature_of progress.key ≡ Some signature →
+            HasCrc signature progress (get_or self.old.pool place []) →
+            HaveCrcs signature_of self.old.progress self.old.pool → HaveCrcs signature_of self.new.progress self.new.pool }
     {
-        let grown = progress.grown(mark, now);
+        let grown = progress.grown(mark, now, signature, more);
         let cut = progress.cut_off(now);
         add_frame(
             &mut self.progress,

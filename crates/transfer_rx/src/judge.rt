@@ -2,6 +2,7 @@ ghost use Rattle.std.specs.Prelude.{◌≡◌, ◌<◌, ◌≤◌, ◌+◌, ◌*
 ghost use Rattle.can_frame.specs.Cutting.{Piece};
 ghost use Rattle.can_frame.specs.Piece.{piece_of};
 ghost use Rattle.transfer_rx.specs.declared.key.Key.{Key};
+ghost use Rattle.transfer_rx.specs.Crcs.{HasCrc};
 ghost use Rattle.transfer_rx.specs.Filled.{Fills};
 ghost use Rattle.transfer_rx.specs.Outcome.{blocks_used, lacks_blocks, out_of_turn, outcome};
 ghost use Rattle.transfer_rx.specs.Places.{Arranged, IsSessionFound, IsPlaceFor, Places, KeepPlaces, blocks_at, kept, left};
@@ -29,6 +30,7 @@ impl<const S: usize, const N: usize> Sessions<S, N> {
     ) -> Verdict
         requires place { found.now.place < S }
         requires filled { Fills found.now.progress (get_or self.now.pool found.now.place []) }
+        requires crc { HasCrc signature found.now.progress (get_or self.now.pool found.now.place []) }
         ensures room { IfPart result (GoesOn found.now (piece_of frame.now)) }
         ensures verdict { (places : Places) (sessions : List Session) (key : Key) (session : Session) →
             KeepPlaces self.now.progress self.now.pool places → Arranged (left now places) sessions →
@@ -45,7 +47,7 @@ impl<const S: usize, const N: usize> Sessions<S, N> {
             if self.lacks_blocks(found, &tail, data.len(), now, blocks) {
                 return Verdict::Spoiled(Why::NoBlock);
             }
-            return assemble(taken, &self.bytes_at(found.place), data, signature);
+            return assemble(taken, &self.bytes_at(found.place), data, found.progress.crc);
         }
         if is_wrong_part(taken, data.len()) {
             return Verdict::Spoiled(Why::Length);

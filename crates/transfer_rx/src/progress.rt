@@ -1,8 +1,8 @@
-ghost use Rattle.std.specs.Prelude.{◌≡◌, ℕ, false, ◌+◌, ◌*◌, ◌<◌, ◌≤◌, ◌%◌, ◌++◌, ◌∷◌, [], List, length, take};
+ghost use Rattle.std.specs.Prelude.{◌≡◌, ℕ, false, ◌+◌, ◌*◌, ◌<◌, ◌≤◌, ◌%◌, ◌++◌, ◌∷◌, [], List, drop, length, take};
 
 use crate::key::Key;
 use crate::verdict::blocks_for;
-use can_frame::{Mark, Tail, Why};
+use can_frame::{Mark, Tail, Why, crc, crc_more};
 
 /// How far the session at a place has come: how many frames it took since the last cut, each of seven
 /// bytes, and whether their marks are those of one step, in order.
@@ -14,6 +14,8 @@ pub struct Progress {
     pub moment: u64,
     pub step: u64,
     pub whole: bool,
+    /// The CRC of the bytes taken, but for the two of the transfer's CRC at their front.
+    pub crc: u16,
     pub ghost id: { expected < 32 },
     pub ghost few: { taken ≤ 54 },
 }
@@ -27,6 +29,8 @@ pub struct Found {
 
 impl Progress {
     ghost use Rattle.can_frame.specs.Cutting.{Piece, tail_at};
+    ghost use Rattle.can_frame.specs.TransferCrc.{transfer_crc};
+    ghost use Rattle.transfer_rx.specs.Crcs.{HasCrc};
     ghost use Rattle.transfer_rx.specs.Filled.{Fills};
     ghost use Rattle.transfer_rx.specs.Marks.{is_whole};
     ghost use Rattle.transfer_rx.specs.Outcome.{out_of_turn, session_blocks};
@@ -37,6 +41,7 @@ impl Progress {
     /// A session that begins with a frame.
     pub fn opened(key: Key, tail: &Tail, now: u64) -> Progress
         requires { tail.now.id < 32 }
+        ensures key { result.key ≡ key }
         ensures none { result.taken ≡ 0 }
         ensures keeps { (bytes : List ℕ) → IsProgressOf result bytes (opened key tail.now now) }
     {
@@ -47,13 +52,16 @@ impl Progress {
             moment: now,
             step: 0,
             whole: true,
+            crc: 0,
         }
     }
 
     /// Begun anew by a first frame whose ID is neither the expected one nor the one before it.
     pub fn restarted(self, tail: &Tail) -> Progress
         requires { tail.now.id < 32 }
+        ensures key { result.key ≡ self.key }
         ensures filled { (chain : List ℕ) → Fills self chain → Fills result chain }
+        ensures crc { (signature : ℕ) (chain : List ℕ) → HasCrc signature self chain → HasCrc signature result chain }
         ensures keeps { (bytes : List ℕ) (session : Session) → IsProgressOf self bytes session → IsProgressOf result bytes (restarted tail.now session) }
     {
         if tail.start && tail.id != self.expected && (tail.id + 1) % 32 != self.expected {
@@ -89,6 +97,7 @@ impl Progress {
     /// With nothing taken, and an ID to wait for.
     fn emptied(self, expected: u8, moment: u64) -> Progress
         requires { expected < 32 }
+        ensures key { result.key ≡ self.key }
         ensures none { result.taken ≡ 0 }
         ensures keeps { (bytes : List ℕ) → IsProgressOf result bytes (record { key = self.key; expected = expected; taken = []; marks = []; moment = moment }) }
     {
@@ -99,13 +108,18 @@ impl Progress {
             moment,
             step: 0,
             whole: true,
+            crc: 0,
         }
     }
 
     /// With one more frame of seven bytes.
-    pub fn grown(self, mark: Mark, now: u64) -> Progress
-        requires { self.taken < 54 }
+    pub fn grown(self, mark: Mark, now: u64, signature: u64, more: &[u8]) -> Progress
+        requires room { self.taken < 54 }
+        requires seven { length more.now ≡ 7 }
+        ensures key { result.key ≡ self.key }
         ensures taken { result.taken ≡ self.taken + 1 }
+        ensures crc { (chain : List ℕ) → length chain ≡ 7 * self.taken →
+            HasCrc signature self chain → HasCrc signature result (chain ++ more.now) }
         ensures keeps { (bytes after : List ℕ) (session : Session) (piece : Piece) → IsProgressOf self bytes session →
             length piece.bytes ≡ 7 → piece.tail ≡ tail_at session.expected (length session.taken) false →
             take (7 * (self.taken + 1)) after ≡ take (7 * self.taken) bytes ++ piece.bytes →
@@ -118,6 +132,20 @@ impl Progress {
             moment: now,
             step: self.step_with(mark),
             whole: self.is_whole_with(mark),
+            crc: self.crc_with(signature, more),
+        }
+    }
+
+    /// The CRC with the bytes of one more frame. The first frame begins with the transfer's own CRC.
+    fn crc_with(self, signature: u64, more: &[u8]) -> u16
+        requires { length more.now ≡ 7 }
+        ensures { (chain : List ℕ) → length chain ≡ 7 * self.taken → HasCrc signature self chain →
+            result ≡ transfer_crc signature (drop 2 (chain ++ more.now)) }
+    {
+        if self.taken == 0 {
+            crc(signature, &more[2..])
+        } else {
+            crc_more(self.crc, more)
         }
     }
 

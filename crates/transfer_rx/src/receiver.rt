@@ -1,8 +1,9 @@
-ghost use Rattle.std.specs.Prelude.{◌≡◌, ◌<◌, ◌≤◌, [], IfOk, IfSome, List, option_map};
+ghost use Rattle.std.specs.Prelude.{◌≡◌, ◌<◌, ◌≤◌, [], IfOk, IfSome, List, Some, option_map};
 ghost use Rattle.can_frame.specs.Identifier.{IsIdentifier};
 ghost use Rattle.can_frame.specs.Piece.{piece_of};
 ghost use Rattle.transfer_rx.specs.Acceptance.{AnswersByRows, is_for, is_service, wanted};
-ghost use Rattle.transfer_rx.specs.Keys.{is_anonymous};
+ghost use Rattle.transfer_rx.specs.Crcs.{HaveCrcs, signature_in};
+ghost use Rattle.transfer_rx.specs.Keys.{is_anonymous, key_of};
 ghost use Rattle.transfer_rx.specs.Ranges.{IfDelivered, IsInRange};
 ghost use Rattle.transfer_rx.specs.Reassembly.{alone, answer, arrival_of, delivered, next};
 ghost use Rattle.transfer_rx.specs.Sessions.{Session};
@@ -26,6 +27,7 @@ pub struct Receiver<F, const S: usize, const N: usize> {
     rows: ArrayVec<AcceptRow, 16>,
     accept: F,
     sessions: Sessions<S, N>,
+    ghost crcs: { HaveCrcs (signature_in rows.items) sessions.progress sessions.pool },
 }
 
 impl<F: Fn(Kind, u16) -> Option<u64> + Copy, const S: usize, const N: usize> Receiver<F, S, N> {
@@ -74,7 +76,7 @@ impl<F: Fn(Kind, u16) -> Option<u64> + Copy, const S: usize, const N: usize> Rec
         }
         self.sessions.forget(now);
         let turn = self.sessions.turn(&wanted, frame, now, N);
-        self.sessions.settle(turn, wanted.ident, frame, mark, now)
+        self.sessions.settle(turn, &wanted, frame, mark, now)
     }
 
     /// The transfer that `take` would deliver, if any. Nothing changes.
@@ -125,6 +127,7 @@ impl<F: Fn(Kind, u16) -> Option<u64> + Copy, const S: usize, const N: usize> Rec
         requires answers { AnswersByRows (F.post self.now.accept) self.now.rows.items }
         ensures wanted { result ≡ wanted self.now.rows.items self.now.me frame.now.id }
         ensures ident { IfOk result (λ w. IsIdentifier w.ident) }
+        ensures signature { IfOk result (λ w. signature_in self.now.rows.items (key_of w.ident) ≡ Some w.signature) }
     {
         let Some(ident) = Ident::read(frame.id) else {
             return Err(Why::BadIdent);

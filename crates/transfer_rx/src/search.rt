@@ -1,5 +1,6 @@
 ghost use Rattle.std.specs.Prelude.{◌≡◌, ℕ, ◌<◌, List, [], length, get_or, false, Some, None, IfOk, IfSome, MatchOption, Option};
 ghost use Rattle.transfer_rx.specs.Chains.{is_of_key, place_of};
+ghost use Rattle.transfer_rx.specs.Crcs.{HaveCrcsOf, IsUnder};
 ghost use Rattle.transfer_rx.specs.Filled.{Fills};
 ghost use Rattle.transfer_rx.specs.Places.{Arranged, IsSearchResult, IsSessionOfKey, IsSessionAtPlace, Places, KeepPlaces, has_key, kept, left};
 ghost use Rattle.transfer_rx.specs.Sessions.{Session, session_for, session_of};
@@ -16,6 +17,8 @@ impl<const S: usize, const N: usize> Sessions<S, N> {
         requires { tail.now.id < 32 }
         ensures place { IfOk result (λ found. found.place < S) }
         ensures filled { IfOk result (λ found. Fills found.progress (get_or self.now.pool found.place [])) }
+        ensures crc { (signature : ℕ) → HaveCrcsOf key signature self.now.progress self.now.pool →
+            IfOk result (IsUnder key signature self.now.pool) }
         ensures found { (places : Places) (sessions : List Session) → KeepPlaces self.now.progress self.now.pool places → Arranged (left now places) sessions →
             IsSearchResult self.now.pool key (left now places) sessions result (session_for S key tail.now now sessions) }
     {
@@ -48,6 +51,8 @@ impl<const S: usize, const N: usize> Sessions<S, N> {
     fn find(&self, key: Key, now: u64) -> Option<Found>
         ensures place { IfSome result (λ found. found.place < S) }
         ensures filled { IfSome result (λ found. Fills found.progress (get_or self.now.pool found.place [])) }
+        ensures crc { (signature : ℕ) → HaveCrcsOf key signature self.now.progress self.now.pool →
+            IfSome result (IsUnder key signature self.now.pool) }
         ensures found { (places : Places) (sessions : List Session) → KeepPlaces self.now.progress self.now.pool places → Arranged (left now places) sessions →
             MatchOption result (session_of key sessions ≡ None) (IsSessionOfKey self.now.pool key (left now places) sessions) }
     {
@@ -64,6 +69,8 @@ impl<const S: usize, const N: usize> Sessions<S, N> {
         requires { place < S }
         ensures place { IfSome result (λ found. found.place ≡ place) }
         ensures filled { IfSome result (λ found. Fills found.progress (get_or self.now.pool place [])) }
+        ensures crc { (signature : ℕ) → HaveCrcsOf key signature self.now.progress self.now.pool →
+            IfSome result (IsUnder key signature self.now.pool) }
         ensures found { (places : Places) → KeepPlaces self.now.progress self.now.pool places →
             MatchOption result (has_key key (get_or (left now places) place None) ≡ false) (IsSessionAtPlace self.now.pool key (left now places)) }
     {
@@ -91,6 +98,7 @@ impl<const S: usize, const N: usize> Sessions<S, N> {
     pub fn recent(&self, place: usize, now: u64) -> Option<Progress>
         requires { place < S }
         ensures filled { IfSome result (λ progress. Fills progress (get_or self.now.pool place [])) }
+        ensures same { IfSome result (λ progress. get_or self.now.progress place None ≡ Some progress) }
         ensures recent { (places : Places) → KeepPlaces self.now.progress self.now.pool places → IsProgressAt result (get_or self.now.pool place []) (get_or (left now places) place None) }
     {
         unless_old(self.progress[place], now)

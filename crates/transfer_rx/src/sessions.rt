@@ -1,6 +1,8 @@
 ghost use Rattle.std.specs.Prelude.{◌≡◌, ℕ, ◌<◌, ◌≤◌, ◌+◌, ◌*◌, List, [], length, get_or, set, Some, None, Option};
 ghost use Rattle.can_frame.specs.Identifier.{IsIdentifier};
 ghost use Rattle.can_frame.specs.Piece.{piece_of};
+ghost use Rattle.transfer_rx.specs.declared.key.Key.{Key};
+ghost use Rattle.transfer_rx.specs.Crcs.{HaveCrcs, HaveCrcsOf, IsTurnUnder, IsUnder};
 ghost use Rattle.transfer_rx.specs.Filled.{AreFilled, Fills, HasRoomFor};
 ghost use Rattle.transfer_rx.specs.Keys.{key_of};
 ghost use Rattle.transfer_rx.specs.Outcome.{out_of_turn};
@@ -21,7 +23,7 @@ use crate::transfer::{Took, Transfer};
 use crate::turn::Turn;
 use crate::verdict::Verdict;
 use block_pool::{BlockPool, NoBlock};
-use can_frame::{Frame, Ident, Mark, Why};
+use can_frame::{Frame, Mark, Why};
 
 /// S places, each free or with a session, and a pool with a chain of bytes for each.
 #[derive(Drop)]
@@ -37,7 +39,8 @@ impl<const S: usize, const N: usize> Sessions<S, N> {
     pub fn new() -> Sessions<S, N>
         requires most { S ≤ 1024 }
         requires blocks { N ≤ 1024 }
-        ensures { KeepSessions result.progress result.pool [] }
+        ensures sessions { KeepSessions result.progress result.pool [] }
+        ensures crcs { (signature_of : Key → Option ℕ) → HaveCrcs signature_of result.progress result.pool }
     {
         Sessions {
             progress: [None; S],
@@ -47,7 +50,9 @@ impl<const S: usize, const N: usize> Sessions<S, N> {
 
     /// Where a frame comes, and what it leads to there.
     pub fn turn(&self, wanted: &Wanted, frame: &Frame, now: u64, blocks: usize) -> Turn
+        requires crcs { HaveCrcsOf (key_of wanted.now.ident) wanted.now.signature self.now.progress self.now.pool }
         ensures room { IsRoomy S self.now.pool (piece_of frame.now) result }
+        ensures crc { IsTurnUnder (key_of wanted.now.ident) wanted.now.signature self.now.pool result }
         ensures turn { (places : Places) (sessions : List Session) → KeepPlaces self.now.progress self.now.pool places → Arranged (left now places) sessions →
             IsTurn S self.now.pool blocks (key_of wanted.now.ident) wanted.now.signature (piece_of frame.now) now (left now places) sessions result }
     {
@@ -66,18 +71,29 @@ impl<const S: usize, const N: usize> Sessions<S, N> {
     }
 
     /// Does what a turn says, and tells it.
-    pub fn settle(&mut self, turn: Turn, ident: Ident, frame: &Frame, mark: Mark, now: u64) -> Took
+    pub fn settle(
+        &mut self,
+        turn: Turn,
+        wanted: &Wanted,
+        frame: &Frame,
+        mark: Mark,
+        now: u64,
+    ) -> Took
         requires room { IsRoomy S self.old.pool (piece_of frame.now) turn }
-        requires ident { IsIdentifier ident }
+        requires crc { IsTurnUnder (key_of wanted.now.ident) wanted.now.signature self.old.pool turn }
+        requires ident { IsIdentifier wanted.now.ident }
         ensures ranges { IfDelivered result IsInRange }
-        ensures answer { (most signature : ℕ) (places : Places) (sessions : List Session) →
+        ensures answer { (most : ℕ) (places : Places) (sessions : List Session) →
             KeepPlaces self.old.progress self.old.pool places → Arranged places sessions →
-            IsTurn most self.old.pool N (key_of ident) signature (piece_of frame.now) now places sessions turn →
-            told result ≡ (session_step most N (record { ident = ident; signature = signature }) (piece_of frame.now) mark now sessions).answer }
-        ensures sessions { (most signature : ℕ) (places : Places) (sessions : List Session) →
+            IsTurn most self.old.pool N (key_of wanted.now.ident) wanted.now.signature (piece_of frame.now) now places sessions turn →
+            told result ≡ (session_step most N wanted.now (piece_of frame.now) mark now sessions).answer }
+        ensures sessions { (most : ℕ) (places : Places) (sessions : List Session) →
             KeepPlaces self.old.progress self.old.pool places → Arranged places sessions →
-            IsTurn most self.old.pool N (key_of ident) signature (piece_of frame.now) now places sessions turn →
-            KeepSessions self.new.progress self.new.pool (session_step most N (record { ident = ident; signature = signature }) (piece_of frame.now) mark now sessions).sessions }
+            IsTurn most self.old.pool N (key_of wanted.now.ident) wanted.now.signature (piece_of frame.now) now places sessions turn →
+            KeepSessions self.new.progress self.new.pool (session_step most N wanted.now (piece_of frame.now) mark now sessions).sessions }
+        ensures crcs { (signature_of : Key → Option ℕ) →
+            signature_of (key_of wanted.now.ident) ≡ Some wanted.now.signature →
+            HaveCrcs signature_of self.old.progress self.old.pool → HaveCrcs signature_of self.new.progress self.new.pool }
     {
         match turn {
             Turn::Refused(why) => Took::Dropped(why),
@@ -85,7 +101,7 @@ impl<const S: usize, const N: usize> Sessions<S, N> {
                 self.put(found.place, found.progress);
                 Took::Dropped(why)
             }
-            Turn::Next(found, verdict) => self.apply(found, verdict, ident, frame, mark, now),
+            Turn::Next(found, verdict) => self.apply(found, verdict, wanted, frame, mark, now),
         }
     }
 
@@ -94,30 +110,34 @@ impl<const S: usize, const N: usize> Sessions<S, N> {
         &mut self,
         found: Found,
         verdict: Verdict,
-        ident: Ident,
+        wanted: &Wanted,
         frame: &Frame,
         mark: Mark,
         now: u64,
     ) -> Took
         requires place { found.place < S }
         requires filled { Fills found.progress (get_or self.old.pool found.place []) }
+        requires crc { IsUnder (key_of wanted.now.ident) wanted.now.signature self.old.pool found }
         requires room { IfPart verdict (GoesOn found (piece_of frame.now)) }
-        requires ident { IsIdentifier ident }
+        requires ident { IsIdentifier wanted.now.ident }
         ensures ranges { IfDelivered result IsInRange }
         ensures answer { (places : Places) (session : Session) → KeepPlaces self.old.progress self.old.pool places →
             IfPart verdict (HasRoomFor N places found.place (7 * found.progress.taken + 7)) →
             IsProgressOf found.progress (get_or self.old.pool found.place []) session →
-            told result ≡ answer_of ident (piece_of frame.now) mark session (says verdict) }
+            told result ≡ answer_of wanted.now.ident (piece_of frame.now) mark session (says verdict) }
         ensures session { (places : Places) (session : Session) → KeepPlaces self.old.progress self.old.pool places →
             IfPart verdict (HasRoomFor N places found.place (7 * found.progress.taken + 7)) →
             IsProgressOf found.progress (get_or self.old.pool found.place []) session → out_of_turn (piece_of frame.now).tail session ≡ None →
             KeepPlaces self.new.progress self.new.pool (set places found.place (Some (session_after (piece_of frame.now) mark now session (says verdict)))) }
+        ensures crcs { (signature_of : Key → Option ℕ) →
+            signature_of (key_of wanted.now.ident) ≡ Some wanted.now.signature →
+            HaveCrcs signature_of self.old.progress self.old.pool → HaveCrcs signature_of self.new.progress self.new.pool }
     {
         match verdict {
             Verdict::Whole(payload) => {
                 self.put(found.place, found.progress.cut_off(now));
                 Took::Delivered(Transfer {
-                    ident,
+                    ident: wanted.ident,
                     id: frame.tail().id,
                     payload,
                     mark,
@@ -125,7 +145,8 @@ impl<const S: usize, const N: usize> Sessions<S, N> {
                 })
             }
             Verdict::Part => {
-                match self.grow(found.place, found.progress, frame.data(), mark, now) {
+                let more = frame.data();
+                match self.grow(found.place, found.progress, more, wanted.signature, mark, now) {
                     Ok(()) => Took::Part,
                     Err(NoBlock) => Took::Dropped(Why::NoBlock),
                 }
@@ -139,7 +160,10 @@ impl<const S: usize, const N: usize> Sessions<S, N> {
 
     /// Forgets the sessions that are too old. Their blocks are free again.
     pub fn forget(&mut self, now: u64)
-        ensures { (places : Places) → KeepPlaces self.old.progress self.old.pool places → KeepPlaces self.new.progress self.new.pool (left now places) }
+        ensures places { (places : Places) → KeepPlaces self.old.progress self.old.pool places →
+            KeepPlaces self.new.progress self.new.pool (left now places) }
+        ensures crcs { (signature_of : Key → Option ℕ) → HaveCrcs signature_of self.old.progress self.old.pool →
+            HaveCrcs signature_of self.new.progress self.new.pool }
     {
         for place in 0..S {
             let progress = unless_old(self.progress[place], now);

@@ -1,11 +1,13 @@
-use Rattle.std.proofs.Common.{sym, ◌∙◌, ap, subst}
+use Rattle.std.proofs.Common.{sym, ◌∙◌, ap, subst, rules}
 use Rattle.can_frame.specs.Piece.{piece_of}
+use Rattle.transfer_rx.specs.Crcs.{signature_in}
 use Rattle.transfer_rx.specs.Keys.{key_of}
 use Rattle.transfer_rx.specs.Sessions.{remembered}
 use Rattle.transfer_rx.specs.Places.{Arranged, Places, KeepSessions, left}
 use Rattle.transfer_rx.specs.Reassembly.{Step, arrival_of}
 use Rattle.transfer_rx.specs.Turns.{IsTurn}
 use Rattle.transfer_rx.proofs.Arrangement.{forget}
+use Rattle.transfer_rx.proofs.Crcs.{of_key}
 use Rattle.transfer_rx.proofs.Places.{left_twice}
 use Rattle.transfer_rx.proofs.Steps.{anonymous, of_session, unwanted}
 use Rattle.transfer_rx.proofs.receiver.Receiver.take.Goals as goal
@@ -34,9 +36,9 @@ returns-clause-answer g c = λ sessions s.
     let places = left c.args.now s.places in
     let recent = remembered c.args.now sessions in
     let twice = left_twice c.args.now s.places in
-    let stand = c.forget.ensures s.places s.stand in
+    let stand = c.forget.ensures.places s.places s.stand in
     let arranged = forget c.args.now s.places sessions s.arranged in
-    c.settle.ensures.answer g.row.S c.in-Ok.wanted.signature places recent stand arranged
+    c.settle.ensures.answer g.row.S places recent stand arranged
     (subst (λ (p : Places). IsTurn g.row.S c.forget.new.self.pool g.row.N (key_of c.in-Ok.wanted.ident) c.in-Ok.wanted.signature (piece_of c.args.frame.now) c.args.now p recent c.turn-turn.result)
     twice (c.turn-turn.ensures.turn places recent stand (subst (λ (p : Places). Arranged p recent) (sym twice) arranged)))
     ∙ ap (λ (x : Step). x.answer) (sym (of_session (record { rows = c.args.self.now.rows.items; me = c.args.self.now.me; sessions = g.row.S; blocks = g.row.N }) sessions (arrival_of c.args.frame.now c.args.mark c.args.now) c.in-Ok.wanted (sym c.wanted.ensures.wanted ∙ c.in-Ok.is) (sym c.is_anonymous.ensures ∙ c.if-is_anonymous.false)))
@@ -46,10 +48,21 @@ returns-clause-sessions g c = λ sessions s.
     let places = left c.args.now s.places in
     let recent = remembered c.args.now sessions in
     let twice = left_twice c.args.now s.places in
-    let stand = c.forget.ensures s.places s.stand in
+    let stand = c.forget.ensures.places s.places s.stand in
     let arranged = forget c.args.now s.places sessions s.arranged in
     subst (λ (x : Step). KeepSessions c.settle.new.self.progress c.settle.new.self.pool x.sessions)
     (sym (of_session (record { rows = c.args.self.now.rows.items; me = c.args.self.now.me; sessions = g.row.S; blocks = g.row.N }) sessions (arrival_of c.args.frame.now c.args.mark c.args.now) c.in-Ok.wanted (sym c.wanted.ensures.wanted ∙ c.in-Ok.is) (sym c.is_anonymous.ensures ∙ c.if-is_anonymous.false)))
-    (c.settle.ensures.sessions g.row.S c.in-Ok.wanted.signature places recent stand arranged
+    (c.settle.ensures.sessions g.row.S places recent stand arranged
     (subst (λ (p : Places). IsTurn g.row.S c.forget.new.self.pool g.row.N (key_of c.in-Ok.wanted.ident) c.in-Ok.wanted.signature (piece_of c.args.frame.now) c.args.now p recent c.turn-turn.result)
     twice (c.turn-turn.ensures.turn places recent stand (subst (λ (p : Places). Arranged p recent) (sym twice) arranged))))
+
+pub turn-turn-requires : goal.turn-turn-requires
+turn-turn-requires g c =
+    let signatures = signature_in c.args.self.now.rows.items in
+    (search rules, of_key signatures (key_of c.in-Ok.wanted.ident) c.in-Ok.wanted.signature c.forget.new.self.progress c.forget.new.self.pool
+    c.in-Ok.ensures.signature (c.forget.ensures.crcs signatures c.args.self.now.crcs))
+
+pub invariant_of-self : goal.invariant_of-self
+invariant_of-self g c =
+    let signatures = signature_in c.args.self.now.rows.items in
+    record { crcs = c.settle.ensures.crcs signatures c.in-Ok.ensures.signature (c.forget.ensures.crcs signatures c.args.self.now.crcs) }

@@ -1,6 +1,7 @@
 use Rattle.std.proofs.Common.{◌≡◌, ◌≢◌, length, get_or, None, [], ap, arith, rules, subst, sym, ◌∙◌}
 use Rattle.std.proofs.lemmas.List.{get_or-set_other, get_or_default, length-set}
 use Rattle.transfer_rx.specs.Progress.{IsProgressAt}
+use Rattle.transfer_rx.proofs.Crcs.{kept_crcs, same_there}
 use Rattle.transfer_rx.proofs.Places.{all_left, one_more_kept}
 use Rattle.transfer_rx.proofs.sessions.Sessions.forget.Goals as goal
 
@@ -11,6 +12,7 @@ loop-place-preserved g c =
     let there = c.loop-place-test.true in
     let own = get_or_default c.loop-place.self.progress c.loop-place.place c.index-self-place.result None (omega arith)
     ∙ c.loop-place.invariant.left c.loop-place.place (omega arith) in
+    let here = get_or_default c.loop-place.self.progress c.loop-place.place c.index-self-place.result None (omega arith) in
     record {
       done = λ places s i l.
           rw c.keep.ensures.progress
@@ -28,11 +30,15 @@ loop-place-preserved g c =
       chains = λ i l.
           let ne : i ≢ c.loop-place.place = λ e. omega arith in
           c.keep.ensures.others i ne ∙ c.loop-place.invariant.chains i (omega arith);
+      crcs = λ signature_of h.
+          rw c.keep.ensures.progress
+          (kept_crcs signature_of c.loop-place.self.progress c.loop-place.self.pool c.keep.new.self.pool c.loop-place.place c.unless_old-progress.result
+          (c.loop-place.invariant.crcs signature_of h) (omega arith) (same_there c.unless_old-progress.result _ _ here c.unless_old-progress.ensures.same) c.keep.ensures.others c.keep.ensures.kept);
       size = ap length c.keep.ensures.progress ∙ length-set c.loop-place.self.progress c.loop-place.place c.unless_old-progress.result ∙ same;
     }
 
-pub returns : goal.returns
-returns g c = λ places s.
+pub returns-clause-places : goal.returns-clause-places
+returns-clause-places g c = λ places s.
     let size : length c.args.self.now.progress ≡ g.row.S = search rules in
     all_left c.args.now places _ _ (s.size ∙ sym c.loop-place.invariant.size)
     (λ i h. c.loop-place.invariant.done places s i (omega (arith, c.loop-place.invariant.size)))

@@ -1,4 +1,6 @@
-use Rattle.std.proofs.Common.{◌≡◌, ℕ, ◌<◌, ◌≤◌, get_or, length, None, []}
+use Rattle.std.proofs.Common.{◌≡◌, ℕ, ◌<◌, ◌≤◌, get_or, length, Option, None, []}
+use Rattle.transfer_rx.specs.declared.key.Key.{Key}
+use Rattle.transfer_rx.specs.Crcs.{HaveCrcs}
 use Rattle.transfer_rx.specs.Places.{Places, KeepPlaces, kept}
 use Rattle.transfer_rx.specs.Progress.{IsProgressAt}
 use Rattle.transfer_rx.proofs.sessions.Sessions.forget.Given as goal
@@ -10,5 +12,6 @@ invariant-loop-place g l = record {
       IsProgressAt (get_or l.self.progress i None) (get_or l.self.pool i []) (kept l.now (get_or places i None));
   left : (i : ℕ) → l.place ≤ i → get_or l.self.progress i None ≡ get_or l.fn.self.progress i None;
   chains : (i : ℕ) → l.place ≤ i → get_or l.self.pool i [] ≡ get_or l.fn.self.pool i [];
+  crcs : (signature_of : Key → Option ℕ) → HaveCrcs signature_of l.fn.self.progress l.fn.self.pool → HaveCrcs signature_of l.self.progress l.self.pool;
   size : length l.self.progress ≡ length l.fn.self.progress;
 }

@@ -1,5 +1,6 @@
 use Rattle.std.proofs.Common.{◌≡◌, length, Some, ◌∙◌, ap, arith, rules}
 use Rattle.transfer_rx.specs.Filled.{emptied}
+use Rattle.transfer_rx.proofs.Crcs.{emptied_own, set_crcs}
 use Rattle.transfer_rx.proofs.Filled.{emptied_keeps, emptied_other, exact, length-emptied, set_filled}
 use Rattle.transfer_rx.proofs.Places.{set_stands}
 use Rattle.transfer_rx.proofs.sessions.Sessions.put.Goals as goal
@@ -18,11 +19,19 @@ invariant_of-self g c =
           (exact c.args.progress c.args.place pool (omega (arith, c.args.self.now.chains)) c.requires.filled));
     }
 
-pub returns : goal.returns
-returns g c = λ places session s k.
+pub returns-clause-session : goal.returns-clause-session
+returns-clause-session g c = λ places session s k.
     let size : length c.args.self.now.progress ≡ g.row.S = search rules in
     let pool = c.args.self.now.pool in
     rw (c.set_place.ensures.kept, c.set_place.ensures.pool)
     (set_stands c.args.self.now.progress pool (emptied c.args.progress.taken c.args.place pool) places c.args.place c.args.progress session s
     (omega arith) (emptied_other c.args.progress.taken c.args.place pool)
     (emptied_keeps c.args.progress c.args.place pool (omega (arith, c.args.self.now.chains)) session k))
+
+pub returns-clause-crcs : goal.returns-clause-crcs
+returns-clause-crcs g c = λ signature_of own h.
+    let size : length c.args.self.now.progress ≡ g.row.S = search rules in
+    let pool = c.args.self.now.pool in
+    rw (c.set_place.ensures.kept, c.set_place.ensures.pool)
+    (set_crcs signature_of c.args.self.now.progress pool (emptied c.args.progress.taken c.args.place pool) c.args.place c.args.progress h
+    (omega arith) (emptied_other c.args.progress.taken c.args.place pool) (emptied_own c.args.progress c.args.place pool signature_of own))

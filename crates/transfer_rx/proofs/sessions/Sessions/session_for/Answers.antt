@@ -1,4 +1,4 @@
-use Rattle.std.proofs.Common.{◌≡◌, length, arith, rules}
+use Rattle.std.proofs.Common.{◌≡◌, ◌∙◌, [], get_or, length, arith, rules}
 use Rattle.std.proofs.lemmas.List.{length-map}
 use Rattle.can_frame.specs.declared.step.Why.TheVariants.{NoSession, Start}
 use Rattle.transfer_rx.specs.Places.{kept, left}
@@ -30,3 +30,11 @@ returns-in-None-clause-found g c = λ places sessions s a.
     as_dropped g.row.S c.args.self.now.pool c.args.key c.args.tail.now c.args.now (left c.args.now places) sessions NoSession
     (no_room g.row.S c.args.self.now.pool c.args.key c.args.tail.now c.args.now (left c.args.now places) sessions
     (c.in_default.ensures.found places sessions s a) c.if-not-tail.false (c.in-None.ensures.free places sessions s a))
+
+pub returns-in-Some-clause-crc : goal.returns-in-Some-clause-crc
+returns-in-Some-clause-crc g c = λ signature h.
+    let under = c.in-Some.ensures.crc signature h in
+    record {
+      own = c.restarted.ensures.key ∙ under.own;
+      crc = c.restarted.ensures.crc signature (get_or c.args.self.now.pool c.in-Some.found.place []) under.crc;
+    }

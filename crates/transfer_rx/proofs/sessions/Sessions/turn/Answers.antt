@@ -1,9 +1,10 @@
-use Rattle.std.proofs.Common.{◌≡◌, None, sym, ◌∙◌, ap}
+use Rattle.std.proofs.Common.{◌≡◌, None, sym, ◌∙◌, ap, rules}
 use Rattle.can_frame.specs.Piece.{piece_of}
 use Rattle.transfer_rx.specs.Keys.{key_of}
 use Rattle.transfer_rx.specs.Outcome.{out_of_turn}
 use Rattle.transfer_rx.specs.Places.{left}
 use Rattle.transfer_rx.proofs.Comes.{comes}
+use Rattle.transfer_rx.proofs.Crcs.{under}
 use Rattle.transfer_rx.proofs.sessions.Sessions.turn.Goals as goal
 
 pub returns-in-Some-clause-turn : goal.returns-in-Some-clause-turn
@@ -19,3 +20,19 @@ returns-in-None-clause-turn g c = λ places sessions s a.
     let turn : out_of_turn (piece_of c.args.frame.now).tail to.session ≡ None =
     ap (λ tail. out_of_turn tail to.session) (sym c.tail-tail.ensures.tail) ∙ sym (c.out_of_turn.ensures _ to.session to.finds.keeps) ∙ c.in-None.is in
     (to, turn, c.verdict-verdict.ensures.verdict places sessions (key_of c.args.wanted.now.ident) to.session s a to.finds turn)
+
+pub verdict-verdict-requires : goal.verdict-verdict-requires
+verdict-verdict-requires g c =
+    let found = under (key_of c.args.wanted.now.ident) c.of.result c.args.wanted.now.signature c.args.self.now.progress c.args.self.now.pool c.in-Ok.found
+    c.of.ensures c.requires.crcs (c.in-Ok.ensures.crc c.args.wanted.now.signature) in
+    (search rules, (c.in-Ok.ensures.place, (c.in-Ok.ensures.filled, found.crc)))
+
+pub returns-in-Some-clause-crc : goal.returns-in-Some-clause-crc
+returns-in-Some-clause-crc g c =
+    under (key_of c.args.wanted.now.ident) c.of.result c.args.wanted.now.signature c.args.self.now.progress c.args.self.now.pool c.in-Ok.found
+    c.of.ensures c.requires.crcs (c.in-Ok.ensures.crc c.args.wanted.now.signature)
+
+pub returns-in-None-clause-crc : goal.returns-in-None-clause-crc
+returns-in-None-clause-crc g c =
+    under (key_of c.args.wanted.now.ident) c.of.result c.args.wanted.now.signature c.args.self.now.progress c.args.self.now.pool c.in-Ok.found
+    c.of.ensures c.requires.crcs (c.in-Ok.ensures.crc c.args.wanted.now.signature)

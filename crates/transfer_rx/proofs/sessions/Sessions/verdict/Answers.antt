@@ -1,8 +1,10 @@
 use Rattle.std.proofs.Common.{◌≡◌, true, false, [], get_or, length, sym, ◌∙◌, ap}
 use Rattle.can_frame.specs.Cutting.{Piece}
 use Rattle.can_frame.specs.Piece.{piece_of}
+use Rattle.can_frame.specs.TransferCrc.{transfer_crc}
 use Rattle.can_frame.specs.declared.tail.Tail.{Tail}
 use Rattle.transfer_rx.specs.Sessions.{others}
+use Rattle.transfer_rx.proofs.Crcs.{behind}
 use Rattle.transfer_rx.proofs.Filled.{front_of}
 use Rattle.transfer_rx.proofs.InTurn.{no_part, in_turn_part, in_turn_own, end_length, part_length, spoiled_length, spoiled_blocks, goes_on, ends}
 use Rattle.transfer_rx.proofs.sessions.Sessions.verdict.Goals as goal
@@ -38,7 +40,10 @@ returns-then-tail-clause-verdict g c = λ places sessions key session s a f t.
     (end_length c.args.blocks c.args.signature (piece_of c.args.frame.now) session.taken (others key sessions) c.is_wrong_end.result end
     (c.is_wrong_end.ensures.wrong c.args.signature piece.tail.id session.taken piece (in_turn_part piece.tail session t f.keeps.part) (sym f.keeps.taken) size) ∙ c.if-is_wrong_end.false)
     (sym c.if-lacks_blocks.false ∙ c.lacks_blocks.ensures places sessions key session piece s a f (sym tail) size) end
-    (c.assemble.ensures.payload piece.tail.id session.taken piece (in_turn_part piece.tail session t f.keeps.part) (sym f.keeps.taken)
+    (c.assemble.ensures.payload c.args.signature piece.tail.id session.taken piece
+    (λ some. c.requires.crc some ∙ ap (transfer_crc c.args.signature)
+    (sym (behind c.args.found.now.progress (get_or c.args.self.now.pool c.args.found.now.place []) c.bytes_at.result c.bytes_at.ensures.bytes c.requires.filled some)))
+    (in_turn_part piece.tail session t f.keeps.part) (sym f.keeps.taken)
     (sym c.data-data.ensures.bytes) (in_turn_own piece.tail session true t end)
     (front_of c.args.found.now.progress (get_or c.args.self.now.pool c.args.found.now.place []) c.bytes_at.result c.bytes_at.ensures.bytes c.requires.filled ∙ f.keeps.collected))
 
