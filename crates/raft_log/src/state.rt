@@ -24,8 +24,15 @@ pub struct State {
     pub vote: u8,
     pub log: ArrayVec<Entry, 127>,
     pub commit: u8,
+
+    /// Of each entry; none where it is stored in the first form, which has no place for it.
+    pub origins: ArrayVec<Option<u8>, 127>,
+
+    /// Of the store, 0 where none is stored.
+    pub version: u8,
     pub ghost narrow: { term < 2 ^ 32 },
     pub ghost short: { array_vec_len log ≤ log_limit },
+    pub ghost even: { array_vec_len origins ≡ array_vec_len log },
 }
 
 impl State {

@@ -7,14 +7,18 @@ ghost use Rattle.raft_log.specs.Rules.{IsByteUpTo, IsVersion, IsTerm, number_of,
 
 use can_frame::{Entry, Uid};
 
-/// Whether this is the version of a store.
-pub fn is_version(value: &[u8]) -> bool
-    ensures { IsTrue result ↔ IsVersion value.now }
+/// The version of a store in which each entry has its origin.
+pub const NEWEST: u8 = 2;
+
+/// The version of a store, 0 where it is empty.
+pub fn read_version(value: &[u8]) -> Option<u8>
+    ensures found { IfSome result (λ version. HasVersion version value.now) }
+    ensures none { IsNone result → IsVersion value.now → ⊥ }
 {
     match value {
-        [] => true,
-        [version] => *version == 1,
-        _ => false,
+        [] => Some(0),
+        [version] if 1 <= *version && *version <= NEWEST => Some(*version),
+        _ => None,
     }
 }
 
@@ -42,11 +46,14 @@ pub fn read_byte(value: &[u8], most: u8) -> Option<u8>
     }
 }
 
-/// The entry that 21 bytes stand for.
-pub fn read_entry(value: &[u8]) -> Option<Entry>
-    ensures found { IfSome result (λ entry. (entry ≡ entry_of value.now) × (length value.now ≡ 21)) }
-    ensures none { IsNone result → length value.now ≡ 21 → ⊥ }
+/// The entry that 21 bytes stand for, and the origin behind them; a store of the newest version always
+/// has one.
+pub fn read_entry(value: &[u8], version: u8) -> Option<(Entry, Option<u8>)>
+    ensures found { IfSome result (λ found. (found.0 ≡ entry_of value.now) ×
+        (found.1 ≡ origin_of value.now) × IsEntryValue version value.now) }
+    ensures none { IsNone result → IsEntryValue version value.now → ⊥ }
 {
+    let origin = match value.get(21) {
     let [a, b, c, d, rest @ ..] = value else {
         return None;
     };
