@@ -7,7 +7,8 @@
 -- key 4 commit: empty, which is 0, or a byte of 0 to last
 -- key 4 + i, for i from 1 to last: the entry at place i, 21 bytes, which may follow the entries before it,
 -- and its origin, a byte of 0 to 4, which may be missing unless the version is 2
-use Rattle.std.specs.Prelude.{◌≡◌, ℕ, zero, suc, ◌+◌, ◌*◌, ◌%◌, ◌<◌, ◌≤◌, List, [], ◌∷◌, ◌++◌, Option, None, length, take, drop, slice_get, slice_index, slice_index_or}
+use Rattle.std.specs.Prelude.{◌≡◌, ℕ, ◌+◌, ◌*◌, ◌%◌, ◌<◌, ◌≤◌, List, Option, None, length, map, take, drop, slice_get, slice_index, slice_index_or}
+use Rattle.std.specs.List.{range_with_len}
 use Rattle.can_frame.specs.declared.entry.Entry.{Entry}
 use Rattle.can_frame.specs.Log.{blank}
 use Rattle.disk_model.specs.Contents.{Contents, MayLeave}
@@ -53,14 +54,16 @@ entry_of value = record { term = number_of value; uid = take 16 (drop 4 value); 
 abbrev pub origin_of : List ℕ → Option ℕ
 origin_of value = slice_get value 21
 
--- the first entries, and their origins
-unfoldable pub entries_of : (ℕ → List ℕ) → ℕ → List Entry
-entries_of map zero = []
-entries_of map (suc n) = entries_of map n ++ entry_of (map (5 + n)) ∷ []
+-- what the values of the first entries are read as
+unfoldable pub first_read : {X : Type 0} → (List ℕ → X) → (ℕ → List ℕ) → ℕ → List X
+first_read read values count = map (λ key. read (values key)) (range_with_len 5 count)
 
-unfoldable pub origins_of : (ℕ → List ℕ) → ℕ → List (Option ℕ)
-origins_of map zero = []
-origins_of map (suc n) = origins_of map n ++ origin_of (map (5 + n)) ∷ []
+-- the first entries, and their origins
+abbrev pub entries_of : (ℕ → List ℕ) → ℕ → List Entry
+entries_of values count = first_read entry_of values count
+
+abbrev pub origins_of : (ℕ → List ℕ) → ℕ → List (Option ℕ)
+origins_of values count = first_read origin_of values count
 
 -- the rules of the keys below this one hold
 pub record KeepsRules (map : ℕ → List ℕ) (below : ℕ) : Type 0 where

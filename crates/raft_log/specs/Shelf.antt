@@ -42,6 +42,10 @@ opening_on shelf = if is_opened shelf.calls then puts_on (opening_puts shelf.sto
 abbrev pub is_open_on : Shelf Stored → Bool
 is_open_on shelf = is_opened shelf.calls && are_put (opening_puts shelf.store) (after_two shelf.calls)
 
+-- how many of its puts are done
+abbrev pub opening_done : Shelf Stored → ℕ
+opening_done shelf = if is_opened shelf.calls then done_on (opening_puts shelf.store) (after_two shelf.calls) else 0
+
 -- whether a restart with this pattern finds the put done that failed: 1 where its selector was written and
 -- is kept, else 0
 abbrev pub kept_by : Pattern → Option (Loose Stored) → Shelf Stored → ℕ

@@ -7,14 +7,16 @@ ghost use Rattle.kv_store.specs.Image.{chosen_copy, key_count, open_calls};
 ghost use Rattle.kv_store.specs.StoreViews.{store_map};
 ghost use Rattle.outside.specs.Faults.{Rose};
 ghost use Rattle.raft_log.specs.Allowed.{AreAllowed};
-ghost use Rattle.raft_log.specs.MayFollow.{IsStorable, MayFollow};
+ghost use Rattle.raft_log.specs.MayFollow.{HaveOrigins, IsStorable, MayFollow};
 ghost use Rattle.raft_log.specs.Rules.{AlwaysStandsForState, IsDamagedAt, StandsForState, Stores};
 ghost use Rattle.raft_log.specs.StateViews.{stored_of};
-ghost use Rattle.raft_log.specs.Stored.{opening_puts, origin_at, origin_limit, puts_of_append, puts_of_cut, puts_of_term};
+ghost use Rattle.raft_log.specs.Stored.{opening_puts, origin_at, origin_limit, origin_puts, puts_of_append, puts_of_cut, puts_of_term};
 ghost use Rattle.raft_log.specs.Stored.Put.{PutVote, PutCommit};
 
 use crate::change::Change;
+use crate::laws::a_state_is_durable;
 use crate::state::State;
+use crate::values::NEWEST;
 use can_frame::Entry;
 use disk_model::{Disk, MemoryDisk};
 use kv_store::{Fault, OpenFault, OpenRefused, Store};
@@ -29,14 +31,13 @@ pub struct Durable<D: Disk> {
 }
 
 impl<D: Disk> Durable<D> {
-    ghost use Rattle.kv_store.specs.Opening.{was_read};
     ghost use Rattle.kv_store.specs.declared.fault.Fault.{Fault};
     ghost use Rattle.kv_store.specs.declared.fault.OpenFault.TheVariants.{Fault as DiskFault, Damaged};
     ghost use Rattle.raft_log.specs.DurableViews.{durable_state, durable_disk, durable_fault, durable_copies};
     ghost use Rattle.raft_log.specs.Calls.{KeepsFault, MakesPuts};
     ghost use Rattle.raft_log.specs.Changes.{FitsBytes, MayMake};
-    ghost use Rattle.raft_log.specs.Making.{HasNext, LeavesNext, MakesChange};
-    ghost use Rattle.raft_log.specs.Opening.{FailsToOpen, OpensTo};
+    ghost use Rattle.raft_log.specs.Making.{HasNext, LeavesNext, MakesChange, put_at};
+    ghost use Rattle.raft_log.specs.Opening.{FailsToOpen, IsNotRead, OpensTo};
 
     /// Opens the store of a disk: a sync and one read find its state. One that was stored before origins
     /// were is then brought to version 2: each entry that has no origin is put again with the origin 0, in
@@ -68,10 +69,7 @@ impl<D: Disk> Durable<D> {
         ensures later { IfOk result (λ durable. D.faults disk ≤ D.faults (durable_disk durable)) }
         ensures refused_later { IfErr result (λ refused. D.faults disk ≤ D.faults refused.disk) }
     {
-        let mut durable = match Durable::read(disk) {
-            Ok(durable) => durable,
-            Err(refused) => return Err(refused),
-        };
+        let mut durable = Durable::read(disk)?;
         match durable.migrate() {
             Ok(()) => Ok(durable),
             Err(fault) => Err(OpenRefused {
@@ -221,14 +219,19 @@ impl<D: Disk> Durable<D> {
         // It refuses a disk of which a key is damaged, and one that failed in this call.
         ensures damaged { IfErr result (λ refused. (key : ℕ) → refused.why ≡ Damaged key → D.tells disk ≡ true →
             IsDamagedAt (D.contents disk).seen key) }
+        ensures damaged_made { IfErr result (λ refused. (key : ℕ) → refused.why ≡ Damaged key →
+            Makes D.does open_calls true disk refused.disk) }
         ensures fault { IfErr result (λ refused. (fault : Fault) → refused.why ≡ DiskFault fault →
             (fault.count ≡ D.faults refused.disk) × Rose (D.faults disk) (D.faults refused.disk)) }
+        ensures failed { IfErr result (λ refused. (fault : Fault) → refused.why ≡ DiskFault fault →
+            IsNotRead D.Disk disk refused.disk) }
 
         // It adds no image, also where it refuses.
-        ensures images { IfOk result (λ durable. D.tells disk ≡ true → AddsNoImage (D.contents disk) (D.contents (durable_disk durable))) }
-        ensures refused { IfErr result (λ refused. D.tells disk ≡ true → AddsNoImage (D.contents disk) (D.contents refused.disk)) }
+        ensures images { IfOk result (λ durable. D.tells disk ≡ true →
+            AddsNoImage (D.contents disk) (D.contents (durable_disk durable))) }
+        ensures refused { IfErr result (λ refused. D.tells disk ≡ true →
+            AddsNoImage (D.contents disk) (D.contents refused.disk)) }
         ensures made { IfOk result (λ durable. Makes D.does open_calls true disk (durable_disk durable)) }
-        ensures refused_made { IfErr result (λ refused. Makes D.does open_calls (was_read refused.why) disk refused.disk) }
         ensures tells { IfOk result (λ durable. D.tells (durable_disk durable) ≡ D.tells disk) }
         ensures refused_tells { IfErr result (λ refused. D.tells refused.disk ≡ D.tells disk) }
         ensures later { IfOk result (λ durable. D.faults disk ≤ D.faults (durable_disk durable)) }
@@ -247,24 +250,44 @@ impl<D: Disk> Durable<D> {
         }
     }
 
-    /// Makes the puts that bring the store to version 2.
+    /// Brings the store to the newest version: each entry gets its origin first.
     fn migrate(&mut self) -> Result<(), Fault>
+        requires works { durable_fault self.old ≡ None }
         ensures puts { MakesPuts (opening_puts (durable_state self.old)) self.old self.new (is_ok result) }
         ensures fault { KeepsFault self.old self.new (result_err result) }
         ensures version { OnOk result ((durable_state self.new).version ≡ 2) }
     {
+        a_state_is_durable::<D>();
         if self.state.version == NEWEST {
             return Ok(());
         }
-        for place in 0..self.last() {
-            self.put_origin(place)?;
-        }
+        self.put_origins()?;
         self.make(Change::Version)
     }
 
-    /// Puts the entry at a place, counted from 0, with its origin, if it has none.
-    fn put_origin(&mut self, place: u8) -> Result<(), Fault>
+    /// Puts each entry that has no origin once more, with the origin 0.
+    fn put_origins(&mut self) -> Result<(), Fault>
+        requires works { durable_fault self.old ≡ None }
+        ensures puts { let state = durable_state self.old in
+            MakesPuts (origin_puts 0 state.log state.origins) self.old self.new (is_ok result) }
+        ensures fault { KeepsFault self.old self.new (result_err result) }
+        ensures have { OnOk result (HaveOrigins (durable_state self.new).origins) }
     {
+        a_state_is_durable::<D>();
+        for place in 0..self.last() {
+            self.put_origin(place)?;
+        }
+        Ok(())
+    }
+
+    /// The same of the entry at a place, counted from 0.
+    fn put_origin(&mut self, place: u8) -> Result<(), Fault>
+        requires works { durable_fault self.old ≡ None }
+        requires there { place < length (durable_state self.old).log }
+        ensures puts { MakesPuts (put_at place (durable_state self.old)) self.old self.new (is_ok result) }
+        ensures fault { KeepsFault self.old self.new (result_err result) }
+    {
+        a_state_is_durable::<D>();
         if self.state.origins[place as usize].is_some() {
             return Ok(());
         }

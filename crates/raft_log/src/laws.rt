@@ -3,16 +3,18 @@
 ghost use Rattle.std.specs.Prelude.{◌≡◌, ℕ, ◌+◌, ◌<◌, ◌≤◌, ◌^◌, ◌++◌, [], Bool, List, true, false, Option, None, drop, length, slice_index, take};
 ghost use Rattle.disk_model.specs.declared.calls.Calls.{Calls};
 ghost use Rattle.disk_model.specs.declared.memory.MemoryDisk.{MemoryDisk};
+ghost use Rattle.disk_model.specs.Calls.{acts};
 ghost use Rattle.disk_model.specs.Contents.{IsSettled};
 ghost use Rattle.disk_model.specs.Device.{Makes};
 ghost use Rattle.disk_model.specs.Memory.{DoesInMemory, Restarts, memory_calls, memory_contents};
 ghost use Rattle.disk_model.specs.Pattern.{IsUsable};
-ghost use Rattle.kv_store.specs.Image.{chosen_copy, key_count};
-ghost use Rattle.kv_store.specs.Shelf.{Shelf, after_two, is_opened, restarted_on};
+ghost use Rattle.kv_store.specs.Image.{chosen_copy, key_count, open_calls};
+ghost use Rattle.kv_store.specs.Shelf.{Shelf, is_opened, opened_on, restarted_on};
 ghost use Rattle.outside.specs.declared.pattern.Pattern.{Pattern};
+ghost use Rattle.outside.specs.declared.pattern.Pattern.TheVariants.{New};
 ghost use Rattle.raft_log.specs.DeviceCalls.{copies_after, device_calls};
 ghost use Rattle.raft_log.specs.Opening.{FailsToOpen, IsReadAs, OpensTo, opening_calls};
-ghost use Rattle.raft_log.specs.Shelf.{IsOn, IsOnShelf, IsReady, are_put, done_on, found_by, is_open_on, opening_on, puts_on};
+ghost use Rattle.raft_log.specs.Shelf.{IsOn, IsOnShelf, IsReady, are_put, done_on, found_by, is_open_on, opening_done, opening_on, puts_on};
 ghost use Rattle.kv_store.specs.declared.fault.Fault.{Fault};
 ghost use Rattle.raft_log.specs.Allowed.{AreAllowed};
 ghost use Rattle.raft_log.specs.Calls.{KeepsFault, MakesPuts};
@@ -67,7 +69,7 @@ pub fn an_opening_goes_on()
     ensures allowed { (image : List ℕ) (state : Stored) → StandsForState image state → state.term < 2 ^ 32 →
         AreAllowed (opening_puts state) state None }
     ensures same { (state : Stored) (count : ℕ) → IsReadAs (after_puts (take count (opening_puts state)) state) state }
-    ensures others { (state : Stored) (count : ℕ) → IsStorable state →
+    ensures others { (state : Stored) (count : ℕ) →
         opening_puts (after_puts (take count (opening_puts state)) state) ≡ drop count (opening_puts state) }
     ensures nothing { (state : Stored) → state.version ≡ 2 → opening_puts state ≡ [] }
     ensures version { (state : Stored) → (after_puts (opening_puts state) state).version ≡ 2 }
@@ -120,10 +122,9 @@ pub fn the_disk_by_states()
         IsOn old shelf → ((key : ℕ) → key < key_count → copies key ≡ shelf.copies key) → shelf.store.term < 2 ^ 32 →
         Makes DoesInMemory (opening_calls shelf.store copies) ok old new →
         IsOn new (opening_on shelf) × (ok ≡ is_open_on shelf) × (ok ≡ true → IsReady new (opening_on shelf)) }
-    ensures opened_again { (shelf : Shelf Stored) (pattern : Pattern) →
-        is_opened shelf.calls ≡ true → let after = opening_on shelf in let puts = opening_puts shelf.store in
-        let count = done_on puts (after_two shelf.calls) + found_by pattern after in
-        (restarted_on pattern after).store ≡ after_puts (take count puts) shelf.store }
+    ensures read { (old new : MemoryDisk) (shelf : Shelf Stored) (ok : Bool) → IsOn old shelf →
+        Makes DoesInMemory open_calls ok old new → let after = opened_on shelf in
+        IsOn new after × (ok ≡ is_opened shelf.calls) × (ok ≡ true → IsReady new after) }
     ensures restarted { (old new : MemoryDisk) (shelf : Shelf Stored) (pattern : Pattern) → IsOn old shelf → IsUsable pattern →
         Restarts pattern old new → IsReady new (restarted_on pattern shelf) }
     ensures set { (old new : MemoryDisk) (shelf : Shelf Stored) (calls : Calls) → IsOn old shelf →
@@ -156,5 +157,26 @@ pub fn a_member_on_the_disk_by_states()
         memory_contents (durable_disk new) ≡ memory_contents (durable_disk old) →
         memory_calls (durable_disk new) ≡ calls → IsOnShelf new (record shelf { calls = calls }) }
 {
+    an_image_stands_for_one_state();
     the_disk_by_states();
 }
+
+/// An opening on the disk by states. Where all its device calls act, its puts are done. A restart after it,
+/// also where it was cut off, finds those done that were, and at most one more: the one that failed, where
+/// its selector was written and is kept. The next opening makes the others. What reads give without a
+/// restart is what a restart finds that keeps all that was written.
+pub fn an_opening_on_the_disk_by_states()
+    ensures done { (shelf : Shelf Stored) → let puts = opening_puts shelf.store in is_open_on shelf ≡ true →
+        ((opening_on shelf).store ≡ after_puts puts shelf.store) ×
+        ((opening_on shelf).copies ≡ copies_after puts shelf.store shelf.copies) }
+    ensures counted { (shelf : Shelf Stored) → let count = length (opening_puts shelf.store) in
+        opening_done shelf ≤ count × (is_open_on shelf ≡ true → opening_done shelf ≡ count) ×
+        (is_opened shelf.calls ≡ true → is_open_on shelf ≡ false → opening_done shelf < count) }
+    ensures found_again { (shelf : Shelf Stored) (pattern : Pattern) →
+        (acts shelf.calls ≡ false → shelf.loose ≡ None) → let after = opening_on shelf in
+        let count = opening_done shelf + found_by pattern after in let puts = opening_puts shelf.store in
+        ((restarted_on pattern after).store ≡ after_puts (take count puts) shelf.store) ×
+        (opening_puts (restarted_on pattern after).store ≡ drop count puts) }
+    ensures at_most_one { (shelf : Shelf Stored) (pattern : Pattern) → found_by pattern shelf ≤ 1 }
+    ensures as_it_is { (shelf : Shelf Stored) → (restarted_on New shelf).store ≡ shelf.store }
+{}
