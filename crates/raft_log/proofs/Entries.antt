@@ -8,10 +8,10 @@ use Rattle.raft_log.specs.Rules.{number_of, entry_of}
 same_entry : (d e : Entry) → d.term ≡ e.term → d.uid ≡ e.uid → d.node ≡ e.node → d ≡ e
 same_entry d e term uid node = λ i. record { term = term i; uid = uid i; node = node i }
 
--- 21 bytes that spell an entry
-pub spelled : (a b c d : ℕ) (uid : List ℕ) (e : Entry) → number_of (a ∷ b ∷ c ∷ d ∷ []) ≡ e.term → uid ≡ e.uid → length uid ≡ 16 → e.node < 128
-    → entry_of (a ∷ b ∷ c ∷ d ∷ (uid ++ e.node ∷ [])) ≡ e
-spelled a b c d uid e term is long small =
-    let kept : take 16 (uid ++ e.node ∷ []) ≡ uid = subst (λ n. take n (uid ++ e.node ∷ []) ≡ uid) long (take-append_seam uid (e.node ∷ [])) in
-    let last : get_or (uid ++ e.node ∷ []) 16 0 ≡ e.node = subst (λ n. get_or (uid ++ e.node ∷ []) n 0 ≡ e.node) long (get_or-append_seam uid e.node [] 0) in
-    same_entry (entry_of (a ∷ b ∷ c ∷ d ∷ (uid ++ e.node ∷ []))) e term (kept ∙ is) (omega (arith, last))
+-- bytes that spell an entry and its origin
+pub spelled : (a b c d : ℕ) (uid : List ℕ) (e : Entry) (origin : ℕ) → number_of (a ∷ b ∷ c ∷ d ∷ []) ≡ e.term → uid ≡ e.uid → length uid ≡ 16 → e.node < 128
+    → entry_of (a ∷ b ∷ c ∷ d ∷ (uid ++ e.node ∷ origin ∷ [])) ≡ e
+spelled a b c d uid e origin term is long small =
+    let kept : take 16 (uid ++ e.node ∷ origin ∷ []) ≡ uid = subst (λ n. take n (uid ++ e.node ∷ origin ∷ []) ≡ uid) long (take-append_seam uid (e.node ∷ origin ∷ [])) in
+    let last : get_or (uid ++ e.node ∷ origin ∷ []) 16 0 ≡ e.node = subst (λ n. get_or (uid ++ e.node ∷ origin ∷ []) n 0 ≡ e.node) long (get_or-append_seam uid e.node (origin ∷ []) 0) in
+    same_entry (entry_of (a ∷ b ∷ c ∷ d ∷ (uid ++ e.node ∷ origin ∷ []))) e term (kept ∙ is) (omega (arith, last))

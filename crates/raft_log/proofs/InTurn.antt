@@ -1,19 +1,18 @@
 -- Puts that were made by two calls, one after the other.
 use Rattle.std.proofs.Common.{◌≡◌, ◌⊎◌, inl, inr, ℕ, ◌-◌, ◌≤◌, List, [], ◌∷◌, ◌++◌, Bool, true, false, refl, sym, ap, subst, ◌∙◌, arith}
-use Rattle.std.specs.Prelude.{Option, None, Some, IfSome, Result, Err, is_ok}
+use Rattle.std.specs.Prelude.{Option, None, Some, IfSome, OnOk, Result, Ok, Err, is_ok}
 use Rattle.disk_model.specs.declared.disk.Disk.{Ghosts}
 use Rattle.disk_model.specs.Device.{DeviceCall, Makes}
 use Rattle.kv_store.specs.declared.fault.Fault.{Fault}
 use Rattle.kv_store.specs.Image.{put_calls, turned}
 use Rattle.outside.specs.Faults.{Rose}
 use Rattle.raft_log.specs.declared.durable.Durable.{Durable}
-use Rattle.can_frame.specs.declared.entry.Entry.{Entry}
 use Rattle.raft_log.specs.Allowed.{AreAllowed, nexts_after}
 use Rattle.raft_log.specs.Calls.{IsCutAt, KeepsFault, MakesPuts, MakesPutsAfter}
 use Rattle.raft_log.specs.DeviceCalls.{bytes_of, copies_after, device_calls, key_of}
 use Rattle.raft_log.specs.DurableViews.{durable_copies, durable_disk, durable_fault, durable_state}
 use Rattle.raft_log.specs.Rules.{AlwaysStandsForState, StandsForState}
-use Rattle.raft_log.specs.Stored.{AfterSome, AtOne, Put, Stored, after_put, after_puts}
+use Rattle.raft_log.specs.Stored.{AfterSome, AtOne, Kept, Put, Stored, after_put, after_puts}
 use Rattle.raft_log.proofs.AllowedPuts.{allowed_then}
 
 -- the states and device calls of two lists of puts
@@ -53,7 +52,7 @@ one_of_second fact (x ∷ xs) ys s there = inr (one_of_second fact xs ys (after_
 
 -- the device calls of two lists
 module _ {D : Type 0} (does : D → DeviceCall → Bool → D → Type 0) where
-  calls_joined : (xs ys : List DeviceCall) (ok : Bool) (old between new : D) → Makes does xs true old between → Makes does ys ok between new → Makes does (xs ++ ys) ok old new
+  pub calls_joined : (xs ys : List DeviceCall) (ok : Bool) (old between new : D) → Makes does xs true old between → Makes does ys ok between new → Makes does (xs ++ ys) ok old new
   calls_joined [] ys ok old between new none rest = subst (λ d. Makes does ys ok d new) none.1 rest
   calls_joined (x ∷ xs) ys ok old between new (inl failed) rest = absurd (cc (failed.0))
   calls_joined (x ∷ xs) ys ok old between new (inr first) rest = inr (first.0, first.1, calls_joined xs ys ok first.0 between new first.2 rest)
@@ -73,11 +72,16 @@ module _ {D : Type 0} (does : D → DeviceCall → Bool → D → Type 0) where
   calls_cut (x ∷ xs) ys old new (inl failed) = inl failed
   calls_cut (x ∷ xs) ys old new (inr first) = inr (first.0, first.1, calls_cut xs ys first.0 new first.2)
 
+-- a fact that holds where a call succeeded
+pub on_ok : {T E : Type 0} (result : Result T E) (P : Type 0) → (is_ok result ≡ true → P) → OnOk result P
+on_ok (Ok value) P there = there refl
+on_ok (Err error) P there = tt
+
 joined_lists : (xs ys zs : List Put) → xs ++ (ys ++ zs) ≡ (xs ++ ys) ++ zs
 joined_lists [] ys zs = refl
 joined_lists (x ∷ xs) ys zs = ap (λ (l : List Put). x ∷ l) (joined_lists xs ys zs)
 
-cause_still : (before between now : ℕ) (failed : Option Fault) → before ≤ between → IfSome failed (λ f. (f.count ≡ now) × Rose between now) → IfSome failed (λ f. (f.count ≡ now) × Rose before now)
+pub cause_still : (before between now : ℕ) (failed : Option Fault) → before ≤ between → IfSome failed (λ f. (f.count ≡ now) × Rose between now) → IfSome failed (λ f. (f.count ≡ now) × Rose before now)
 cause_still before between now None later none = tt
 cause_still before between now (Some f) later some = (some.0, omega (arith, later, some.1))
 
@@ -92,7 +96,7 @@ was_open (Some f) P Q closed = let none : None ≡ Some f = closed.0 in absurd (
 
 module _ {D : Type 0} {disk : Ghosts D} where
   -- the first puts failed
-  pub cut_short : (next : Option Entry) (xs ys : List Put) (old new : Durable D disk) → MakesPutsAfter next xs old new false → MakesPutsAfter next (xs ++ ys) old new false
+  pub cut_short : (next : Option Kept) (xs ys : List Put) (old new : Durable D disk) → MakesPutsAfter next xs old new false → MakesPutsAfter next (xs ++ ys) old new false
   cut_short next xs ys old new first = record {
     state = λ done. absurd (cc done);
     durable = λ works done. absurd (cc done);
@@ -105,12 +109,12 @@ module _ {D : Type 0} {disk : Ghosts D} where
     tried = λ failed. let t = first.tried refl in record { tried = t.tried; others = t.others ++ ys; are = ap (λ (l : List Put). l ++ ys) t.are ∙ sym (joined_lists t.tried t.others ys); allowed = t.allowed; made = t.made };
   }
 
-  pub cut_by : {T : Type 0} (next : Option Entry) (xs ys : List Put) (old new : Durable D disk) (result : Result T Fault) (fault : Fault) → result ≡ Err fault
+  pub cut_by : {T : Type 0} (next : Option Kept) (xs ys : List Put) (old new : Durable D disk) (result : Result T Fault) (fault : Fault) → result ≡ Err fault
       → MakesPutsAfter next xs old new false → MakesPutsAfter next (xs ++ ys) old new (is_ok result)
   cut_by {T} next xs ys old new result fault is first = subst (λ (r : Result T Fault). MakesPutsAfter next (xs ++ ys) old new (is_ok r)) (sym is) (cut_short next xs ys old new first)
 
   -- the first puts were done, and then the others were made
-  module _ (next then : Option Entry) (xs ys : List Put) (old mid new : Durable D disk) (ok : Bool) (first : MakesPutsAfter next xs old mid true) (keeps : durable_fault old ≡ None → KeepsFault old mid None) where
+  module _ (next then : Option Kept) (xs ys : List Put) (old mid new : Durable D disk) (ok : Bool) (first : MakesPutsAfter next xs old mid true) (keeps : durable_fault old ≡ None → KeepsFault old mid None) where
     abbrev between : Stored
     between = after_puts xs (durable_state old)
 

@@ -2,7 +2,12 @@ pub mod AllowedPuts
 pub mod Entries
 pub mod InTurn
 pub mod Kept
+pub mod Migrating
 pub mod OnePut
+pub mod Opened
+pub mod Opening
+pub mod OpeningOnShelf
+pub mod Origins
 pub mod Puts
 pub mod Restarting
 pub mod Rules

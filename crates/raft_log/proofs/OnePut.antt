@@ -1,7 +1,6 @@
 -- A call that makes one put.
 use Rattle.std.proofs.Common.{◌≡◌, ◌⊎◌, inr, inl, ℕ, ◌-◌, List, [], ◌∷◌, Bool, true, false, refl, sym, subst, ◌∙◌}
 use Rattle.std.specs.Prelude.{Option, None, Result, Err, is_ok}
-use Rattle.can_frame.specs.declared.entry.Entry.{Entry}
 use Rattle.disk_model.specs.declared.disk.Disk.{Ghosts}
 use Rattle.disk_model.specs.Contents.{MayLeave}
 use Rattle.disk_model.specs.Device.{Makes}
@@ -11,18 +10,18 @@ use Rattle.kv_store.specs.StoreViews.{store_map}
 use Rattle.raft_log.specs.declared.durable.Durable.{Durable}
 use Rattle.raft_log.specs.Allowed.{IsAllowed, IsNext, next_after}
 use Rattle.raft_log.specs.declared.change.Change.{Change}
-use Rattle.raft_log.specs.declared.change.Change.TheVariants.{Term, Vote, Next, Longer, Shorter, Commit}
+use Rattle.raft_log.specs.declared.change.Change.TheVariants.{Term, Vote, Next, Longer, Shorter, Commit, Origin, Version}
 use Rattle.raft_log.specs.Changes.{FitsBytes, MayMake, next_for, put_of}
 use Rattle.raft_log.specs.Calls.{MakesPutsAfter}
 use Rattle.raft_log.specs.DeviceCalls.{bytes_of, key_of}
 use Rattle.raft_log.specs.DurableViews.{durable_copies, durable_disk, durable_fault, durable_state}
 use Rattle.raft_log.specs.Rules.{StandsForState, Stores}
-use Rattle.raft_log.specs.Stored.{Put, Stored, after_put}
+use Rattle.raft_log.specs.Stored.{Kept, Put, Stored, after_put}
 use Rattle.raft_log.proofs.AllowedPuts.{step}
 use Rattle.raft_log.proofs.States.{image_stands, old_or_new}
 
 -- a map after a put that is allowed
-module _ (map : ℕ → List ℕ) (s : Stored) (next : Option Entry) (put : Put) (key : ℕ) (bytes : List ℕ) (is_key : key ≡ key_of put s) (is_bytes : bytes ≡ bytes_of put)
+module _ (map : ℕ → List ℕ) (s : Stored) (next : Option Kept) (put : Put) (key : ℕ) (bytes : List ℕ) (is_key : key ≡ key_of put s) (is_bytes : bytes ≡ bytes_of put)
     (has : Stores map s) (at : IsNext map s next) (allowed : IsAllowed put s next) where
   pub put_stores : Stores (put_in map key bytes) (after_put put s)
   put_stores = subst (λ k. Stores (put_in map k bytes) (after_put put s)) (sym is_key) (subst (λ v. Stores (put_in map (key_of put s) v) (after_put put s)) (sym is_bytes) (step map s next put has at allowed).0)
@@ -35,16 +34,19 @@ module _ (map : ℕ → List ℕ) (s : Stored) (next : Option Entry) (put : Put)
       (subst (λ v. IsNext (put_in map (key_of put s) v) (after_put put s) (next_after put next)) (sym is_bytes) (step map s next put has at allowed).1)
 
 -- a change that may be made is an allowed put
-pub allowed_change : (change : Change) (s : Stored) → MayMake change s → FitsBytes change → IsAllowed (put_of change s) s (next_for change)
+pub allowed_change : (change : Change) (s : Stored) → MayMake change s → FitsBytes change s → IsAllowed (put_of change s) s (next_for change)
 allowed_change (Term term) s may fits = (may, fits)
 allowed_change (Vote node) s may fits = may
-allowed_change (Next entry) s may fits = (may.0, fits)
-allowed_change (Longer entry) s may fits = inr (record { entry = entry; there = refl; is = refl; room = may.0; follows = may.1 })
-allowed_change (Shorter place) s may fits = inl (record { place = place; is = refl; kept = may.0; within = may.1 })
+allowed_change (Next entry origin) s may fits = (may.0, may.1.limit, fits)
+allowed_change (Longer entry origin) s may fits =
+    inr (record { kept = record { entry = entry; origin = origin }; there = refl; is = refl; origins_are = refl; room = may.0; follows = may.1; limit = may.2 })
+allowed_change (Shorter place) s may fits = inl (record { place = place; is = refl; origins_are = refl; kept = may.0; within = may.1 })
 allowed_change (Commit place) s may fits = may
+allowed_change (Origin place) s may fits = (may.0, fits)
+allowed_change Version s may fits = may
 
 -- the store puts these bytes at this key
-module _ {D : Type 0} {disk : Ghosts D} (next : Option Entry) (put : Put) (old new : Durable D disk) (key : ℕ) (bytes : List ℕ)
+module _ {D : Type 0} {disk : Ghosts D} (next : Option Kept) (put : Put) (old new : Durable D disk) (key : ℕ) (bytes : List ℕ)
     (is_key : key ≡ key_of put (durable_state old)) (is_bytes : bytes ≡ bytes_of put)
     (at : IsNext (store_map old.store) (durable_state old) next) (allowed : IsAllowed put (durable_state old) next) where
   -- its device calls

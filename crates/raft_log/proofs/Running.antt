@@ -1,5 +1,5 @@
 -- A running member on a disk in memory that a shelf tells of.
-use Rattle.std.proofs.Common.{◌≡◌, ℕ, ◌-◌, ◌<◌, Bool, true, false, List, [], ◌∷◌, ◌++◌, refl, sym, ap, subst, ◌∙◌}
+use Rattle.std.proofs.Common.{◌≡◌, ◌⊎◌, inl, inr, ℕ, ◌-◌, ◌<◌, ◌^◌, Bool, true, false, List, [], ◌∷◌, ◌++◌, refl, sym, ap, subst, ◌∙◌}
 use Rattle.std.specs.Prelude.{None, ◌==◌, if◌then◌else◌}
 use Rattle.disk_model.specs.declared.calls.Calls.{Calls}
 use Rattle.disk_model.specs.declared.disk.Disk.{Ghosts}
@@ -7,27 +7,24 @@ use Rattle.disk_model.specs.declared.memory.MemoryDisk.{MemoryDisk}
 use Rattle.disk_model.specs.Contents.{Contents, IsSettled}
 use Rattle.disk_model.specs.Device.{DeviceCall, Makes}
 use Rattle.disk_model.specs.Memory.{DoesInMemory, memory_calls, memory_contents}
-use Rattle.kv_store.specs.Image.{key_count, turned}
+use Rattle.kv_store.specs.Image.{chosen_copy, key_count, open_calls, turned}
 use Rattle.kv_store.specs.Shelf.{Shelf}
 use Rattle.raft_log.specs.Allowed.{AreAllowed}
 use Rattle.raft_log.specs.Calls.{MakesPuts}
 use Rattle.raft_log.specs.declared.durable.Durable.{Durable}
 use Rattle.raft_log.specs.DeviceCalls.{copies_after, device_calls, key_of}
 use Rattle.raft_log.specs.DurableViews.{durable_copies, durable_disk, durable_fault, durable_state}
-use Rattle.raft_log.specs.Shelf.{IsOn, IsOnShelf, IsReady, are_put, puts_on}
-use Rattle.raft_log.specs.Stored.{Put, Stored, after_put, after_puts}
-use Rattle.raft_log.proofs.StatesOnShelf.{none_behind, puts_done}
+use Rattle.raft_log.specs.Opening.{FailsToOpen, Finds, OpensTo, opening_calls}
+use Rattle.raft_log.specs.Rules.{StandsForState}
+use Rattle.raft_log.specs.Shelf.{IsOn, IsOnShelf, IsReady, are_put, is_open_on, opening_on, puts_on}
+use Rattle.raft_log.specs.Stored.{Put, Stored, after_put, after_puts, opening_puts}
+use Rattle.raft_log.proofs.OpeningOnShelf.{LawOfReads, cut_opening, opening_whole}
+use Rattle.raft_log.proofs.StatesOnShelf.{LawOfPuts, none_behind, puts_done}
 
 -- copies that agree at a key still do after puts
 agree : (puts : List Put) (s : Stored) (c d : ℕ → ℕ) (k : ℕ) → c k ≡ d k → copies_after puts s c k ≡ copies_after puts s d k
 agree [] s c d k e = e
 agree (put ∷ puts) s c d k e = agree puts (after_put put s) (turned (key_of put s) c) (turned (key_of put s) d) k (ap (λ n. if k == key_of put s then 1 - n else n) e)
-
-abbrev pub LawOfPuts : Type 0
-LawOfPuts = (old new : MemoryDisk) (shelf : Shelf Stored) (copies : ℕ → ℕ) (puts : List Put) (ok : Bool) →
-    IsReady old shelf → ((key : ℕ) → key < key_count → copies key ≡ shelf.copies key) → AreAllowed puts shelf.store None →
-    Makes DoesInMemory (device_calls puts shelf.store copies) ok old new →
-    IsOn new (puts_on puts shelf) × (ok ≡ are_put puts shelf.calls) × (ok ≡ true → IsReady new (puts_on puts shelf))
 
 module _ {ghosts : Ghosts MemoryDisk} (old new : Durable MemoryDisk ghosts) (shelf : Shelf Stored) (on : IsOnShelf old shelf) (law : LawOfPuts) where
   -- puts that were all tried
@@ -69,6 +66,55 @@ module _ {ghosts : Ghosts MemoryDisk} (old new : Durable MemoryDisk ghosts) (she
           subst (λ (l : List Put). false ≡ are_put l shelf.calls) (sym t.are) (sym none.1),
           λ done. absurd (cc done),
         )
+
+-- openings of a disk that a shelf tells of
+abbrev LawOfFound : Type 0
+LawOfFound = (disk : MemoryDisk) (shelf : Shelf Stored) → IsOn disk shelf
+    → StandsForState (memory_contents disk).seen shelf.store × ((key : ℕ) → key < key_count → chosen_copy (memory_contents disk).seen key ≡ shelf.copies key)
+
+abbrev LawOfOpenings : Type 0
+LawOfOpenings = (old new : MemoryDisk) (shelf : Shelf Stored) (copies : ℕ → ℕ) (ok : Bool) → IsOn old shelf → ((key : ℕ) → key < key_count → copies key ≡ shelf.copies key) → shelf.store.term < 2 ^ 32
+    → Makes DoesInMemory (opening_calls shelf.store copies) ok old new → IsOn new (opening_on shelf) × (ok ≡ is_open_on shelf) × (ok ≡ true → IsReady new (opening_on shelf))
+
+abbrev LawOfImages : Type 0
+LawOfImages = (image : List ℕ) (a b : Stored) → StandsForState image a → StandsForState image b → a ≡ b
+
+module _ {ghosts : Ghosts MemoryDisk} (in_memory : ghosts.does ≡ DoesInMemory) (tells : (disk : MemoryDisk) → ghosts.tells disk ≡ true) (contents : (disk : MemoryDisk) → ghosts.contents disk ≡ memory_contents disk)
+    (finds : LawOfFound) (opening : LawOfOpenings) (once : LawOfImages) (disk : MemoryDisk) (shelf : Shelf Stored) (on : IsOn disk shelf) where
+  module _ (found : Stored) (copies : ℕ → ℕ) (read : Finds ghosts disk found copies) where
+    is_shelf : found ≡ shelf.store
+    is_shelf = once (memory_contents disk).seen found shelf.store (subst (λ (c : Contents). StandsForState c.seen found) (contents disk) (read.state (tells disk))) (finds disk shelf on).0
+
+    same_copies : (key : ℕ) → key < key_count → copies key ≡ shelf.copies key
+    same_copies key h = read.chosen (tells disk) key h ∙ (ap (λ (c : Contents). chosen_copy c.seen key) (contents disk) ∙ (finds disk shelf on).1 key h)
+
+    opened_by : (new : MemoryDisk) (ok : Bool) → Makes ghosts.does (opening_calls found copies) ok disk new → IsOn new (opening_on shelf) × (ok ≡ is_open_on shelf) × (ok ≡ true → IsReady new (opening_on shelf))
+    opened_by new ok made = opening disk new shelf copies ok on same_copies (subst (λ (s : Stored). s.term < 2 ^ 32) is_shelf read.kept.term)
+        (subst (λ (s : Stored). Makes DoesInMemory (opening_calls s copies) ok disk new) is_shelf
+        (subst (λ (does : MemoryDisk → DeviceCall → Bool → MemoryDisk → Type 0). Makes does (opening_calls found copies) ok disk new) in_memory made))
+
+  pub opened_on_shelf : (new : Durable MemoryDisk ghosts) → OpensTo disk new → durable_fault new ≡ None → (is_open_on shelf ≡ true) × IsOnShelf new (opening_on shelf)
+  opened_on_shelf new opens works =
+      let m = opened_by opens.found opens.copies opens.finds (durable_disk new) true opens.made in
+      let is = is_shelf opens.found opens.copies opens.finds in
+      let whole = opening_whole shelf (sym m.1) in (
+        sym m.1,
+        record {
+          works = works;
+          disk = m.2 refl;
+          state = opens.state ∙ (ap (λ (s : Stored). after_puts (opening_puts s) s) is ∙ sym whole.0);
+          copies = λ k h. ap (λ (c : ℕ → ℕ). c k) opens.turned
+              ∙ (ap (λ (s : Stored). copies_after (opening_puts s) s opens.copies k) is
+              ∙ (agree (opening_puts shelf.store) shelf.store opens.copies shelf.copies k (same_copies opens.found opens.copies opens.finds k h) ∙ sym (ap (λ (c : ℕ → ℕ). c k) whole.1)));
+        },
+      )
+
+  pub not_opened_on_shelf : LawOfReads → (new : MemoryDisk) → FailsToOpen ghosts disk new → (is_open_on shelf ≡ false) × IsOn new (opening_on shelf)
+  not_opened_on_shelf reads new (inl unread) =
+      let made = subst (λ (does : MemoryDisk → DeviceCall → Bool → MemoryDisk → Type 0). Makes does open_calls false disk new) in_memory unread.made in
+      let k = reads disk new shelf false on made in
+      let cut = cut_opening shelf (sym k.1) in (cut.1, subst (λ x. IsOn new x) (sym cut.0) k.0)
+  not_opened_on_shelf reads new (inr unput) = let m = opened_by unput.found unput.copies unput.finds new false unput.made in (sym m.1, m.0)
 
 -- a change of the settings of its disk
 pub set_on : {ghosts : Ghosts MemoryDisk} (old new : Durable MemoryDisk ghosts) (shelf : Shelf Stored) (calls : Calls)

@@ -2,7 +2,6 @@
 use Rattle.std.proofs.Common.{◌≡◌, ◌⊎◌, inl, inr, ℕ, ◌-◌, ◌<◌, ◌≤◌, ◌&&◌, Bool, true, false, not, List, [], ◌∷◌, ◌++◌, length, refl, sym, ap, subst, ◌∙◌, arith}
 use Rattle.std.specs.Prelude.{Option, None, Some, if◌then◌else◌}
 use Rattle.std.proofs.lemmas.Bool.Decides.{eqb_tells}
-use Rattle.can_frame.specs.declared.entry.Entry.{Entry}
 use Rattle.disk_model.specs.declared.calls.Calls.{Calls}
 use Rattle.disk_model.specs.declared.memory.MemoryDisk.{MemoryDisk}
 use Rattle.disk_model.specs.Calls.{acts, after_call}
@@ -13,11 +12,13 @@ use Rattle.kv_store.specs.Shelf.{IsOn as IsOnKeys, IsReady as IsReadyKeys, Loose
 use Rattle.outside.specs.declared.pattern.Pattern.{Pattern}
 use Rattle.raft_log.specs.Allowed.{AreAllowed, IsNext, next_after}
 use Rattle.raft_log.specs.DeviceCalls.{bytes_of, copies_after, device_calls, key_of}
+use Rattle.raft_log.specs.MayFollow.{IsStorable}
 use Rattle.raft_log.specs.Rules.{StandsForState, Stores}
 use Rattle.raft_log.specs.Shelf.{IsOn, IsReady, SameLoose, are_put, put_state_on, puts_on}
-use Rattle.raft_log.specs.Stored.{Put, Stored, after_put, after_puts}
+use Rattle.raft_log.specs.Stored.{Kept, Put, Stored, after_put, after_puts}
 use Rattle.raft_log.proofs.AllowedPuts.{key_exists, step, value_short}
 use Rattle.raft_log.proofs.InTurn.{calls_parted}
+use Rattle.raft_log.proofs.Kept.{storable_after}
 use Rattle.raft_log.proofs.States.{image_stands}
 
 abbrev pub Map : Type 0
@@ -153,26 +154,26 @@ chosen_true b x y e = rw e refl
 chosen_false : {S : Type 0} (b : Bool) (x y : S) → b ≡ false → (if b then x else y) ≡ y
 chosen_false b x y e = rw e refl
 
-and_true : (a b : Bool) → a ≡ true → (a && b) ≡ b
+pub and_true : (a b : Bool) → a ≡ true → (a && b) ≡ b
 and_true a b e = rw e refl
 
-and_false : (a b : Bool) → a ≡ false → (a && b) ≡ false
+pub and_false : (a b : Bool) → a ≡ false → (a && b) ≡ false
 and_false a b e = rw e refl
 
 not_both : (ok : Bool) (P : Type 0) → ok ≡ false → ok ≡ true → P
 not_both ok P bad good = absurd (cc (bad, good))
 
 -- copies that agree on all keys give the same device calls
-same_calls : (puts : List Put) (s : Stored) (next : Option Entry) (c d : ℕ → ℕ) → ((key : ℕ) → key < 132 → c key ≡ d key) → AreAllowed puts s next → device_calls puts s c ≡ device_calls puts s d
-same_calls [] s next c d agree allowed = refl
-same_calls (put ∷ puts) s next c d agree allowed =
+same_calls : (puts : List Put) (s : Stored) (next : Option Kept) (c d : ℕ → ℕ) → ((key : ℕ) → key < 132 → c key ≡ d key) → IsStorable s → AreAllowed puts s next → device_calls puts s c ≡ device_calls puts s d
+same_calls [] s next c d agree storable allowed = refl
+same_calls (put ∷ puts) s next c d agree storable allowed =
     let key = key_of put s in
     let later : (k : ℕ) → k < 132 → turned key c k ≡ turned key d k = λ k h. elim (eqb_tells k key) as (λ _. turned key c k ≡ turned key d k) [
       | inl t ↦ rw t.0 (ap (λ n. 1 - n) (agree k h))
       | inr t ↦ rw t.0 (agree k h)
     ] in
-    ap (λ n. put_calls key (1 - n) (bytes_of put) ++ device_calls puts (after_put put s) (turned key c)) (agree key (key_exists s next put allowed.0))
-    ∙ ap (λ (calls : List DeviceCall). put_calls key (1 - d key) (bytes_of put) ++ calls) (same_calls puts (after_put put s) (next_after put next) (turned key c) (turned key d) later allowed.1)
+    ap (λ n. put_calls key (1 - n) (bytes_of put) ++ device_calls puts (after_put put s) (turned key c)) (agree key (key_exists s next put storable.room allowed.0))
+    ∙ ap (λ (calls : List DeviceCall). put_calls key (1 - d key) (bytes_of put) ++ calls) (same_calls puts (after_put put s) (next_after put next) (turned key c) (turned key d) later (storable_after put s next allowed.0 storable) allowed.1)
 
 -- puts that are all done
 pub puts_done : (puts : List Put) (shelf : Shelf Stored) → are_put puts shelf.calls ≡ true
@@ -216,6 +217,12 @@ none_behind [] others shelf e = absurd (cc e)
 none_behind (put ∷ tried) others shelf e =
     none_behind_by put tried others shelf (none_behind tried others (turned_to (key_of put shelf.store) (after_put put shelf.store) shelf None (after_call (after_three shelf.calls)))) (is_put shelf.calls) refl e
 
+abbrev pub LawOfPuts : Type 0
+LawOfPuts = (old new : MemoryDisk) (shelf : Shelf Stored) (copies : ℕ → ℕ) (puts : List Put) (ok : Bool) →
+    IsReady old shelf → ((key : ℕ) → key < key_count → copies key ≡ shelf.copies key) → AreAllowed puts shelf.store None →
+    Makes DoesInMemory (device_calls puts shelf.store copies) ok old new →
+    IsOn new (puts_on puts shelf) × (ok ≡ are_put puts shelf.calls) × (ok ≡ true → IsReady new (puts_on puts shelf))
+
 module _ (keys_put : (old new : MemoryDisk) (shelf : Shelf Map) (key : ℕ) (value : List ℕ) (ok : Bool) → IsReadyKeys old shelf → key < key_count → length value ≤ value_limit
     → Makes DoesInMemory (put_calls key (1 - shelf.copies key) value) ok old new
     → IsOnKeys new (put_on key (put_in shelf.store key value) shelf) × (ok ≡ is_put shelf.calls) × (ok ≡ true → IsReadyKeys new (put_on key (put_in shelf.store key value) shelf))) where
@@ -223,7 +230,7 @@ module _ (keys_put : (old new : MemoryDisk) (shelf : Shelf Map) (key : ℕ) (val
   Made puts new s copies calls ok = IsOn new (puts_on puts (record { store = s; copies = copies; loose = None; calls = calls })) × (ok ≡ are_put puts calls)
       × (ok ≡ true → IsReady new (puts_on puts (record { store = s; copies = copies; loose = None; calls = calls })))
 
-  module _ (put : Put) (puts : List Put) (old new : MemoryDisk) (m : Map) (s : Stored) (next : Option Entry) (copies : ℕ → ℕ) (calls : Calls) (ok : Bool) where
+  module _ (put : Put) (puts : List Put) (old new : MemoryDisk) (m : Map) (s : Stored) (next : Option Kept) (copies : ℕ → ℕ) (calls : Calls) (ok : Bool) where
     abbrev keys : Shelf Map
     keys = record { store = m; copies = copies; loose = None; calls = calls }
 
@@ -269,7 +276,7 @@ module _ (keys_put : (old new : MemoryDisk) (shelf : Shelf Map) (key : ℕ) (val
             λ good. subst (λ x. IsReady new x) (sym is) (rest.2 good),
           )
 
-  pub puts_made : (puts : List Put) (old new : MemoryDisk) (m : Map) (s : Stored) (next : Option Entry) (copies : ℕ → ℕ) (calls : Calls) (ok : Bool)
+  pub puts_made : (puts : List Put) (old new : MemoryDisk) (m : Map) (s : Stored) (next : Option Kept) (copies : ℕ → ℕ) (calls : Calls) (ok : Bool)
       → IsReadyKeys old (record { store = m; copies = copies; loose = None; calls = calls }) → Stores m s → IsNext m s next → AreAllowed puts s next
       → Makes DoesInMemory (device_calls puts s copies) ok old new → Made puts new s copies calls ok
   puts_made [] old new m s next copies calls ok ready has at allowed made =
@@ -278,12 +285,11 @@ module _ (keys_put : (old new : MemoryDisk) (shelf : Shelf Map) (key : ℕ) (val
       (here.on, made.0, λ good. here)
   puts_made (put ∷ puts) old new m s next copies calls ok ready has at allowed made =
       let stepped = step m s next put has at allowed.0 in
-      by_part put puts old new m s next copies calls ok ready has stepped.0 (key_exists s next put allowed.0) (value_short s next put allowed.0)
+      by_part put puts old new m s next copies calls ok ready has stepped.0 (key_exists s next put has.storable.room allowed.0) (value_short s next put allowed.0)
       (λ between then_ready rest. puts_made puts between new (put_in m (key_of put s) (bytes_of put)) (after_put put s) (next_after put next) (turned (key_of put s) copies) (after_call (after_three calls)) ok then_ready stepped.0 stepped.1 allowed.1 rest)
       (calls_parted DoesInMemory (put_calls (key_of put s) (1 - copies (key_of put s)) (bytes_of put)) (device_calls puts (after_put put s) (turned (key_of put s) copies)) ok old new made)
 
-  pub puts_on_shelf : (old new : MemoryDisk) (shelf : Shelf Stored) (copies : ℕ → ℕ) (puts : List Put) (ok : Bool) → IsReady old shelf → ((key : ℕ) → key < 132 → copies key ≡ shelf.copies key) → AreAllowed puts shelf.store None
-      → Makes DoesInMemory (device_calls puts shelf.store copies) ok old new → IsOn new (puts_on puts shelf) × (ok ≡ are_put puts shelf.calls) × (ok ≡ true → IsReady new (puts_on puts shelf))
+  pub puts_on_shelf : LawOfPuts
   puts_on_shelf old new shelf copies puts ok ready agree allowed made =
       let none : ready.on.before ≡ None = none_same ready.on.before shelf.loose ready.on.loose ready.firm in
       let keys : IsReadyKeys old (record { store = ready.on.map; copies = shelf.copies; loose = None; calls = shelf.calls }) = record {
@@ -294,4 +300,4 @@ module _ (keys_put : (old new : MemoryDisk) (shelf : Shelf Map) (key : ℕ) (val
       subst (λ (loose : Option (Loose Stored)). IsOn new (puts_on puts (record { store = shelf.store; copies = shelf.copies; loose = loose; calls = shelf.calls })) × (ok ≡ are_put puts shelf.calls)
       × (ok ≡ true → IsReady new (puts_on puts (record { store = shelf.store; copies = shelf.copies; loose = loose; calls = shelf.calls })))) (sym ready.firm)
       (puts_made puts old new ready.on.map shelf.store None shelf.copies shelf.calls ok keys ready.on.stores tt allowed
-      (subst (λ (calls : List DeviceCall). Makes DoesInMemory calls ok old new) (same_calls puts shelf.store None copies shelf.copies agree allowed) made))
+      (subst (λ (calls : List DeviceCall). Makes DoesInMemory calls ok old new) (same_calls puts shelf.store None copies shelf.copies agree ready.on.stores.storable allowed) made))

@@ -1,6 +1,5 @@
 -- What a call that changes the stored state does to it.
 use Rattle.std.specs.Prelude.{◌≡◌, ℕ, ◌≤◌, ◌⊎◌, Bool, true, false, List, ◌++◌, Option, Some, None, IfSome}
-use Rattle.can_frame.specs.declared.entry.Entry.{Entry}
 use Rattle.disk_model.specs.declared.disk.Disk.{Ghosts}
 use Rattle.disk_model.specs.Contents.{MayLeave}
 use Rattle.disk_model.specs.Device.{Makes}
@@ -11,7 +10,7 @@ use Rattle.raft_log.specs.Allowed.{AreAllowed}
 use Rattle.raft_log.specs.DeviceCalls.{copies_after, device_calls}
 use Rattle.raft_log.specs.DurableViews.{durable_copies, durable_disk, durable_fault, durable_state}
 use Rattle.raft_log.specs.Rules.{AlwaysStandsForState, StandsForState}
-use Rattle.raft_log.specs.Stored.{AfterSome, AtOne, Put, Stored, after_puts}
+use Rattle.raft_log.specs.Stored.{AfterSome, AtOne, Kept, Put, Stored, after_puts}
 
 -- a put failed between these states: it gives the first, and a stop leaves the first or the second
 pub record IsCutAt {D : Type 0} {disk : Ghosts D} (new : Durable D disk) (before after : Stored) : Type 0 where
@@ -20,16 +19,16 @@ pub record IsCutAt {D : Type 0} {disk : Ghosts D} (new : Durable D disk) (before
       → StandsForState image before ⊎ StandsForState image after
 
 -- some of the first of these puts were tried, up to one that failed, and each of them was allowed
-pub record FailsAllowed {D : Type 0} {disk : Ghosts D} (next : Option Entry) (puts : List Put) (old new : Durable D disk) : Type 0 where
+pub record FailsAllowed {D : Type 0} {disk : Ghosts D} (next : Option Kept) (puts : List Put) (old new : Durable D disk) : Type 0 where
   pub tried : List Put
   pub others : List Put
   pub are : puts ≡ tried ++ others
   pub allowed : AreAllowed tried (durable_state old) next
   pub made : durable_fault old ≡ None → Makes disk.does (device_calls tried (durable_state old) (durable_copies old)) false (durable_disk old) (durable_disk new)
 
--- it makes these puts in order, up to the first that fails, where this entry was put after the last; ok
+-- it makes these puts in order, up to the first that fails, where this was put after the last; ok
 -- says that none failed
-pub record MakesPutsAfter {D : Type 0} {disk : Ghosts D} (next : Option Entry) (puts : List Put) (old new : Durable D disk) (ok : Bool) : Type 0 where
+pub record MakesPutsAfter {D : Type 0} {disk : Ghosts D} (next : Option Kept) (puts : List Put) (old new : Durable D disk) (ok : Bool) : Type 0 where
   -- once it has succeeded all of them are done, and a stop leaves the state after them
   pub state : ok ≡ true → durable_state new ≡ after_puts puts (durable_state old)
   pub durable : durable_fault old ≡ None → ok ≡ true → disk.tells (durable_disk old) ≡ true → AlwaysStandsForState (disk.contents (durable_disk new)) (durable_state new)

@@ -5,6 +5,7 @@ pub mod DeviceCalls
 pub mod DurableViews
 pub mod Making
 pub mod MayFollow
+pub mod Opening
 pub mod Rules
 pub mod Shelf
 pub mod StateViews

@@ -1,5 +1,6 @@
 -- A change that is made by one put.
-use Rattle.std.specs.Prelude.{Bool, [], ◌∷◌}
+use Rattle.std.specs.Prelude.{ℕ, Bool, List, [], ◌∷◌, None, slice_index_or}
+use Rattle.can_frame.specs.Log.{blank}
 use Rattle.disk_model.specs.declared.disk.Disk.{Ghosts}
 use Rattle.kv_store.specs.StoreViews.{store_map}
 use Rattle.raft_log.specs.declared.change.Change.{Change}
@@ -8,6 +9,11 @@ use Rattle.raft_log.specs.Allowed.{IsNext, next_after}
 use Rattle.raft_log.specs.Calls.{MakesPutsAfter}
 use Rattle.raft_log.specs.Changes.{next_for, put_of}
 use Rattle.raft_log.specs.DurableViews.{durable_state}
+use Rattle.raft_log.specs.Stored.{Put, Stored, origin_put}
+
+-- the put that the entry at a place wants, counted from 0, where it has no origin
+abbrev pub put_at : ℕ → Stored → List Put
+put_at place state = origin_put place (slice_index_or state.log place (blank 0)) (slice_index_or state.origins place None)
 
 module _ {D : Type 0} {disk : Ghosts D} where
   -- its put is made

@@ -7,13 +7,13 @@ use Rattle.disk_model.specs.Calls.{after_call}
 use Rattle.disk_model.specs.Contents.{IsSettled}
 use Rattle.disk_model.specs.Memory.{memory_contents}
 use Rattle.kv_store.specs.Image.{key_count}
-use Rattle.kv_store.specs.Shelf.{IsOn as IsOnKeys, Loose, Shelf, after_three, is_put, keeps, put_on}
+use Rattle.kv_store.specs.Shelf.{IsOn as IsOnKeys, Loose, Shelf, after_three, after_two, is_opened, is_put, keeps, opened_on, put_on}
 use Rattle.outside.specs.declared.pattern.Pattern.{Pattern}
 use Rattle.raft_log.specs.declared.durable.Durable.{Durable}
 use Rattle.raft_log.specs.DeviceCalls.{key_of}
 use Rattle.raft_log.specs.DurableViews.{durable_copies, durable_disk, durable_fault, durable_state}
 use Rattle.raft_log.specs.Rules.{Stores}
-use Rattle.raft_log.specs.Stored.{Put, Stored, after_put}
+use Rattle.raft_log.specs.Stored.{Put, Stored, after_put, opening_puts}
 
 -- a put of the state
 abbrev pub put_state_on : Put → Shelf Stored → Shelf Stored
@@ -33,6 +33,18 @@ are_put (put ∷ puts) calls = is_put calls && are_put puts (after_call (after_t
 abbrev pub done_on : List Put → Calls → ℕ
 done_on [] calls = 0
 done_on (put ∷ puts) calls = if is_put calls then 1 + done_on puts (after_call (after_three calls)) else 0
+
+-- an opening: where the disk is read, its puts follow
+abbrev pub opening_on : Shelf Stored → Shelf Stored
+opening_on shelf = if is_opened shelf.calls then puts_on (opening_puts shelf.store) (opened_on shelf) else opened_on shelf
+
+-- whether all of it is done
+abbrev pub is_open_on : Shelf Stored → Bool
+is_open_on shelf = is_opened shelf.calls && are_put (opening_puts shelf.store) (after_two shelf.calls)
+
+-- how many of its puts are done
+abbrev pub opening_done : Shelf Stored → ℕ
+opening_done shelf = if is_opened shelf.calls then done_on (opening_puts shelf.store) (after_two shelf.calls) else 0
 
 -- whether a restart with this pattern finds the put done that failed: 1 where its selector was written and
 -- is kept, else 0

@@ -2,9 +2,10 @@ ghost use Rattle.std.specs.Prelude.{◌≡◌, ◌≤◌};
 ghost use Rattle.arrayvec.specs.ArrayVec.{array_vec_len};
 ghost use Rattle.kv_store.specs.Image.{value_limit};
 
-use crate::keys::{COMMIT, FIRST_ENTRY, LAST, TERM, VOTE};
+use crate::keys::{COMMIT, FIRST_ENTRY, LAST, TERM, VERSION, VOTE};
+use crate::origin::LEADER;
 use crate::state::State;
-use crate::values::{write_entry, write_term};
+use crate::values::{NEWEST, write_entry, write_term};
 use can_frame::Entry;
 use kv_store::{Value, value_of};
 
@@ -14,15 +15,21 @@ pub enum Change {
     Term(u32),
     Vote(u8),
 
-    /// The entry after the last, which is not read until last counts it.
-    Next(Entry),
+    /// The entry after the last, with its origin. It is not read until last counts it.
+    Next(Entry, u8),
 
     /// Last counts the entry after it.
-    Longer(Entry),
+    Longer(Entry, u8),
 
     /// Last counts the entries up to this place alone.
     Shorter(u8),
     Commit(u8),
+
+    /// The entry at this place, counted from 0, with the origin that it lacks.
+    Origin(u8),
+
+    /// The newest version of a store.
+    Version,
 }
 
 impl Change {
@@ -38,23 +45,29 @@ impl Change {
         match self {
             Change::Term(_) => TERM,
             Change::Vote(_) => VOTE,
-            Change::Next(_) => FIRST_ENTRY + state.log.len() as u8,
-            Change::Longer(_) | Change::Shorter(_) => LAST,
+            Change::Next(_, _) => FIRST_ENTRY + state.log.len() as u8,
+            Change::Longer(_, _) | Change::Shorter(_) => LAST,
             Change::Commit(_) => COMMIT,
+            Change::Origin(place) => FIRST_ENTRY + *place,
+            Change::Version => VERSION,
         }
     }
 
     /// The value that it puts there.
     pub fn value(&self, state: &State) -> Value
         requires { MayMake self.now (stored_of state.now) }
-        ensures fits { FitsBytes self.now }
+        ensures fits { FitsBytes self.now (stored_of state.now) }
         ensures bytes { result.items ≡ bytes_of (put_of self.now (stored_of state.now)) }
         ensures short { array_vec_len result ≤ value_limit }
     {
         match self {
             Change::Term(term) => value_of(&write_term(*term)),
-            Change::Next(entry) => value_of(&write_entry(entry)),
-            Change::Longer(_) => value_of(&[state.log.len() as u8 + 1]),
+            Change::Next(entry, origin) => value_of(&write_entry(entry, *origin)),
+            Change::Origin(place) => {
+                value_of(&write_entry(&state.log[*place as usize], LEADER))
+            }
+            Change::Longer(_, _) => value_of(&[state.log.len() as u8 + 1]),
+            Change::Version => value_of(&[NEWEST]),
             Change::Vote(byte) | Change::Shorter(byte) | Change::Commit(byte) => value_of(&[*byte]),
         }
     }

@@ -7,14 +7,16 @@ ghost use Rattle.kv_store.specs.Image.{chosen_copy, key_count, open_calls};
 ghost use Rattle.kv_store.specs.StoreViews.{store_map};
 ghost use Rattle.outside.specs.Faults.{Rose};
 ghost use Rattle.raft_log.specs.Allowed.{AreAllowed};
-ghost use Rattle.raft_log.specs.MayFollow.{IsStorable, MayFollow};
+ghost use Rattle.raft_log.specs.MayFollow.{HaveOrigins, IsStorable, MayFollow};
 ghost use Rattle.raft_log.specs.Rules.{AlwaysStandsForState, IsDamagedAt, StandsForState, Stores};
 ghost use Rattle.raft_log.specs.StateViews.{stored_of};
-ghost use Rattle.raft_log.specs.Stored.{puts_of_append, puts_of_cut, puts_of_term};
+ghost use Rattle.raft_log.specs.Stored.{opening_puts, origin_at, origin_limit, origin_puts, puts_of_append, puts_of_cut, puts_of_term};
 ghost use Rattle.raft_log.specs.Stored.Put.{PutVote, PutCommit};
 
 use crate::change::Change;
+use crate::laws::a_state_is_durable;
 use crate::state::State;
+use crate::values::NEWEST;
 use can_frame::Entry;
 use disk_model::{Disk, MemoryDisk};
 use kv_store::{Fault, OpenFault, OpenRefused, Store};
@@ -29,49 +31,50 @@ pub struct Durable<D: Disk> {
 }
 
 impl<D: Disk> Durable<D> {
-    ghost use Rattle.kv_store.specs.Opening.{was_read};
     ghost use Rattle.kv_store.specs.declared.fault.Fault.{Fault};
     ghost use Rattle.kv_store.specs.declared.fault.OpenFault.TheVariants.{Fault as DiskFault, Damaged};
     ghost use Rattle.raft_log.specs.DurableViews.{durable_state, durable_disk, durable_fault, durable_copies};
     ghost use Rattle.raft_log.specs.Calls.{KeepsFault, MakesPuts};
     ghost use Rattle.raft_log.specs.Changes.{FitsBytes, MayMake};
-    ghost use Rattle.raft_log.specs.Making.{HasNext, LeavesNext, MakesChange};
+    ghost use Rattle.raft_log.specs.Making.{HasNext, LeavesNext, MakesChange, put_at};
+    ghost use Rattle.raft_log.specs.Opening.{FailsToOpen, IsNotRead, OpensTo};
 
-    /// The state that the disk stands for, found by a sync and one read.
+    /// Opens the store of a disk: a sync and one read find its state. One that was stored before origins
+    /// were is then brought to version 2: each entry that has no origin is put again with the origin 0, in
+    /// order, and then the version.
     pub fn open(disk: D) -> Result<Durable<D>, OpenRefused<D>>
-        // The state is that of what reads give, and of whatever a stop may leave from now on.
-        ensures state { IfOk result (λ durable. D.tells disk ≡ true → StandsForState (D.contents disk).seen (durable_state durable)) }
+        // What reads give is found and its puts are made, and a stop leaves the state after them.
+        ensures opens { IfOk result (λ durable. OpensTo disk durable) }
         ensures durable { IfOk result (λ durable. D.tells disk ≡ true →
             AlwaysStandsForState (D.contents (durable_disk durable)) (durable_state durable)) }
-        ensures copies { IfOk result (λ durable. D.tells disk ≡ true → (key : ℕ) → key < key_count →
-            durable_copies durable key ≡ chosen_copy (D.contents disk).seen key) }
+        ensures version { IfOk result (λ durable. (durable_state durable).version ≡ 2) }
         ensures works { IfOk result (λ durable. durable_fault durable ≡ None) }
 
-        // It refuses a disk of which a key is damaged, and one that failed in this call.
+        // It refuses a disk of which a key is damaged, and puts nothing there.
         ensures damaged { IfErr result (λ refused. (key : ℕ) → refused.why ≡ Damaged key → D.tells disk ≡ true →
             IsDamagedAt (D.contents disk).seen key) }
+        ensures damaged_made { IfErr result (λ refused. (key : ℕ) → refused.why ≡ Damaged key →
+            Makes D.does open_calls true disk refused.disk) }
+        ensures damaged_images { IfErr result (λ refused. (key : ℕ) → refused.why ≡ Damaged key → D.tells disk ≡ true →
+            AddsNoImage (D.contents disk) (D.contents refused.disk)) }
+
+        // And one that failed in this call, before a put or in one.
         ensures fault { IfErr result (λ refused. (fault : Fault) → refused.why ≡ DiskFault fault →
             (fault.count ≡ D.faults refused.disk) × Rose (D.faults disk) (D.faults refused.disk)) }
+        ensures failed { IfErr result (λ refused. (fault : Fault) → refused.why ≡ DiskFault fault →
+            FailsToOpen D.Disk disk refused.disk) }
 
-        // It adds no image, also where it refuses.
-        ensures images { IfOk result (λ durable. D.tells disk ≡ true → AddsNoImage (D.contents disk) (D.contents (durable_disk durable))) }
-        ensures refused { IfErr result (λ refused. D.tells disk ≡ true → AddsNoImage (D.contents disk) (D.contents refused.disk)) }
-        ensures made { IfOk result (λ durable. Makes D.does open_calls true disk (durable_disk durable)) }
-        ensures refused_made { IfErr result (λ refused. Makes D.does open_calls (was_read refused.why) disk refused.disk) }
         ensures tells { IfOk result (λ durable. D.tells (durable_disk durable) ≡ D.tells disk) }
         ensures refused_tells { IfErr result (λ refused. D.tells refused.disk ≡ D.tells disk) }
         ensures later { IfOk result (λ durable. D.faults disk ≤ D.faults (durable_disk durable)) }
         ensures refused_later { IfErr result (λ refused. D.faults disk ≤ D.faults refused.disk) }
     {
-        let store = match Store::open(disk) {
-            Ok(store) => store,
-            Err(refused) => return Err(refused),
-        };
-        match State::read(&store) {
-            Ok(state) => Ok(Durable { store, state }),
-            Err(key) => Err(OpenRefused {
-                disk: store.into_disk(),
-                why: OpenFault::Damaged(key),
+        let mut durable = Durable::read(disk)?;
+        match durable.migrate() {
+            Ok(()) => Ok(durable),
+            Err(fault) => Err(OpenRefused {
+                disk: durable.into_disk(),
+                why: OpenFault::Fault(fault),
             }),
         }
     }
@@ -117,6 +120,17 @@ impl<D: Disk> Durable<D> {
         self.state.log[place as usize - 1]
     }
 
+    /// How the entry at a place of 1 to last came into this log: a number of [`crate::origin`]. One that was
+    /// stored before origins were is 0.
+    pub fn origin(&self, place: u8) -> u8
+        requires least { 1 ≤ place }
+        requires most { place ≤ length (durable_state self.now).log }
+        ensures origin { result ≡ origin_at (durable_state self.now) place }
+        ensures range { result ≤ origin_limit }
+    {
+        self.state.origins[place as usize - 1].unwrap_or(0)
+    }
+
     /// The entries at places 1 to last.
     pub fn log(&self) -> &[Entry]
         ensures { result.now ≡ (durable_state self.now).log }
@@ -147,16 +161,20 @@ impl<D: Disk> Durable<D> {
         self.make(Change::Vote(node))
     }
 
-    /// Appends an entry that may follow the log. It puts the entry, and then last.
-    pub fn append(&mut self, entry: Entry) -> Result<(), Fault>
+    /// Appends an entry that may follow the log, with its origin, a number of [`crate::origin`]. It puts the
+    /// entry, and then last.
+    pub fn append(&mut self, entry: Entry, origin: u8) -> Result<(), Fault>
         requires room { length (durable_state self.old).log < log_limit }
         requires follows { MayFollow (durable_state self.old).log (durable_state self.old).term entry }
-        ensures allowed { AreAllowed (puts_of_append entry (durable_state self.old)) (durable_state self.old) None }
-        ensures puts { MakesPuts (puts_of_append entry (durable_state self.old)) self.old self.new (is_ok result) }
+        requires origin { origin ≤ origin_limit }
+        ensures allowed { AreAllowed (puts_of_append entry origin (durable_state self.old))
+            (durable_state self.old) None }
+        ensures puts { MakesPuts (puts_of_append entry origin (durable_state self.old))
+            self.old self.new (is_ok result) }
         ensures fault { KeepsFault self.old self.new (result_err result) }
     {
-        self.make(Change::Next(entry))?;
-        self.make(Change::Longer(entry))
+        self.make(Change::Next(entry, origin))?;
+        self.make(Change::Longer(entry, origin))
     }
 
     /// Keeps the entries up to a place, the committed ones among them.
@@ -188,13 +206,101 @@ impl<D: Disk> Durable<D> {
         self.store.into_disk()
     }
 
+    /// The state that the disk stands for, found by a sync and one read.
+    fn read(disk: D) -> Result<Durable<D>, OpenRefused<D>>
+        // The state is that of what reads give, and of whatever a stop may leave from now on.
+        ensures state { IfOk result (λ durable. D.tells disk ≡ true → StandsForState (D.contents disk).seen (durable_state durable)) }
+        ensures durable { IfOk result (λ durable. D.tells disk ≡ true →
+            AlwaysStandsForState (D.contents (durable_disk durable)) (durable_state durable)) }
+        ensures copies { IfOk result (λ durable. D.tells disk ≡ true → (key : ℕ) → key < key_count →
+            durable_copies durable key ≡ chosen_copy (D.contents disk).seen key) }
+        ensures works { IfOk result (λ durable. durable_fault durable ≡ None) }
+
+        // It refuses a disk of which a key is damaged, and one that failed in this call.
+        ensures damaged { IfErr result (λ refused. (key : ℕ) → refused.why ≡ Damaged key → D.tells disk ≡ true →
+            IsDamagedAt (D.contents disk).seen key) }
+        ensures damaged_made { IfErr result (λ refused. (key : ℕ) → refused.why ≡ Damaged key →
+            Makes D.does open_calls true disk refused.disk) }
+        ensures fault { IfErr result (λ refused. (fault : Fault) → refused.why ≡ DiskFault fault →
+            (fault.count ≡ D.faults refused.disk) × Rose (D.faults disk) (D.faults refused.disk)) }
+        ensures failed { IfErr result (λ refused. (fault : Fault) → refused.why ≡ DiskFault fault →
+            IsNotRead D.Disk disk refused.disk) }
+
+        // It adds no image, also where it refuses.
+        ensures images { IfOk result (λ durable. D.tells disk ≡ true →
+            AddsNoImage (D.contents disk) (D.contents (durable_disk durable))) }
+        ensures refused { IfErr result (λ refused. D.tells disk ≡ true →
+            AddsNoImage (D.contents disk) (D.contents refused.disk)) }
+        ensures made { IfOk result (λ durable. Makes D.does open_calls true disk (durable_disk durable)) }
+        ensures tells { IfOk result (λ durable. D.tells (durable_disk durable) ≡ D.tells disk) }
+        ensures refused_tells { IfErr result (λ refused. D.tells refused.disk ≡ D.tells disk) }
+        ensures later { IfOk result (λ durable. D.faults disk ≤ D.faults (durable_disk durable)) }
+        ensures refused_later { IfErr result (λ refused. D.faults disk ≤ D.faults refused.disk) }
+    {
+        let store = match Store::open(disk) {
+            Ok(store) => store,
+            Err(refused) => return Err(refused),
+        };
+        match State::read(&store) {
+            Ok(state) => Ok(Durable { store, state }),
+            Err(key) => Err(OpenRefused {
+                disk: store.into_disk(),
+                why: OpenFault::Damaged(key),
+            }),
+        }
+    }
+
+    /// Brings the store to the newest version: each entry gets its origin first.
+    fn migrate(&mut self) -> Result<(), Fault>
+        requires works { durable_fault self.old ≡ None }
+        ensures puts { MakesPuts (opening_puts (durable_state self.old)) self.old self.new (is_ok result) }
+        ensures fault { KeepsFault self.old self.new (result_err result) }
+        ensures version { OnOk result ((durable_state self.new).version ≡ 2) }
+    {
+        a_state_is_durable::<D>();
+        if self.state.version == NEWEST {
+            return Ok(());
+        }
+        self.put_origins()?;
+        self.make(Change::Version)
+    }
+
+    /// Puts each entry that has no origin once more, with the origin 0.
+    fn put_origins(&mut self) -> Result<(), Fault>
+        requires works { durable_fault self.old ≡ None }
+        ensures puts { let state = durable_state self.old in
+            MakesPuts (origin_puts 0 state.log state.origins) self.old self.new (is_ok result) }
+        ensures fault { KeepsFault self.old self.new (result_err result) }
+        ensures have { OnOk result (HaveOrigins (durable_state self.new).origins) }
+    {
+        a_state_is_durable::<D>();
+        for place in 0..self.last() {
+            self.put_origin(place)?;
+        }
+        Ok(())
+    }
+
+    /// The same of the entry at a place, counted from 0.
+    fn put_origin(&mut self, place: u8) -> Result<(), Fault>
+        requires works { durable_fault self.old ≡ None }
+        requires there { place < length (durable_state self.old).log }
+        ensures puts { MakesPuts (put_at place (durable_state self.old)) self.old self.new (is_ok result) }
+        ensures fault { KeepsFault self.old self.new (result_err result) }
+    {
+        a_state_is_durable::<D>();
+        if self.state.origins[place as usize].is_some() {
+            return Ok(());
+        }
+        self.make(Change::Origin(place))
+    }
+
     /// Makes a change by one put.
     fn make(&mut self, change: Change) -> Result<(), Fault>
         requires may { MayMake change (durable_state self.old) }
         requires next { HasNext change self.old }
         ensures puts { MakesChange change self.old self.new (is_ok result) }
         ensures fault { KeepsFault self.old self.new (result_err result) }
-        ensures fits { FitsBytes change }
+        ensures fits { FitsBytes change (durable_state self.old) }
         ensures next { OnOk result (LeavesNext change self.old self.new) }
     {
         let value = change.value(&self.state);

@@ -1,8 +1,9 @@
 //! Laws of the definitions, each the contract of a function that does nothing.
 
-ghost use Rattle.std.specs.Prelude.{◌≡◌, ℕ, ◌+◌, ◌<◌, ◌≤◌, ◌++◌, [], Bool, List, true, false, Option, None, length, slice_index, take};
+ghost use Rattle.std.specs.Prelude.{◌≡◌, ℕ, ◌+◌, ◌<◌, ◌≤◌, ◌^◌, ◌++◌, [], Bool, List, true, false, Option, None, drop, length, slice_index, take};
 ghost use Rattle.disk_model.specs.declared.calls.Calls.{Calls};
 ghost use Rattle.disk_model.specs.declared.memory.MemoryDisk.{MemoryDisk};
+ghost use Rattle.disk_model.specs.Calls.{acts};
 ghost use Rattle.disk_model.specs.Contents.{IsSettled};
 ghost use Rattle.disk_model.specs.Device.{Makes};
 ghost use Rattle.disk_model.specs.Memory.{DoesInMemory, Restarts, memory_calls, memory_contents};
@@ -10,8 +11,10 @@ ghost use Rattle.disk_model.specs.Pattern.{IsUsable};
 ghost use Rattle.kv_store.specs.Image.{chosen_copy, key_count, open_calls};
 ghost use Rattle.kv_store.specs.Shelf.{Shelf, is_opened, opened_on, restarted_on};
 ghost use Rattle.outside.specs.declared.pattern.Pattern.{Pattern};
+ghost use Rattle.outside.specs.declared.pattern.Pattern.TheVariants.{New};
 ghost use Rattle.raft_log.specs.DeviceCalls.{copies_after, device_calls};
-ghost use Rattle.raft_log.specs.Shelf.{IsOn, IsOnShelf, IsReady, are_put, done_on, found_by, puts_on};
+ghost use Rattle.raft_log.specs.Opening.{FailsToOpen, IsReadAs, OpensTo, opening_calls};
+ghost use Rattle.raft_log.specs.Shelf.{IsOn, IsOnShelf, IsReady, are_put, done_on, found_by, is_open_on, opening_done, opening_on, puts_on};
 ghost use Rattle.kv_store.specs.declared.fault.Fault.{Fault};
 ghost use Rattle.raft_log.specs.Allowed.{AreAllowed};
 ghost use Rattle.raft_log.specs.Calls.{KeepsFault, MakesPuts};
@@ -19,7 +22,7 @@ ghost use Rattle.raft_log.specs.declared.durable.Durable.{Durable};
 ghost use Rattle.raft_log.specs.DurableViews.{durable_copies, durable_disk, durable_fault, durable_state};
 ghost use Rattle.raft_log.specs.MayFollow.{IsKept, IsStorable};
 ghost use Rattle.raft_log.specs.Rules.{AlwaysStandsForState, IsDamagedAt, StandsForState};
-ghost use Rattle.raft_log.specs.Stored.{Put, Stored, after_puts};
+ghost use Rattle.raft_log.specs.Stored.{Put, Stored, after_puts, opening_puts};
 
 use disk_model::{Disk, MemoryDisk};
 
@@ -38,7 +41,7 @@ pub fn a_stored_state_is_storable()
 /// An image of zeros stands for the state that a run begins with.
 pub fn zeros_are_the_first_state()
     ensures { (image : List ℕ) → ((i : ℕ) → slice_index image i ≡ 0) →
-        StandsForState image (record { term = 0; vote = 0; log = []; commit = 0 }) }
+        StandsForState image (record { term = 0; vote = 0; log = []; commit = 0; origins = []; version = 0 }) }
 {}
 
 /// Whatever a stop leaves of the disk stands for the state, while no put has failed.
@@ -58,6 +61,18 @@ pub fn a_durable_state_is_kept<D: Disk>()
 pub fn allowed_puts_leave_a_kept_state()
     ensures { (puts : List Put) (state : Stored) → AreAllowed puts state None → IsKept state →
         IsKept (after_puts puts state) }
+{}
+
+/// An opening's puts may all be made. After some of the first of them all that is read of the state is as it
+/// was, and an opening makes the others. With version 2 there are none, and after all of them it is 2.
+pub fn an_opening_goes_on()
+    ensures allowed { (image : List ℕ) (state : Stored) → StandsForState image state → state.term < 2 ^ 32 →
+        AreAllowed (opening_puts state) state None }
+    ensures same { (state : Stored) (count : ℕ) → IsReadAs (after_puts (take count (opening_puts state)) state) state }
+    ensures others { (state : Stored) (count : ℕ) →
+        opening_puts (after_puts (take count (opening_puts state)) state) ≡ drop count (opening_puts state) }
+    ensures nothing { (state : Stored) → state.version ≡ 2 → opening_puts state ≡ [] }
+    ensures version { (state : Stored) → (after_puts (opening_puts state) state).version ≡ 2 }
 {}
 
 /// Puts that were made by two calls, one after the other, are those of both. Where the first call failed
@@ -82,8 +97,9 @@ pub fn puts_in_turn<D: Disk>()
 
 /// The disk by keys with stored states: where a disk in memory is the one that a shelf tells of, it still
 /// is after puts, an opening, a restart and a change of its settings, and these device calls succeed
-/// exactly where the shelf says. An opening finds the state of the shelf. A restart after puts finds those
-/// done that were, and the one that failed where its selector was written and is kept.
+/// exactly where the shelf says. An opening finds the state of the shelf. A restart after puts, those of an
+/// opening among them, finds those done that were, and the one that failed where its selector was written
+/// and is kept.
 pub fn the_disk_by_states()
     ensures found { (disk : MemoryDisk) (shelf : Shelf Stored) → IsOn disk shelf →
         StandsForState (memory_contents disk).seen shelf.store ×
@@ -102,9 +118,13 @@ pub fn the_disk_by_states()
         shelf.loose ≡ None → let after = puts_on puts shelf in
         let count = done_on puts shelf.calls + found_by pattern after in
         (restarted_on pattern after).store ≡ after_puts (take count puts) shelf.store }
-    ensures opened { (old new : MemoryDisk) (shelf : Shelf Stored) (ok : Bool) → IsOn old shelf →
-        Makes DoesInMemory open_calls ok old new →
-        IsOn new (opened_on shelf) × (ok ≡ is_opened shelf.calls) × (ok ≡ true → IsReady new (opened_on shelf)) }
+    ensures opened { (old new : MemoryDisk) (shelf : Shelf Stored) (copies : ℕ → ℕ) (ok : Bool) →
+        IsOn old shelf → ((key : ℕ) → key < key_count → copies key ≡ shelf.copies key) → shelf.store.term < 2 ^ 32 →
+        Makes DoesInMemory (opening_calls shelf.store copies) ok old new →
+        IsOn new (opening_on shelf) × (ok ≡ is_open_on shelf) × (ok ≡ true → IsReady new (opening_on shelf)) }
+    ensures read { (old new : MemoryDisk) (shelf : Shelf Stored) (ok : Bool) → IsOn old shelf →
+        Makes DoesInMemory open_calls ok old new → let after = opened_on shelf in
+        IsOn new after × (ok ≡ is_opened shelf.calls) × (ok ≡ true → IsReady new after) }
     ensures restarted { (old new : MemoryDisk) (shelf : Shelf Stored) (pattern : Pattern) → IsOn old shelf → IsUsable pattern →
         Restarts pattern old new → IsReady new (restarted_on pattern shelf) }
     ensures set { (old new : MemoryDisk) (shelf : Shelf Stored) (calls : Calls) → IsOn old shelf →
@@ -116,9 +136,16 @@ pub fn the_disk_by_states()
     kv_store::laws::the_disk_by_keys();
 }
 
-/// A running member whose disk in memory a shelf tells of: its calls do to the shelf what their puts do, and
-/// after success its state and its copies are those of the shelf again.
+/// A running member whose disk in memory a shelf tells of: its opening does to the shelf what an opening
+/// does, its calls what their puts do, and after success its state and its copies are those of the shelf
+/// again.
 pub fn a_member_on_the_disk_by_states()
+    ensures opened { (disk : MemoryDisk) (new : Durable MemoryDisk ⟦<MemoryDisk as Disk>⟧)
+        (shelf : Shelf Stored) → IsOn disk shelf → OpensTo disk new → durable_fault new ≡ None →
+        (is_open_on shelf ≡ true) × IsOnShelf new (opening_on shelf) }
+    ensures not_opened { (disk new : MemoryDisk) (shelf : Shelf Stored) → IsOn disk shelf →
+        FailsToOpen ⟦<MemoryDisk as Disk>⟧ disk new →
+        (is_open_on shelf ≡ false) × IsOn new (opening_on shelf) }
     ensures puts { (puts : List Put) (old new : Durable MemoryDisk ⟦<MemoryDisk as Disk>⟧)
         (shelf : Shelf Stored) (ok : Bool) → IsOnShelf old shelf → MakesPuts puts old new ok →
         (ok ≡ true → durable_fault new ≡ None) → let after = puts_on puts shelf in
@@ -130,5 +157,26 @@ pub fn a_member_on_the_disk_by_states()
         memory_contents (durable_disk new) ≡ memory_contents (durable_disk old) →
         memory_calls (durable_disk new) ≡ calls → IsOnShelf new (record shelf { calls = calls }) }
 {
+    an_image_stands_for_one_state();
     the_disk_by_states();
 }
+
+/// An opening on the disk by states. Where all its device calls act, its puts are done. A restart after it,
+/// also where it was cut off, finds those done that were, and at most one more: the one that failed, where
+/// its selector was written and is kept. The next opening makes the others. What reads give without a
+/// restart is what a restart finds that keeps all that was written.
+pub fn an_opening_on_the_disk_by_states()
+    ensures done { (shelf : Shelf Stored) → let puts = opening_puts shelf.store in is_open_on shelf ≡ true →
+        ((opening_on shelf).store ≡ after_puts puts shelf.store) ×
+        ((opening_on shelf).copies ≡ copies_after puts shelf.store shelf.copies) }
+    ensures counted { (shelf : Shelf Stored) → let count = length (opening_puts shelf.store) in
+        opening_done shelf ≤ count × (is_open_on shelf ≡ true → opening_done shelf ≡ count) ×
+        (is_opened shelf.calls ≡ true → is_open_on shelf ≡ false → opening_done shelf < count) }
+    ensures found_again { (shelf : Shelf Stored) (pattern : Pattern) →
+        (acts shelf.calls ≡ false → shelf.loose ≡ None) → let after = opening_on shelf in
+        let count = opening_done shelf + found_by pattern after in let puts = opening_puts shelf.store in
+        ((restarted_on pattern after).store ≡ after_puts (take count puts) shelf.store) ×
+        (opening_puts (restarted_on pattern after).store ≡ drop count puts) }
+    ensures at_most_one { (shelf : Shelf Stored) (pattern : Pattern) → found_by pattern shelf ≤ 1 }
+    ensures as_it_is { (shelf : Shelf Stored) → (restarted_on New shelf).store ≡ shelf.store }
+{}

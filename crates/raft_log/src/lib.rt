@@ -19,6 +19,7 @@ mod durable;
 mod follow;
 mod keys;
 pub mod laws;
+pub mod origin;
 mod state;
 #[cfg(test)]
 mod tests;

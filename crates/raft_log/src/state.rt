@@ -3,12 +3,13 @@ ghost use Rattle.arrayvec.specs.ArrayVec.{array_vec_len};
 ghost use Rattle.can_frame.specs.Log.{log_limit};
 ghost use Rattle.kv_store.specs.StoreViews.{store_map};
 ghost use Rattle.raft_log.specs.MayFollow.{MayFollow};
-ghost use Rattle.raft_log.specs.Rules.{Stores, IsFirstBroken, entry_of};
+ghost use Rattle.raft_log.specs.Rules.{IsEntryValue, IsFirstBroken, Stores, entry_of};
 
 use crate::change::Change;
 use crate::keys::{COMMIT, FIRST_ENTRY, LAST, TERM, VERSION, VOTE};
 use crate::may_follow;
-use crate::values::{is_version, read_byte, read_entry, read_term};
+use crate::origin::LEADER;
+use crate::values::{NEWEST, is_entry, read_byte, read_entry, read_origin, read_term, read_version};
 use arrayvec::ArrayVec;
 use can_frame::Entry;
 use disk_model::Disk;
@@ -24,8 +25,15 @@ pub struct State {
     pub vote: u8,
     pub log: ArrayVec<Entry, 127>,
     pub commit: u8,
+
+    /// Of each entry; none where it is stored in the first form, which has no place for it.
+    pub origins: ArrayVec<Option<u8>, 127>,
+
+    /// Of the store, 0 where none is stored.
+    pub version: u8,
     pub ghost narrow: { term < 2 ^ 32 },
     pub ghost short: { array_vec_len log ≤ log_limit },
+    pub ghost even: { array_vec_len origins ≡ array_vec_len log },
 }
 
 impl State {
@@ -38,9 +46,9 @@ impl State {
         ensures state { IfOk result (λ state. Stores (store_map store.now) (stored_of state)) }
         ensures broken { IfErr result (λ key. IsFirstBroken (store_map store.now) key) }
     {
-        if !is_version(store.get(VERSION)) {
+        let Some(version) = read_version(store.get(VERSION)) else {
             return Err(VERSION);
-        }
+        };
         let Some(term) = read_term(store.get(TERM)) else {
             return Err(TERM);
         };
@@ -54,17 +62,22 @@ impl State {
             return Err(COMMIT);
         };
         let mut log = ArrayVec::new();
+        let mut origins = ArrayVec::new();
         for place in 0..last {
-            match read_next(&log, term, store.get(FIRST_ENTRY + place)) {
-                Some(entry) => log.push(entry),
-                None => return Err(FIRST_ENTRY + place),
-            }
+            let value = store.get(FIRST_ENTRY + place);
+            let Some(entry) = read_next(&log, term, value, version) else {
+                return Err(FIRST_ENTRY + place);
+            };
+            log.push(entry);
+            origins.push(read_origin(value));
         }
         Ok(State {
             term,
             vote,
             log,
             commit,
+            origins,
+            version,
         })
     }
 
@@ -77,22 +90,33 @@ impl State {
             Change::Term(term) => self.term = term,
             Change::Vote(node) => self.vote = node,
             // Nothing reads it yet.
-            Change::Next(_) => {}
-            Change::Longer(entry) => self.log.push(entry),
-            Change::Shorter(place) => self.log.truncate(place as usize),
+            Change::Next(_, _) => {}
+            Change::Longer(entry, origin) => {
+                self.log.push(entry);
+                self.origins.push(Some(origin));
+            }
+            Change::Shorter(place) => {
+                self.log.truncate(place as usize);
+                self.origins.truncate(place as usize);
+            }
             Change::Commit(place) => self.commit = place,
+            Change::Origin(place) => self.origins[place as usize] = Some(LEADER),
+            Change::Version => self.version = NEWEST,
         }
     }
 }
 
-/// The entry that these bytes stand for, where it may follow the log.
-fn read_next(log: &[Entry], term: u32, value: &[u8]) -> Option<Entry>
-    ensures found { IfSome result (λ entry. (entry ≡ entry_of value.now) × (length value.now ≡ 21) × MayFollow log.now term entry) }
-    ensures none { IsNone result → length value.now ≡ 21 → MayFollow log.now term (entry_of value.now) → ⊥ }
+/// The entry that these bytes stand for, where they have its form and it may follow the log.
+fn read_next(log: &[Entry], term: u32, value: &[u8], version: u8) -> Option<Entry>
+    ensures found { IfSome result (λ entry. (entry ≡ entry_of value.now) ×
+        IsEntryValue version value.now × MayFollow log.now term entry) }
+    ensures none { IsNone result → IsEntryValue version value.now →
+        MayFollow log.now term (entry_of value.now) → ⊥ }
 {
-    let Some(entry) = read_entry(value) else {
+    if !is_entry(value, version) {
         return None;
-    };
+    }
+    let entry = read_entry(value);
     if !may_follow(log, term, &entry) {
         return None;
     }

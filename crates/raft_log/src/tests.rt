@@ -1,7 +1,9 @@
-ghost use Rattle.std.specs.Prelude.{◌≡◌, replicate};
+ghost use Rattle.std.specs.Prelude.{◌≡◌, ◌<◌, ◌≤◌, length, replicate};
 ghost use Rattle.disk_model.specs.Pattern.{IsUsable};
+ghost use Rattle.kv_store.specs.Image.{key_count, value_limit};
 
 use crate::Durable;
+use crate::origin::{EXCHANGE, WIN};
 use arrayvec::ArrayVec;
 use can_frame::Entry;
 use disk_model::{IMAGE, MemoryDisk};
@@ -45,7 +47,7 @@ fn append_pair(durable: &mut Durable<MemoryDisk>) -> Option<Result<(), Fault>> {
     if durable.last() > 0 || durable.term() != 1 {
         return None;
     }
-    Some(durable.append(pair()))
+    Some(durable.append(pair(), EXCHANGE))
 }
 
 /// The term, the vote and last that an opening finds after a restart.
@@ -122,9 +124,9 @@ fn a_fault_is_answered_for_ever(rt: HostRuntime) {
     assert_eq!(rt; failed(), Some((1, fault, fault)));
 }
 
-/// Term, vote, last, commit and the entry at place 1 after a vote, an append, a commit, a second append
-/// that is cut off again, and an opening.
-fn used() -> Option<(u32, u8, u8, u8, Entry)> {
+/// Term, vote, last, commit, and the entry at place 1 and its origin after a vote, an append, a commit, a
+/// second append that is cut off again, and an opening.
+fn used() -> Option<(u32, u8, u8, u8, Entry, u8)> {
     let mut durable = empty()?;
     take_term(&mut durable)?.ok()?;
     append_pair(&mut durable)?.ok()?;
@@ -140,8 +142,8 @@ fn used() -> Option<(u32, u8, u8, u8, Entry)> {
     if !crate::may_follow(durable.log(), durable.term(), &blank) {
         return None;
     }
-    durable.append(blank).ok()?;
-    if durable.commit() != 1 || durable.last() != 2 {
+    durable.append(blank, WIN).ok()?;
+    if durable.commit() != 1 || durable.last() != 2 || durable.origin(2) != WIN {
         return None;
     }
     durable.truncate(1).ok()?;
@@ -149,19 +151,19 @@ fn used() -> Option<(u32, u8, u8, u8, Entry)> {
     if durable.last() != 1 {
         return None;
     }
-    let entry = durable.entry(1);
     Some((
         durable.term(),
         durable.vote(),
         durable.last(),
         durable.commit(),
-        entry,
+        durable.entry(1),
+        durable.origin(1),
     ))
 }
 
 #[test]
 fn what_was_put_is_found_again(rt: HostRuntime) {
-    assert_eq!(rt; used(), Some((1, 9, 1, 1, pair())));
+    assert_eq!(rt; used(), Some((1, 9, 1, 1, pair(), EXCHANGE)));
 }
 
 /// Why an image of zeros with these bytes is refused.
@@ -181,7 +183,9 @@ fn refused(bytes: &[(usize, u8)]) -> Option<OpenFault> {
 #[test]
 fn the_first_damaged_key_is_named(rt: HostRuntime) {
     assert_eq!(rt; refused(&[(1, 1), (2, 1)]), None);
+    assert_eq!(rt; refused(&[(1, 1), (2, 2)]), None);
     assert_eq!(rt; refused(&[(1, 1), (2, 3)]), Some(OpenFault::Damaged(0)));
+    assert_eq!(rt; refused(&[(1, 1)]), Some(OpenFault::Damaged(0)));
     assert_eq!(rt; refused(&[(68, 3)]), Some(OpenFault::Damaged(1)));
     assert_eq!(rt;
         refused(&[(135, 1), (136, 126)]),
@@ -198,4 +202,151 @@ fn the_first_damaged_key_is_named(rt: HostRuntime) {
         refused(&[(68, 3), (8778, 33)]),
         Some(OpenFault::Damaged(131))
     );
+}
+
+/// Writes the value of a key into an image of zeros.
+fn write(image: &mut [u8; IMAGE], key: usize, value: &[u8])
+    requires exists { key < key_count }
+    requires short { length value.now ≤ value_limit }
+{
+    image[67 * key + 1] = value.len() as u8;
+    image[67 * key + 2..67 * key + 2 + value.len()].copy_from_slice(value);
+}
+
+/// A pair of term 1 as a store of version 1 has it.
+fn first_form(uid: u8, node: u8) -> [u8; 21] {
+    let mut value = [uid; 21];
+    value[..4].copy_from_slice(&[1, 0, 0, 0]);
+    value[20] = node;
+    value
+}
+
+/// A store of this version, empty for 0, with term 1, last 2, commit 2, a pair, and another one with these
+/// bytes behind it.
+fn two_pairs(version: u8, behind: &[u8]) -> MemoryDisk
+    requires { length behind.now ≤ 2 }
+{
+    let mut image = [0; IMAGE];
+    if version > 0 {
+        write(&mut image, 0, &[version]);
+    }
+    write(&mut image, 1, &[1, 0, 0, 0]);
+    write(&mut image, 3, &[2]);
+    write(&mut image, 4, &[2]);
+    write(&mut image, 5, &first_form(7, 125));
+    write(&mut image, 6, &first_form(8, 124));
+    let length = 67 * 6 + 1;
+    image[length] = 21 + behind.len() as u8;
+    image[length + 22..length + 22 + behind.len()].copy_from_slice(behind);
+    MemoryDisk::new(&image)
+}
+
+/// What a stop in place of a device call of an opening leaves of a disk, where the opening makes that call.
+fn stopped_in_opening(mut disk: MemoryDisk, call: u64, pattern: Pattern) -> Option<MemoryDisk>
+    requires { IsUsable pattern }
+{
+    disk.stop_at(call);
+    match Durable::open(disk) {
+        Ok(_) => None,
+        Err(refused) => {
+            let mut disk = refused.disk;
+            if !disk.stopped() {
+                return None;
+            }
+            disk.restart(pattern);
+            Some(disk)
+        }
+    }
+}
+
+/// Term, vote, last, commit, and of both entries the node ID and the origin.
+type Found = (u32, u8, u8, u8, [u8; 4]);
+
+/// What an opening finds of two entries that makes no more device calls than these, and the disk.
+fn opened_by(mut disk: MemoryDisk, calls: u64) -> Option<(Found, MemoryDisk)> {
+    disk.stop_at(calls.saturating_add(1));
+    let durable = Durable::open(disk).ok()?;
+    if durable.last() != 2 {
+        return None;
+    }
+    let entries = [
+        durable.entry(1).node,
+        durable.origin(1),
+        durable.entry(2).node,
+        durable.origin(2),
+    ];
+    let found = (
+        durable.term(),
+        durable.vote(),
+        durable.last(),
+        durable.commit(),
+        entries,
+    );
+    Some((found, durable.into_disk()))
+}
+
+/// What an opening leaves of two pairs of version 1 that stops at a device call, whose write is kept or lost.
+fn cut_off(call: u64, kept: bool) -> Option<MemoryDisk> {
+    let pattern = if kept { Pattern::New } else { Pattern::Old };
+    stopped_in_opening(two_pairs(1, &[]), call, pattern)
+}
+
+/// How many device calls the opening after it makes, where it finds the pairs and origins of 0, and the one
+/// after that makes two and finds the same.
+fn goes_on(call: u64, kept: bool) -> Option<u64> {
+    let expected = (1, 0, 2, 2, [125, 0, 124, 0]);
+    for calls in 1..20u64 {
+        if stopped_in_opening(cut_off(call, kept)?, calls, Pattern::Old).is_some() {
+            continue;
+        }
+        let calls = calls.saturating_sub(1);
+        let (found, disk) = opened_by(cut_off(call, kept)?, calls)?;
+        let disk = stopped_in_opening(disk, 2, Pattern::Old)?;
+        let (again, _) = opened_by(disk, 2)?;
+        return if found == expected && again == expected {
+            Some(calls)
+        } else {
+            None
+        };
+    }
+    None
+}
+
+#[test]
+fn an_opening_goes_on_where_another_was_cut_off(rt: HostRuntime) {
+    for call in 1..15u64 {
+        let lost = match call {
+            1..=6 => 14,
+            7..=10 => 10,
+            _ => 6,
+        };
+        let kept = match call {
+            1..=5 => 14,
+            6..=9 => 10,
+            10..=13 => 6,
+            _ => 2,
+        };
+        assert_eq!(rt; goes_on(call, false), Some(lost), "lost {call}");
+        assert_eq!(rt; goes_on(call, true), Some(kept), "kept {call}");
+    }
+    assert!(rt; cut_off(15, true).is_none());
+}
+
+/// What an opening finds of two pairs, or the key that is damaged.
+fn opened(disk: MemoryDisk) -> Result<Option<Found>, OpenFault> {
+    match Durable::open(disk) {
+        Ok(durable) => Ok(opened_by(durable.into_disk(), 2).map(|opened| opened.0)),
+        Err(refused) => Err(refused.why),
+    }
+}
+
+#[test]
+fn an_entry_has_an_origin_from_version_2_on(rt: HostRuntime) {
+    let found = |origin: u8| Ok(Some((1, 0, 2, 2, [125, 0, 124, origin])));
+    assert_eq!(rt; opened(two_pairs(0, &[])), found(0));
+    assert_eq!(rt; opened(two_pairs(1, &[0])), found(0));
+    assert_eq!(rt; opened(two_pairs(1, &[4])), found(4));
+    assert_eq!(rt; opened(two_pairs(1, &[5])), Err(OpenFault::Damaged(6)));
+    assert_eq!(rt; opened(two_pairs(1, &[0, 0])), Err(OpenFault::Damaged(6)));
+    assert_eq!(rt; opened(two_pairs(2, &[0])), Err(OpenFault::Damaged(5)));
 }

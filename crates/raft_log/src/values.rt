@@ -1,20 +1,25 @@
 //! The values of the keys.
 
-ghost use Rattle.std.specs.Prelude.{◌≡◌, ◌<◌, IfSome, IsNone, IsTrue, ◌↔◌, length, slice_index};
+ghost use Rattle.std.specs.Prelude.{◌≡◌, ◌<◌, ◌≤◌, IfSome, IsNone, IsTrue, Some, ◌↔◌, length, slice_index};
 ghost use Rattle.std.specs.Int.{to_le_bytes, w32};
 ghost use Rattle.raft_log.specs.DeviceCalls.{entry_bytes};
-ghost use Rattle.raft_log.specs.Rules.{IsByteUpTo, IsVersion, IsTerm, number_of, entry_of};
+ghost use Rattle.raft_log.specs.Rules.{HasVersion, IsByteUpTo, IsEntryValue, IsTerm, IsVersion, entry_of, number_of, origin_of};
 
+use crate::origin::WIN;
 use can_frame::{Entry, Uid};
 
-/// Whether this is the version of a store.
-pub fn is_version(value: &[u8]) -> bool
-    ensures { IsTrue result ↔ IsVersion value.now }
+/// The version of a store in which each entry has its origin.
+pub const NEWEST: u8 = 2;
+
+/// The version of a store, 0 where it is empty.
+pub fn read_version(value: &[u8]) -> Option<u8>
+    ensures found { IfSome result (λ version. HasVersion version value.now) }
+    ensures none { IsNone result → IsVersion value.now → ⊥ }
 {
     match value {
-        [] => true,
-        [version] => *version == 1,
-        _ => false,
+        [] => Some(0),
+        [version] if 1 <= *version && *version <= NEWEST => Some(*version),
+        _ => None,
     }
 }
 
@@ -42,27 +47,37 @@ pub fn read_byte(value: &[u8], most: u8) -> Option<u8>
     }
 }
 
-/// The entry that 21 bytes stand for.
-pub fn read_entry(value: &[u8]) -> Option<Entry>
-    ensures found { IfSome result (λ entry. (entry ≡ entry_of value.now) × (length value.now ≡ 21)) }
-    ensures none { IsNone result → length value.now ≡ 21 → ⊥ }
+/// Whether these bytes have the form of an entry: 21 bytes, and its origin, which a store of the newest
+/// version always has.
+pub fn is_entry(value: &[u8], version: u8) -> bool
+    ensures { IsTrue result ↔ IsEntryValue version value.now }
 {
-    let [a, b, c, d, rest @ ..] = value else {
-        return None;
-    };
-    let [bytes @ .., node] = rest else {
-        return None;
-    };
-    if bytes.len() != 16 {
-        return None;
+    match value.len() {
+        21 => version != NEWEST,
+        22 => value[21] <= WIN,
+        _ => false,
     }
+}
+
+/// The entry that the first 21 bytes stand for.
+pub fn read_entry(value: &[u8]) -> Entry
+    requires { 21 ≤ length value.now }
+    ensures { result ≡ entry_of value.now }
+{
     let mut uid: Uid = [0; 16];
-    uid.copy_from_slice(bytes);
-    Some(Entry {
-        term: u32::from_le_bytes([*a, *b, *c, *d]),
+    uid.copy_from_slice(&value[4..20]);
+    Entry {
+        term: u32::from_le_bytes([value[0], value[1], value[2], value[3]]),
         uid,
-        node: *node % 128,
-    })
+        node: value[20] % 128,
+    }
+}
+
+/// The origin behind them, if there is one.
+pub fn read_origin(value: &[u8]) -> Option<u8>
+    ensures { result ≡ origin_of value.now }
+{
+    value.get(21).copied()
 }
 
 /// The bytes of a term.
@@ -73,15 +88,16 @@ pub fn write_term(term: u32) -> [u8; 4]
     term.to_le_bytes()
 }
 
-/// The bytes of an entry.
-pub fn write_entry(entry: &Entry) -> [u8; 21]
+/// The bytes of an entry and its origin.
+pub fn write_entry(entry: &Entry, origin: u8) -> [u8; 22]
     requires { entry.now.node < 128 }
-    ensures bytes { result ≡ entry_bytes entry.now }
+    ensures bytes { result ≡ entry_bytes entry.now origin }
     ensures again { entry_of result ≡ entry.now }
+    ensures origin_again { origin_of result ≡ Some origin }
 {
     let [a, b, c, d] = write_term(entry.term);
     let mut bytes = [
-        a, b, c, d, 0, 0, 0, 0, 0, 0, 0, 0, 0, 0, 0, 0, 0, 0, 0, 0, entry.node,
+        a, b, c, d, 0, 0, 0, 0, 0, 0, 0, 0, 0, 0, 0, 0, 0, 0, 0, 0, entry.node, origin,
     ];
     bytes[4..20].copy_from_slice(&entry.uid);
     bytes

@@ -1,9 +1,10 @@
 use Rattle.std.proofs.Common.{refl}
 use Rattle.disk_model.specs.Memory.{memory_contents}
 use Rattle.kv_store.specs.Image.{chosen_copy, value_in}
-use Rattle.kv_store.specs.Shelf.{opened_on, restarted_on}
+use Rattle.kv_store.specs.Shelf.{restarted_on}
+use Rattle.raft_log.proofs.OpeningOnShelf.{opening_made, read_on_shelf}
 use Rattle.raft_log.proofs.Restarting.{all_done, done_most, restart_finds, some_left}
-use Rattle.raft_log.proofs.StatesOnShelf.{bits_of, by_keys, found, maps_of, opened_fits, puts_done, puts_on_shelf, ready_by_keys, restarted_fits, set_fits, shows_itself}
+use Rattle.raft_log.proofs.StatesOnShelf.{bits_of, by_keys, found, maps_of, puts_done, puts_on_shelf, ready_by_keys, restarted_fits, set_fits, shows_itself}
 use Rattle.raft_log.proofs.laws.the_disk_by_states.Goals as goal
 
 pub returns-clause-found : goal.returns-clause-found
@@ -15,12 +16,11 @@ returns-clause-puts c = puts_on_shelf c.the_disk_by_keys.ensures.put
 pub returns-clause-done : goal.returns-clause-done
 returns-clause-done c = λ shelf puts. puts_done puts shelf
 
+pub returns-clause-read : goal.returns-clause-read
+returns-clause-read c = read_on_shelf c.the_disk_by_keys.ensures.opened
+
 pub returns-clause-opened : goal.returns-clause-opened
-returns-clause-opened c = λ old new shelf ok on made.
-    let keys = maps_of old shelf on in
-    let k = c.the_disk_by_keys.ensures.opened old new keys ok on.on made in
-    let fit = opened_fits on.map on.map shelf.store shelf.store shelf.copies on.before shelf.loose shelf.calls on.stores on.loose in
-    (by_keys new (opened_on keys) (opened_on shelf) fit k.0, k.1, λ good. ready_by_keys new (opened_on keys) (opened_on shelf) fit (k.2 good))
+returns-clause-opened c = opening_made (read_on_shelf c.the_disk_by_keys.ensures.opened) (puts_on_shelf c.the_disk_by_keys.ensures.put)
 
 pub returns-clause-restarted : goal.returns-clause-restarted
 returns-clause-restarted c = λ old new shelf pattern on usable restarts.

@@ -1,22 +1,15 @@
-use Rattle.std.proofs.Common.{rules, ◌≡◌, subst}
-use Rattle.kv_store.specs.StoreViews.{store_map}
-use Rattle.raft_log.specs.Rules.{IsFirstBroken}
-use Rattle.raft_log.specs.Rules.IsDamagedAt.{BadValue}
-use Rattle.raft_log.proofs.States.{image_broken, image_stands}
+use Rattle.std.proofs.Common.{inr, subst, sym}
+use Rattle.raft_log.specs.Opening.{IsNotPut}
+use Rattle.raft_log.proofs.Opened.{is_not_put, opens_to}
 use Rattle.raft_log.proofs.durable.Durable.open.Goals as goal
 
-pub returns-in-Err-read-clause-damaged : goal.returns-in-Err-read-clause-damaged
-returns-in-Err-read-clause-damaged g c = λ key is told.
-    let map = store_map c.in-Ok.store in
-    let same : c.in-Err-read.key ≡ key = search rules in
-    let shown = c.in-Ok.ensures.map told in
-    BadValue shown.whole (image_broken _ map key shown (subst (λ k. IsFirstBroken map k) same c.in-Err-read.ensures.broken))
+pub returns-in-Err-clause-failed : goal.returns-in-Err-clause-failed
+returns-in-Err-clause-failed g c = λ fault is.
+    let read = c.in_ok-durable.ensures in
+    inr (subst (λ (disk : g.row.D.Denot). IsNotPut g.D.Disk c.args.disk disk) (sym c.into_disk.ensures)
+    (is_not_put c.args.disk c.in_ok-durable.durable c.migrate.new.self read.works read.tells read.state read.copies read.made c.in-Err.ensures.puts))
 
-pub invariant_of-result : goal.invariant_of-result
-invariant_of-result g c = record { stored = c.in-Ok-read.ensures.state; storable = c.in-Ok-read.ensures.state.storable }
-
-pub returns-in-Ok-read-clause-state : goal.returns-in-Ok-read-clause-state
-returns-in-Ok-read-clause-state g c = λ told. image_stands _ _ _ (c.in-Ok.ensures.map told) c.in-Ok-read.ensures.state
-
-pub returns-in-Ok-read-clause-durable : goal.returns-in-Ok-read-clause-durable
-returns-in-Ok-read-clause-durable g c = λ told image left. image_stands image _ _ (c.in-Ok.ensures.durable told image left) c.in-Ok-read.ensures.state
+pub returns-in-Ok-clause-opens : goal.returns-in-Ok-clause-opens
+returns-in-Ok-clause-opens g c =
+    let read = c.in_ok-durable.ensures in
+    opens_to c.args.disk c.in_ok-durable.durable c.migrate.new.self read.works read.tells read.state read.copies read.made read.images c.in-Ok.ensures.puts

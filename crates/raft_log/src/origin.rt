@@ -1,0 +1,16 @@
+//! How an entry came into the log of this member.
+
+/// From a leader, or stored before origins were.
+pub const LEADER: u8 = 0;
+
+/// By the exchange of an allocatee with an allocator (uavcan.protocol.dynamic_node_id.Allocation).
+pub const EXCHANGE: u8 = 1;
+
+/// A node that has a node ID told its unique ID (uavcan.protocol.GetNodeInfo).
+pub const NODE_INFO: u8 = 2;
+
+/// A reservation of a node ID.
+pub const RESERVATION: u8 = 3;
+
+/// The blank that this member appended when it won an election.
+pub const WIN: u8 = 4;
