@@ -8,7 +8,7 @@ use Rattle.kv_store.specs.Image.{put_in}
 use Rattle.raft_log.specs.Allowed.{AreAllowed, Fits, IsAllowed, IsBare, IsCut, IsLonger, IsNext, next_after, nexts_after}
 use Rattle.raft_log.specs.DeviceCalls.{bytes_of, entry_bytes, key_of}
 use Rattle.raft_log.specs.MayFollow.{IsStorable}
-use Rattle.raft_log.specs.Rules.{HasEntry, Stores, entry_of, number_of, origin_of}
+use Rattle.raft_log.specs.Rules.{HasEntry, Stores, number_of}
 use Rattle.raft_log.specs.Stored.{Kept, Put, Stored, after_put, after_puts}
 use Rattle.raft_log.specs.Stored.Put.{PutTerm, PutVote, PutEntry, PutLast, PutCommit, PutOrigin, PutVersion}
 use Rattle.raft_log.proofs.Kept.{storable_after}

@@ -70,9 +70,9 @@ has_origin place entry (Some origin) state is within none = absurd (cc (none, is
 pub none_at : (place : ℕ) (log : List Entry) (origins origins' : List (Option ℕ)) → origins' ≡ origins → is_some (get_or origins' place None) ≡ true → origin_put place (get_or log place (blank 0)) (get_or origins place None) ≡ []
 none_at place log origins origins' same some =
     by (get_or origins place None) (subst (λ (o : List (Option ℕ)). is_some (get_or o place None) ≡ true) same some) where
-  by : (origin : Option ℕ) → is_some origin ≡ true → origin_put place (get_or log place (blank 0)) origin ≡ []
-  by None e = absurd (cc e)
-  by (Some origin) e = refl
+      by : (origin : Option ℕ) → is_some origin ≡ true → origin_put place (get_or log place (blank 0)) origin ≡ []
+      by None e = absurd (cc e)
+      by (Some origin) e = refl
 
 -- what the loop keeps, one place further
 module _ {D : Type 0} {disk : Ghosts D} (place : ℕ) (old mid new : Durable D disk) (ok : Bool)

@@ -7,7 +7,6 @@ use Rattle.std.proofs.lemmas.Option.{get_or_from_slice_get}
 use Rattle.can_frame.specs.declared.entry.Entry.{Entry}
 use Rattle.can_frame.specs.Log.{blank}
 use Rattle.raft_log.specs.Allowed.{AreAllowed, Fits, IsAllowed, next_after}
-use Rattle.raft_log.specs.DeviceCalls.{entry_bytes}
 use Rattle.raft_log.specs.Opening.{IsReadAs}
 use Rattle.raft_log.specs.Rules.{Stores, entry_of}
 use Rattle.raft_log.specs.Stored.{Kept, Put, Stored, after_put, after_puts, opening_puts, origin_at, origin_puts}

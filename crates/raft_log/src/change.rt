@@ -64,7 +64,8 @@ impl Change {
             Change::Term(term) => value_of(&write_term(*term)),
             Change::Next(entry, origin) => value_of(&write_entry(entry, *origin)),
             Change::Origin(place) => {
-                value_of(&write_entry(&state.log[*place as usize], LEADER))
+                let entry = &state.log[*place as usize];
+                value_of(&write_entry(entry, LEADER))
             }
             Change::Longer(_, _) => value_of(&[state.log.len() as u8 + 1]),
             Change::Version => value_of(&[NEWEST]),

@@ -9,7 +9,9 @@ use crate::change::Change;
 use crate::keys::{COMMIT, FIRST_ENTRY, LAST, TERM, VERSION, VOTE};
 use crate::may_follow;
 use crate::origin::LEADER;
-use crate::values::{NEWEST, is_entry, read_byte, read_entry, read_origin, read_term, read_version};
+use crate::values::{
+    NEWEST, is_entry, read_byte, read_entry, read_origin, read_term, read_version,
+};
 use arrayvec::ArrayVec;
 use can_frame::Entry;
 use disk_model::Disk;

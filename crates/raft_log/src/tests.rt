@@ -221,10 +221,21 @@ fn first_form(uid: u8, node: u8) -> [u8; 21] {
     value
 }
 
-/// A store of this version, empty for 0, with term 1, last 2, commit 2, a pair, and another one with these
-/// bytes behind it.
-fn two_pairs(version: u8, behind: &[u8]) -> MemoryDisk
-    requires { length behind.now ≤ 2 }
+/// Writes an entry of the first form, and these bytes behind it.
+fn write_longer(image: &mut [u8; IMAGE], key: usize, value: [u8; 21], behind: &[u8])
+    requires exists { key < key_count }
+    requires short { length behind.now ≤ 2 }
+{
+    write(image, key, &value);
+    image[67 * key + 1] = 21 + behind.len() as u8;
+    image[67 * key + 23..67 * key + 23 + behind.len()].copy_from_slice(behind);
+}
+
+/// A store of this version, empty for 0, with term 1, last 2, commit 2, and two pairs with these bytes behind
+/// them.
+fn two_pairs(version: u8, first: &[u8], second: &[u8]) -> MemoryDisk
+    requires first { length first.now ≤ 2 }
+    requires second { length second.now ≤ 2 }
 {
     let mut image = [0; IMAGE];
     if version > 0 {
@@ -233,11 +244,8 @@ fn two_pairs(version: u8, behind: &[u8]) -> MemoryDisk
     write(&mut image, 1, &[1, 0, 0, 0]);
     write(&mut image, 3, &[2]);
     write(&mut image, 4, &[2]);
-    write(&mut image, 5, &first_form(7, 125));
-    write(&mut image, 6, &first_form(8, 124));
-    let length = 67 * 6 + 1;
-    image[length] = 21 + behind.len() as u8;
-    image[length + 22..length + 22 + behind.len()].copy_from_slice(behind);
+    write_longer(&mut image, 5, first_form(7, 125), first);
+    write_longer(&mut image, 6, first_form(8, 124), second);
     MemoryDisk::new(&image)
 }
 
@@ -285,22 +293,42 @@ fn opened_by(mut disk: MemoryDisk, calls: u64) -> Option<(Found, MemoryDisk)> {
     Some((found, durable.into_disk()))
 }
 
-/// What an opening leaves of two pairs of version 1 that stops at a device call, whose write is kept or lost.
-fn cut_off(call: u64, kept: bool) -> Option<MemoryDisk> {
-    let pattern = if kept { Pattern::New } else { Pattern::Old };
-    stopped_in_opening(two_pairs(1, &[]), call, pattern)
+/// How a stop treats the write that was not synced: it loses or keeps it, or leaves a pattern of one byte,
+/// where the selector is 1 if it was turned.
+#[derive(Clone, Copy)]
+enum Stop {
+    Lost,
+    Kept,
+    Byte(u8),
+}
+
+impl Stop {
+    fn pattern(self) -> Pattern
+        ensures { IsUsable result }
+    {
+        match self {
+            Stop::Lost => Pattern::Old,
+            Stop::Kept => Pattern::New,
+            Stop::Byte(pattern) => byte(pattern),
+        }
+    }
+}
+
+/// What an opening leaves of two pairs of version 1 that stops at a device call.
+fn cut_off(call: u64, stop: Stop) -> Option<MemoryDisk> {
+    stopped_in_opening(two_pairs(1, &[], &[]), call, stop.pattern())
 }
 
 /// How many device calls the opening after it makes, where it finds the pairs and origins of 0, and the one
 /// after that makes two and finds the same.
-fn goes_on(call: u64, kept: bool) -> Option<u64> {
+fn goes_on(call: u64, stop: Stop) -> Option<u64> {
     let expected = (1, 0, 2, 2, [125, 0, 124, 0]);
     for calls in 1..20u64 {
-        if stopped_in_opening(cut_off(call, kept)?, calls, Pattern::Old).is_some() {
+        if stopped_in_opening(cut_off(call, stop)?, calls, Pattern::Old).is_some() {
             continue;
         }
         let calls = calls.saturating_sub(1);
-        let (found, disk) = opened_by(cut_off(call, kept)?, calls)?;
+        let (found, disk) = opened_by(cut_off(call, stop)?, calls)?;
         let disk = stopped_in_opening(disk, 2, Pattern::Old)?;
         let (again, _) = opened_by(disk, 2)?;
         return if found == expected && again == expected {
@@ -326,10 +354,12 @@ fn an_opening_goes_on_where_another_was_cut_off(rt: HostRuntime) {
             10..=13 => 6,
             _ => 2,
         };
-        assert_eq!(rt; goes_on(call, false), Some(lost), "lost {call}");
-        assert_eq!(rt; goes_on(call, true), Some(kept), "kept {call}");
+        assert_eq!(rt; goes_on(call, Stop::Lost), Some(lost), "lost {call}");
+        assert_eq!(rt; goes_on(call, Stop::Byte(0xaa)), Some(lost), "even {call}");
+        assert_eq!(rt; goes_on(call, Stop::Kept), Some(kept), "kept {call}");
+        assert_eq!(rt; goes_on(call, Stop::Byte(0x55)), Some(kept), "odd {call}");
     }
-    assert!(rt; cut_off(15, true).is_none());
+    assert!(rt; cut_off(15, Stop::Lost).is_none());
 }
 
 /// What an opening finds of two pairs, or the key that is damaged.
@@ -342,11 +372,21 @@ fn opened(disk: MemoryDisk) -> Result<Option<Found>, OpenFault> {
 
 #[test]
 fn an_entry_has_an_origin_from_version_2_on(rt: HostRuntime) {
-    let found = |origin: u8| Ok(Some((1, 0, 2, 2, [125, 0, 124, origin])));
-    assert_eq!(rt; opened(two_pairs(0, &[])), found(0));
-    assert_eq!(rt; opened(two_pairs(1, &[0])), found(0));
-    assert_eq!(rt; opened(two_pairs(1, &[4])), found(4));
-    assert_eq!(rt; opened(two_pairs(1, &[5])), Err(OpenFault::Damaged(6)));
-    assert_eq!(rt; opened(two_pairs(1, &[0, 0])), Err(OpenFault::Damaged(6)));
-    assert_eq!(rt; opened(two_pairs(2, &[0])), Err(OpenFault::Damaged(5)));
+    let found = |first: u8, second: u8| Ok(Some((1, 0, 2, 2, [125, first, 124, second])));
+    for origin in 0..5u8 {
+        let other = 4 - origin;
+        assert_eq!(rt;
+            opened(two_pairs(2, &[origin], &[other])),
+            found(origin, other)
+        );
+        assert_eq!(rt; opened(two_pairs(1, &[], &[origin])), found(0, origin));
+    }
+    assert_eq!(rt; opened(two_pairs(0, &[], &[])), found(0, 0));
+    assert_eq!(rt; opened(two_pairs(1, &[], &[5])), Err(OpenFault::Damaged(6)));
+    assert_eq!(rt;
+        opened(two_pairs(1, &[], &[0, 0])),
+        Err(OpenFault::Damaged(6))
+    );
+    assert_eq!(rt; opened(two_pairs(2, &[], &[0])), Err(OpenFault::Damaged(5)));
+    assert_eq!(rt; opened(two_pairs(2, &[0], &[])), Err(OpenFault::Damaged(6)));
 }

@@ -1,4 +1,4 @@
-use Rattle.std.proofs.Common.{rules, List, [], ◌∷◌, ap, refl, sym, subst}
+use Rattle.std.proofs.Common.{rules, List, [], ◌∷◌, ap, sym, subst}
 use Rattle.std.specs.Prelude.{None, is_ok, true}
 use Rattle.raft_log.specs.Allowed.{nexts_after}
 use Rattle.raft_log.specs.Calls.{MakesPuts}
@@ -6,7 +6,7 @@ use Rattle.raft_log.specs.StateViews.{stored_of}
 use Rattle.raft_log.specs.Stored.{Put, Stored, origin_puts}
 use Rattle.raft_log.specs.Stored.Put.{PutVersion}
 use Rattle.raft_log.proofs.AllowedPuts.{still_allowed}
-use Rattle.raft_log.proofs.InTurn.{cut_by, fault_after, on_ok, puts_after, unchanged, without_puts}
+use Rattle.raft_log.proofs.InTurn.{cut_by, fault_after, on_ok, puts_after, without_puts}
 use Rattle.raft_log.proofs.Migrating.{puts_of_newest, puts_of_older}
 use Rattle.raft_log.proofs.durable.Durable.migrate.Goals as goal
 

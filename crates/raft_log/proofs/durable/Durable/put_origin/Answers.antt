@@ -1,7 +1,6 @@
-use Rattle.std.proofs.Common.{[], true, sym, ap, subst, ◌∙◌, get_or}
-use Rattle.std.specs.Prelude.{None, is_some}
+use Rattle.std.proofs.Common.{true, sym, subst, ◌∙◌}
 use Rattle.raft_log.specs.Calls.{MakesPuts}
-use Rattle.raft_log.proofs.InTurn.{unchanged, without_puts}
+use Rattle.raft_log.proofs.InTurn.{without_puts}
 use Rattle.raft_log.proofs.Migrating.{none_at}
 use Rattle.raft_log.proofs.durable.Durable.put_origin.Goals as goal
 

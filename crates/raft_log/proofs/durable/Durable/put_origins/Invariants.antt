@@ -1,4 +1,4 @@
-use Rattle.std.proofs.Common.{◌≡◌, ◌≢◌, ℕ, ◌<◌, ◌≤◌, length, get_or, true}
+use Rattle.std.proofs.Common.{◌≡◌, ◌≢◌, ℕ, ◌<◌, ◌≤◌, get_or, true}
 use Rattle.std.specs.Prelude.{None}
 use Rattle.raft_log.specs.Calls.{KeepsFault, MakesPuts}
 use Rattle.raft_log.specs.DurableViews.{durable_state}
