@@ -14,7 +14,8 @@ pub fn crc(signature: u64, payload: &[u8]) -> u16
     crc_more(begun, payload)
 }
 
-/// The CRC of bytes with more behind them, from the CRC of those in front, which are not looked at again.
+/// The CRC of bytes with more behind them, from the CRC of those in front, which are not looked at
+/// again.
 pub fn crc_more(crc: u16, more: &[u8]) -> u16
     ensures { (bytes : List ℕ) → crc ≡ crc_of bytes → result ≡ crc_of (bytes ++ more.now) }
 {

@@ -1,12 +1,15 @@
 -- The blocks that sessions use.
-use Rattle.std.proofs.Common.{◌≡◌, ℕ, ◌+◌, ◌*◌, ◌<◌, ◌≤◌, true, false, ◌&&◌, List, [], ◌∷◌, ◌++◌, length, get_or, set, take, None, refl, sym, ◌∙◌, ap, arith, nat_lt}
+use Rattle.std.proofs.Common.{◌≡◌, ℕ, ◌+◌, ◌*◌, ◌<◌, true, false, ◌&&◌, List, [], ◌∷◌, ◌++◌, length, get_or, set, take, inl, inr, suc, None, refl, sym, ◌∙◌, ap, arith, nat_lt}
 use Rattle.std.specs.List.{sum_by}
-use Rattle.std.proofs.lemmas.List.{take_all}
+use Rattle.std.proofs.lemmas.Bool.{le-ltb, lt-ltb}
+use Rattle.std.proofs.lemmas.Bool.Decides.{leb_tells}
+use Rattle.std.proofs.lemmas.List.Sums.{sum_by-set}
 use Rattle.std.proofs.lemmas.Grind.{common_steps}
 use Rattle.can_frame.specs.Cutting.{Piece, joined}
 use Rattle.transfer_rx.specs.declared.key.Key.{Key}
 use Rattle.transfer_rx.specs.declared.progress.Progress.{Progress}
 use Rattle.transfer_rx.specs.Sessions.{Session, others}
+use Rattle.transfer_rx.specs.Filled.{IsFree}
 use Rattle.transfer_rx.specs.Outcome.{blocks_for, blocks_used, lacks_blocks, session_blocks}
 use Rattle.transfer_rx.specs.Places.{Arranged, IsPlaceFor, Places, blocks_at}
 use Rattle.transfer_rx.specs.Progress.{IsProgressOf}
@@ -20,17 +23,27 @@ pub more : (xs : Places) (i : ℕ) → i < length xs →
     sum_by blocks_at (take (i + 1) xs) ≡ sum_by blocks_at (take i xs) + blocks_at (get_or xs i None)
 more xs i h = grind (arith, common_steps)
 
-pub used_besides : (places : Places) (sessions : List Session) (key : Key) (place n : ℕ) → Arranged places sessions →
-    IsPlaceFor key places sessions place → length (set places place None) ≤ n →
-    sum_by blocks_at (take n (set places place None)) ≡ blocks_used (others key sessions)
+-- what is free, with the session's own blocks, is all but what the others use
+pub used_besides : (blocks : ℕ) (places : Places) (sessions : List Session) (key : Key) (place free own : ℕ) → Arranged places sessions →
+    IsPlaceFor key places sessions place → IsFree blocks places free → own ≡ blocks_at (get_or places place None) →
+    free + own + blocks_used (others key sessions) ≡ blocks
 unfolding blocks_used
-used_besides places sessions key place n a p h =
-    ap (sum_by blocks_at) (take_all n (set places place None) h) ∙ sum_besides session_blocks places sessions key place a p
+used_besides blocks places sessions key place free own a p f o =
+    let beside = sum_besides session_blocks places sessions key place a p in
+    let without = sum_by-set blocks_at places place None None p.present in
+    omega arith
 
-pub lacks : (blocks used needed : ℕ) (piece : Piece) (taken : List Piece) (rest : List Session) →
-    (piece.tail.start && piece.tail.end) ≡ false → used ≡ blocks_used rest →
-    needed ≡ blocks_for (length (joined (taken ++ piece ∷ []))) → nat_lt blocks (used + needed) ≡ lacks_blocks blocks piece taken rest
-lacks blocks used needed piece taken rest several o n = rw (several, o, n) refl
+more_than : (a b u : ℕ) → nat_lt a b ≡ nat_lt (a + u) (u + b)
+more_than a b u = elim (leb_tells (suc a) b) [
+  | inl less ↦ less.0 ∙ sym (lt-ltb (a + u) (u + b) (omega (arith, less.1)))
+  | inr not_less ↦ not_less.0 ∙ sym (le-ltb (a + u) (u + b) (omega (arith, not_less.1)))
+]
+
+pub lacks : (blocks free own needed : ℕ) (piece : Piece) (taken : List Piece) (rest : List Session) →
+    (piece.tail.start && piece.tail.end) ≡ false → free + own + blocks_used rest ≡ blocks →
+    needed ≡ blocks_for (length (joined (taken ++ piece ∷ []))) → nat_lt (free + own) needed ≡ lacks_blocks blocks piece taken rest
+lacks blocks free own needed piece taken rest several f n =
+    more_than (free + own) needed (blocks_used rest) ∙ rw (several, f, n) refl
 
 pub lacks_none : (blocks : ℕ) (piece : Piece) (taken : List Piece) (rest : List Session) →
     (piece.tail.start && piece.tail.end) ≡ true → false ≡ lacks_blocks blocks piece taken rest

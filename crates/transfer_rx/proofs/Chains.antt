@@ -1,8 +1,8 @@
 -- The chains of sessions.
-use Rattle.std.proofs.Common.{◌≡◌, ℕ, zero, suc, ◌+◌, ◌*◌, ◌<◌, ◌≤◌, true, false, not, Bool, List, [], ◌∷◌, length, get_or, take, cond, nat_lt, refl, sym, ap, ◌∙◌, arith, subst, inl, inr}
+use Rattle.std.proofs.Common.{◌≡◌, ℕ, zero, suc, ◌+◌, ◌*◌, ◌<◌, ◌≤◌, true, false, Bool, List, [], ◌∷◌, length, get_or, nat_lt, refl, sym, ap, ◌∙◌, arith, subst, inl, inr}
 use Rattle.std.specs.Prelude.{Option, None, Some}
 use Rattle.std.specs.List.{position, position_or_len}
-use Rattle.std.proofs.lemmas.Bool.{cases_Bool, ltb-false, le-ltb}
+use Rattle.std.proofs.lemmas.Bool.{cases_Bool}
 use Rattle.std.proofs.lemmas.Bool.Decides.{leb_tells}
 use Rattle.std.proofs.lemmas.List.{get_or_past, nil_from_length, take_all}
 use Rattle.std.proofs.lemmas.List.Quantifiers.{position-Some}
@@ -13,7 +13,7 @@ use Rattle.transfer_rx.specs.Chains.{HaveChains, is_of_key, place_of}
 use Rattle.transfer_rx.specs.Filled.{AreFilled, taken_at}
 use Rattle.transfer_rx.specs.Keys.{same_key}
 use Rattle.transfer_rx.specs.Places.{AreAt, KeepSessions, Places, has_key}
-use Rattle.transfer_rx.specs.Progress.{IsProgressAt, IsProgressOf}
+use Rattle.transfer_rx.specs.Progress.{IsProgressAt}
 use Rattle.transfer_rx.specs.Sessions.{Session, others, session_of}
 use Rattle.transfer_rx.proofs.Arrangement.{none_at, there}
 use Rattle.transfer_rx.proofs.Found.{same_key-equal, same_key-true, session_of-others_own}

@@ -1,5 +1,5 @@
 -- The running CRCs, after each change.
-use Rattle.std.proofs.Common.{◌≡◌, ◌≢◌, ℕ, ◌+◌, ◌-◌, ◌*◌, ◌<◌, false, List, [], ◌++◌, length, get_or, set, take, drop, refl, sym, ap, ◌∙◌, arith, subst, inl, inr, nat_eq, replicate, append_assoc}
+use Rattle.std.proofs.Common.{◌≡◌, ◌≢◌, ℕ, ◌+◌, ◌-◌, ◌*◌, ◌<◌, false, List, [], ◌++◌, length, get_or, set, take, drop, sym, ap, ◌∙◌, arith, subst, inl, inr, nat_eq, replicate, append_assoc}
 use Rattle.std.specs.Prelude.{IfSome, Option, None, Some}
 use Rattle.std.specs.Int.{to_le_bytes, w64}
 use Rattle.std.proofs.lemmas.Bool.{ne_eqb}

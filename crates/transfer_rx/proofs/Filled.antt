@@ -124,6 +124,12 @@ one_place None chain (Some session) h e = absurd h
 one_place (Some p) chain None h e = absurd h
 one_place (Some p) chain (Some session) h e = ap (λ n. (n + 27) / 28) (e ∙ bytes_kept p chain session h)
 
+pub same_blocks : (progress : List (Option Progress)) (chains : List (List ℕ)) (places : Places) → KeepPlaces progress chains places →
+    AreFilled progress chains → length chains ≡ length progress → sum_by blocks_used chains ≡ sum_by blocks_at places
+same_blocks progress chains places s f size =
+    same_sums chains places (size ∙ sym s.size)
+    (λ i l. one_place (get_or progress i None) (get_or chains i []) (get_or places i None) (s.each i (omega arith)) (f i (omega arith)))
+
 module _ (blocks place : ℕ) (progress : List (Option Progress)) (chains : List (List ℕ)) (places : Places)
     (s : KeepPlaces progress chains places) (f : AreFilled progress chains) (size : length chains ≡ length progress) (h : place < length progress) where
   -- the blocks of the pool, when one chain is of another length

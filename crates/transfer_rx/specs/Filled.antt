@@ -26,3 +26,7 @@ HasRoomFor blocks places place bytes = sum_by blocks_at (set places place None) 
 -- the chains, where the one of a place is emptied if nothing is taken there
 abbrev pub emptied : ℕ → ℕ → List (List ℕ) → List (List ℕ)
 emptied taken place chains = if nat_eq taken 0 then set chains place [] else chains
+
+-- so many blocks are free beside the sessions at the places
+abbrev pub IsFree : ℕ → Places → ℕ → Type 0
+IsFree blocks places free = free + sum_by blocks_at places ≡ blocks

@@ -19,10 +19,14 @@ impl<const S: usize, const N: usize> Sessions<S, N> {
     pub fn put(&mut self, place: usize, progress: Progress)
         requires place { place < S }
         requires filled { Fills progress (get_or self.old.pool place []) }
-        ensures session { (places : Places) (session : Session) → KeepPlaces self.old.progress self.old.pool places →
-            IsProgressOf progress (get_or self.old.pool place []) session → KeepPlaces self.new.progress self.new.pool (set places place (Some session)) }
-        ensures crcs { (signature_of : Key → Option ℕ) → HasOwnCrc signature_of progress (get_or self.old.pool place []) →
-            HaveCrcs signature_of self.old.progress self.old.pool → HaveCrcs signature_of self.new.progress self.new.pool }
+        ensures session { (places : Places) (session : Session) →
+            KeepPlaces self.old.progress self.old.pool places →
+            IsProgressOf progress (get_or self.old.pool place []) session →
+            KeepPlaces self.new.progress self.new.pool (set places place (Some session)) }
+        ensures crcs { (signature_of : Key → Option ℕ) →
+            HasOwnCrc signature_of progress (get_or self.old.pool place []) →
+            HaveCrcs signature_of self.old.progress self.old.pool →
+            HaveCrcs signature_of self.new.progress self.new.pool }
     {
         set_place(&mut self.progress, &mut self.pool, place, progress);
     }
@@ -41,14 +45,19 @@ impl<const S: usize, const N: usize> Sessions<S, N> {
         requires room { progress.taken < 54 }
         requires seven { length more.now ≡ 7 }
         requires filled { Fills progress (get_or self.old.pool place []) }
-        ensures fits { (places : Places) → KeepPlaces self.old.progress self.old.pool places → HasRoomFor N places place (7 * progress.taken + 7) → IsOk result }
-        ensures grown { OnOk result ((places : Places) (session : Session) (piece : Piece) → KeepPlaces self.old.progress self.old.pool places →
+        ensures fits { (places : Places) → KeepPlaces self.old.progress self.old.pool places →
+            HasRoomFor N places place (7 * progress.taken + 7) → IsOk result }
+        ensures grown { OnOk result ((places : Places) (session : Session) (piece : Piece) →
+            KeepPlaces self.old.progress self.old.pool places →
             IsProgressOf progress (get_or self.old.pool place []) session → piece.bytes ≡ more.now →
             piece.tail ≡ tail_at session.expected (length session.taken) false →
-            KeepPlaces self.new.progress self.new.pool (set places place (Some (grown piece mark now session)))) }
-        ensures crcs { (signature_of : Key → Option ℕ) → signature_of progress.key ≡ Some signature →
+            KeepPlaces self.new.progress self.new.pool (set places place (Some
+            (grown piece mark now session)))) }
+        ensures crcs { (signature_of : Key → Option ℕ) →
+            signature_of progress.key ≡ Some signature →
             HasCrc signature progress (get_or self.old.pool place []) →
-            HaveCrcs signature_of self.old.progress self.old.pool → HaveCrcs signature_of self.new.progress self.new.pool }
+            HaveCrcs signature_of self.old.progress self.old.pool →
+            HaveCrcs signature_of self.new.progress self.new.pool }
     {
         let grown = progress.grown(mark, now, signature, more);
         let cut = progress.cut_off(now);
@@ -63,13 +72,15 @@ impl<const S: usize, const N: usize> Sessions<S, N> {
         )
     }
 
-    /// IsProgressOf what is at a place, or clears it.
+    /// Keeps what is at a place, or clears it.
     pub fn keep(&mut self, place: usize, progress: Option<Progress>)
         requires place { place < S }
         requires same { IfSome progress (λ p. get_or self.old.progress place None ≡ Some p) }
         ensures progress { self.new.progress ≡ set self.old.progress place progress }
-        ensures others { (i : ℕ) → i ≢ place → get_or self.new.pool i [] ≡ get_or self.old.pool i [] }
-        ensures kept { IfSome progress (λ p. get_or self.new.pool place [] ≡ get_or self.old.pool place []) }
+        ensures others { (i : ℕ) → i ≢ place →
+            get_or self.new.pool i [] ≡ get_or self.old.pool i [] }
+        ensures kept { IfSome progress (λ p. get_or self.new.pool place [] ≡
+            get_or self.old.pool place []) }
     {
         keep_at(&mut self.progress, &mut self.pool, place, progress);
     }
@@ -101,9 +112,11 @@ fn add_frame<const S: usize, const N: usize>(
     cut_off: Progress,
 ) -> Result<(), NoBlock>
     requires { place < S }
-    ensures none { IsErr result ↔ (free_blocks N (emptied taken place pool.old) < further_blocks (get_or (emptied taken place pool.old) place []) more.now) }
+    ensures none { IsErr result ↔ (free_blocks N (emptied taken place pool.old) < further_blocks
+        (get_or (emptied taken place pool.old) place []) more.now) }
     ensures ok_kept { OnOk result (kept.new ≡ set kept.old place (Some grown)) }
-    ensures ok_pool { OnOk result (pool.new ≡ appended (emptied taken place pool.old) place more.now) }
+    ensures ok_pool { OnOk result (pool.new ≡
+        appended (emptied taken place pool.old) place more.now) }
     ensures err_kept { OnErr result (kept.new ≡ set kept.old place (Some cut_off)) }
     ensures err_pool { OnErr result (pool.new ≡ set (emptied taken place pool.old) place []) }
 {
@@ -121,24 +134,26 @@ fn add_frame<const S: usize, const N: usize>(
     }
 }
 
-/// IsProgressOf what is at a place, or clears it.
+/// Keeps what is at a place, or clears it. What is kept is not touched.
 fn keep_at<const S: usize, const N: usize>(
     kept: &mut [Option<Progress>; S],
     pool: &mut BlockPool<N, S>,
     place: usize,
     progress: Option<Progress>,
 )
-    requires { place < S }
+    requires place { place < S }
+    requires same { IfSome progress (λ p. get_or kept.old place None ≡ Some p) }
+    requires none { get_or kept.old place None ≡ None → get_or pool.old place [] ≡ [] }
     ensures kept { kept.new ≡ set kept.old place progress }
     ensures others { (i : ℕ) → i ≢ place → get_or pool.new i [] ≡ get_or pool.old i [] }
     ensures same { IfSome progress (λ p. pool.new ≡ pool.old) }
     ensures empty { IsNone progress → get_or pool.new place [] ≡ [] }
     ensures size { length pool.new ≡ length pool.old }
 {
-    if progress.is_none() {
+    if progress.is_none() && kept[place].is_some() {
         pool.release(place);
+        kept[place] = None;
     }
-    kept[place] = progress;
 }
 
 /// Empties the chain of a place where nothing is taken.

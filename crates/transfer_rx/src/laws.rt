@@ -19,9 +19,11 @@ use can_frame::laws::{frames_carry_what_is_cut, frames_give_the_payload, lengths
 
 /// Frames are delivered as a payload exactly where they are the cutting of it.
 pub fn delivers_cuttings()
-    ensures whole { (signature id : ℕ) (payload : List ℕ) (pieces : List Piece) → pieces ≡ frames_of signature id payload →
+    ensures whole { (signature id : ℕ) (payload : List ℕ) (pieces : List Piece) →
+        pieces ≡ frames_of signature id payload →
         assembled signature id pieces ≡ Delivers payload }
-    ensures only { (signature id : ℕ) (payload : List ℕ) (pieces : List Piece) → assembled signature id pieces ≡ Delivers payload →
+    ensures only { (signature id : ℕ) (payload : List ℕ) (pieces : List Piece) →
+        assembled signature id pieces ≡ Delivers payload →
         pieces ≡ frames_of signature id payload }
 {
     frames_give_the_payload();
@@ -29,10 +31,14 @@ pub fn delivers_cuttings()
 
 /// Lengths are refused exactly where no payload has frames of these lengths.
 pub fn refuses_lengths()
-    ensures none { (signature id : ℕ) (pieces : List Piece) → fits_no_payload signature id pieces ≡ true →
-        (payload : List ℕ) → length payload ≤ 376 → sizes pieces ≡ sizes (frames_of signature id payload) → ⊥ }
-    ensures some { (signature id : ℕ) (pieces : List Piece) → fits_no_payload signature id pieces ≡ false →
-        (payload : List ℕ) × (length payload ≤ 376) × (sizes pieces ≡ sizes (frames_of signature id payload)) }
+    ensures none { (signature id : ℕ) (pieces : List Piece) →
+        fits_no_payload signature id pieces ≡ true →
+        (payload : List ℕ) → length payload ≤ 376 →
+        sizes pieces ≡ sizes (frames_of signature id payload) → ⊥ }
+    ensures some { (signature id : ℕ) (pieces : List Piece) →
+        fits_no_payload signature id pieces ≡ false →
+        (payload : List ℕ) × (length payload ≤ 376) ×
+        (sizes pieces ≡ sizes (frames_of signature id payload)) }
 {
     frames_give_the_payload();
     lengths_of_cuttings();
@@ -42,14 +48,16 @@ pub fn refuses_lengths()
 /// other sessions, is delivered, where it may begin, no frame comes more than 2,000 ms after an
 /// earlier one, and the blocks suffice.
 pub fn delivers_what_comes_whole()
-    ensures { (setting : Setting) (sessions : List Session) (w : Wanted) (payload : List ℕ) (arrivals before : List Arrival) (first last : Arrival) →
+    ensures { (setting : Setting) (sessions : List Session) (w : Wanted) (payload : List ℕ)
+        (arrivals before : List Arrival) (first last : Arrival) →
         ComesWhole setting sessions w payload arrivals before first last →
         answer setting (run setting sessions before) last ≡ Gives (record {
           ident = w.ident;
           id = (piece_in last).tail.id;
           payload = payload;
           mark = last.mark;
-          whole = is_whole (map (λ arrival. arrival.mark) (of_key setting (key_of w.ident) arrivals));
+          whole = is_whole (map
+              (λ arrival. arrival.mark) (of_key setting (key_of w.ident) arrivals));
         }) }
 {
     frames_carry_what_is_cut();
@@ -59,9 +67,11 @@ pub fn delivers_what_comes_whole()
 
 /// Marks change nothing but the mark and `whole` of what is delivered.
 pub fn marks_change_marks_alone()
-    ensures answer { (setting : Setting) (a b : List Session) (x y : Arrival) → map unmarked a ≡ map unmarked b → unmarked_arrival x ≡ unmarked_arrival y →
+    ensures answer { (setting : Setting) (a b : List Session) (x y : Arrival) →
+        map unmarked a ≡ map unmarked b → unmarked_arrival x ≡ unmarked_arrival y →
         unmarked_answer (answer setting a x) ≡ unmarked_answer (answer setting b y) }
-    ensures sessions { (setting : Setting) (a b : List Session) (x y : Arrival) → map unmarked a ≡ map unmarked b → unmarked_arrival x ≡ unmarked_arrival y →
+    ensures sessions { (setting : Setting) (a b : List Session) (x y : Arrival) →
+        map unmarked a ≡ map unmarked b → unmarked_arrival x ≡ unmarked_arrival y →
         map unmarked (next setting a x) ≡ map unmarked (next setting b y) }
 {}
 
@@ -69,19 +79,22 @@ pub fn marks_change_marks_alone()
 /// no more than there is room for.
 pub fn sessions_stay_possible()
     ensures none { (setting : Setting) → ArePossible setting [] }
-    ensures step { (setting : Setting) (sessions : List Session) (arrival : Arrival) → ArePossible setting sessions → ArePossible setting (next setting sessions arrival) }
+    ensures step { (setting : Setting) (sessions : List Session) (arrival : Arrival) →
+        ArePossible setting sessions → ArePossible setting (next setting sessions arrival) }
 {}
 
 /// What is delivered is the payload of whole frames: of an anonymous one alone, or of those that the
 /// session of its key had taken and the one that completes them, which are its cutting.
 pub fn deliveries_are_whole_transfers()
-    ensures { (setting : Setting) (sessions : List Session) (arrival : Arrival) (delivery : Delivery) → answer setting sessions arrival ≡ Gives delivery →
+    ensures { (setting : Setting) (sessions : List Session) (arrival : Arrival)
+        (delivery : Delivery) → answer setting sessions arrival ≡ Gives delivery →
         IsDelivered setting sessions arrival delivery }
 {}
 
 /// A frame comes to the session of its key, which has nothing in progress or is among the sessions.
 pub fn a_frame_comes_to_the_session_of_its_key()
-    ensures { (most now : ℕ) (key : Key) (tail : Tail) (sessions : List Session) (session : Session) →
+    ensures { (most now : ℕ) (key : Key) (tail : Tail) (sessions : List Session)
+        (session : Session) →
         session_for most key tail now sessions ≡ Ok session → IsIdleOrOf key sessions session }
 {}
 
@@ -90,6 +103,7 @@ pub fn a_frame_comes_to_the_session_of_its_key()
 pub fn frames_are_kept_under_their_key()
     ensures step { (setting : Setting) (sessions : List Session) (arrival : Arrival) →
         All (IsKeptAfter setting sessions arrival) (next setting sessions arrival) }
-    ensures run { (setting : Setting) (before arrivals : List Arrival) (sessions : List Session) → All (CameWithKey setting before) sessions →
+    ensures run { (setting : Setting) (before arrivals : List Arrival) (sessions : List Session) →
+        All (CameWithKey setting before) sessions →
         All (CameWithKey setting (before ++ arrivals)) (run setting sessions arrivals) }
 {}

@@ -8,9 +8,12 @@
 //!
 //! The one contract: for every list of sessions that a receiver stands for, [`Receiver::take`] gives
 //! the definition's answer to a frame and leaves a receiver that stands for the sessions afterwards;
-//! [`Receiver::peek`] tells what it would deliver. The code keeps places, chains of a pool of blocks, counts and a moment
-//! (`specs/Places.antt`); none of these shows in a public clause. [`laws`] says what the definition
-//! means: it delivers exactly cuttings, and each undamaged transfer that comes in order.
+//! [`Receiver::peek`] tells what it would deliver. The code keeps places, counts,
+//! a moment and a running CRC for each (`specs/Places.antt`), and the bytes in chains of a pool of
+//! blocks; none of these shows in a clause on what is answered. [`Receiver::pool`] and
+//! [`Receiver::chain_of`] lend what is kept (`specs/Chains.antt`): each session has a chain of its
+//! own, with the bytes of its frames, and every other chain is empty. [`laws`] says what the
+//! definition means: it delivers exactly cuttings, and each undamaged transfer that comes in order.
 //!
 //! The rules are those of the UAVCAN v0 specification, "CAN bus transport layer", for one interface.
 #![tactic(auto)]
@@ -24,6 +27,7 @@ mod progress;
 mod receiver;
 mod search;
 mod sessions;
+mod standard;
 mod transfer;
 mod turn;
 mod verdict;

@@ -1,6 +1,7 @@
 ghost use Rattle.std.specs.Prelude.{◌≡◌, ℕ, false, ◌+◌, ◌*◌, ◌<◌, ◌≤◌, ◌%◌, ◌++◌, ◌∷◌, [], List, drop, length, take};
 
 use crate::key::Key;
+use crate::standard::{CRC_BYTES, FRAME_BYTES, TRANSFER_IDS};
 use crate::verdict::blocks_for;
 use can_frame::{Mark, Tail, Why, crc, crc_more};
 
@@ -61,10 +62,12 @@ impl Progress {
         requires { tail.now.id < 32 }
         ensures key { result.key ≡ self.key }
         ensures filled { (chain : List ℕ) → Fills self chain → Fills result chain }
-        ensures crc { (signature : ℕ) (chain : List ℕ) → HasCrc signature self chain → HasCrc signature result chain }
-        ensures keeps { (bytes : List ℕ) (session : Session) → IsProgressOf self bytes session → IsProgressOf result bytes (restarted tail.now session) }
+        ensures crc { (signature : ℕ) (chain : List ℕ) → HasCrc signature self chain →
+            HasCrc signature result chain }
+        ensures keeps { (bytes : List ℕ) (session : Session) → IsProgressOf self bytes session →
+            IsProgressOf result bytes (restarted tail.now session) }
     {
-        if tail.start && tail.id != self.expected && (tail.id + 1) % 32 != self.expected {
+        if tail.start && tail.id != self.expected && (tail.id + 1) % TRANSFER_IDS != self.expected {
             return self.emptied(tail.id, self.moment);
         }
         self
@@ -72,7 +75,8 @@ impl Progress {
 
     /// Why the frame is not the next piece: its ID, its start bit or its toggle.
     pub fn out_of_turn(self, tail: &Tail) -> Option<Why>
-        ensures { (bytes : List ℕ) (session : Session) → IsProgressOf self bytes session → result ≡ out_of_turn tail.now session }
+        ensures { (bytes : List ℕ) (session : Session) → IsProgressOf self bytes session →
+            result ≡ out_of_turn tail.now session }
     {
         if tail.id != self.expected {
             return Some(Why::TransferId);
@@ -89,9 +93,10 @@ impl Progress {
     /// At a cut the session waits for the next transfer.
     pub fn cut_off(self, now: u64) -> Progress
         ensures none { result.taken ≡ 0 }
-        ensures keeps { (bytes after : List ℕ) (session : Session) → IsProgressOf self bytes session → IsProgressOf result after (cut_off now session) }
+        ensures keeps { (bytes after : List ℕ) (session : Session) →
+            IsProgressOf self bytes session → IsProgressOf result after (cut_off now session) }
     {
-        self.emptied((self.expected + 1) % 32, now)
+        self.emptied((self.expected + 1) % TRANSFER_IDS, now)
     }
 
     /// With nothing taken, and an ID to wait for.
@@ -99,7 +104,9 @@ impl Progress {
         requires { expected < 32 }
         ensures key { result.key ≡ self.key }
         ensures none { result.taken ≡ 0 }
-        ensures keeps { (bytes : List ℕ) → IsProgressOf result bytes (record { key = self.key; expected = expected; taken = []; marks = []; moment = moment }) }
+        ensures keeps { (bytes : List ℕ) →
+            IsProgressOf result bytes
+            (record { key = self.key; expected = expected; taken = []; marks = []; moment = moment }) }
     {
         Progress {
             key: self.key,
@@ -120,8 +127,10 @@ impl Progress {
         ensures taken { result.taken ≡ self.taken + 1 }
         ensures crc { (chain : List ℕ) → length chain ≡ 7 * self.taken →
             HasCrc signature self chain → HasCrc signature result (chain ++ more.now) }
-        ensures keeps { (bytes after : List ℕ) (session : Session) (piece : Piece) → IsProgressOf self bytes session →
-            length piece.bytes ≡ 7 → piece.tail ≡ tail_at session.expected (length session.taken) false →
+        ensures keeps { (bytes after : List ℕ) (session : Session) (piece : Piece) →
+            IsProgressOf self bytes session →
+            length piece.bytes ≡ 7 →
+            piece.tail ≡ tail_at session.expected (length session.taken) false →
             take (7 * (self.taken + 1)) after ≡ take (7 * self.taken) bytes ++ piece.bytes →
             IsProgressOf result after (grown piece mark now session) }
     {
@@ -143,7 +152,7 @@ impl Progress {
             result ≡ transfer_crc signature (drop 2 (chain ++ more.now)) }
     {
         if self.taken == 0 {
-            crc(signature, &more[2..])
+            crc(signature, &more[CRC_BYTES..])
         } else {
             crc_more(self.crc, more)
         }
@@ -152,14 +161,16 @@ impl Progress {
     /// The blocks that the bytes taken use.
     pub fn blocks(self) -> usize
         ensures few { result ≤ 14 }
-        ensures used { (bytes : List ℕ) (session : Session) → IsProgressOf self bytes session → result ≡ session_blocks session }
+        ensures used { (bytes : List ℕ) (session : Session) → IsProgressOf self bytes session →
+            result ≡ session_blocks session }
     {
-        blocks_for(7 * self.taken as usize)
+        blocks_for(FRAME_BYTES * self.taken as usize)
     }
 
     /// Whether the frames with one more have the marks of one step, in order.
     pub fn is_whole_with(self, mark: Mark) -> bool
-        ensures { (bytes : List ℕ) (session : Session) → IsProgressOf self bytes session → result ≡ is_whole (session.marks ++ mark ∷ []) }
+        ensures { (bytes : List ℕ) (session : Session) → IsProgressOf self bytes session →
+            result ≡ is_whole (session.marks ++ mark ∷ []) }
     {
         let step = self.step_with(mark);
         if !self.whole {
@@ -173,7 +184,8 @@ impl Progress {
 
     /// The step of the first frame.
     fn step_with(self, mark: Mark) -> u64
-        ensures { (bytes : List ℕ) (session : Session) → IsProgressOf self bytes session → Begins result (session.marks ++ mark ∷ []) }
+        ensures { (bytes : List ℕ) (session : Session) → IsProgressOf self bytes session →
+            Begins result (session.marks ++ mark ∷ []) }
     {
         if self.taken == 0 {
             mark.step

@@ -1,4 +1,4 @@
-ghost use Rattle.std.specs.Prelude.{◌≡◌, ◌<◌, ◌≤◌, [], IfOk, IfSome, List, Some, option_map};
+ghost use Rattle.std.specs.Prelude.{◌≡◌, ◌≤◌, [], IfOk, IfSome, List, Some, option_map};
 ghost use Rattle.can_frame.specs.Identifier.{IsIdentifier};
 ghost use Rattle.can_frame.specs.Piece.{piece_of};
 ghost use Rattle.transfer_rx.specs.Acceptance.{AnswersByRows, is_for, is_service, wanted};
@@ -42,7 +42,8 @@ impl<F: Fn(Kind, u16) -> Option<u64> + Copy, const S: usize, const N: usize> Rec
         requires most { S ≤ 1024 }
         requires blocks { N ≤ 1024 }
         ensures sessions { HasSessions result [] }
-        ensures setting { setting_of result ≡ record { rows = rows.items; me = me; sessions = S; blocks = N } }
+        ensures setting { setting_of result ≡
+            record { rows = rows.items; me = me; sessions = S; blocks = N } }
         ensures accept { accept_of result ≡ accept }
     {
         Receiver {
@@ -63,7 +64,8 @@ impl<F: Fn(Kind, u16) -> Option<u64> + Copy, const S: usize, const N: usize> Rec
             told result ≡ answer (setting_of self.old) sessions (arrival_of frame.now mark now) }
         ensures ranges { IfDelivered result IsInRange }
         ensures sessions { (sessions : List Session) → HasSessions self.old sessions →
-            HasSessions self.new (next (setting_of self.old) sessions (arrival_of frame.now mark now)) }
+            HasSessions self.new (next (setting_of self.old) sessions
+            (arrival_of frame.now mark now)) }
         ensures setting { setting_of self.new ≡ setting_of self.old }
         ensures accept { accept_of self.new ≡ accept_of self.old }
     {
@@ -75,7 +77,8 @@ impl<F: Fn(Kind, u16) -> Option<u64> + Copy, const S: usize, const N: usize> Rec
             return alone(wanted.ident, frame, mark);
         }
         self.sessions.forget(now);
-        let turn = self.sessions.turn(&wanted, frame, now, N);
+        let free = self.sessions.free_blocks();
+        let turn = self.sessions.turn(&wanted, frame, now, free);
         self.sessions.settle(turn, &wanted, frame, mark, now)
     }
 
@@ -84,7 +87,8 @@ impl<F: Fn(Kind, u16) -> Option<u64> + Copy, const S: usize, const N: usize> Rec
         requires callable { F.IsAlwaysCallable (accept_of self.now) }
         requires answers { AnswersByRows (F.post (accept_of self.now)) (setting_of self.now).rows }
         ensures answer { (sessions : List Session) → HasSessions self.now sessions →
-            option_map delivery_of result ≡ delivered (answer (setting_of self.now) sessions (arrival_of frame.now mark now)) }
+            option_map delivery_of result ≡
+            delivered (answer (setting_of self.now) sessions (arrival_of frame.now mark now)) }
         ensures ranges { IfSome result IsInRange }
     {
         let wanted = match self.wanted(frame) {
@@ -94,7 +98,8 @@ impl<F: Fn(Kind, u16) -> Option<u64> + Copy, const S: usize, const N: usize> Rec
         if is_anonymous(wanted.ident.kind) {
             return delivered(alone(wanted.ident, frame, mark));
         }
-        let turn = self.sessions.turn(&wanted, frame, now, N);
+        let free = self.sessions.free_without_old(now);
+        let turn = self.sessions.turn(&wanted, frame, now, free);
         foretell(turn, wanted.ident, frame, mark)
     }
 
@@ -102,7 +107,8 @@ impl<F: Fn(Kind, u16) -> Option<u64> + Copy, const S: usize, const N: usize> Rec
     /// is empty.
     pub fn pool(&self) -> &BlockPool<N, S>
         ensures pool { result.now ≡ chains_in self.now }
-        ensures chains { (sessions : List Session) → HasSessions self.now sessions → HasChains self.now sessions }
+        ensures chains { (sessions : List Session) → HasSessions self.now sessions →
+            HasChains self.now sessions }
     {
         &self.sessions.pool
     }
@@ -111,8 +117,10 @@ impl<F: Fn(Kind, u16) -> Option<u64> + Copy, const S: usize, const N: usize> Rec
     /// frame without its tail; None where there is no such session. A session that is too old is one
     /// until the next frame comes.
     pub fn chain_of(&self, kind: Kind, number: u16, source: u8) -> Option<usize>
-        ensures chain { result ≡ chain_of self.now (record { kind = kind; number = number; source = source }) }
-        ensures chains { (sessions : List Session) → HasSessions self.now sessions → HasChains self.now sessions }
+        ensures chain { result ≡
+            chain_of self.now (record { kind = kind; number = number; source = source }) }
+        ensures chains { (sessions : List Session) → HasSessions self.now sessions →
+            HasChains self.now sessions }
     {
         self.sessions.place_of(Key {
             kind,
@@ -127,7 +135,8 @@ impl<F: Fn(Kind, u16) -> Option<u64> + Copy, const S: usize, const N: usize> Rec
         requires answers { AnswersByRows (F.post self.now.accept) self.now.rows.items }
         ensures wanted { result ≡ wanted self.now.rows.items self.now.me frame.now.id }
         ensures ident { IfOk result (λ w. IsIdentifier w.ident) }
-        ensures signature { IfOk result (λ w. signature_in self.now.rows.items (key_of w.ident) ≡ Some w.signature) }
+        ensures signature { IfOk result (λ w. signature_in self.now.rows.items (key_of w.ident) ≡
+            Some w.signature) }
     {
         let Some(ident) = Ident::read(frame.id) else {
             return Err(Why::BadIdent);

@@ -9,6 +9,7 @@ ghost use Rattle.transfer_rx.specs.Progress.{IsProgressAt};
 use crate::key::Key;
 use crate::progress::{Found, Progress};
 use crate::sessions::Sessions;
+use crate::standard::TRANSFER_TIMEOUT;
 use can_frame::{Tail, Why};
 
 impl<const S: usize, const N: usize> Sessions<S, N> {
@@ -16,11 +17,15 @@ impl<const S: usize, const N: usize> Sessions<S, N> {
     pub fn session_for(&self, key: Key, tail: &Tail, now: u64) -> Result<Found, Why>
         requires { tail.now.id < 32 }
         ensures place { IfOk result (λ found. found.place < S) }
-        ensures filled { IfOk result (λ found. Fills found.progress (get_or self.now.pool found.place [])) }
+        ensures filled { IfOk result
+            (λ found. Fills found.progress (get_or self.now.pool found.place [])) }
         ensures crc { (signature : ℕ) → HaveCrcsOf key signature self.now.progress self.now.pool →
             IfOk result (IsUnder key signature self.now.pool) }
-        ensures found { (places : Places) (sessions : List Session) → KeepPlaces self.now.progress self.now.pool places → Arranged (left now places) sessions →
-            IsSearchResult self.now.pool key (left now places) sessions result (session_for S key tail.now now sessions) }
+        ensures found { (places : Places) (sessions : List Session) →
+            KeepPlaces self.now.progress self.now.pool places →
+            Arranged (left now places) sessions →
+            IsSearchResult self.now.pool key (left now places) sessions result
+            (session_for S key tail.now now sessions) }
     {
         if let Some(found) = self.find(key, now) {
             return Ok(Found {
@@ -50,11 +55,15 @@ impl<const S: usize, const N: usize> Sessions<S, N> {
     /// The session of a key.
     fn find(&self, key: Key, now: u64) -> Option<Found>
         ensures place { IfSome result (λ found. found.place < S) }
-        ensures filled { IfSome result (λ found. Fills found.progress (get_or self.now.pool found.place [])) }
+        ensures filled { IfSome result
+            (λ found. Fills found.progress (get_or self.now.pool found.place [])) }
         ensures crc { (signature : ℕ) → HaveCrcsOf key signature self.now.progress self.now.pool →
             IfSome result (IsUnder key signature self.now.pool) }
-        ensures found { (places : Places) (sessions : List Session) → KeepPlaces self.now.progress self.now.pool places → Arranged (left now places) sessions →
-            MatchOption result (session_of key sessions ≡ None) (IsSessionOfKey self.now.pool key (left now places) sessions) }
+        ensures found { (places : Places) (sessions : List Session) →
+            KeepPlaces self.now.progress self.now.pool places →
+            Arranged (left now places) sessions →
+            MatchOption result (session_of key sessions ≡ None)
+            (IsSessionOfKey self.now.pool key (left now places) sessions) }
     {
         for place in 0..S {
             if let Some(found) = self.find_at(place, key, now) {
@@ -68,11 +77,13 @@ impl<const S: usize, const N: usize> Sessions<S, N> {
     fn find_at(&self, place: usize, key: Key, now: u64) -> Option<Found>
         requires { place < S }
         ensures place { IfSome result (λ found. found.place ≡ place) }
-        ensures filled { IfSome result (λ found. Fills found.progress (get_or self.now.pool place [])) }
+        ensures filled { IfSome result
+            (λ found. Fills found.progress (get_or self.now.pool place [])) }
         ensures crc { (signature : ℕ) → HaveCrcsOf key signature self.now.progress self.now.pool →
             IfSome result (IsUnder key signature self.now.pool) }
         ensures found { (places : Places) → KeepPlaces self.now.progress self.now.pool places →
-            MatchOption result (has_key key (get_or (left now places) place None) ≡ false) (IsSessionAtPlace self.now.pool key (left now places)) }
+            MatchOption result (has_key key (get_or (left now places) place None) ≡ false)
+            (IsSessionAtPlace self.now.pool key (left now places)) }
     {
         match self.recent(place, now) {
             Some(progress) if progress.key == key => Some(Found { place, progress }),
@@ -83,8 +94,11 @@ impl<const S: usize, const N: usize> Sessions<S, N> {
     /// The first place without a session.
     fn free(&self, now: u64) -> Option<usize>
         ensures place { IfSome result (λ place. place < S) }
-        ensures free { (places : Places) (sessions : List Session) → KeepPlaces self.now.progress self.now.pool places → Arranged (left now places) sessions →
-            MatchOption result (length sessions ≡ S) (λ place. (length sessions < S) × (get_or (left now places) place None ≡ None)) }
+        ensures free { (places : Places) (sessions : List Session) →
+            KeepPlaces self.now.progress self.now.pool places →
+            Arranged (left now places) sessions →
+            MatchOption result (length sessions ≡ S)
+            (λ place. (length sessions < S) × (get_or (left now places) place None ≡ None)) }
     {
         for place in 0..S {
             if self.recent(place, now).is_none() {
@@ -97,9 +111,13 @@ impl<const S: usize, const N: usize> Sessions<S, N> {
     /// The session at a place, unless it is too old.
     pub fn recent(&self, place: usize, now: u64) -> Option<Progress>
         requires { place < S }
-        ensures filled { IfSome result (λ progress. Fills progress (get_or self.now.pool place [])) }
-        ensures same { IfSome result (λ progress. get_or self.now.progress place None ≡ Some progress) }
-        ensures recent { (places : Places) → KeepPlaces self.now.progress self.now.pool places → IsProgressAt result (get_or self.now.pool place []) (get_or (left now places) place None) }
+        ensures filled { IfSome result
+            (λ progress. Fills progress (get_or self.now.pool place [])) }
+        ensures same { IfSome result (λ progress. get_or self.now.progress place None ≡
+            Some progress) }
+        ensures recent { (places : Places) → KeepPlaces self.now.progress self.now.pool places →
+            IsProgressAt result (get_or self.now.pool place []) (get_or
+            (left now places) place None) }
     {
         unless_old(self.progress[place], now)
     }
@@ -115,11 +133,12 @@ fn is_of_key(there: &Option<Progress>, key: Key) -> bool
 }
 
 pub fn unless_old(progress: Option<Progress>, now: u64) -> Option<Progress>
-    ensures kept { (bytes : List ℕ) (there : Option Session) → IsProgressAt progress bytes there → IsProgressAt result bytes (kept now there) }
+    ensures kept { (bytes : List ℕ) (there : Option Session) → IsProgressAt progress bytes there →
+        IsProgressAt result bytes (kept now there) }
     ensures same { IfSome result (λ p. progress ≡ Some p) }
 {
     match progress {
-        Some(it) if now.saturating_sub(it.moment) <= 2000 => Some(it),
+        Some(it) if now.saturating_sub(it.moment) <= TRANSFER_TIMEOUT => Some(it),
         _ => None,
     }
 }

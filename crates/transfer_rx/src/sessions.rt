@@ -3,7 +3,7 @@ ghost use Rattle.can_frame.specs.Identifier.{IsIdentifier};
 ghost use Rattle.can_frame.specs.Piece.{piece_of};
 ghost use Rattle.transfer_rx.specs.declared.key.Key.{Key};
 ghost use Rattle.transfer_rx.specs.Crcs.{HaveCrcs, HaveCrcsOf, IsTurnUnder, IsUnder};
-ghost use Rattle.transfer_rx.specs.Filled.{AreFilled, Fills, HasRoomFor};
+ghost use Rattle.transfer_rx.specs.Filled.{AreFilled, Fills, HasRoomFor, IsFree};
 ghost use Rattle.transfer_rx.specs.Keys.{key_of};
 ghost use Rattle.transfer_rx.specs.Outcome.{out_of_turn};
 ghost use Rattle.transfer_rx.specs.Places.{Arranged, Places, KeepPlaces, KeepSessions, left};
@@ -31,6 +31,7 @@ pub struct Sessions<const S: usize, const N: usize> {
     pub progress: [Option<Progress>; S],
     pub pool: BlockPool<N, S>,
     pub ghost few: { S ≤ 1024 },
+    pub ghost blocks: { N ≤ 1024 },
     pub ghost chains: { length pool ≡ S },
     pub ghost filled: { AreFilled progress pool },
 }
@@ -40,7 +41,8 @@ impl<const S: usize, const N: usize> Sessions<S, N> {
         requires most { S ≤ 1024 }
         requires blocks { N ≤ 1024 }
         ensures sessions { KeepSessions result.progress result.pool [] }
-        ensures crcs { (signature_of : Key → Option ℕ) → HaveCrcs signature_of result.progress result.pool }
+        ensures crcs { (signature_of : Key → Option ℕ) →
+            HaveCrcs signature_of result.progress result.pool }
     {
         Sessions {
             progress: [None; S],
@@ -49,12 +51,18 @@ impl<const S: usize, const N: usize> Sessions<S, N> {
     }
 
     /// Where a frame comes, and what it leads to there.
-    pub fn turn(&self, wanted: &Wanted, frame: &Frame, now: u64, blocks: usize) -> Turn
-        requires crcs { HaveCrcsOf (key_of wanted.now.ident) wanted.now.signature self.now.progress self.now.pool }
+    pub fn turn(&self, wanted: &Wanted, frame: &Frame, now: u64, free: usize) -> Turn
+        requires few { free ≤ 16384 }
+        requires crcs { HaveCrcsOf
+            (key_of wanted.now.ident) wanted.now.signature self.now.progress self.now.pool }
         ensures room { IsRoomy S self.now.pool (piece_of frame.now) result }
-        ensures crc { IsTurnUnder (key_of wanted.now.ident) wanted.now.signature self.now.pool result }
-        ensures turn { (places : Places) (sessions : List Session) → KeepPlaces self.now.progress self.now.pool places → Arranged (left now places) sessions →
-            IsTurn S self.now.pool blocks (key_of wanted.now.ident) wanted.now.signature (piece_of frame.now) now (left now places) sessions result }
+        ensures crc { IsTurnUnder
+            (key_of wanted.now.ident) wanted.now.signature self.now.pool result }
+        ensures turn { (places : Places) (sessions : List Session) →
+            KeepPlaces self.now.progress self.now.pool places →
+            Arranged (left now places) sessions → IsFree N (left now places) free →
+            IsTurn S self.now.pool N (key_of wanted.now.ident) wanted.now.signature
+            (piece_of frame.now) now (left now places) sessions result }
     {
         let tail = frame.tail();
         let found = match self.session_for(Key::of(&wanted.ident), &tail, now) {
@@ -64,7 +72,7 @@ impl<const S: usize, const N: usize> Sessions<S, N> {
         match found.progress.out_of_turn(&tail) {
             Some(why) => Turn::Out(found, why),
             None => {
-                let verdict = self.verdict(&found, frame, wanted.signature, now, blocks);
+                let verdict = self.verdict(&found, frame, wanted.signature, now, free);
                 Turn::Next(found, verdict)
             }
         }
@@ -80,20 +88,26 @@ impl<const S: usize, const N: usize> Sessions<S, N> {
         now: u64,
     ) -> Took
         requires room { IsRoomy S self.old.pool (piece_of frame.now) turn }
-        requires crc { IsTurnUnder (key_of wanted.now.ident) wanted.now.signature self.old.pool turn }
+        requires crc { IsTurnUnder
+            (key_of wanted.now.ident) wanted.now.signature self.old.pool turn }
         requires ident { IsIdentifier wanted.now.ident }
         ensures ranges { IfDelivered result IsInRange }
         ensures answer { (most : ℕ) (places : Places) (sessions : List Session) →
             KeepPlaces self.old.progress self.old.pool places → Arranged places sessions →
-            IsTurn most self.old.pool N (key_of wanted.now.ident) wanted.now.signature (piece_of frame.now) now places sessions turn →
-            told result ≡ (session_step most N wanted.now (piece_of frame.now) mark now sessions).answer }
+            IsTurn most self.old.pool N (key_of wanted.now.ident) wanted.now.signature
+            (piece_of frame.now) now places sessions turn →
+            told result ≡ (session_step most N wanted.now
+            (piece_of frame.now) mark now sessions).answer }
         ensures sessions { (most : ℕ) (places : Places) (sessions : List Session) →
             KeepPlaces self.old.progress self.old.pool places → Arranged places sessions →
-            IsTurn most self.old.pool N (key_of wanted.now.ident) wanted.now.signature (piece_of frame.now) now places sessions turn →
-            KeepSessions self.new.progress self.new.pool (session_step most N wanted.now (piece_of frame.now) mark now sessions).sessions }
+            IsTurn most self.old.pool N (key_of wanted.now.ident) wanted.now.signature
+            (piece_of frame.now) now places sessions turn →
+            KeepSessions self.new.progress self.new.pool
+            (session_step most N wanted.now (piece_of frame.now) mark now sessions).sessions }
         ensures crcs { (signature_of : Key → Option ℕ) →
             signature_of (key_of wanted.now.ident) ≡ Some wanted.now.signature →
-            HaveCrcs signature_of self.old.progress self.old.pool → HaveCrcs signature_of self.new.progress self.new.pool }
+            HaveCrcs signature_of self.old.progress self.old.pool →
+            HaveCrcs signature_of self.new.progress self.new.pool }
     {
         match turn {
             Turn::Refused(why) => Took::Dropped(why),
@@ -121,20 +135,26 @@ impl<const S: usize, const N: usize> Sessions<S, N> {
         requires room { IfPart verdict (GoesOn found (piece_of frame.now)) }
         requires ident { IsIdentifier wanted.now.ident }
         ensures ranges { IfDelivered result IsInRange }
-        ensures answer { (places : Places) (session : Session) → KeepPlaces self.old.progress self.old.pool places →
+        ensures answer { (places : Places) (session : Session) →
+            KeepPlaces self.old.progress self.old.pool places →
             IfPart verdict (HasRoomFor N places found.place (7 * found.progress.taken + 7)) →
             IsProgressOf found.progress (get_or self.old.pool found.place []) session →
-            told result ≡ answer_of wanted.now.ident (piece_of frame.now) mark session (says verdict) }
-        ensures session { (places : Places) (session : Session) → KeepPlaces self.old.progress self.old.pool places →
+            told result ≡ answer_of wanted.now.ident (piece_of frame.now) mark session
+            (says verdict) }
+        ensures session { (places : Places) (session : Session) →
+            KeepPlaces self.old.progress self.old.pool places →
             IfPart verdict (HasRoomFor N places found.place (7 * found.progress.taken + 7)) →
-            IsProgressOf found.progress (get_or self.old.pool found.place []) session → out_of_turn (piece_of frame.now).tail session ≡ None →
-            KeepPlaces self.new.progress self.new.pool (set places found.place (Some (session_after (piece_of frame.now) mark now session (says verdict)))) }
+            IsProgressOf found.progress (get_or self.old.pool found.place []) session →
+            out_of_turn (piece_of frame.now).tail session ≡ None →
+            KeepPlaces self.new.progress self.new.pool (set places found.place (Some
+            (session_after (piece_of frame.now) mark now session (says verdict)))) }
         ensures crcs { (signature_of : Key → Option ℕ) →
             signature_of (key_of wanted.now.ident) ≡ Some wanted.now.signature →
-            HaveCrcs signature_of self.old.progress self.old.pool → HaveCrcs signature_of self.new.progress self.new.pool }
+            HaveCrcs signature_of self.old.progress self.old.pool →
+            HaveCrcs signature_of self.new.progress self.new.pool }
     {
         match verdict {
-            Verdict::Whole(payload) => {
+            Ok(Some(payload)) => {
                 self.put(found.place, found.progress.cut_off(now));
                 Took::Delivered(Transfer {
                     ident: wanted.ident,
@@ -144,14 +164,21 @@ impl<const S: usize, const N: usize> Sessions<S, N> {
                     whole: found.progress.is_whole_with(mark),
                 })
             }
-            Verdict::Part => {
+            Ok(None) => {
                 let more = frame.data();
-                match self.grow(found.place, found.progress, more, wanted.signature, mark, now) {
+                match self.grow(
+                    found.place,
+                    found.progress,
+                    more,
+                    wanted.signature,
+                    mark,
+                    now,
+                ) {
                     Ok(()) => Took::Part,
                     Err(NoBlock) => Took::Dropped(Why::NoBlock),
                 }
             }
-            Verdict::Spoiled(why) => {
+            Err(why) => {
                 self.put(found.place, found.progress.cut_off(now));
                 Took::Dropped(why)
             }
@@ -162,7 +189,8 @@ impl<const S: usize, const N: usize> Sessions<S, N> {
     pub fn forget(&mut self, now: u64)
         ensures places { (places : Places) → KeepPlaces self.old.progress self.old.pool places →
             KeepPlaces self.new.progress self.new.pool (left now places) }
-        ensures crcs { (signature_of : Key → Option ℕ) → HaveCrcs signature_of self.old.progress self.old.pool →
+        ensures crcs { (signature_of : Key → Option ℕ) →
+            HaveCrcs signature_of self.old.progress self.old.pool →
             HaveCrcs signature_of self.new.progress self.new.pool }
     {
         for place in 0..S {

@@ -28,9 +28,14 @@ pub enum Turn {
 pub fn foretell(turn: Turn, ident: Ident, frame: &Frame, mark: Mark) -> Option<Transfer>
     requires { IsIdentifier ident }
     ensures ranges { IfSome result IsInRange }
-    ensures delivery { (most blocks signature now : ℕ) (bytes : List (List ℕ)) (places : Places) (sessions : List Session) →
-        IsTurn most bytes blocks (key_of ident) signature (piece_of frame.now) now places sessions turn →
-        option_map delivery_of result ≡ delivered (session_step most blocks (record { ident = ident; signature = signature }) (piece_of frame.now) mark now sessions).answer }
+    ensures delivery { (most blocks signature now : ℕ) (bytes : List (List ℕ)) (places : Places)
+        (sessions : List Session) →
+        IsTurn most bytes blocks (key_of ident) signature
+        (piece_of frame.now) now places sessions turn →
+        option_map delivery_of result ≡
+        delivered (session_step most blocks
+        (record { ident = ident; signature = signature })
+        (piece_of frame.now) mark now sessions).answer }
 {
     match turn {
         Turn::Refused(_) => None,
@@ -48,18 +53,20 @@ fn foretell_next(
 ) -> Option<Transfer>
     requires { IsIdentifier ident }
     ensures ranges { IfSome result IsInRange }
-    ensures delivery { (bytes : List ℕ) (session : Session) → IsProgressOf found.progress bytes session →
-        option_map delivery_of result ≡ delivered (answer_of ident (piece_of frame.now) mark session (says verdict)) }
+    ensures delivery { (bytes : List ℕ) (session : Session) →
+        IsProgressOf found.progress bytes session →
+        option_map delivery_of result ≡
+        delivered (answer_of ident (piece_of frame.now) mark session (says verdict)) }
 {
     match verdict {
-        Verdict::Whole(payload) => Some(Transfer {
+        Ok(Some(payload)) => Some(Transfer {
             ident,
             id: frame.tail().id,
             payload,
             mark,
             whole: found.progress.is_whole_with(mark),
         }),
-        Verdict::Part => None,
-        Verdict::Spoiled(_) => None,
+        Ok(None) => None,
+        Err(_) => None,
     }
 }

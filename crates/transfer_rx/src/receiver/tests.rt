@@ -51,7 +51,8 @@ fn comes<'a>(id: u32, bytes: &'a [u8], now: u64, then: Then<'a>) -> Row<'a> {
 }
 
 fn allocation(kind: Kind, number: u16) -> Option<u64>
-    ensures { result ≡ first_signature (record { kind = Kind.Message; number = 1; signature = ALLOCATION } ∷ []) kind number }
+    ensures { result ≡ first_signature
+        (record { kind = Kind.Message; number = 1; signature = ALLOCATION } ∷ []) kind number }
 {
     match kind {
         Kind::Message if number == 1 => Some(ALLOCATION),
@@ -60,7 +61,8 @@ fn allocation(kind: Kind, number: u16) -> Option<u64>
 }
 
 fn another(kind: Kind, number: u16) -> Option<u64>
-    ensures { result ≡ first_signature (record { kind = Kind.Message; number = 1; signature = ANOTHER } ∷ []) kind number }
+    ensures { result ≡ first_signature
+        (record { kind = Kind.Message; number = 1; signature = ANOTHER } ∷ []) kind number }
 {
     match kind {
         Kind::Message if number == 1 => Some(ANOTHER),
@@ -69,7 +71,8 @@ fn another(kind: Kind, number: u16) -> Option<u64>
 }
 
 fn anonymous(kind: Kind, number: u16) -> Option<u64>
-    ensures { result ≡ first_signature (record { kind = Kind.Anonymous; number = 1; signature = ALLOCATION } ∷ []) kind number }
+    ensures { result ≡ first_signature
+        (record { kind = Kind.Anonymous; number = 1; signature = ALLOCATION } ∷ []) kind number }
 {
     match kind {
         Kind::Anonymous if number == 1 => Some(ALLOCATION),
@@ -90,12 +93,13 @@ fn accept_rows(kind: Kind, signature: u64) -> ArrayVec<AcceptRow, 16>
 }
 
 /// The place of the first row that led to something else.
-fn first_wrong<F: Fn(Kind, u16) -> Option<u64> + Copy, const S: usize>(
-    receiver: &mut Receiver<F, S, 1>,
+fn first_wrong<F: Fn(Kind, u16) -> Option<u64> + Copy, const S: usize, const N: usize>(
+    receiver: &mut Receiver<F, S, N>,
     rows: &[Row],
 ) -> Option<usize>
     requires callable { F.IsAlwaysCallable (accept_of receiver.old) }
-    requires answers { AnswersByRows (F.post (accept_of receiver.old)) (setting_of receiver.old).rows }
+    requires answers { AnswersByRows (F.post (accept_of receiver.old))
+        (setting_of receiver.old).rows }
 {
     for (place, row) in rows.iter().enumerate() {
         if !leads_to(receiver, row) {
@@ -115,12 +119,13 @@ fn first_wrong_anew(rows: &[Row]) -> Option<usize> {
     first_wrong(&mut receiver, rows)
 }
 
-fn leads_to<F: Fn(Kind, u16) -> Option<u64> + Copy, const S: usize>(
-    receiver: &mut Receiver<F, S, 1>,
+fn leads_to<F: Fn(Kind, u16) -> Option<u64> + Copy, const S: usize, const N: usize>(
+    receiver: &mut Receiver<F, S, N>,
     row: &Row,
 ) -> bool
     requires callable { F.IsAlwaysCallable (accept_of receiver.old) }
-    requires answers { AnswersByRows (F.post (accept_of receiver.old)) (setting_of receiver.old).rows }
+    requires answers { AnswersByRows (F.post (accept_of receiver.old))
+        (setting_of receiver.old).rows }
     ensures setting { setting_of receiver.new ≡ setting_of receiver.old }
     ensures accept { accept_of receiver.new ≡ accept_of receiver.old }
 {
@@ -211,6 +216,54 @@ fn the_blocks_are_counted(rt: HostRuntime) {
     assert_eq!(rt; first_wrong(&mut receiver, &rows), None);
 }
 
+/// Whether message 1 of node 1 has a session with these bytes, node 3 has none, and so many blocks
+/// are free.
+fn has_kept<F: Fn(Kind, u16) -> Option<u64> + Copy, const N: usize>(
+    receiver: &Receiver<F, 1, N>,
+    bytes: &[u8],
+    free: usize,
+) -> bool {
+    let pool = receiver.pool();
+    receiver.chain_of(Kind::Message, 1, 1) == Some(0)
+        && receiver.chain_of(Kind::Message, 1, 3).is_none()
+        && pool.free() == free
+        && has_bytes(pool, bytes)
+}
+
+fn has_bytes<const N: usize>(pool: &BlockPool<N, 1>, bytes: &[u8]) -> bool {
+    let mut out = [0; 56];
+    let len = pool.len(0);
+    if len > 56 {
+        return false;
+    }
+    pool.copy_out(0, &mut out[..len]);
+    &out[..len] == bytes
+}
+
+#[test]
+fn the_pool_has_what_came(rt: HostRuntime) {
+    let mut small: Receiver<_, 1, 1> = Receiver::new(
+        2,
+        accept_rows(Kind::Message, ALLOCATION),
+        allocation,
+    );
+    let first = comes(NODE_1, &A, 0, Then::Part);
+    assert_eq!(rt; first_wrong(&mut small, &[first]), None);
+    assert_eq!(rt; has_kept(&small, &A[..7], 0), true);
+    let mut receiver: Receiver<_, 1, 2> = Receiver::new(
+        2,
+        accept_rows(Kind::Message, ALLOCATION),
+        allocation,
+    );
+    let second = comes(NODE_1, &B, 0, Then::Part);
+    let third = comes(NODE_1, &C, 0, Then::Delivered(&PAYLOAD));
+    assert_eq!(rt; leads_to(&mut receiver, &first), true);
+    assert_eq!(rt; has_kept(&receiver, &A[..7], 1), true);
+    assert_eq!(rt; leads_to(&mut receiver, &second), true);
+    assert_eq!(rt; leads_to(&mut receiver, &third), true);
+    assert_eq!(rt; has_kept(&receiver, &[], 2), true);
+}
+
 #[test]
 fn the_crc_has_the_signature(rt: HostRuntime) {
     let rows = [
@@ -283,7 +336,8 @@ struct Listener<F> {
 impl<F: Fn(Kind, u16) -> Option<u64> + Copy> Listener<F> {
     fn hears(&mut self, frame: &Frame, mark: Mark, now: u64) -> bool
         requires callable { F.IsAlwaysCallable (accept_of self.old.receiver) }
-        requires answers { AnswersByRows (F.post (accept_of self.old.receiver)) (setting_of self.old.receiver).rows }
+        requires answers { AnswersByRows (F.post (accept_of self.old.receiver))
+            (setting_of self.old.receiver).rows }
         requires memory { ReceiverFitsInMemory F.row 160 128 }
     {
         matches!(self.receiver.take(frame, mark, now), Took::Part)

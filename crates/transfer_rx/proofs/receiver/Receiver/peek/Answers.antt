@@ -21,11 +21,16 @@ returns-then-is_anonymous-clause-answer g c = λ sessions s.
 pub returns-clause-answer : goal.returns-clause-answer
 returns-clause-answer g c = λ sessions s.
     c.foretell.ensures.delivery g.row.S g.row.N c.in-Ok.wanted.signature c.args.now c.args.self.now.sessions.pool (left c.args.now s.places) (remembered c.args.now sessions)
-    (c.turn-turn.ensures.turn s.places (remembered c.args.now sessions) s.stand (forget c.args.now s.places sessions s.arranged))
+    (c.turn-turn.ensures.turn s.places (remembered c.args.now sessions) s.stand (forget c.args.now s.places sessions s.arranged) (c.free_without_old-free.ensures.free s.places s.stand))
     ∙ ap (λ (x : Step). delivered x.answer) (sym (of_session (record { rows = c.args.self.now.rows.items; me = c.args.self.now.me; sessions = g.row.S; blocks = g.row.N }) sessions (arrival_of c.args.frame.now c.args.mark c.args.now) c.in-Ok.wanted (sym c.wanted.ensures.wanted ∙ c.in-Ok.is) (sym c.is_anonymous.ensures ∙ c.if-is_anonymous.false)))
 
 pub turn-turn-requires : goal.turn-turn-requires
 turn-turn-requires g c =
-    let signatures = signature_in c.args.self.now.rows.items in
-    (search rules, of_key signatures (key_of c.in-Ok.wanted.ident) c.in-Ok.wanted.signature c.args.self.now.sessions.progress c.args.self.now.sessions.pool
-    c.in-Ok.ensures.signature c.args.self.now.crcs)
+    let signatures = signature_in c.args.self.now.rows.items in (
+      search rules,
+      (
+        c.free_without_old-free.ensures.few,
+        of_key signatures (key_of c.in-Ok.wanted.ident) c.in-Ok.wanted.signature c.args.self.now.sessions.progress c.args.self.now.sessions.pool
+            c.in-Ok.ensures.signature c.args.self.now.crcs,
+      ),
+    )

@@ -1,6 +1,7 @@
 use Rattle.std.proofs.Common.{sym, ◌∙◌, ap, subst, rules}
 use Rattle.can_frame.specs.Piece.{piece_of}
 use Rattle.transfer_rx.specs.Crcs.{signature_in}
+use Rattle.transfer_rx.specs.Filled.{IsFree}
 use Rattle.transfer_rx.specs.Keys.{key_of}
 use Rattle.transfer_rx.specs.Sessions.{remembered}
 use Rattle.transfer_rx.specs.Places.{Arranged, Places, KeepSessions, left}
@@ -40,7 +41,8 @@ returns-clause-answer g c = λ sessions s.
     let arranged = forget c.args.now s.places sessions s.arranged in
     c.settle.ensures.answer g.row.S places recent stand arranged
     (subst (λ (p : Places). IsTurn g.row.S c.forget.new.self.pool g.row.N (key_of c.in-Ok.wanted.ident) c.in-Ok.wanted.signature (piece_of c.args.frame.now) c.args.now p recent c.turn-turn.result)
-    twice (c.turn-turn.ensures.turn places recent stand (subst (λ (p : Places). Arranged p recent) (sym twice) arranged)))
+    twice (c.turn-turn.ensures.turn places recent stand (subst (λ (p : Places). Arranged p recent) (sym twice) arranged)
+    (subst (λ (p : Places). IsFree g.row.N p c.free_blocks-free.result) (sym twice) (c.free_blocks-free.ensures.free places stand))))
     ∙ ap (λ (x : Step). x.answer) (sym (of_session (record { rows = c.args.self.now.rows.items; me = c.args.self.now.me; sessions = g.row.S; blocks = g.row.N }) sessions (arrival_of c.args.frame.now c.args.mark c.args.now) c.in-Ok.wanted (sym c.wanted.ensures.wanted ∙ c.in-Ok.is) (sym c.is_anonymous.ensures ∙ c.if-is_anonymous.false)))
 
 pub returns-clause-sessions : goal.returns-clause-sessions
@@ -54,13 +56,19 @@ returns-clause-sessions g c = λ sessions s.
     (sym (of_session (record { rows = c.args.self.now.rows.items; me = c.args.self.now.me; sessions = g.row.S; blocks = g.row.N }) sessions (arrival_of c.args.frame.now c.args.mark c.args.now) c.in-Ok.wanted (sym c.wanted.ensures.wanted ∙ c.in-Ok.is) (sym c.is_anonymous.ensures ∙ c.if-is_anonymous.false)))
     (c.settle.ensures.sessions g.row.S places recent stand arranged
     (subst (λ (p : Places). IsTurn g.row.S c.forget.new.self.pool g.row.N (key_of c.in-Ok.wanted.ident) c.in-Ok.wanted.signature (piece_of c.args.frame.now) c.args.now p recent c.turn-turn.result)
-    twice (c.turn-turn.ensures.turn places recent stand (subst (λ (p : Places). Arranged p recent) (sym twice) arranged))))
+    twice (c.turn-turn.ensures.turn places recent stand (subst (λ (p : Places). Arranged p recent) (sym twice) arranged)
+    (subst (λ (p : Places). IsFree g.row.N p c.free_blocks-free.result) (sym twice) (c.free_blocks-free.ensures.free places stand)))))
 
 pub turn-turn-requires : goal.turn-turn-requires
 turn-turn-requires g c =
-    let signatures = signature_in c.args.self.now.rows.items in
-    (search rules, of_key signatures (key_of c.in-Ok.wanted.ident) c.in-Ok.wanted.signature c.forget.new.self.progress c.forget.new.self.pool
-    c.in-Ok.ensures.signature (c.forget.ensures.crcs signatures c.args.self.now.crcs))
+    let signatures = signature_in c.args.self.now.rows.items in (
+      search rules,
+      (
+        c.free_blocks-free.ensures.few,
+        of_key signatures (key_of c.in-Ok.wanted.ident) c.in-Ok.wanted.signature c.forget.new.self.progress c.forget.new.self.pool
+            c.in-Ok.ensures.signature (c.forget.ensures.crcs signatures c.args.self.now.crcs),
+      ),
+    )
 
 pub invariant_of-self : goal.invariant_of-self
 invariant_of-self g c =

@@ -7,6 +7,7 @@ invariant_of-self g c =
     let size : length c.args.self.now.progress ≡ g.row.S = search rules in
     record {
       few = c.args.self.now.few;
+      blocks = c.args.self.now.blocks;
       chains = c.keep_at.ensures.size ∙ c.args.self.now.chains;
       filled =
           rw c.keep_at.ensures.kept

@@ -11,6 +11,7 @@ invariant_of-self g c =
     let pool = c.args.self.now.pool in
     record {
       few = c.args.self.now.few;
+      blocks = c.args.self.now.blocks;
       chains = ap length c.set_place.ensures.pool ∙ length-emptied c.args.progress.taken c.args.place pool ∙ c.args.self.now.chains;
       filled =
           rw (c.set_place.ensures.kept, c.set_place.ensures.pool)
