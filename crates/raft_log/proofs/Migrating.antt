@@ -113,12 +113,9 @@ module _ {D : Type 0} {disk : Ghosts D} (place : ℕ) (old mid new : Durable D d
 pub all_before : (place : ℕ) (state : Stored) → length state.origins ≡ length state.log → length state.log ≤ place → puts_before place state ≡ origin_puts 0 state.log state.origins
 all_before place state even all = rw (take_all place state.log all, take_all place state.origins (omega (arith, all, even))) refl
 
--- those of an opening, by the version
+-- those of an opening of an older store
 pub puts_of_older : (state : Stored) → (state.version ≡ 2 → ⊥) → opening_puts state ≡ origin_puts 0 state.log state.origins ++ PutVersion ∷ []
 puts_of_older state older = elim (eqb_tells state.version 2) as (λ _. opening_puts state ≡ origin_puts 0 state.log state.origins ++ PutVersion ∷ []) [
   | inl t ↦ absurd (older t.1)
   | inr t ↦ rw t.0 refl
 ]
-
-pub puts_of_newest : (state : Stored) → state.version ≡ 2 → opening_puts state ≡ []
-puts_of_newest state newest = rw newest refl

@@ -9,7 +9,7 @@ use Rattle.can_frame.specs.Log.{blank}
 use Rattle.raft_log.specs.Allowed.{AreAllowed, Fits, IsAllowed, next_after}
 use Rattle.raft_log.specs.Opening.{IsReadAs}
 use Rattle.raft_log.specs.Rules.{Stores, entry_of}
-use Rattle.raft_log.specs.Stored.{Kept, Put, Stored, after_put, after_puts, opening_puts, origin_at, origin_puts}
+use Rattle.raft_log.specs.Stored.{AfterSome, Kept, Put, Stored, after_put, after_puts, opening_puts, origin_at, origin_puts}
 use Rattle.raft_log.specs.Stored.Put.{PutOrigin, PutVersion}
 use Rattle.raft_log.proofs.AllowedPuts.{term_again}
 
@@ -225,3 +225,16 @@ allowed_opening map s has narrow = allowed_by (opening_puts s) s refl (record { 
       subst (λ (e : Entry). Fits e 0) entry.entry_is (fits (entry_of (map (5 + i))) 0
       (length-take-le 16 (drop 4 (map (5 + i))) (omega (arith, length-drop 4 (map (5 + i)), entry.least))) (omega arith)
       (omega (arith, ap (λ (e : Entry). e.term) entry.entry_is, bound, narrow)))
+
+-- what holds after some of the first of these puts holds after so many of them
+pub record IsFront (fact : Stored → Type 0) (puts : List Put) (s : Stored) : Type 0 where
+  pub count : ℕ
+  pub state : Stored
+  pub is : state ≡ after_puts (take count puts) s
+  pub holds : fact state
+
+pub some_front : (fact : Stored → Type 0) (puts : List Put) (s : Stored) → AfterSome fact puts s → IsFront fact puts s
+some_front fact [] s here = record { count = 0; state = s; is = refl; holds = here }
+some_front fact (put ∷ puts) s (inl here) = record { count = 0; state = s; is = refl; holds = here }
+some_front fact (put ∷ puts) s (inr there) =
+    let front = some_front fact puts (after_put put s) there in record { count = suc front.count; state = front.state; is = front.is; holds = front.holds }

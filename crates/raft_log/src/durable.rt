@@ -51,12 +51,12 @@ impl<D: Disk> Durable<D> {
         ensures works { IfOk result (λ durable. durable_fault durable ≡ None) }
 
         // It refuses a disk of which a key is damaged, and puts nothing there.
-        ensures damaged { IfErr result (λ refused. (key : ℕ) → refused.why ≡ Damaged key → D.tells disk ≡ true →
-            IsDamagedAt (D.contents disk).seen key) }
+        ensures damaged { IfErr result (λ refused. (key : ℕ) → refused.why ≡ Damaged key →
+            D.tells disk ≡ true → IsDamagedAt (D.contents disk).seen key) }
         ensures damaged_made { IfErr result (λ refused. (key : ℕ) → refused.why ≡ Damaged key →
             Makes D.does open_calls true disk refused.disk) }
-        ensures damaged_images { IfErr result (λ refused. (key : ℕ) → refused.why ≡ Damaged key → D.tells disk ≡ true →
-            AddsNoImage (D.contents disk) (D.contents refused.disk)) }
+        ensures damaged_images { IfErr result (λ refused. (key : ℕ) → refused.why ≡ Damaged key →
+            D.tells disk ≡ true → AddsNoImage (D.contents disk) (D.contents refused.disk)) }
 
         // And one that failed in this call, before a put or in one.
         ensures fault { IfErr result (λ refused. (fault : Fault) → refused.why ≡ DiskFault fault →
@@ -165,7 +165,8 @@ impl<D: Disk> Durable<D> {
     /// entry, and then last.
     pub fn append(&mut self, entry: Entry, origin: u8) -> Result<(), Fault>
         requires room { length (durable_state self.old).log < log_limit }
-        requires follows { MayFollow (durable_state self.old).log (durable_state self.old).term entry }
+        requires follows { MayFollow (durable_state self.old).log
+            (durable_state self.old).term entry }
         requires origin { origin ≤ origin_limit }
         ensures allowed { AreAllowed (puts_of_append entry origin (durable_state self.old))
             (durable_state self.old) None }
@@ -181,8 +182,10 @@ impl<D: Disk> Durable<D> {
     pub fn truncate(&mut self, place: u8) -> Result<(), Fault>
         requires kept { (durable_state self.old).commit ≤ place }
         requires shorter { place < length (durable_state self.old).log }
-        ensures allowed { AreAllowed (puts_of_cut place (durable_state self.old)) (durable_state self.old) None }
-        ensures puts { MakesPuts (puts_of_cut place (durable_state self.old)) self.old self.new (is_ok result) }
+        ensures allowed { AreAllowed (puts_of_cut place (durable_state self.old))
+            (durable_state self.old) None }
+        ensures puts { MakesPuts (puts_of_cut place (durable_state self.old)) self.old self.new
+            (is_ok result) }
         ensures fault { KeepsFault self.old self.new (result_err result) }
     {
         self.make(Change::Shorter(place))
@@ -209,7 +212,8 @@ impl<D: Disk> Durable<D> {
     /// The state that the disk stands for, found by a sync and one read.
     fn read(disk: D) -> Result<Durable<D>, OpenRefused<D>>
         // The state is that of what reads give, and of whatever a stop may leave from now on.
-        ensures state { IfOk result (λ durable. D.tells disk ≡ true → StandsForState (D.contents disk).seen (durable_state durable)) }
+        ensures state { IfOk result (λ durable. D.tells disk ≡ true →
+            StandsForState (D.contents disk).seen (durable_state durable)) }
         ensures durable { IfOk result (λ durable. D.tells disk ≡ true →
             AlwaysStandsForState (D.contents (durable_disk durable)) (durable_state durable)) }
         ensures copies { IfOk result (λ durable. D.tells disk ≡ true → (key : ℕ) → key < key_count →
@@ -217,8 +221,8 @@ impl<D: Disk> Durable<D> {
         ensures works { IfOk result (λ durable. durable_fault durable ≡ None) }
 
         // It refuses a disk of which a key is damaged, and one that failed in this call.
-        ensures damaged { IfErr result (λ refused. (key : ℕ) → refused.why ≡ Damaged key → D.tells disk ≡ true →
-            IsDamagedAt (D.contents disk).seen key) }
+        ensures damaged { IfErr result (λ refused. (key : ℕ) → refused.why ≡ Damaged key →
+            D.tells disk ≡ true → IsDamagedAt (D.contents disk).seen key) }
         ensures damaged_made { IfErr result (λ refused. (key : ℕ) → refused.why ≡ Damaged key →
             Makes D.does open_calls true disk refused.disk) }
         ensures fault { IfErr result (λ refused. (fault : Fault) → refused.why ≡ DiskFault fault →
@@ -231,7 +235,8 @@ impl<D: Disk> Durable<D> {
             AddsNoImage (D.contents disk) (D.contents (durable_disk durable))) }
         ensures refused { IfErr result (λ refused. D.tells disk ≡ true →
             AddsNoImage (D.contents disk) (D.contents refused.disk)) }
-        ensures made { IfOk result (λ durable. Makes D.does open_calls true disk (durable_disk durable)) }
+        ensures made { IfOk result (λ durable. Makes D.does open_calls true disk
+            (durable_disk durable)) }
         ensures tells { IfOk result (λ durable. D.tells (durable_disk durable) ≡ D.tells disk) }
         ensures refused_tells { IfErr result (λ refused. D.tells refused.disk ≡ D.tells disk) }
         ensures later { IfOk result (λ durable. D.faults disk ≤ D.faults (durable_disk durable)) }
@@ -253,7 +258,8 @@ impl<D: Disk> Durable<D> {
     /// Brings the store to the newest version: each entry gets its origin first.
     fn migrate(&mut self) -> Result<(), Fault>
         requires works { durable_fault self.old ≡ None }
-        ensures puts { MakesPuts (opening_puts (durable_state self.old)) self.old self.new (is_ok result) }
+        ensures puts { MakesPuts (opening_puts (durable_state self.old)) self.old self.new
+            (is_ok result) }
         ensures fault { KeepsFault self.old self.new (result_err result) }
         ensures version { OnOk result ((durable_state self.new).version ≡ 2) }
     {
@@ -284,7 +290,8 @@ impl<D: Disk> Durable<D> {
     fn put_origin(&mut self, place: u8) -> Result<(), Fault>
         requires works { durable_fault self.old ≡ None }
         requires there { place < length (durable_state self.old).log }
-        ensures puts { MakesPuts (put_at place (durable_state self.old)) self.old self.new (is_ok result) }
+        ensures puts { MakesPuts (put_at place (durable_state self.old)) self.old self.new
+            (is_ok result) }
         ensures fault { KeepsFault self.old self.new (result_err result) }
     {
         a_state_is_durable::<D>();
@@ -316,8 +323,10 @@ impl Durable<MemoryDisk> {
 
     /// `MemoryDisk::stop_at` of the disk. All else stays.
     pub fn stop_at(&mut self, call: u64)
-        ensures calls { memory_calls (durable_disk self.new) ≡ record (memory_calls (durable_disk self.old)) { stop_in = call } }
-        ensures contents { memory_contents (durable_disk self.new) ≡ memory_contents (durable_disk self.old) }
+        ensures calls { memory_calls (durable_disk self.new) ≡
+            record (memory_calls (durable_disk self.old)) { stop_in = call } }
+        ensures contents { memory_contents (durable_disk self.new) ≡
+            memory_contents (durable_disk self.old) }
         ensures state { durable_state self.new ≡ durable_state self.old }
         ensures copies { durable_copies self.new ≡ durable_copies self.old }
         ensures fault { durable_fault self.new ≡ durable_fault self.old }
@@ -327,8 +336,10 @@ impl Durable<MemoryDisk> {
 
     /// `MemoryDisk::fail_at` of the disk. All else stays.
     pub fn fail_at(&mut self, call: u64)
-        ensures calls { memory_calls (durable_disk self.new) ≡ record (memory_calls (durable_disk self.old)) { fail_in = call } }
-        ensures contents { memory_contents (durable_disk self.new) ≡ memory_contents (durable_disk self.old) }
+        ensures calls { memory_calls (durable_disk self.new) ≡
+            record (memory_calls (durable_disk self.old)) { fail_in = call } }
+        ensures contents { memory_contents (durable_disk self.new) ≡
+            memory_contents (durable_disk self.old) }
         ensures state { durable_state self.new ≡ durable_state self.old }
         ensures copies { durable_copies self.new ≡ durable_copies self.old }
         ensures fault { durable_fault self.new ≡ durable_fault self.old }

@@ -22,15 +22,18 @@ ghost use Rattle.raft_log.specs.declared.durable.Durable.{Durable};
 ghost use Rattle.raft_log.specs.DurableViews.{durable_copies, durable_disk, durable_fault, durable_state};
 ghost use Rattle.raft_log.specs.MayFollow.{IsKept, IsStorable};
 ghost use Rattle.raft_log.specs.Rules.{AlwaysStandsForState, IsDamagedAt, StandsForState};
-ghost use Rattle.raft_log.specs.Stored.{Put, Stored, after_puts, opening_puts};
+ghost use Rattle.raft_log.specs.Stored.{AfterSome, Put, Stored, after_puts, opening_puts};
 
 use disk_model::{Disk, MemoryDisk};
 
 /// An image stands for one state, or has one first damaged key.
 pub fn an_image_stands_for_one_state()
-    ensures state { (image : List ℕ) (a b : Stored) → StandsForState image a → StandsForState image b → a ≡ b }
-    ensures damaged { (image : List ℕ) (a b : ℕ) → IsDamagedAt image a → IsDamagedAt image b → a ≡ b }
-    ensures either { (image : List ℕ) (state : Stored) (key : ℕ) → StandsForState image state → IsDamagedAt image key → ⊥ }
+    ensures state { (image : List ℕ) (a b : Stored) → StandsForState image a →
+        StandsForState image b → a ≡ b }
+    ensures damaged { (image : List ℕ) (a b : ℕ) → IsDamagedAt image a → IsDamagedAt image b →
+        a ≡ b }
+    ensures either { (image : List ℕ) (state : Stored) (key : ℕ) → StandsForState image state →
+        IsDamagedAt image key → ⊥ }
 {}
 
 /// What an image stands for is storable: its whole log is injective.
@@ -41,12 +44,20 @@ pub fn a_stored_state_is_storable()
 /// An image of zeros stands for the state that a run begins with.
 pub fn zeros_are_the_first_state()
     ensures { (image : List ℕ) → ((i : ℕ) → slice_index image i ≡ 0) →
-        StandsForState image (record { term = 0; vote = 0; log = []; commit = 0; origins = []; version = 0 }) }
+        StandsForState image (record {
+          term = 0;
+          vote = 0;
+          log = [];
+          commit = 0;
+          origins = [];
+          version = 0;
+        }) }
 {}
 
 /// Whatever a stop leaves of the disk stands for the state, while no put has failed.
 pub fn a_state_is_durable<D: Disk>()
-    ensures { (durable : Durable D D.Disk) → durable_fault durable ≡ None → D.tells (durable_disk durable) ≡ true →
+    ensures { (durable : Durable D D.Disk) → durable_fault durable ≡ None →
+        D.tells (durable_disk durable) ≡ true →
         AlwaysStandsForState (D.contents (durable_disk durable)) (durable_state durable) }
 {
     kv_store::laws::a_store_is_durable::<D>();
@@ -64,13 +75,20 @@ pub fn allowed_puts_leave_a_kept_state()
 {}
 
 /// An opening's puts may all be made. After some of the first of them all that is read of the state is as it
-/// was, and an opening makes the others. With version 2 there are none, and after all of them it is 2.
+/// was, so an image that a stop leaves of an opening stands for a state that is read as the one it found; and
+/// an opening makes the others. With version 2 there are none, and after all of them it is 2.
 pub fn an_opening_goes_on()
-    ensures allowed { (image : List ℕ) (state : Stored) → StandsForState image state → state.term < 2 ^ 32 →
+    ensures allowed { (image : List ℕ) (state : Stored) → StandsForState image state →
+        state.term < 2 ^ 32 →
         AreAllowed (opening_puts state) state None }
-    ensures same { (state : Stored) (count : ℕ) → IsReadAs (after_puts (take count (opening_puts state)) state) state }
+    ensures same { (state : Stored) (count : ℕ) →
+        IsReadAs (after_puts (take count (opening_puts state)) state) state }
     ensures others { (state : Stored) (count : ℕ) →
-        opening_puts (after_puts (take count (opening_puts state)) state) ≡ drop count (opening_puts state) }
+        opening_puts (after_puts (take count (opening_puts state)) state) ≡
+        drop count (opening_puts state) }
+    ensures left { (image : List ℕ) (state : Stored) →
+        AfterSome (StandsForState image) (opening_puts state) state →
+        (found : Stored) × StandsForState image found × IsReadAs found state }
     ensures nothing { (state : Stored) → state.version ≡ 2 → opening_puts state ≡ [] }
     ensures version { (state : Stored) → (after_puts (opening_puts state) state).version ≡ 2 }
 {}
@@ -90,7 +108,8 @@ pub fn puts_in_turn<D: Disk>()
     ensures cut_off { (xs ys : List Put) (old new : Durable D D.Disk) →
         MakesPuts xs old new false → MakesPuts (xs ++ ys) old new false }
     ensures allowed { (xs ys : List Put) (state : Stored) →
-        AreAllowed xs state None → AreAllowed ys (after_puts xs state) None → AreAllowed (xs ++ ys) state None }
+        AreAllowed xs state None → AreAllowed ys (after_puts xs state) None →
+        AreAllowed (xs ++ ys) state None }
 {
     a_state_is_durable::<D>();
 }
@@ -103,11 +122,14 @@ pub fn puts_in_turn<D: Disk>()
 pub fn the_disk_by_states()
     ensures found { (disk : MemoryDisk) (shelf : Shelf Stored) → IsOn disk shelf →
         StandsForState (memory_contents disk).seen shelf.store ×
-        ((key : ℕ) → key < key_count → chosen_copy (memory_contents disk).seen key ≡ shelf.copies key) }
-    ensures puts { (old new : MemoryDisk) (shelf : Shelf Stored) (copies : ℕ → ℕ) (puts : List Put) (ok : Bool) →
-        IsReady old shelf → ((key : ℕ) → key < key_count → copies key ≡ shelf.copies key) → AreAllowed puts shelf.store None →
+        ((key : ℕ) → key < key_count →
+        chosen_copy (memory_contents disk).seen key ≡ shelf.copies key) }
+    ensures puts { (old new : MemoryDisk) (shelf : Shelf Stored) (copies : ℕ → ℕ)
+        (puts : List Put) (ok : Bool) → IsReady old shelf →
+        ((key : ℕ) → key < key_count → copies key ≡ shelf.copies key) → AreAllowed puts shelf.store None →
         Makes DoesInMemory (device_calls puts shelf.store copies) ok old new →
-        IsOn new (puts_on puts shelf) × (ok ≡ are_put puts shelf.calls) × (ok ≡ true → IsReady new (puts_on puts shelf)) }
+        IsOn new (puts_on puts shelf) × (ok ≡ are_put puts shelf.calls) ×
+        (ok ≡ true → IsReady new (puts_on puts shelf)) }
     ensures done { (shelf : Shelf Stored) (puts : List Put) → are_put puts shelf.calls ≡ true →
         ((puts_on puts shelf).store ≡ after_puts puts shelf.store) ×
         ((puts_on puts shelf).copies ≡ copies_after puts shelf.store shelf.copies) }
@@ -119,19 +141,28 @@ pub fn the_disk_by_states()
         let count = done_on puts shelf.calls + found_by pattern after in
         (restarted_on pattern after).store ≡ after_puts (take count puts) shelf.store }
     ensures opened { (old new : MemoryDisk) (shelf : Shelf Stored) (copies : ℕ → ℕ) (ok : Bool) →
-        IsOn old shelf → ((key : ℕ) → key < key_count → copies key ≡ shelf.copies key) → shelf.store.term < 2 ^ 32 →
+        IsOn old shelf → ((key : ℕ) → key < key_count → copies key ≡ shelf.copies key) →
+        shelf.store.term < 2 ^ 32 →
         Makes DoesInMemory (opening_calls shelf.store copies) ok old new →
-        IsOn new (opening_on shelf) × (ok ≡ is_open_on shelf) × (ok ≡ true → IsReady new (opening_on shelf)) }
+        IsOn new (opening_on shelf) × (ok ≡ is_open_on shelf) ×
+        (ok ≡ true → IsReady new (opening_on shelf)) }
     ensures read { (old new : MemoryDisk) (shelf : Shelf Stored) (ok : Bool) → IsOn old shelf →
         Makes DoesInMemory open_calls ok old new → let after = opened_on shelf in
         IsOn new after × (ok ≡ is_opened shelf.calls) × (ok ≡ true → IsReady new after) }
-    ensures restarted { (old new : MemoryDisk) (shelf : Shelf Stored) (pattern : Pattern) → IsOn old shelf → IsUsable pattern →
+    ensures restarted { (old new : MemoryDisk) (shelf : Shelf Stored) (pattern : Pattern) →
+        IsOn old shelf → IsUsable pattern →
         Restarts pattern old new → IsReady new (restarted_on pattern shelf) }
     ensures set { (old new : MemoryDisk) (shelf : Shelf Stored) (calls : Calls) → IsOn old shelf →
-        memory_contents new ≡ memory_contents old → memory_calls new ≡ calls → IsOn new (record shelf { calls = calls }) }
+        memory_contents new ≡ memory_contents old → memory_calls new ≡ calls →
+        IsOn new (record shelf { calls = calls }) }
     ensures begun { (disk : MemoryDisk) (state : Stored) →
         StandsForState (memory_contents disk).seen state → IsSettled (memory_contents disk) →
-        IsReady disk (record { store = state; copies = λ key. chosen_copy (memory_contents disk).seen key; loose = None; calls = memory_calls disk }) }
+        IsReady disk (record {
+          store = state;
+          loose = None;
+          copies = λ key. chosen_copy (memory_contents disk).seen key;
+          calls = memory_calls disk;
+        }) }
 {
     kv_store::laws::the_disk_by_keys();
 }
@@ -166,7 +197,8 @@ pub fn a_member_on_the_disk_by_states()
 /// its selector was written and is kept. The next opening makes the others. What reads give without a
 /// restart is what a restart finds that keeps all that was written.
 pub fn an_opening_on_the_disk_by_states()
-    ensures done { (shelf : Shelf Stored) → let puts = opening_puts shelf.store in is_open_on shelf ≡ true →
+    ensures done { (shelf : Shelf Stored) → let puts = opening_puts shelf.store in
+        is_open_on shelf ≡ true →
         ((opening_on shelf).store ≡ after_puts puts shelf.store) ×
         ((opening_on shelf).copies ≡ copies_after puts shelf.store shelf.copies) }
     ensures counted { (shelf : Shelf Stored) → let count = length (opening_puts shelf.store) in
@@ -174,7 +206,8 @@ pub fn an_opening_on_the_disk_by_states()
         (is_opened shelf.calls ≡ true → is_open_on shelf ≡ false → opening_done shelf < count) }
     ensures found_again { (shelf : Shelf Stored) (pattern : Pattern) →
         (acts shelf.calls ≡ false → shelf.loose ≡ None) → let after = opening_on shelf in
-        let count = opening_done shelf + found_by pattern after in let puts = opening_puts shelf.store in
+        let count = opening_done shelf + found_by pattern after in
+        let puts = opening_puts shelf.store in
         ((restarted_on pattern after).store ≡ after_puts (take count puts) shelf.store) ×
         (opening_puts (restarted_on pattern after).store ≡ drop count puts) }
     ensures at_most_one { (shelf : Shelf Stored) (pattern : Pattern) → found_by pattern shelf ≤ 1 }

@@ -86,7 +86,8 @@ impl State {
     /// The state after a change.
     pub fn make(&mut self, change: Change)
         requires { MayMake change (stored_of self.old) }
-        ensures { stored_of self.new ≡ after_put (put_of change (stored_of self.old)) (stored_of self.old) }
+        ensures { stored_of self.new ≡ after_put (put_of change (stored_of self.old))
+            (stored_of self.old) }
     {
         match change {
             Change::Term(term) => self.term = term,

@@ -37,7 +37,8 @@ pub fn read_term(value: &[u8]) -> Option<u32>
 
 /// A byte up to `most`, 0 where it is empty.
 pub fn read_byte(value: &[u8], most: u8) -> Option<u8>
-    ensures found { IfSome result (λ byte. (byte ≡ slice_index value.now 0) × IsByteUpTo most value.now) }
+    ensures found { IfSome result (λ byte. (byte ≡ slice_index value.now 0) ×
+        IsByteUpTo most value.now) }
     ensures none { IsNone result → IsByteUpTo most value.now → ⊥ }
 {
     match value {

@@ -1,5 +1,7 @@
 use Rattle.kv_store.specs.Image.{value_in}
-use Rattle.raft_log.proofs.Opening.{allowed_opening, left_after, none_where_two, same_after, two_after}
+use Rattle.raft_log.specs.Rules.{StandsForState}
+use Rattle.raft_log.specs.Stored.{opening_puts}
+use Rattle.raft_log.proofs.Opening.{allowed_opening, left_after, none_where_two, same_after, some_front, two_after}
 use Rattle.raft_log.proofs.laws.an_opening_goes_on.Goals as goal
 
 pub returns-clause-allowed : goal.returns-clause-allowed
@@ -16,3 +18,6 @@ returns-clause-nothing c = none_where_two
 
 pub returns-clause-version : goal.returns-clause-version
 returns-clause-version c = two_after
+
+pub returns-clause-left : goal.returns-clause-left
+returns-clause-left c = λ image state some. let front = some_front (StandsForState image) (opening_puts state) state some in (front.state, front.holds, rw front.is (same_after state front.count))

@@ -7,13 +7,14 @@ use Rattle.raft_log.specs.Stored.{Put, Stored, origin_puts}
 use Rattle.raft_log.specs.Stored.Put.{PutVersion}
 use Rattle.raft_log.proofs.AllowedPuts.{still_allowed}
 use Rattle.raft_log.proofs.InTurn.{cut_by, fault_after, on_ok, puts_after, without_puts}
-use Rattle.raft_log.proofs.Migrating.{puts_of_newest, puts_of_older}
+use Rattle.raft_log.proofs.Migrating.{puts_of_older}
+use Rattle.raft_log.proofs.Opening.{none_where_two}
 use Rattle.raft_log.proofs.durable.Durable.migrate.Goals as goal
 
 pub returns-then-self-eq-NEWEST-clause-puts : goal.returns-then-self-eq-NEWEST-clause-puts
 returns-then-self-eq-NEWEST-clause-puts g c =
     let durable = c.args.self.now in
-    subst (λ (puts : List Put). MakesPuts puts durable durable true) (sym (puts_of_newest (stored_of durable.state) c.if-self-eq-NEWEST.true)) (without_puts durable (c.a_state_is_durable.ensures durable))
+    subst (λ (puts : List Put). MakesPuts puts durable durable true) (sym (none_where_two (stored_of durable.state) c.if-self-eq-NEWEST.true)) (without_puts durable (c.a_state_is_durable.ensures durable))
 
 pub returns-in_err-put_origins-clause-puts : goal.returns-in_err-put_origins-clause-puts
 returns-in_err-put_origins-clause-puts g c =

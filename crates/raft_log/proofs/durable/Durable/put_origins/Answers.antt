@@ -45,7 +45,7 @@ loop-place-preserved g c =
       later = further_later place old mid new true within kept.log kept.later kept.puts kept.fault put refl;
       have = further_have place old mid new true within kept.log kept.later kept.puts kept.fault put refl kept.have;
       puts = further_puts place old mid new true within kept.log kept.later kept.puts kept.fault put;
-      fault = fault_after old mid new _ kept.fault (λ works. c.in_ok-put_origin.ensures.fault);
+      fault = fault_after old mid new None kept.fault (λ works. c.in_ok-put_origin.ensures.fault);
     }
 
 pub returns-clause-puts : goal.returns-clause-puts
