@@ -6,6 +6,7 @@ use Rattle.disk_model.specs.declared.disk.Disk.{Ghosts}
 use Rattle.kv_store.specs.declared.fault.Fault.{Fault}
 use Rattle.can_frame.specs.declared.step.Role.{Role}
 use Rattle.can_frame.specs.declared.step.Role.TheVariants.{Follower, Candidate, Leader}
+use Rattle.raft_log.specs.declared.origin.TheConstants.{LEADER, WIN}
 use Rattle.raft_log.specs.declared.durable.Durable.{Durable}
 use Rattle.raft_log.specs.DurableViews.{durable_state}
 use Rattle.raft_log.specs.Stored.{Stored}
@@ -19,7 +20,7 @@ use Rattle.raft_model.specs.Server.Put.{PutTerm, PutVote}
 use Rattle.raft_core.specs.declared.raft.Raft.{Raft}
 use Rattle.raft_core.specs.Handled.{MakesMoves}
 use Rattle.raft_core.specs.Stands.{StandsFor, role_of}
-use Rattle.raft_core.specs.StoredPuts.{DoesPuts}
+use Rattle.raft_core.specs.StoredPuts.{DoesPuts, noted}
 use Rattle.raft_core.specs.Times.{Given, Times, end_call, end_vote_call, raise, step_down, win}
 use Rattle.raft_core.proofs.Moving.{one_move, one_move_failed}
 use Rattle.raft_core.proofs.VoteAnswer.{CountsVotes, votes_puts}
@@ -80,10 +81,10 @@ module _ {D : Type 0} {disk : Ghosts D} (members : List ℕ) (m n : ℕ) (given 
   Raised t1 = StandsFor raft2 members (durable_state new) (record { store = with_term p.store a.term; memory = term_memory (record p { memory = ended p.memory a.from }) a.term }) (raise given.now a.term (record p { memory = ended p.memory a.from }) t1)
 
   -- a vote that does not count
-  pub no_vote_counted : (nat_lt p.store.term a.term ≡ false → counts p a ≡ false) → DoesPuts (term_puts p.store a.term) old new None → Raised (end_vote_call a.from t)
+  pub no_vote_counted : (nat_lt p.store.term a.term ≡ false → counts p a ≡ false) → DoesPuts (noted WIN (term_puts p.store a.term)) old new None → Raised (end_vote_call a.from t)
       → MakesMoves members m n given (TakeVoteAnswer a ∷ []) p t old new raft2 None
   no_vote_counted none made after = one_move members m n given (TakeVoteAnswer a) p t old new raft2
-      (subst (λ (l : List Put). DoesPuts l old new None) same_puts made)
+      (subst (λ (l : List Put). DoesPuts (noted WIN l) old new None) same_puts made)
       (subst (λ (x : Times). StandsFor raft2 members (durable_state new) (record { store = put_all p.store (puts members m p (TakeVoteAnswer a)); memory = memory_after members m n p (TakeVoteAnswer a) }) x)
       (skip higher (counts p a && has_quorum members (counted p.memory a)) (step_down given.now p.memory.role (end_vote_call a.from t)) (win (end_vote_call a.from t)) (end_vote_call a.from t) (λ low. and_false (counts p a) _ (none low)))
       (subst (λ (x : Memory). StandsFor raft2 members (durable_state new) (record { store = put_all p.store (puts members m p (TakeVoteAnswer a)); memory = x }) (raise given.now a.term p1 (end_vote_call a.from t)))
@@ -94,7 +95,7 @@ module _ {D : Type 0} {disk : Ghosts D} (members : List ℕ) (m n : ℕ) (given 
       same_puts = twice higher _ [] ∙ skip higher (counts p a) (term_puts p.store a.term) (if has_quorum members (counted p.memory a) then win_puts p.store else []) [] none
 
   -- one that counts
-  pub vote_counted : nat_lt p.store.term a.term ≡ false → counts p a ≡ true → DoesPuts (votes_puts members p1 t (counted p.memory a) old new raft2) old new None
+  pub vote_counted : nat_lt p.store.term a.term ≡ false → counts p a ≡ true → DoesPuts (noted WIN (votes_puts members p1 t (counted p.memory a) old new raft2)) old new None
       → CountsVotes members p1 (end_vote_call a.from t) (counted p.memory a) old new raft2
       → MakesMoves members m n given (TakeVoteAnswer a ∷ []) p t old new raft2 None
   vote_counted low so made after = one_move members m n given (TakeVoteAnswer a) p t old new raft2 (rw (low, so) made) (rw (low, so) (by_quorum (has_quorum members (counted p.memory a)) after))
@@ -106,20 +107,20 @@ module _ {D : Type 0} {disk : Ghosts D} (members : List ℕ) (m n : ℕ) (given 
       by_quorum false h = h
 
   -- an append answer that does not count
-  pub not_matched : (nat_lt p.store.term a.term ≡ false → (is_leader p.memory.role && (a.term == p.store.term)) ≡ false) → DoesPuts (term_puts p.store a.term) old new None → Raised (end_call a.from t)
+  pub not_matched : (nat_lt p.store.term a.term ≡ false → (is_leader p.memory.role && (a.term == p.store.term)) ≡ false) → DoesPuts (noted LEADER (term_puts p.store a.term)) old new None → Raised (end_call a.from t)
       → MakesMoves members m n given (TakeAppendAnswer a ∷ []) p t old new raft2 None
   not_matched none made after = one_move members m n given (TakeAppendAnswer a) p t old new raft2 made
       (subst (λ (x : Memory). StandsFor raft2 members (durable_state new) (record { store = with_term p.store a.term; memory = x }) (raise given.now a.term p1 (end_call a.from t)))
       (skip higher (is_leader p.memory.role && (a.term == p.store.term)) (record (ended p.memory a.from) { role = MachineRole.Follower }) (matched_memory p.memory a) (ended p.memory a.from) none) after)
 
   -- one that counts
-  pub matched : nat_lt p.store.term a.term ≡ false → (is_leader p.memory.role && (a.term == p.store.term)) ≡ true → DoesPuts (term_puts p.store a.term) old new None
+  pub matched : nat_lt p.store.term a.term ≡ false → (is_leader p.memory.role && (a.term == p.store.term)) ≡ true → DoesPuts (noted LEADER (term_puts p.store a.term)) old new None
       → StandsFor raft2 members (durable_state new) (record p { memory = matched_memory p.memory a }) (end_call a.from t)
       → MakesMoves members m n given (TakeAppendAnswer a ∷ []) p t old new raft2 None
   matched low so made after = one_move members m n given (TakeAppendAnswer a) p t old new raft2 made (rw (low, so) after)
 
   -- the votes were not stored
-  pub count_failed : {T : Type 0} (result : Result T Fault) (fault : Fault) → result ≡ Err fault → nat_lt p.store.term a.term ≡ false → counts p a ≡ true → DoesPuts (votes_puts members p1 t (counted p.memory a) old new raft2) old new (Some fault)
+  pub count_failed : {T : Type 0} (result : Result T Fault) (fault : Fault) → result ≡ Err fault → nat_lt p.store.term a.term ≡ false → counts p a ≡ true → DoesPuts (noted WIN (votes_puts members p1 t (counted p.memory a) old new raft2)) old new (Some fault)
       → MakesMoves members m n given (TakeVoteAnswer a ∷ []) p t old new raft2 (result_err result)
   count_failed result fault failed low so made = one_move_failed members m n given (TakeVoteAnswer a) p t old new raft2 result fault failed (rw (low, so) made)
 
@@ -128,8 +129,8 @@ module _ {D : Type 0} {disk : Ghosts D} (members : List ℕ) (m n : ℕ) (given 
   rest = if nat_lt p.store.term a.term then [] else (if counts p a then (if has_quorum members (counted p.memory a) then win_puts p.store else []) else [])
 
   -- the term was not stored
-  pub term_failed : {T : Type 0} (result : Result T Fault) (fault : Fault) → result ≡ Err fault → DoesPuts (term_puts p.store a.term ++ rest) old new (Some fault) → MakesMoves members m n given (TakeVoteAnswer a ∷ []) p t old new raft2 (result_err result)
-  term_failed result fault failed made = one_move_failed members m n given (TakeVoteAnswer a) p t old new raft2 result fault failed (subst (λ (l : List Put). DoesPuts l old new (Some fault)) (joins higher _) made)
+  pub term_failed : {T : Type 0} (result : Result T Fault) (fault : Fault) → result ≡ Err fault → DoesPuts (noted WIN (term_puts p.store a.term ++ rest)) old new (Some fault) → MakesMoves members m n given (TakeVoteAnswer a ∷ []) p t old new raft2 (result_err result)
+  term_failed result fault failed made = one_move_failed members m n given (TakeVoteAnswer a) p t old new raft2 result fault failed (subst (λ (l : List Put). DoesPuts (noted WIN l) old new (Some fault)) (joins higher _) made)
     where
       joins : (b : Bool) (more : List Put) → (if b then PutTerm a.term ∷ PutVote None ∷ [] else []) ++ (if b then [] else more) ≡ (if b then (if b then PutTerm a.term ∷ PutVote None ∷ [] else []) else more)
       joins true more = refl

@@ -6,6 +6,7 @@ use Rattle.disk_model.specs.declared.disk.Disk.{Ghosts}
 use Rattle.dsdl_codec.specs.declared.append_answer.AppendAnswer.{AppendAnswer}
 use Rattle.can_frame.specs.declared.step.Role.TheVariants.{Follower}
 use Rattle.kv_store.specs.declared.fault.Fault.{Fault}
+use Rattle.raft_log.specs.declared.origin.TheConstants.{LEADER}
 use Rattle.raft_log.specs.declared.durable.Durable.{Durable}
 use Rattle.raft_log.specs.DurableViews.{durable_state}
 use Rattle.raft_model.specs.Messages.{Request}
@@ -17,7 +18,7 @@ use Rattle.raft_model.specs.Server.{Plain, Put, Store, put_all}
 use Rattle.raft_core.specs.declared.raft.Raft.{Raft}
 use Rattle.raft_core.specs.Handled.{MakesMoves}
 use Rattle.raft_core.specs.Stands.{StandsFor}
-use Rattle.raft_core.specs.StoredPuts.{DoesPuts, store_of}
+use Rattle.raft_core.specs.StoredPuts.{DoesPuts, noted, store_of}
 use Rattle.raft_core.specs.Times.{Given, Times, raise}
 use Rattle.raft_core.proofs.Judged.{IsLate, append_counts, judged_outdated, judged_ruled, late, no_term_puts, not_late, not_lower, outdated_term, own_term, raised_term, taken_stands}
 use Rattle.raft_core.proofs.Moving.{one_move, one_move_failed, put_then, store_after}
@@ -37,7 +38,7 @@ module _ {D : Type 0} {disk : Ghosts D} (members : List ℕ) (m n : ℕ) (given 
       let out : IsOutdated p r = late raft members (durable_state old) p t r st is_late in
       let none : term_puts p.store r.term ++ [] ≡ [] = ap (λ (l : List Put). l ++ []) (no_term_puts p.store r.term (outdated_term p r out)) in
       subst (λ (w : Verdict). MakesMoves members m n given (TakeAppendRequest r w ∷ []) p t old old raft None × ((term ≡ (with_term p.store r.term).term) × (false ≡ is_accepted w))) (sym (judged_outdated p r v judged out)) (
-        one_move members m n given (TakeAppendRequest r Outdated) p t old old raft (none_made _ old None none nothing)
+        one_move members m n given (TakeAppendRequest r Outdated) p t old old raft (none_made LEADER _ old None none nothing)
             (subst (λ (l : List Put). StandsFor raft members (durable_state old) (record p { store = put_all p.store l }) t) (sym none) st),
         (own ∙ (sym (ap (λ (z : Store). z.term) st.store) ∙ own_term p.store r.term (outdated_term p r out)), refl),
       )
@@ -48,10 +49,10 @@ module _ {D : Type 0} {disk : Ghosts D} (members : List ℕ) (m n : ℕ) (given 
 
     -- the term was not stored
     pub term_failed : (fault : Fault) (raft2 : Raft) (result : Result AppendAnswer Fault) → result ≡ Err fault
-        → DoesPuts (term_puts (store_of (durable_state old)) r.term ++ append_puts (with_term p.store r.term) r v) old new (Some fault) → IsTaken new raft2 result
+        → DoesPuts (noted LEADER (term_puts (store_of (durable_state old)) r.term ++ append_puts (with_term p.store r.term) r v)) old new (Some fault) → IsTaken new raft2 result
     term_failed fault raft2 result is made = (
       one_move_failed members m n given (TakeAppendRequest r v) p t old new raft2 result fault is
-          (subst (λ (z : Store). DoesPuts (term_puts z r.term ++ append_puts (with_term p.store r.term) r v) old new (Some fault)) (sym st.store) made),
+          (subst (λ (z : Store). DoesPuts (noted LEADER (term_puts z r.term ++ append_puts (with_term p.store r.term) r v)) old new (Some fault)) (sym st.store) made),
       subst (λ (x : Result AppendAnswer Fault). IfOk x (λ answer. (answer.term ≡ (with_term p.store r.term).term) × (answer.success ≡ is_accepted v))) (sym is) tt,
     )
 
@@ -67,19 +68,19 @@ module _ {D : Type 0} {disk : Ghosts D} (members : List ℕ) (m n : ℕ) (given 
       -- it is taken
       pub taken : (success : Bool) (term : ℕ) (raft2 : Raft) → raft2.role ≡ Follower → given.now ≡ raft2.since → raft2.told ≡ raft1.told → raft2.word ≡ raft1.word → raft2.peers ≡ raft1.peers
           → success ≡ is_accepted v → term ≡ r.term
-          → DoesPuts (append_puts (store_of (durable_state mid)) r v) mid new None
-          → DoesPuts (term_puts (store_of (durable_state old)) r.term ++ append_puts (with_term p.store r.term) r v) old new None
+          → DoesPuts (noted LEADER (append_puts (store_of (durable_state mid)) r v)) mid new None
+          → DoesPuts (noted LEADER (term_puts (store_of (durable_state old)) r.term ++ append_puts (with_term p.store r.term) r v)) old new None
           → IsTaken new raft2 (Ok (record { term = term; success = success }))
       taken success term raft2 role since told word peers is_success is_term appended made = (
         one_move members m n given (TakeAppendRequest r v) p t old new raft2
-            (subst (λ (z : Store). DoesPuts (term_puts z r.term ++ append_puts (with_term p.store r.term) r v) old new None) (sym st.store) made)
+            (subst (λ (z : Store). DoesPuts (noted LEADER (term_puts z r.term ++ append_puts (with_term p.store r.term) r v)) old new None) (sym st.store) made)
             (taken_stands members m n given p t r v raft1 raft2 (durable_state mid) (durable_state new) st1 ruled stored role since told word peers),
         (is_term ∙ raised_term p.store r.term (not_lower raft members (durable_state old) p t r st not), is_success),
       )
         where
           stored : store_of (durable_state new) ≡ put_all p.store (term_puts p.store r.term ++ append_puts (with_term p.store r.term) r v)
           stored = ap store_of (appended.made.state refl)
-              ∙ (store_after (append_puts (store_of (durable_state mid)) r v) (durable_state mid) (append_counts (store_of (durable_state mid)) r v)
+              ∙ (store_after LEADER (append_puts (store_of (durable_state mid)) r v) (durable_state mid) (append_counts (store_of (durable_state mid)) r v)
               ∙ (ap (put_all (store_of (durable_state mid))) puts_now
               ∙ (ap (λ (z : Store). put_all z (append_puts (with_term p.store r.term) r v)) (sym st1.store)
               ∙ sym (put_then (term_puts p.store r.term) (append_puts (with_term p.store r.term) r v) p.store))))

@@ -6,6 +6,7 @@ use Rattle.std.specs.Result.{result_err}
 use Rattle.can_frame.specs.declared.step.Role.TheVariants.{Leader}
 use Rattle.disk_model.specs.declared.disk.Disk.{Ghosts}
 use Rattle.kv_store.specs.declared.fault.Fault.{Fault}
+use Rattle.raft_log.specs.declared.origin.TheConstants.{LEADER}
 use Rattle.raft_log.specs.declared.durable.Durable.{Durable}
 use Rattle.raft_log.specs.DurableViews.{durable_state}
 use Rattle.raft_model.specs.Decisions.{commit_index}
@@ -23,7 +24,7 @@ use Rattle.raft_core.specs.Backs.{Backs, backs}
 use Rattle.raft_core.specs.Handled.{MakesMoves}
 use Rattle.raft_core.specs.Peers.{fresh}
 use Rattle.raft_core.specs.Stands.{StandsFor, role_of}
-use Rattle.raft_core.specs.StoredPuts.{DoesPuts, store_of}
+use Rattle.raft_core.specs.StoredPuts.{DoesPuts, noted, store_of}
 use Rattle.raft_core.specs.Times.{Given, Times}
 use Rattle.raft_core.proofs.Moving.{leads, no_move, one_move, one_move_failed, storing_stands}
 
@@ -74,13 +75,13 @@ module _ {D : Type 0} {disk : Ghosts D} (members : List ℕ) (m n : ℕ) (given 
     moves : commit_phase members m p ≡ CommitTo k ∷ []
     moves = found_moves members m p k (st.role ∙ ap role_of role) is
 
-    pub committed : DoesPuts (PutCommit k ∷ []) old new None → MakesMoves members m n given (commit_phase members m p) p t old new raft None
+    pub committed : DoesPuts (noted LEADER (PutCommit k ∷ [])) old new None → MakesMoves members m n given (commit_phase members m p) p t old new raft None
     committed made = subst (λ mvs. MakesMoves members m n given mvs p t old new raft None) (sym moves)
         (one_move members m n given (CommitTo k) p t old new raft made
         (storing_stands raft members (durable_state old) (durable_state new) p t _ st
         (ap (λ (z : Store). record z { commit = k }) st.store ∙ sym (ap store_of (made.made.state refl)))))
 
-    pub commit_failed : (fault : Fault) (result : Result (Unit {0}) Fault) → result ≡ Err fault → DoesPuts (PutCommit k ∷ []) old new (Some fault) → MakesMoves members m n given (commit_phase members m p) p t old new raft (result_err result)
+    pub commit_failed : (fault : Fault) (result : Result (Unit {0}) Fault) → result ≡ Err fault → DoesPuts (noted LEADER (PutCommit k ∷ [])) old new (Some fault) → MakesMoves members m n given (commit_phase members m p) p t old new raft (result_err result)
     commit_failed fault result failed made = subst (λ mvs. MakesMoves members m n given mvs p t old new raft (result_err result)) (sym moves)
         (one_move_failed members m n given (CommitTo k) p t old new raft result fault failed made)
 

@@ -21,7 +21,7 @@ use Rattle.can_frame.specs.declared.step.Role.{Role}
 use Rattle.can_frame.specs.declared.step.Role.TheVariants.{Follower, Candidate, Leader}
 use Rattle.raft_core.specs.Roles.{StepsDown, since_after}
 use Rattle.raft_core.specs.Stands.{StandsFor, role_of}
-use Rattle.raft_core.specs.StoredPuts.{DoesPuts, VoteForNodes, store_of}
+use Rattle.raft_core.specs.StoredPuts.{DoesPuts, VoteForNodes, noted, store_of}
 use Rattle.raft_core.specs.Times.{Given, Times, raise, step_down, times_after}
 use Rattle.raft_core.proofs.Appending.{lt_false, lt_true}
 use Rattle.raft_core.proofs.Puts.{does}
@@ -89,9 +89,9 @@ raised_stands raft raft2 members s s2 p t now term st higher stored down =
     down.role down.rest.told down.rest.word down.rest.peers)
 
 -- a higher term is stored, with no vote
-pub term_made : {D : Type 0} {disk : Ghosts D} (old new : Durable D disk) (ok : Bool) (failed : Option Fault) (term : ℕ) → ok ≡ is_none failed → (durable_state old).term < term
-    → MakesPuts (StoredPut.PutTerm term ∷ StoredPut.PutVote 0 ∷ []) old new ok → KeepsFault old new failed → DoesPuts (term_puts (store_of (durable_state old)) term) old new failed
-term_made old new ok failed term ended higher made keeps = rw (lt_true (durable_state old).term term higher) (does (PutTerm term ∷ PutVote None ∷ []) _ old new ok failed ended refl made keeps)
+pub term_made : {D : Type 0} {disk : Ghosts D} (origin : ℕ) (old new : Durable D disk) (ok : Bool) (failed : Option Fault) (term : ℕ) → ok ≡ is_none failed → (durable_state old).term < term
+    → MakesPuts (StoredPut.PutTerm term ∷ StoredPut.PutVote 0 ∷ []) old new ok → KeepsFault old new failed → DoesPuts (noted origin (term_puts (store_of (durable_state old)) term)) old new failed
+term_made origin old new ok failed term ended higher made keeps = rw (lt_true (durable_state old).term term higher) (does (noted origin (PutTerm term ∷ PutVote None ∷ [])) _ old new ok failed ended refl made keeps)
 
 -- ---- verdicts
 

@@ -1,4 +1,5 @@
 pub mod Puts
+pub mod Origins
 pub mod Appending
 pub mod Verdicts
 pub mod Judged

@@ -15,51 +15,69 @@ use Rattle.raft_model.specs.Server.{Plain, Put, Store, put, put_all, Role as Mac
 use Rattle.raft_model.specs.Server.Put.{PutTerm, PutVote, PutEntry, PutLonger, PutShorter, PutCommit}
 use Rattle.raft_core.specs.declared.peer.Peer.{Peer}
 use Rattle.raft_core.specs.declared.raft.Raft.{Raft}
-use Rattle.raft_core.specs.Handled.{LeavesMoves, MakesMoves}
+use Rattle.raft_core.specs.Handled.{LeavesMoves, MakesMoves, origin_of}
 use Rattle.raft_core.specs.Stands.{StandsFor, Tells, Waits, role_of}
-use Rattle.raft_core.specs.StoredPuts.{DoesPuts, VoteForNodes, VotesForNode, store_of, stored_put, stored_puts}
+use Rattle.raft_core.specs.StoredPuts.{DoesPuts, Noted, VoteForNodes, VotesForNode, noted, plain_puts, put_from, store_of, stored_put, stored_puts}
 use Rattle.raft_core.specs.Times.{Given, Times, begin_wait, times_after}
+use Rattle.raft_core.proofs.Origins.{plain_of_moves}
 
 -- ---- what is stored
 
-vote_stays : (vote : Option ℕ) (s : Stored) → VotesForNode (PutVote vote) → store_of (after_put (stored_put (PutVote vote) s) s) ≡ put (store_of s) (PutVote vote)
-vote_stays None s h = refl
-vote_stays (Some zero) s h = absurd (omega (arith, h))
-vote_stays (Some (suc n)) s h = refl
+module _ (origin : ℕ) where
+  vote_stays : (vote : Option ℕ) (s : Stored) → VotesForNode (PutVote vote) → store_of (after_put (put_from origin (PutVote vote) s) s) ≡ put (store_of s) (PutVote vote)
+  vote_stays None s h = refl
+  vote_stays (Some zero) s h = absurd (omega (arith, h))
+  vote_stays (Some (suc n)) s h = refl
 
-store_after_one : (x : Put) (s : Stored) → VotesForNode x → store_of (after_put (stored_put x s) s) ≡ put (store_of s) x
-store_after_one (PutTerm term) s h = refl
-store_after_one (PutVote vote) s h = vote_stays vote s h
-store_after_one (PutEntry entry) s h = refl
-store_after_one (PutLonger entry) s h = refl
-store_after_one (PutShorter count) s h = refl
-store_after_one (PutCommit index) s h = refl
+  store_after_one : (x : Put) (s : Stored) → VotesForNode x → store_of (after_put (put_from origin x s) s) ≡ put (store_of s) x
+  store_after_one (PutTerm term) s h = refl
+  store_after_one (PutVote vote) s h = vote_stays vote s h
+  store_after_one (PutEntry entry) s h = refl
+  store_after_one (PutLonger entry) s h = refl
+  store_after_one (PutShorter count) s h = refl
+  store_after_one (PutCommit index) s h = refl
 
 -- what is stored after puts is the same in both words
-pub store_after : (xs : List Put) (s : Stored) → VoteForNodes xs → store_of (after_puts (stored_puts xs s) s) ≡ put_all (store_of s) xs
-store_after [] s h = refl
-store_after (x ∷ xs) s h = store_after xs (after_put (stored_put x s) s) h.1 ∙ ap (λ (z : Store). put_all z xs) (store_after_one x s h.0)
+pub stored_after : (xs : List Noted) (s : Stored) → VoteForNodes (plain_puts xs) → store_of (after_puts (stored_puts xs s) s) ≡ put_all (store_of s) (plain_puts xs)
+stored_after [] s h = refl
+stored_after (x ∷ xs) s h = stored_after xs (after_put (stored_put x s) s) h.1 ∙ ap (λ (z : Store). put_all z (plain_puts xs)) (store_after_one x.origin x.put s h.0)
+
+-- and of puts of one origin
+pub store_after : (origin : ℕ) (xs : List Put) (s : Stored) → VoteForNodes xs → store_of (after_puts (stored_puts (noted origin xs) s) s) ≡ put_all (store_of s) xs
+store_after origin [] s h = refl
+store_after origin (x ∷ xs) s h = store_after origin xs (after_put (put_from origin x s) s) h.1 ∙ ap (λ (z : Store). put_all z xs) (store_after_one origin x s h.0)
 
 pub put_then : (xs ys : List Put) (s : Store) → put_all s (xs ++ ys) ≡ put_all (put_all s xs) ys
 put_then [] ys s = refl
 put_then (x ∷ xs) ys s = put_then xs ys (put s x)
 
-nothing_more : (xs : List Put) → xs ++ [] ≡ xs
+nothing_more : (xs : List Noted) → xs ++ [] ≡ xs
 nothing_more [] = refl
-nothing_more (x ∷ xs) = ap (λ (rest : List Put). x ∷ rest) (nothing_more xs)
+nothing_more (x ∷ xs) = ap (λ (rest : List Noted). x ∷ rest) (nothing_more xs)
 
 -- ---- one move
 
 module _ {D : Type 0} {disk : Ghosts D} (members : List ℕ) (m n : ℕ) (given : Given) (move : Move) (p : Plain) (t : Times) (old new : Durable D disk) (raft : Raft) where
-  pub one_move : DoesPuts (puts members m p move) old new None
+  abbrev own : List Noted
+  own = noted (origin_of given move) (puts members m p move)
+
+  pub one_move : DoesPuts (noted (origin_of given move) (puts members m p move)) old new None
       → StandsFor raft members (durable_state new) (plain_after members m n p move) (times_after members m given p move t)
       → MakesMoves members m n given (move ∷ []) p t old new raft None
-  one_move made after = record { puts = subst (λ (l : List Put). DoesPuts l old new None) (sym (nothing_more (puts members m p move))) made; after = after }
+  one_move made after = record {
+    plain = plain_of_moves members m n given p (move ∷ []);
+    puts = subst (λ (l : List Noted). DoesPuts l old new None) (sym (nothing_more own)) made;
+    after = after;
+  }
 
-  pub one_move_failed : {T : Type 0} (result : Result T Fault) (fault : Fault) → result ≡ Err fault → DoesPuts (puts members m p move) old new (Some fault)
+  pub one_move_failed : {T : Type 0} (result : Result T Fault) (fault : Fault) → result ≡ Err fault → DoesPuts (noted (origin_of given move) (puts members m p move)) old new (Some fault)
       → MakesMoves members m n given (move ∷ []) p t old new raft (result_err result)
   one_move_failed result fault is made = subst (λ (r : Result _ Fault). MakesMoves members m n given (move ∷ []) p t old new raft (result_err r)) (sym is)
-      (record { puts = subst (λ (l : List Put). DoesPuts l old new (Some fault)) (sym (nothing_more (puts members m p move))) made; after = tt })
+      (record {
+        plain = plain_of_moves members m n given p (move ∷ []);
+        puts = subst (λ (l : List Noted). DoesPuts l old new (Some fault)) (sym (nothing_more own)) made;
+        after = tt;
+      })
 
 -- ---- roles
 
@@ -127,5 +145,5 @@ storing_stands raft members s new p t store st stored = record {
 
 -- a call that makes no move
 module _ {D : Type 0} {disk : Ghosts D} (members : List ℕ) (m n : ℕ) (p : Plain) (t : Times) (durable : Durable D disk) (raft : Raft) where
-  pub no_move : DoesPuts [] durable durable None → StandsFor raft members (durable_state durable) p t → LeavesMoves members m n [] p t durable durable raft None
-  no_move made st = record { puts = made; after = st }
+  pub no_move : DoesPuts [] durable durable None → StandsFor raft members (durable_state durable) p t → LeavesMoves members m n [] p [] t durable durable raft None
+  no_move made st = record { plain = refl; puts = made; after = st }

@@ -3,6 +3,7 @@ use Rattle.std.proofs.Common.{◌≡◌, ◌⊎◌, inl, inr, ℕ, ◌<◌, ◌�
 use Rattle.std.specs.Prelude.{slice_index_or, ◌↔◌, Result, Ok, Err}
 use Rattle.std.specs.Result.{result_err}
 use Rattle.std.specs.Str.{bytes_eq}
+use Rattle.std.proofs.lemmas.List.{length-append}
 use Rattle.std.proofs.lemmas.Slice.Eq.{bytes_eq-Decides}
 use Rattle.can_frame.specs.declared.entry.Entry.{Entry}
 use Rattle.can_frame.specs.Log.{HasNodeId, HasUid, IsDistinctFromAll, IsInjective, IsPair, IsReservation, blank, last_term}
@@ -12,7 +13,7 @@ use Rattle.kv_store.specs.declared.fault.Fault.{Fault}
 use Rattle.raft_log.specs.declared.durable.Durable.{Durable}
 use Rattle.raft_log.specs.DurableViews.{durable_state}
 use Rattle.raft_log.specs.MayFollow.{IsStorable, MayFollow}
-use Rattle.raft_log.specs.Stored.{Stored, Put as StoredPut}
+use Rattle.raft_log.specs.Stored.{Stored, after_puts, puts_of_append, Put as StoredPut}
 use Rattle.raft_model.specs.Moves.Leading.{MayPropose}
 use Rattle.raft_model.specs.Moves.Move.{ProposeEntry}
 use Rattle.raft_model.specs.Server.{Plain, Store, Role as MachineRole}
@@ -27,7 +28,7 @@ use Rattle.raft_core.specs.Fits.{AsksUpTo, Fits, ReachesUpTo}
 use Rattle.raft_core.specs.Handled.{MakesMoves}
 use Rattle.raft_core.specs.Proposing.{Appends, IsTried, entry_puts}
 use Rattle.raft_core.specs.Stands.{StandsFor, role_of}
-use Rattle.raft_core.specs.StoredPuts.{DoesPuts, KeepsFaults, store_of, stored_puts}
+use Rattle.raft_core.specs.StoredPuts.{DoesPuts, KeepsFaults, noted, store_of, stored_puts}
 use Rattle.raft_core.specs.Taken.{IsTaken, proposal}
 use Rattle.raft_core.specs.Times.{Given, Times}
 use Rattle.raft_core.proofs.Moving.{one_move, one_move_failed, storing_stands}
@@ -99,8 +100,9 @@ module _ (reserved : (log : List Entry) (e : Entry) → IsReservation e → IsIn
 pub same_proposal : (term term2 node node2 : ℕ) (uid : List ℕ) → term ≡ term2 → node ≡ node2 → proposal term uid node ≡ proposal term2 uid node2
 same_proposal term term2 node node2 uid terms nodes = ap (λ x. proposal x uid node) terms ∙ ap (λ x. proposal term2 uid x) nodes
 
-pub same_puts : (s : Stored) (a b : Entry) → a ≡ b → stored_puts (PutEntry a ∷ PutLonger a ∷ []) s ≡ StoredPut.PutEntry b ∷ StoredPut.PutLast (s.log ++ b ∷ []) ∷ []
-same_puts s a b e = ap (λ (x : Entry). StoredPut.PutEntry x ∷ StoredPut.PutLast (s.log ++ x ∷ []) ∷ []) e
+pub same_puts : (origin : ℕ) (s : Stored) (a b : Entry) → a ≡ b
+    → stored_puts (noted origin (PutEntry a ∷ PutLonger a ∷ [])) s ≡ StoredPut.PutEntry b origin ∷ StoredPut.PutLast (s.log ++ b ∷ []) (s.origins ++ Some origin ∷ []) ∷ []
+same_puts origin s a b e = ap (λ (x : Entry). StoredPut.PutEntry x origin ∷ StoredPut.PutLast (s.log ++ x ∷ []) (s.origins ++ Some origin ∷ []) ∷ []) e
 
 -- ---- a longer log
 
@@ -112,7 +114,7 @@ reaches_further : (last more : ℕ) (call : Option Waiting) → last ≤ more �
 reaches_further last more None le h = tt
 reaches_further last more (Some call) le h = asks_further last more call.asked le h
 
-pub fits_longer : (raft : Raft) (s s2 : Stored) → Fits raft s → s2.commit ≡ s.commit → s2.vote ≡ s.vote → length s.log ≤ length s2.log → Fits raft s2
+fits_longer : (raft : Raft) (s s2 : Stored) → Fits raft s → s2.commit ≡ s.commit → s2.vote ≡ s.vote → length s.log ≤ length s2.log → Fits raft s2
 fits_longer raft s s2 fits commit vote longer = record {
   told = omega (arith, fits.told, commit);
   vote = λ other. vote ∙ fits.vote other;
@@ -120,51 +122,58 @@ fits_longer raft s s2 fits commit vote longer = record {
       record { least = x.least; next = omega (arith, x.next, longer); matched = omega (arith, x.matched, longer); reach = reaches_further (length s.log) (length s2.log) (slice_index_or raft.peers q d).call longer x.reach };
 }
 
+-- by an entry that is appended
+pub fits_grown : (raft : Raft) (s s2 : Stored) (e : Entry) (origin : ℕ) → Fits raft s → s2 ≡ after_puts (puts_of_append e origin s) s → Fits raft s2
+fits_grown raft s s2 e origin fits grown = subst (Fits raft) (sym grown)
+    (fits_longer raft s (record s { log = s.log ++ (e ∷ []); origins = s.origins ++ (Some origin ∷ []) }) fits refl refl (omega (arith, length-append s.log (e ∷ []))))
+
 module _ {D : Type 0} {disk : Ghosts D} (members : List ℕ) (m n : ℕ) (given : Given) (p : Plain) (t : Times) (old new : Durable D disk) (raft : Raft) (st : StandsFor raft members (durable_state old) p t) (e : Entry) where
-  pub proposed : DoesPuts (PutEntry e ∷ PutLonger e ∷ []) old new None → MakesMoves members m n given (ProposeEntry e ∷ []) p t old new raft None
+  pub proposed : DoesPuts (noted given.origin (PutEntry e ∷ PutLonger e ∷ [])) old new None → MakesMoves members m n given (ProposeEntry e ∷ []) p t old new raft None
   proposed made = one_move members m n given (ProposeEntry e) p t old new raft made
       (storing_stands raft members (durable_state old) (durable_state new) p t _ st
       (ap (λ (z : Store). record z { log = z.log ++ (e ∷ []) }) st.store ∙ sym (ap store_of (made.made.state refl))))
 
 -- ---- how it ends
 
-module _ {D : Type 0} {disk : Ghosts D} (raft : Raft) (uid : List ℕ) (node : ℕ) (old : Durable D disk) where
+module _ {D : Type 0} {disk : Ghosts D} (raft : Raft) (uid : List ℕ) (node origin : ℕ) (old : Durable D disk) where
   -- a server of this role and with what is stored may propose the entry
   abbrev pub MayBeProposed : Type 0
   MayBeProposed = (server : Plain) → server.store ≡ store_of (durable_state old) → server.memory.role ≡ role_of raft.role → MayPropose server (proposal server.store.term uid node)
 
   pub not_tried : (result : Result Proposed Fault) → (IsTried result → ⊥) → result_err result ≡ None → DoesPuts [] old old None
       → ((server : Plain) → server.store ≡ store_of (durable_state old) → server.memory.role ≡ role_of raft.role → MayPropose server (proposal server.store.term uid node) → ⊥)
-      → Appends raft uid node old old result
+      → Appends raft uid node origin old old result
   not_tried result no_try ok nothing none = record {
     tried = λ server store role. (λ t. absurd (no_try t), λ may. absurd (none server store role may));
     puts = λ t. absurd (no_try t);
-    moves = λ members step server times st given may. absurd (none server st.store st.role may);
+    moves = λ members step server times st given same may. absurd (none server st.store st.role may);
     refused = λ n. refl;
     unchanged = λ n q. still old;
     faults = subst (KeepsFaults old old) (sym ok) nothing.faults;
   }
 
   module _ (new : Durable D disk) (may : MayBeProposed) where
-    pub try_failed : (fault : Fault) (result : Result Proposed Fault) → result ≡ Err fault → DoesPuts (entry_puts (proposal (durable_state old).term uid node)) old new (Some fault) → Appends raft uid node old new result
-    try_failed fault result is made = let broken : Result Proposed Fault = Err fault in subst (Appends raft uid node old new) (sym is) (record {
+    pub try_failed : (fault : Fault) (result : Result Proposed Fault) → result ≡ Err fault → DoesPuts (noted origin (entry_puts (proposal (durable_state old).term uid node))) old new (Some fault) → Appends raft uid node origin old new result
+    try_failed fault result is made = let broken : Result Proposed Fault = Err fault in subst (Appends raft uid node origin old new) (sym is) (record {
       tried = λ server store role. (λ t. may server store role, λ m. tt);
       puts = λ t. made;
-      moves = λ members step server times st given m.
+      moves = λ members step server times st given same m.
           one_move_failed members raft.me step given (ProposeEntry (proposal server.store.term uid node)) server times old new raft broken fault refl
-          (subst (λ (z : Store). DoesPuts (entry_puts (proposal z.term uid node)) old new (Some fault)) (sym st.store) made);
+          (subst (λ (k : ℕ). DoesPuts (noted k (entry_puts (proposal server.store.term uid node))) old new (Some fault)) (sym same)
+          (subst (λ (z : Store). DoesPuts (noted origin (entry_puts (proposal z.term uid node))) old new (Some fault)) (sym st.store) made));
       refused = λ n. absurd (n tt);
       unchanged = λ n q. quiet old new fault made.faults q;
       faults = made.faults;
     })
 
-    pub added : DoesPuts (entry_puts (proposal (durable_state old).term uid node)) old new None → Appends raft uid node old new (Ok Added)
+    pub added : DoesPuts (noted origin (entry_puts (proposal (durable_state old).term uid node))) old new None → Appends raft uid node origin old new (Ok Added)
     added made = record {
       tried = λ server store role. (λ t. may server store role, λ m. tt);
       puts = λ t. made;
-      moves = λ members step server times st given m.
+      moves = λ members step server times st given same m.
           proposed members raft.me step given server times old new raft st (proposal server.store.term uid node)
-          (subst (λ (z : Store). DoesPuts (entry_puts (proposal z.term uid node)) old new None) (sym st.store) made);
+          (subst (λ (k : ℕ). DoesPuts (noted k (entry_puts (proposal server.store.term uid node))) old new None) (sym same)
+          (subst (λ (z : Store). DoesPuts (noted origin (entry_puts (proposal z.term uid node))) old new None) (sym st.store) made));
       refused = λ n. absurd (n tt);
       unchanged = λ n q. absurd (n refl);
       faults = made.faults;

@@ -1,5 +1,5 @@
 -- Puts of the machine as they are made of a stored state, one after another.
-use Rattle.std.proofs.Common.{◌≡◌, ◌⊎◌, inl, inr, List, [], ◌∷◌, ◌++◌, Option, Some, None, refl, sym, ap, subst, ◌∙◌}
+use Rattle.std.proofs.Common.{◌≡◌, ◌⊎◌, inl, inr, ℕ, List, [], ◌∷◌, ◌++◌, Option, Some, None, refl, sym, ap, subst, ◌∙◌}
 use Rattle.std.specs.Prelude.{Bool, true, false, Result, Ok, Err, OnOk, IfSome, is_ok, is_none}
 use Rattle.std.specs.Result.{result_err}
 use Rattle.disk_model.specs.declared.disk.Disk.{Ghosts}
@@ -10,9 +10,13 @@ use Rattle.raft_log.specs.Calls.{KeepsFault, MakesPuts}
 use Rattle.raft_log.specs.DurableViews.{durable_disk, durable_fault, durable_state}
 use Rattle.raft_log.specs.Stored.{Stored, after_put, after_puts, Put as StoredPut}
 use Rattle.raft_model.specs.Server.{Put}
-use Rattle.raft_core.specs.StoredPuts.{DoesPuts, IsStill, KeepsFaults, stored_put, stored_puts}
+use Rattle.raft_core.specs.StoredPuts.{DoesPuts, IsStill, KeepsFaults, Noted, noted, stored_put, stored_puts}
 
-pub stored_both : (xs ys : List Put) (s : Stored) → stored_puts (xs ++ ys) s ≡ stored_puts xs s ++ stored_puts ys (after_puts (stored_puts xs s) s)
+noted_both : (origin : ℕ) (xs ys : List Put) → noted origin (xs ++ ys) ≡ noted origin xs ++ noted origin ys
+noted_both origin [] ys = refl
+noted_both origin (x ∷ xs) ys = ap (λ (rest : List Noted). record { put = x; origin = origin } ∷ rest) (noted_both origin xs ys)
+
+stored_both : (xs ys : List Noted) (s : Stored) → stored_puts (xs ++ ys) s ≡ stored_puts xs s ++ stored_puts ys (after_puts (stored_puts xs s) s)
 stored_both [] ys s = refl
 stored_both (x ∷ xs) ys s = ap (λ (rest : List StoredPut). stored_put x s ∷ rest) (stored_both xs ys (after_put (stored_put x s) s))
 
@@ -48,7 +52,7 @@ module _ {D : Type 0} {disk : Ghosts D} where
   nothing durable made keeps = record { made = made; faults = record { works = keeps; still = λ fault was. still durable; kept = tt } }
 
   -- the first puts failed
-  pub cut_off : (xs ys : List Put) (old new : Durable D disk) (fault : Fault)
+  pub cut_off : (xs ys : List Noted) (old new : Durable D disk) (fault : Fault)
       → ((xs ys : List StoredPut) → MakesPuts xs old new false → MakesPuts (xs ++ ys) old new false)
       → DoesPuts xs old new (Some fault) → DoesPuts (xs ++ ys) old new (Some fault)
   cut_off xs ys old new fault law first = let s = durable_state old in record {
@@ -66,7 +70,7 @@ module _ {D : Type 0} {disk : Ghosts D} where
   }
 
   -- the first puts were done, and then the others were made
-  pub joined : (xs ys : List Put) (old mid new : Durable D disk) (failed : Option Fault)
+  pub joined : (xs ys : List Noted) (old mid new : Durable D disk) (failed : Option Fault)
       → ((xs ys : List StoredPut) → MakesPuts xs old mid true → (durable_fault old ≡ None → KeepsFault old mid None) → MakesPuts ys mid new (is_none failed) → MakesPuts (xs ++ ys) old new (is_none failed))
       → (KeepsFault old mid None → (durable_fault mid ≡ None → KeepsFault mid new failed) → KeepsFault old new failed)
       → DoesPuts xs old mid None → DoesPuts ys mid new failed → DoesPuts (xs ++ ys) old new failed
@@ -78,7 +82,7 @@ module _ {D : Type 0} {disk : Ghosts D} where
   }
 
   -- one call of the store made these puts
-  pub does : (puts : List Put) (stored : List StoredPut) (old new : Durable D disk) (ok : Bool) (failed : Option Fault) → ok ≡ is_none failed
+  pub does : (puts : List Noted) (stored : List StoredPut) (old new : Durable D disk) (ok : Bool) (failed : Option Fault) → ok ≡ is_none failed
       → stored_puts puts (durable_state old) ≡ stored → MakesPuts stored old new ok → KeepsFault old new failed → DoesPuts puts old new failed
   does puts stored old new ok failed ended same made keeps = record {
     made = subst (λ (l : List StoredPut). MakesPuts l old new (is_none failed)) (sym same) (subst (MakesPuts stored old new) ended made);
@@ -92,14 +96,18 @@ module _ {D : Type 0} {disk : Ghosts D} where
     closed fault was told = record { disk = told.1; state = told.2; fault = keeps.kept ∙ (told.0 ∙ sym was) }
 
   -- a call that hands a fault on
-  pub fails : {U : Type 0} (puts : List Put) (old new : Durable D disk) (fault : Fault) (result : Result U Fault) → result ≡ Err fault → DoesPuts puts old new (Some fault) → DoesPuts puts old new (result_err result)
+  pub fails : {U : Type 0} (puts : List Noted) (old new : Durable D disk) (fault : Fault) (result : Result U Fault) → result ≡ Err fault → DoesPuts puts old new (Some fault) → DoesPuts puts old new (result_err result)
   fails puts old new fault result is done = subst (λ (r : Result _ Fault). DoesPuts puts old new (result_err r)) (sym is) done
 
   pub faults_at : {U : Type 0} (old new : Durable D disk) (fault : Fault) (result : Result U Fault) → result ≡ Err fault → KeepsFaults old new (Some fault) → KeepsFaults old new (result_err result)
   faults_at old new fault result is keeps = subst (λ (r : Result _ Fault). KeepsFaults old new (result_err r)) (sym is) keeps
 
-  pub none_made : (puts : List Put) (durable : Durable D disk) (failed : Option Fault) → puts ≡ [] → DoesPuts [] durable durable failed → DoesPuts puts durable durable failed
-  none_made puts durable failed none made = subst (λ (l : List Put). DoesPuts l durable durable failed) (sym none) made
+  pub none_made : (origin : ℕ) (puts : List Put) (durable : Durable D disk) (failed : Option Fault) → puts ≡ [] → DoesPuts [] durable durable failed → DoesPuts (noted origin puts) durable durable failed
+  none_made origin puts durable failed none made = subst (λ (l : List Put). DoesPuts (noted origin l) durable durable failed) (sym none) made
+
+  -- puts of one origin
+  pub alike : (origin : ℕ) (xs ys : List Put) (old new : Durable D disk) (failed : Option Fault) → DoesPuts (noted origin xs ++ noted origin ys) old new failed → DoesPuts (noted origin (xs ++ ys)) old new failed
+  alike origin xs ys old new failed made = subst (λ (l : List Noted). DoesPuts l old new failed) (sym (noted_both origin xs ys)) made
 
   -- where no call of the disk failed, a call that failed changed nothing
   pub quiet : (old new : Durable D disk) (fault : Fault) → KeepsFaults old new (Some fault) → (Rose (disk.faults (durable_disk old)) (disk.faults (durable_disk new)) → ⊥) → IsStill old new

@@ -5,6 +5,7 @@ use Rattle.std.specs.Result.{result_err}
 use Rattle.can_frame.specs.declared.step.Role.TheVariants.{Follower, Candidate}
 use Rattle.disk_model.specs.declared.disk.Disk.{Ghosts}
 use Rattle.kv_store.specs.declared.fault.Fault.{Fault}
+use Rattle.raft_log.specs.declared.origin.TheConstants.{WIN}
 use Rattle.raft_log.specs.declared.durable.Durable.{Durable}
 use Rattle.raft_log.specs.DurableViews.{durable_state}
 use Rattle.raft_log.specs.Stored.{Stored}
@@ -17,7 +18,7 @@ use Rattle.raft_core.specs.declared.raft.Raft.{Raft}
 use Rattle.raft_core.specs.Backs.{Backs}
 use Rattle.raft_core.specs.Handled.{MakesMoves, counted_at, moves_of_tick}
 use Rattle.raft_core.specs.Stands.{StandsFor, role_of}
-use Rattle.raft_core.specs.StoredPuts.{DoesPuts, store_of}
+use Rattle.raft_core.specs.StoredPuts.{DoesPuts, noted, store_of}
 use Rattle.raft_core.specs.Times.{Given, Times, has_waited, stand, win}
 use Rattle.raft_core.proofs.Moving.{no_move, one_move, one_move_failed}
 
@@ -48,10 +49,10 @@ module _ {D : Type 0} {disk : Ghosts D} (last members : List ℕ) (m n : ℕ) (g
   abbrev pub rest : Bool → List Put
   rest b = if b then win_puts (put_all p.store (stand_puts m p.store)) else []
 
-  pub stand_failed : (result : Result (Unit {0}) Fault) (fault : Fault) → result ≡ Err fault → DoesPuts (stand_puts m (store_of (durable_state old)) ++ rest (has_quorum members (own_vote m))) old new (Some fault)
+  pub stand_failed : (result : Result (Unit {0}) Fault) (fault : Fault) → result ≡ Err fault → DoesPuts (noted WIN (stand_puts m (store_of (durable_state old)) ++ rest (has_quorum members (own_vote m)))) old new (Some fault)
       → Ticks last members m n given p t complete old new raft2 (result_err result)
   stand_failed result fault failed made = rw yes_stand (one_move_failed members m n given TimeOut p t old new raft2 result fault failed
-      (subst (λ (z : Store). DoesPuts (stand_puts m z ++ rest (has_quorum members (own_vote m))) old new (Some fault)) (sym store) made))
+      (subst (λ (z : Store). DoesPuts (noted WIN (stand_puts m z ++ rest (has_quorum members (own_vote m)))) old new (Some fault)) (sym store) made))
 
   abbrev pub after_with : Bool → Type 0
   after_with b = StandsFor raft2 members (durable_state new)
@@ -59,10 +60,10 @@ module _ {D : Type 0} {disk : Ghosts D} (last members : List ℕ) (m n : ℕ) (g
       (if b then win (stand given t) else stand given t)
 
   -- with the votes counted
-  pub stood : (b : Bool) → has_quorum members (own_vote m) ≡ b → DoesPuts (stand_puts m (store_of (durable_state old)) ++ rest b) old new None → after_with b → Ticks last members m n given p t complete old new raft2 None
+  pub stood : (b : Bool) → has_quorum members (own_vote m) ≡ b → DoesPuts (noted WIN (stand_puts m (store_of (durable_state old)) ++ rest b)) old new None → after_with b → Ticks last members m n given p t complete old new raft2 None
   stood b counted made after = rw yes_stand (one_move members m n given TimeOut p t old new raft2
-      (subst (λ (x : Bool). DoesPuts (stand_puts m p.store ++ rest x) old new None) (sym counted)
-      (subst (λ (z : Store). DoesPuts (stand_puts m z ++ rest b) old new None) (sym store) made))
+      (subst (λ (x : Bool). DoesPuts (noted WIN (stand_puts m p.store ++ rest x)) old new None) (sym counted)
+      (subst (λ (z : Store). DoesPuts (noted WIN (stand_puts m z ++ rest b)) old new None) (sym store) made))
       (subst (λ (x : Bool). StandsFor raft2 members (durable_state new)
       (record { store = put_all p.store (stand_puts m p.store ++ rest x); memory = if x then win_memory p.store (stand_memory m p.memory) else stand_memory m p.memory })
       (if x then win (stand given t) else stand given t)) (sym counted) after))

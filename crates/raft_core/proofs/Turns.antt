@@ -1,5 +1,5 @@
 -- Moves of two calls of a step, one after the other.
-use Rattle.std.proofs.Common.{◌≡◌, ℕ, List, [], ◌∷◌, ◌++◌, Option, Some, None, refl, sym, subst}
+use Rattle.std.proofs.Common.{◌≡◌, ℕ, List, [], ◌∷◌, ◌++◌, Option, Some, None, refl, sym, ap, subst, ◌∙◌}
 use Rattle.std.specs.Prelude.{IfNone}
 use Rattle.disk_model.specs.declared.disk.Disk.{Ghosts}
 use Rattle.kv_store.specs.declared.fault.Fault.{Fault}
@@ -11,8 +11,9 @@ use Rattle.raft_model.specs.Server.{Plain, Put}
 use Rattle.raft_core.specs.declared.raft.Raft.{Raft}
 use Rattle.raft_core.specs.Handled.{LeavesMoves}
 use Rattle.raft_core.specs.Stands.{StandsFor}
-use Rattle.raft_core.specs.StoredPuts.{DoesPuts}
+use Rattle.raft_core.specs.StoredPuts.{DoesPuts, Noted, plain_puts}
 use Rattle.raft_core.specs.Times.{Given, Times, times_after, times_after_all}
+use Rattle.raft_core.proofs.Origins.{plain_both}
 
 module _ (members : List ℕ) (m n : ℕ) where
   pub times_joined : (given : Given) (xs ys : List Move) (p : Plain) (t : Times)
@@ -27,23 +28,29 @@ module _ (members : List ℕ) (m n : ℕ) where
     abbrev p1 : Plain
     p1 = plain_after_all members m n p xs
 
-    pub joined : {D : Type 0} {disk : Ghosts D} (t1 t2 : Times) (old mid new : Durable D disk) (before after : Raft) (failed : Option Fault)
+    both_plain : (one two : List Noted) → plain_puts one ≡ firsts → plain_puts two ≡ puts_of_all members m n p1 ys → puts_of_all members m n p (xs ++ ys) ≡ firsts ++ puts_of_all members m n p1 ys
+        → plain_puts (one ++ two) ≡ puts_of_all members m n p (xs ++ ys)
+    both_plain one two first second all_puts = plain_both one two ∙ (ap (λ (l : List Put). l ++ plain_puts two) first ∙ (ap (λ (l : List Put). firsts ++ l) second ∙ sym all_puts))
+
+    pub joined : {D : Type 0} {disk : Ghosts D} (one two : List Noted) (t1 t2 : Times) (old mid new : Durable D disk) (before after : Raft) (failed : Option Fault)
         → puts_of_all members m n p (xs ++ ys) ≡ firsts ++ puts_of_all members m n p1 ys
         → plain_after_all members m n p (xs ++ ys) ≡ plain_after_all members m n p1 ys
-        → ((puts more : List Put) → DoesPuts puts old mid None → DoesPuts more mid new failed → DoesPuts (puts ++ more) old new failed)
-        → LeavesMoves members m n xs p t1 old mid before None → LeavesMoves members m n ys p1 t2 mid new after failed
-        → LeavesMoves members m n (xs ++ ys) p t2 old new after failed
-    joined t1 t2 old mid new before after failed all_puts server law first second = record {
-      puts = subst (λ (l : List Put). DoesPuts l old new failed) (sym all_puts) (law firsts (puts_of_all members m n p1 ys) first.puts second.puts);
+        → (DoesPuts one old mid None → DoesPuts two mid new failed → DoesPuts (one ++ two) old new failed)
+        → LeavesMoves members m n xs p one t1 old mid before None → LeavesMoves members m n ys p1 two t2 mid new after failed
+        → LeavesMoves members m n (xs ++ ys) p (one ++ two) t2 old new after failed
+    joined one two t1 t2 old mid new before after failed all_puts server law first second = record {
+      plain = both_plain one two first.plain second.plain all_puts;
+      puts = law first.puts second.puts;
       after = subst (λ (x : Plain). IfNone failed (StandsFor after members (durable_state new) x t2)) (sym server) second.after;
     }
 
-    pub cut_off : {D : Type 0} {disk : Ghosts D} (t1 t2 : Times) (old new : Durable D disk) (raft after : Raft) (fault : Fault)
+    pub cut_off : {D : Type 0} {disk : Ghosts D} (one two : List Noted) (t1 t2 : Times) (old new : Durable D disk) (raft after : Raft) (fault : Fault)
         → puts_of_all members m n p (xs ++ ys) ≡ firsts ++ puts_of_all members m n p1 ys
-        → ((puts more : List Put) → DoesPuts puts old new (Some fault) → DoesPuts (puts ++ more) old new (Some fault))
-        → LeavesMoves members m n xs p t1 old new raft (Some fault)
-        → LeavesMoves members m n (xs ++ ys) p t2 old new after (Some fault)
-    cut_off t1 t2 old new raft after fault all_puts law first = record {
-      puts = subst (λ (l : List Put). DoesPuts l old new (Some fault)) (sym all_puts) (law firsts (puts_of_all members m n p1 ys) first.puts);
+        → (DoesPuts one old new (Some fault) → DoesPuts (one ++ two) old new (Some fault))
+        → LeavesMoves members m n xs p one t1 old new raft (Some fault) → plain_puts two ≡ puts_of_all members m n p1 ys
+        → LeavesMoves members m n (xs ++ ys) p (one ++ two) t2 old new after (Some fault)
+    cut_off one two t1 t2 old new raft after fault all_puts law first more = record {
+      plain = both_plain one two first.plain more all_puts;
+      puts = law first.puts;
       after = tt;
     }

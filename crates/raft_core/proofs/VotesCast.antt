@@ -1,5 +1,5 @@
 -- Who the puts of a member vote for, and what is stored after some of the first of its puts.
-use Rattle.std.proofs.Common.{◌≡◌, ℕ, zero, suc, ◌≤◌, Bool, true, false, List, [], ◌∷◌, ◌++◌, take, None, refl, ap, ◌∙◌}
+use Rattle.std.proofs.Common.{◌≡◌, ℕ, zero, suc, ◌≤◌, Bool, true, false, List, [], ◌∷◌, ◌++◌, take, None, refl, sym, ap, subst, ◌∙◌}
 use Rattle.std.specs.Prelude.{if◌then◌else◌, nat_lt}
 use Rattle.raft_log.specs.Stored.{Stored, after_put, after_puts, Put as StoredPut}
 use Rattle.raft_model.specs.Handlers.{plain_after, puts_of_all}
@@ -9,9 +9,10 @@ use Rattle.raft_model.specs.Moves.Elections.{counted, counting_puts, counts, gra
 use Rattle.raft_model.specs.Moves.Move.{TimeOut, TakeVoteRequest, TakeVoteAnswer, TakeAppendRequest, TakeAppendAnswer, ProposeEntry, CommitTo, TellPair, TellNothing, CallForVote, CallToAppend, AnswerAgain, GiveUp}
 use Rattle.raft_model.specs.Server.{Plain, Put, Store, put_all}
 use Rattle.raft_model.specs.Server.Put.{PutTerm, PutVote}
-use Rattle.raft_core.specs.StoredPuts.{AreOfNodes, IsOfNode, VoteForNodes, store_of, stored_put, stored_puts}
+use Rattle.raft_core.specs.StoredPuts.{AreOfNodes, IsOfNode, Noted, VoteForNodes, plain_puts, store_of, stored_put, stored_puts}
 use Rattle.raft_core.proofs.Judged.{append_counts}
-use Rattle.raft_core.proofs.Moving.{store_after}
+use Rattle.raft_core.proofs.Origins.{plain_front}
+use Rattle.raft_core.proofs.Moving.{stored_after}
 use Rattle.raft_core.proofs.VoteRequest.{vote_counts}
 use Rattle.raft_core.proofs.Winning.{win_counts}
 
@@ -62,11 +63,12 @@ front_votes [] (suc k) h = tt
 front_votes (x ∷ xs) zero h = tt
 front_votes (x ∷ xs) (suc k) h = (h.0, front_votes xs k h.1)
 
-front_stored : (xs : List Put) (k : ℕ) (s : Stored) → take k (stored_puts xs s) ≡ stored_puts (take k xs) s
+front_stored : (xs : List Noted) (k : ℕ) (s : Stored) → take k (stored_puts xs s) ≡ stored_puts (take k xs) s
 front_stored [] zero s = refl
 front_stored [] (suc k) s = refl
 front_stored (x ∷ xs) zero s = refl
 front_stored (x ∷ xs) (suc k) s = ap (λ (rest : List StoredPut). stored_put x s ∷ rest) (front_stored xs k (after_put (stored_put x s) s))
 
-pub front_after : (xs : List Put) (s : Stored) (k : ℕ) → VoteForNodes xs → store_of (after_puts (take k (stored_puts xs s)) s) ≡ put_all (store_of s) (take k xs)
-front_after xs s k h = ap (λ (l : List StoredPut). store_of (after_puts l s)) (front_stored xs k s) ∙ store_after (take k xs) s (front_votes xs k h)
+pub front_after : (xs : List Noted) (s : Stored) (k : ℕ) → VoteForNodes (plain_puts xs) → store_of (after_puts (take k (stored_puts xs s)) s) ≡ put_all (store_of s) (take k (plain_puts xs))
+front_after xs s k h = ap (λ (l : List StoredPut). store_of (after_puts l s)) (front_stored xs k s)
+    ∙ (stored_after (take k xs) s (subst VoteForNodes (sym (plain_front xs k)) (front_votes (plain_puts xs) k h)) ∙ ap (put_all (store_of s)) (plain_front xs k))

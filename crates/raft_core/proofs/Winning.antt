@@ -7,6 +7,7 @@ use Rattle.can_frame.specs.Log.{blank}
 use Rattle.can_frame.specs.declared.step.Role.TheVariants.{Follower, Leader}
 use Rattle.disk_model.specs.declared.disk.Disk.{Ghosts}
 use Rattle.kv_store.specs.declared.fault.Fault.{Fault}
+use Rattle.raft_log.specs.declared.origin.TheConstants.{WIN}
 use Rattle.raft_log.specs.declared.durable.Durable.{Durable}
 use Rattle.raft_log.specs.DurableViews.{durable_state}
 use Rattle.raft_log.specs.Stored.{Stored}
@@ -18,7 +19,7 @@ use Rattle.raft_core.specs.declared.raft.Raft.{Raft}
 use Rattle.raft_core.specs.Fits.{Fits, IsWithin}
 use Rattle.raft_core.specs.Peers.{fresh}
 use Rattle.raft_core.specs.Stands.{StandsFor, Tells, role_of}
-use Rattle.raft_core.specs.StoredPuts.{DoesPuts, VoteForNodes, store_of}
+use Rattle.raft_core.specs.StoredPuts.{DoesPuts, VoteForNodes, noted, store_of}
 use Rattle.raft_core.specs.Times.{Times, opened_times, win}
 use Rattle.raft_core.proofs.Moving.{store_after}
 
@@ -69,16 +70,16 @@ module _ (raft raft2 : Raft) (members : List ℕ) (s s2 : Stored) (role : raft2.
   }
 
 module _ {D : Type 0} {disk : Ghosts D} (old new : Durable D disk) where
-  pub blank_made : (failed : Option Fault) → adds_blank (store_of (durable_state old)) ≡ true → DoesPuts (PutEntry (blank (durable_state old).term) ∷ PutLonger (blank (durable_state old).term) ∷ []) old new failed
-      → DoesPuts (win_puts (store_of (durable_state old))) old new failed
+  pub blank_made : (failed : Option Fault) → adds_blank (store_of (durable_state old)) ≡ true → DoesPuts (noted WIN (PutEntry (blank (durable_state old).term) ∷ PutLonger (blank (durable_state old).term) ∷ [])) old new failed
+      → DoesPuts (noted WIN (win_puts (store_of (durable_state old)))) old new failed
   blank_made failed wants made = rw wants made
 
   -- what is stored after it
-  pub won_store : {T : Type 0} (result : Result T Fault) (value : T) → result ≡ Ok value → DoesPuts (win_puts (store_of (durable_state old))) old new (result_err result)
+  pub won_store : {T : Type 0} (result : Result T Fault) (value : T) → result ≡ Ok value → DoesPuts (noted WIN (win_puts (store_of (durable_state old)))) old new (result_err result)
       → store_of (durable_state new) ≡ put_all (store_of (durable_state old)) (win_puts (store_of (durable_state old)))
   won_store result value is made =
-      let done : DoesPuts (win_puts (store_of (durable_state old))) old new None = subst (λ (r : Result _ Fault). DoesPuts (win_puts (store_of (durable_state old))) old new (result_err r)) is made in
-      ap store_of (done.made.state refl) ∙ store_after (win_puts (store_of (durable_state old))) (durable_state old) (win_counts (store_of (durable_state old)))
+      let done : DoesPuts (noted WIN (win_puts (store_of (durable_state old)))) old new None = subst (λ (r : Result _ Fault). DoesPuts (noted WIN (win_puts (store_of (durable_state old)))) old new (result_err r)) is made in
+      ap store_of (done.made.state refl) ∙ store_after WIN (win_puts (store_of (durable_state old))) (durable_state old) (win_counts (store_of (durable_state old)))
 
 -- a member that opens
 pub opened_stands : (raft : Raft) (members : List ℕ) (s : Stored) (now word : ℕ) → raft.role ≡ Follower → raft.told ≡ 0 → raft.since ≡ now → raft.word ≡ word → raft.peers ≡ replicate 128 (fresh 1)

@@ -1,32 +1,48 @@
 -- What a call of a member does: it makes moves of the message machine.
-use Rattle.std.specs.Prelude.{ℕ, Bool, true, false, ◌&&◌, List, [], ◌∷◌, Option, None, IfNone}
+use Rattle.std.specs.Prelude.{◌≡◌, ℕ, Bool, true, false, ◌&&◌, List, [], ◌∷◌, ◌++◌, Option, None, IfNone}
 use Rattle.disk_model.specs.declared.disk.Disk.{Ghosts}
 use Rattle.kv_store.specs.declared.fault.Fault.{Fault}
 use Rattle.dsdl_codec.specs.declared.append_request.AppendRequest.{AppendRequest}
 use Rattle.dsdl_codec.specs.declared.vote_request.VoteRequest.{VoteRequest}
+use Rattle.raft_log.specs.declared.origin.TheConstants.{LEADER, WIN}
 use Rattle.raft_log.specs.declared.durable.Durable.{Durable}
 use Rattle.raft_log.specs.DurableViews.{durable_state}
-use Rattle.raft_model.specs.Handlers.{plain_after_all, puts_of_all}
+use Rattle.raft_model.specs.Handlers.{plain_after, plain_after_all, puts_of_all}
 use Rattle.raft_model.specs.Messages.{Answer, Request}
 use Rattle.raft_model.specs.Duty.{tick_phase}
-use Rattle.raft_model.specs.Moves.{Move}
-use Rattle.raft_model.specs.Moves.Move.{GiveUp}
+use Rattle.raft_model.specs.Moves.{Move, puts}
+use Rattle.raft_model.specs.Moves.Move.{TimeOut, TakeVoteAnswer, ProposeEntry, GiveUp}
 use Rattle.raft_model.specs.Server.{Plain}
 use Rattle.raft_core.specs.declared.raft.Raft.{Raft}
 use Rattle.raft_core.specs.Stands.{StandsFor}
-use Rattle.raft_core.specs.StoredPuts.{DoesPuts}
+use Rattle.raft_core.specs.StoredPuts.{DoesPuts, Noted, noted, plain_puts}
 use Rattle.raft_core.specs.Times.{Given, Times, has_waited, times_after_all}
 
--- the member makes these moves in a step: their puts in order, up to the first that fails; and
+-- the origin of the entry that a move puts: the blank of a win, an entry that is proposed with the origin that was given, and
+-- what a leader sent
+abbrev pub origin_of : Given → Move → ℕ
+origin_of given TimeOut = WIN
+origin_of given (TakeVoteAnswer answer) = WIN
+origin_of given (ProposeEntry entry) = given.origin
+origin_of given move = LEADER
+
+-- the puts of these moves, which are given this, each with its origin
+abbrev pub noted_puts : List ℕ → ℕ → ℕ → Given → Plain → List Move → List Noted
+noted_puts members member step given server [] = []
+noted_puts members member step given server (move ∷ moves) = noted (origin_of given move) (puts members member server move)
+    ++ noted_puts members member step given (plain_after members member step server move) moves
+
+-- the member makes these moves in a step: their puts with these origins in order, up to the first that fails; and
 -- where none does, it stands for the server after them, and for these times
-pub record LeavesMoves {D : Type 0} {disk : Ghosts D} (members : List ℕ) (member step : ℕ) (moves : List Move) (server : Plain) (times_then : Times)
+pub record LeavesMoves {D : Type 0} {disk : Ghosts D} (members : List ℕ) (member step : ℕ) (moves : List Move) (server : Plain) (noted : List Noted) (times_then : Times)
     (old new : Durable D disk) (raft : Raft) (failed : Option Fault) : Type 0 where
-  pub puts : DoesPuts (puts_of_all members member step server moves) old new failed
+  pub plain : plain_puts noted ≡ puts_of_all members member step server moves
+  pub puts : DoesPuts noted old new failed
   pub after : IfNone failed (StandsFor raft members (durable_state new) (plain_after_all members member step server moves) times_then)
 
--- they are given this, and leave the times after them
+-- they are given this: the origins are as it says, and they leave the times after them
 abbrev pub MakesMoves : {D : Type 0} {disk : Ghosts D} → List ℕ → ℕ → ℕ → Given → List Move → Plain → Times → Durable D disk → Durable D disk → Raft → Option Fault → Type 0
-MakesMoves members member step given moves server times = LeavesMoves members member step moves server (times_after_all members member step given server moves times)
+MakesMoves members member step given moves server times = LeavesMoves members member step moves server (noted_puts members member step given server moves) (times_after_all members member step given server moves times)
 
 -- the request of the machine that a vote request carries, which the node `from` made in a step for the node `to`
 abbrev pub vote_request_of : VoteRequest → ℕ → ℕ → ℕ → Request

@@ -23,18 +23,36 @@ number_of_vote (Some node) = node
 abbrev pub store_of : Stored → Store
 store_of state = record { term = state.term; vote = vote_of state.vote; log = state.log; commit = state.commit }
 
--- a put of the machine as it is made of a stored state: a log that is longer, or shorter, is put by its last
-abbrev pub stored_put : Put → Stored → StoredPut
-stored_put (PutTerm term) state = StoredPut.PutTerm term
-stored_put (PutVote vote) state = StoredPut.PutVote (number_of_vote vote)
-stored_put (PutEntry entry) state = StoredPut.PutEntry entry
-stored_put (PutLonger entry) state = StoredPut.PutLast (state.log ++ (entry ∷ []))
-stored_put (PutShorter count) state = StoredPut.PutLast (take count state.log)
-stored_put (PutCommit index) state = StoredPut.PutCommit index
+-- a put of the machine, which knows no origins, and beside it the origin of the entry that it puts; a put of no entry uses none
+pub record Noted : Type 0 where
+  pub put : Put
+  pub origin : ℕ
 
-abbrev pub stored_puts : List Put → Stored → List StoredPut
+-- puts of one origin
+abbrev pub noted : ℕ → List Put → List Noted
+noted origin [] = []
+noted origin (put ∷ puts) = record { put = put; origin = origin } ∷ noted origin puts
+
+-- the puts alone
+abbrev pub plain_puts : List Noted → List Put
+plain_puts [] = []
+plain_puts (first ∷ rest) = first.put ∷ plain_puts rest
+
+-- a put of the machine as it is made of a stored state, with this origin of its entry: a log that is longer, or shorter, is put by its last
+abbrev pub put_from : ℕ → Put → Stored → StoredPut
+put_from origin (PutTerm term) state = StoredPut.PutTerm term
+put_from origin (PutVote vote) state = StoredPut.PutVote (number_of_vote vote)
+put_from origin (PutEntry entry) state = StoredPut.PutEntry entry origin
+put_from origin (PutLonger entry) state = StoredPut.PutLast (state.log ++ (entry ∷ [])) (state.origins ++ (Some origin ∷ []))
+put_from origin (PutShorter count) state = StoredPut.PutLast (take count state.log) (take count state.origins)
+put_from origin (PutCommit index) state = StoredPut.PutCommit index
+
+abbrev pub stored_put : Noted → Stored → StoredPut
+stored_put first state = put_from first.origin first.put state
+
+abbrev pub stored_puts : List Noted → Stored → List StoredPut
 stored_puts [] state = []
-stored_puts (put ∷ puts) state = stored_put put state ∷ stored_puts puts (after_put (stored_put put state) state)
+stored_puts (first ∷ rest) state = stored_put first state ∷ stored_puts rest (after_put (stored_put first state) state)
 
 -- a put of a vote is for none, or for a node, whose ID is not 0: then what is stored says the same as the machine
 abbrev pub VotesForNode : Put → Type 0
@@ -72,7 +90,7 @@ pub record KeepsFaults {D : Type 0} {disk : Ghosts D} (old new : Durable D disk)
   pub still : (fault : Fault) → durable_fault old ≡ Some fault → IsStill old new
   pub kept : IfSome failed (λ fault. durable_fault new ≡ Some fault)
 
--- these puts of the machine are made in order, up to the first that fails, whose fault is answered
-pub record DoesPuts {D : Type 0} {disk : Ghosts D} (puts : List Put) (old new : Durable D disk) (failed : Option Fault) : Type 0 where
+-- these puts of the machine are made in order, each with its origin, up to the first that fails, whose fault is answered
+pub record DoesPuts {D : Type 0} {disk : Ghosts D} (puts : List Noted) (old new : Durable D disk) (failed : Option Fault) : Type 0 where
   pub made : MakesPuts (stored_puts puts (durable_state old)) old new (is_none failed)
   pub faults : KeepsFaults old new failed

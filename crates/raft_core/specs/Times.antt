@@ -28,21 +28,25 @@ pub record Times : Type 0 where
   -- for each pending call
   pub sending : ℕ → Option Sending
 
--- what the caller hands in: the moment, the word of a tick and the transfer ID of a call
+-- what the caller hands in: the moment, the word of a tick, the transfer ID of a call, and the origin of an entry that is proposed
 pub record Given : Type 0 where
   pub now : ℕ
   pub word : ℕ
   pub id : ℕ
+  pub origin : ℕ
 
--- a moment alone, that of a tick, and that of a call
+-- a moment alone, that of a tick, that of a call, and that of a proposal
 abbrev pub given_at : ℕ → Given
-given_at now = record { now = now; word = 0; id = 0 }
+given_at now = record { now = now; word = 0; id = 0; origin = 0 }
 
 abbrev pub given_tick : ℕ → ℕ → Given
-given_tick now word = record { now = now; word = word; id = 0 }
+given_tick now word = record { now = now; word = word; id = 0; origin = 0 }
 
 abbrev pub given_call : ℕ → ℕ → Given
-given_call now id = record { now = now; word = 0; id = id }
+given_call now id = record { now = now; word = 0; id = id; origin = 0 }
+
+abbrev pub given_proposal : ℕ → ℕ → Given
+given_proposal now origin = record { now = now; word = 0; id = 0; origin = origin }
 
 -- a member that opens
 abbrev pub opened_times : ℕ → ℕ → Times

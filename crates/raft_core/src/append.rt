@@ -2,6 +2,7 @@ ghost use Rattle.std.specs.Prelude.{◌≡◌, ◌↔◌, ◌⊎◌, ◌≤◌, 
 ghost use Rattle.std.specs.Result.{result_err};
 ghost use Rattle.can_frame.specs.declared.step.Role.TheVariants.{Leader};
 ghost use Rattle.can_frame.specs.Log.{log_limit};
+ghost use Rattle.raft_log.specs.declared.origin.TheConstants.{LEADER};
 ghost use Rattle.raft_log.specs.DurableViews.{durable_state};
 ghost use Rattle.raft_log.specs.MayFollow.{MayFollow};
 ghost use Rattle.raft_log.specs.Stored.{Stored};
@@ -16,7 +17,7 @@ ghost use Rattle.raft_model.specs.Moves.Move.{TakeAppendAnswer, TakeAppendReques
 ghost use Rattle.raft_model.specs.Server.{Plain};
 ghost use Rattle.raft_core.specs.Appending.{commit_puts, cut_to, write_puts};
 ghost use Rattle.raft_core.specs.Handled.{answer_of, append_request_of};
-ghost use Rattle.raft_core.specs.StoredPuts.{DoesPuts, KeepsFaults, store_of};
+ghost use Rattle.raft_core.specs.StoredPuts.{DoesPuts, KeepsFaults, noted, store_of};
 ghost use Rattle.raft_core.specs.Times.{Times, given_at, is_awaited};
 
 use crate::laws::puts_in_turn;
@@ -27,7 +28,7 @@ use disk_model::Disk;
 use dsdl_codec::{AppendAnswer, AppendRequest};
 use kv_store::Fault;
 use raft_log::laws::a_durable_state_is_kept;
-use raft_log::{Durable, may_follow};
+use raft_log::{Durable, may_follow, origin};
 use raft_model::laws::law_decisions;
 
 impl Raft {
@@ -167,7 +168,7 @@ fn accept<D: Disk>(d: &mut Durable<D>, req: &AppendRequest) -> Result<bool, Faul
     ensures puts { (step from to : ℕ) (verdict : Verdict) →
         let request = append_request_of req.now step from to in
         IsRuled (store_of (durable_state d.old)) request verdict →
-        DoesPuts (append_puts (store_of (durable_state d.old)) request verdict)
+        DoesPuts (noted LEADER (append_puts (store_of (durable_state d.old)) request verdict))
         d.old d.new (result_err result) ×
         IfOk result (λ success. success ≡ is_accepted verdict) }
     ensures fault { KeepsFaults d.old d.new (result_err result) }
@@ -193,7 +194,7 @@ fn take_entry<D: Disk>(d: &mut Durable<D>, req: &AppendRequest, entry: Entry) ->
     ensures puts { (step from to : ℕ) (verdict : Verdict) →
         let request = append_request_of req.now step from to in
         IsRuled (store_of (durable_state d.old)) request verdict →
-        DoesPuts (append_puts (store_of (durable_state d.old)) request verdict)
+        DoesPuts (noted LEADER (append_puts (store_of (durable_state d.old)) request verdict))
         d.old d.new (result_err result) ×
         IfOk result (λ success. success ≡ is_accepted verdict) }
     ensures fault { KeepsFaults d.old d.new (result_err result) }
@@ -243,7 +244,7 @@ fn may_add<D: Disk>(d: &Durable<D>, previous: u8, entry: &Entry) -> bool
 /// The log is accepted as it is: what the request commits of it is committed. Answers true.
 fn hold<D: Disk>(d: &mut Durable<D>, place: u8) -> Result<bool, Fault>
     requires { place ≤ length (durable_state d.old).log }
-    ensures puts { DoesPuts (commit_puts (store_of (durable_state d.old)) place)
+    ensures puts { DoesPuts (noted LEADER (commit_puts (store_of (durable_state d.old)) place))
         d.old d.new (result_err result) }
     ensures commit { OnOk result ((durable_state d.old).commit ≤ (durable_state d.new).commit) }
     ensures accepted { IfOk result (λ success. IsTrue success) }
@@ -255,13 +256,14 @@ fn hold<D: Disk>(d: &mut Durable<D>, place: u8) -> Result<bool, Fault>
     Ok(true)
 }
 
-/// The log is cut after the previous place, and the entry written there.
+/// The log is cut after the previous place, and the entry written there, as one that a leader sent.
 fn write<D: Disk>(d: &mut Durable<D>, previous: u8, entry: Entry) -> Result<(), Fault>
     requires inside { previous ≤ length (durable_state d.old).log }
     requires room { previous < log_limit }
     requires kept { (durable_state d.old).commit ≤ previous }
     requires follows { MayFollow (take previous (durable_state d.old).log) (durable_state d.old).term entry }
-    ensures puts { DoesPuts (write_puts (store_of (durable_state d.old)) previous entry)
+    ensures puts { DoesPuts
+        (noted LEADER (write_puts (store_of (durable_state d.old)) previous entry))
         d.old d.new (result_err result) }
     ensures log { OnOk result ((durable_state d.new).log
         ≡ take previous (durable_state d.old).log ++ (entry ∷ [])) }
@@ -269,17 +271,20 @@ fn write<D: Disk>(d: &mut Durable<D>, previous: u8, entry: Entry) -> Result<(), 
 {
     puts_in_turn::<D>();
     cut(d, previous)?;
-    d.append(entry)
+    d.append(entry, origin::LEADER)
 }
 
 /// The log is cut after the previous place, where it is longer.
 fn cut<D: Disk>(d: &mut Durable<D>, previous: u8) -> Result<(), Fault>
     requires inside { previous ≤ length (durable_state d.old).log }
     requires kept { (durable_state d.old).commit ≤ previous }
-    ensures puts { DoesPuts (cut_to (store_of (durable_state d.old)) previous)
+    ensures puts { DoesPuts (noted LEADER (cut_to (store_of (durable_state d.old)) previous))
         d.old d.new (result_err result) }
     ensures state { OnOk result (durable_state d.new
-        ≡ record (durable_state d.old) { log = take previous (durable_state d.old).log }) }
+        ≡ record (durable_state d.old) {
+          log = take previous (durable_state d.old).log;
+          origins = take previous (durable_state d.old).origins;
+        }) }
 {
     puts_in_turn::<D>();
     if previous < d.last() {

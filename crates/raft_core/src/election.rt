@@ -3,11 +3,12 @@ ghost use Rattle.std.specs.Result.{result_err};
 ghost use Rattle.arrayvec.specs.ArrayVec.{array_vec_len};
 ghost use Rattle.can_frame.specs.Log as log;
 ghost use Rattle.can_frame.specs.declared.step.Role.TheVariants.{Follower, Candidate};
+ghost use Rattle.raft_log.specs.declared.origin.TheConstants.{WIN};
 ghost use Rattle.raft_log.specs.DurableViews.{durable_state};
 ghost use Rattle.raft_model.specs.Moves.Elections.{adds_blank, is_leader, stand_memory, stand_puts, term_limit, win_memory, win_puts};
 ghost use Rattle.raft_model.specs.Server.{Plain, put_all};
 ghost use Rattle.raft_core.specs.Peers.{fresh, voter};
-ghost use Rattle.raft_core.specs.StoredPuts.{DoesPuts, KeepsFaults, store_of};
+ghost use Rattle.raft_core.specs.StoredPuts.{DoesPuts, KeepsFaults, noted, store_of};
 ghost use Rattle.raft_core.specs.Times as clock;
 ghost use Rattle.raft_core.specs.Times.{Times, given_tick};
 
@@ -18,7 +19,7 @@ use arrayvec::ArrayVec;
 use can_frame::{Entry, Role};
 use disk_model::Disk;
 use kv_store::Fault;
-use raft_log::Durable;
+use raft_log::{Durable, origin};
 
 impl Raft {
     ghost use Rattle.raft_core.specs.Fits.{Fits};
@@ -93,7 +94,8 @@ impl Raft {
         requires peers { (i : ℕ) → i < length peers.now → slice_index_or peers.now i 0 ≤ 125 }
         requires complete { length peers.now + 1 ≡ self.old.size }
         requires fits { Fits self.old (durable_state d.old) }
-        ensures puts { DoesPuts (stand_puts self.old.me (store_of (durable_state d.old)))
+        ensures puts { DoesPuts
+            (noted WIN (stand_puts self.old.me (store_of (durable_state d.old))))
             d.old d.new (result_err result) }
         ensures stands { (members : List ℕ) (server : Plain) (times : Times) →
             StandsFor self.old members (durable_state d.old) server times →
@@ -118,7 +120,7 @@ impl Raft {
     pub(crate) fn win<D: Disk>(&mut self, d: &mut Durable<D>) -> Result<(), Fault>
         requires role { self.old.role ≢ Follower }
         requires fits { Fits self.old (durable_state d.old) }
-        ensures puts { DoesPuts (win_puts (store_of (durable_state d.old)))
+        ensures puts { DoesPuts (noted WIN (win_puts (store_of (durable_state d.old))))
             d.old d.new (result_err result) }
         ensures stands { (members : List ℕ) (server : Plain) (times : Times) →
             StandsFor self.old members (durable_state d.old) server times →
@@ -140,7 +142,7 @@ fn vote_for_itself<D: Disk>(d: &mut Durable<D>, me: u8) -> Result<(), Fault>
     requires term { (durable_state d.old).term < 4294967295 }
     requires least { 1 ≤ me }
     requires most { me ≤ 125 }
-    ensures puts { DoesPuts (stand_puts me (store_of (durable_state d.old)))
+    ensures puts { DoesPuts (noted WIN (stand_puts me (store_of (durable_state d.old))))
         d.old d.new (result_err result) }
     ensures state { OnOk result (durable_state d.new
         ≡ record (durable_state d.old) { term = (durable_state d.old).term + 1; vote = me }) }
@@ -174,7 +176,7 @@ fn all_members(me: u8, peers: &[u8]) -> ArrayVec<u8, 5>
 
 /// A new leader appends a blank, where its log is not all committed and has room.
 fn add_blank<D: Disk>(d: &mut Durable<D>) -> Result<(), Fault>
-    ensures puts { DoesPuts (win_puts (store_of (durable_state d.old)))
+    ensures puts { DoesPuts (noted WIN (win_puts (store_of (durable_state d.old))))
         d.old d.new (result_err result) }
     ensures vote { OnOk result ((durable_state d.new).vote ≡ (durable_state d.old).vote) }
     ensures commit { OnOk result ((durable_state d.new).commit ≡ (durable_state d.old).commit) }
@@ -182,7 +184,7 @@ fn add_blank<D: Disk>(d: &mut Durable<D>) -> Result<(), Fault>
 {
     puts_in_turn::<D>();
     if wants_blank(d) {
-        d.append(blank(d.term()))?;
+        d.append(blank(d.term()), origin::WIN)?;
     }
     Ok(())
 }

@@ -4,16 +4,16 @@ ghost use Rattle.std.specs.Prelude.{◌≡◌, ◌≤◌, ◌++◌, take, [], �
 ghost use Rattle.kv_store.specs.declared.fault.Fault.{Fault};
 ghost use Rattle.raft_log.specs.declared.durable.Durable.{Durable};
 ghost use Rattle.raft_log.specs.DurableViews.{durable_state};
-ghost use Rattle.raft_log.specs.Stored.{Stored, after_puts};
+ghost use Rattle.raft_log.specs.Stored.{Stored, after_puts, opening_puts};
 ghost use Rattle.raft_model.specs.Handlers.{plain_after_all, puts_of_all};
 ghost use Rattle.raft_model.specs.Moves.{Move};
-ghost use Rattle.raft_model.specs.Server.{Plain, Put, put_all};
+ghost use Rattle.raft_model.specs.Server.{Plain, put_all};
 ghost use Rattle.raft_core.specs.declared.raft.Raft.{Raft};
 ghost use Rattle.raft_core.specs.Fits.{Fits};
-ghost use Rattle.raft_core.specs.Handled.{LeavesMoves};
+ghost use Rattle.raft_core.specs.Handled.{LeavesMoves, noted_puts};
 ghost use Rattle.raft_core.specs.RaftViews.{raft_members};
 ghost use Rattle.raft_core.specs.Stands.{StandsFor};
-ghost use Rattle.raft_core.specs.StoredPuts.{AreOfNodes, DoesPuts, KeepsFaults, VoteForNodes, store_of, stored_puts};
+ghost use Rattle.raft_core.specs.StoredPuts.{AreOfNodes, DoesPuts, KeepsFaults, Noted, VoteForNodes, plain_puts, store_of, stored_puts};
 ghost use Rattle.raft_core.specs.Times.{Given, Times, times_after_all};
 
 use disk_model::Disk;
@@ -22,36 +22,40 @@ use disk_model::Disk;
 /// there is no second, and a call without puts changes nothing.
 pub fn puts_in_turn<D: Disk>()
     ensures nothing { (durable : Durable D D.Disk) → DoesPuts [] durable durable None }
-    ensures joined { (xs ys : List Put) (old mid new : Durable D D.Disk) (failed : Option Fault) →
+    ensures joined { (xs ys : List Noted) (old mid new : Durable D D.Disk) (failed : Option Fault) →
         DoesPuts xs old mid None → DoesPuts ys mid new failed → DoesPuts (xs ++ ys) old new failed }
     ensures faults { (old mid new : Durable D D.Disk) (failed : Option Fault) →
         KeepsFaults old mid None → KeepsFaults mid new failed → KeepsFaults old new failed }
-    ensures cut_off { (xs ys : List Put) (old new : Durable D D.Disk) (fault : Fault) →
+    ensures cut_off { (xs ys : List Noted) (old new : Durable D D.Disk) (fault : Fault) →
         DoesPuts xs old new (Some fault) → DoesPuts (xs ++ ys) old new (Some fault) }
 {
     raft_log::laws::puts_in_turn::<D>();
 }
 
 /// Moves that were made by two calls of a step, one after the other, are those of both. Each call was
-/// given what it was given: the times are those that the second leaves, which began with those of the
-/// first. Where the first call failed there is no second, and a call without moves changes nothing.
+/// given what it was given: its puts have the origins that it says, and the times are those that the second
+/// leaves, which began with those of the first. Where the first call failed there is no second, and a call
+/// without moves changes nothing.
 pub fn moves_in_turn<D: Disk>()
     ensures nothing { (members : List ℕ) (member step : ℕ) (server : Plain) (times : Times)
         (durable : Durable D D.Disk) (raft : Raft) →
         StandsFor raft members (durable_state durable) server times →
-        LeavesMoves members member step [] server times durable durable raft None }
+        LeavesMoves members member step [] server [] times durable durable raft None }
     ensures joined { (members : List ℕ) (member step : ℕ) (xs ys : List Move) (server : Plain)
-        (first second : Times)
+        (one two : List Noted) (first second : Times)
         (old mid new : Durable D D.Disk) (before after : Raft) (failed : Option Fault) →
-        LeavesMoves members member step xs server first old mid before None →
+        LeavesMoves members member step xs server one first old mid before None →
         LeavesMoves members member step ys (plain_after_all members member step server xs)
-        second mid new after failed →
-        LeavesMoves members member step (xs ++ ys) server second old new after failed }
+        two second mid new after failed →
+        LeavesMoves members member step (xs ++ ys) server (one ++ two) second old new after failed }
     ensures cut_off { (members : List ℕ) (member step : ℕ) (xs ys : List Move) (server : Plain)
-        (first second : Times)
+        (one two : List Noted) (first second : Times)
         (old new : Durable D D.Disk) (raft after : Raft) (fault : Fault) →
-        LeavesMoves members member step xs server first old new raft (Some fault) →
-        LeavesMoves members member step (xs ++ ys) server second old new after (Some fault) }
+        LeavesMoves members member step xs server one first old new raft (Some fault) →
+        plain_puts two
+        ≡ puts_of_all members member step (plain_after_all members member step server xs) ys →
+        LeavesMoves members member step (xs ++ ys) server (one ++ two) second
+        old new after (Some fault) }
     ensures times { (members : List ℕ) (member step : ℕ) (given : Given) (xs ys : List Move)
         (server : Plain) (times : Times) →
         times_after_all members member step given server (xs ++ ys) times
@@ -63,6 +67,23 @@ pub fn moves_in_turn<D: Disk>()
     raft_model::laws::law_joined();
 }
 
+/// Puts that are noted with their origins are the puts of the machine, of moves and of moves one after the
+/// other.
+pub fn noted_puts_are_the_puts()
+    ensures plain { (members : List ℕ) (member step : ℕ) (given : Given)
+        (server : Plain) (moves : List Move) →
+        plain_puts (noted_puts members member step given server moves)
+        ≡ puts_of_all members member step server moves }
+    ensures both { (xs ys : List Noted) → plain_puts (xs ++ ys) ≡ plain_puts xs ++ plain_puts ys }
+    ensures front { (puts : List Noted) (count : ℕ) →
+        plain_puts (take count puts) ≡ take count (plain_puts puts) }
+    ensures in_turn { (members : List ℕ) (member step : ℕ) (given : Given)
+        (server : Plain) (xs ys : List Move) →
+        noted_puts members member step given server (xs ++ ys)
+        ≡ noted_puts members member step given server xs ++ noted_puts members member step given
+        (plain_after_all members member step server xs) ys }
+{}
+
 /// What is stored after the puts of a member is what the machine's server has after them, and so after
 /// some of the first of them: a stop leaves the server that the machine has then. The machine's vote for
 /// node 0 would be stored as none; no move of a member makes one.
@@ -70,11 +91,20 @@ pub fn puts_are_stored()
     ensures votes { (members : List ℕ) (member step : ℕ) (server : Plain) (moves : List Move) →
         1 ≤ member → AreOfNodes moves →
         VoteForNodes (puts_of_all members member step server moves) }
-    ensures same { (puts : List Put) (state : Stored) → VoteForNodes puts →
-        store_of (after_puts (stored_puts puts state) state) ≡ put_all (store_of state) puts }
-    ensures front { (puts : List Put) (state : Stored) (count : ℕ) → VoteForNodes puts →
+    ensures same { (puts : List Noted) (state : Stored) → VoteForNodes (plain_puts puts) →
+        store_of (after_puts (stored_puts puts state) state)
+        ≡ put_all (store_of state) (plain_puts puts) }
+    ensures front { (puts : List Noted) (state : Stored) (count : ℕ) →
+        VoteForNodes (plain_puts puts) →
         store_of (after_puts (take count (stored_puts puts state)) state)
-        ≡ put_all (store_of state) (take count puts) }
+        ≡ put_all (store_of state) (take count (plain_puts puts)) }
+{}
+
+/// An opening that gives a store its second form changes nothing of what the machine's server has stored,
+/// wherever it is cut: the machine knows no origins.
+pub fn an_opening_keeps_the_store()
+    ensures { (state : Stored) (count : ℕ) →
+        store_of (after_puts (take count (opening_puts state)) state) ≡ store_of state }
 {}
 
 /// Every member, with whatever it has stored, stands for some server and some times, and counts the

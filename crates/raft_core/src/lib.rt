@@ -13,6 +13,10 @@
 //! kept; where the stored state had failed before, nothing changes (`specs/StoredPuts.antt`).
 //! [`laws`] joins the calls of a step.
 //!
+//! Each entry is stored with its origin, by which it came into this member's log: from a leader, by a
+//! proposal, as a reservation or as the blank of a win. The machine knows no origins: a put of it is noted
+//! with one beside it.
+//!
 //! A `Raft` fits what is stored (`specs/Fits.antt`); every call that takes the stored state asks for
 //! this, and keeps it.
 //!

@@ -67,7 +67,7 @@ impl Raft {
     ghost use Rattle.raft_core.specs.RaftViews.{raft_me, raft_role, raft_size};
     ghost use Rattle.raft_core.specs.Roles.{StepsDown};
     ghost use Rattle.raft_core.specs.Stands.{StandsFor, role_of};
-    ghost use Rattle.raft_core.specs.StoredPuts.{DoesPuts, store_of};
+    ghost use Rattle.raft_core.specs.StoredPuts.{DoesPuts, KeepsFaults, noted, store_of};
     ghost use Rattle.raft_core.specs.Times as clock;
     ghost use Rattle.raft_core.specs.Times.{Times, opened_times};
 
@@ -122,8 +122,11 @@ impl Raft {
         term: u32,
         now: u64,
     ) -> Result<(), Fault>
-        ensures puts { DoesPuts (term_puts (store_of (durable_state d.old)) term)
+        // These puts have no entry, and so no origin.
+        ensures puts { (origin : ℕ) →
+            DoesPuts (noted origin (term_puts (store_of (durable_state d.old)) term))
             d.old d.new (result_err result) }
+        ensures fault { KeepsFaults d.old d.new (result_err result) }
         ensures stands { (members : List ℕ) (server : Plain) (times : Times) →
             StandsFor self.old members (durable_state d.old) server times →
             OnOk result (StandsFor self.new members (durable_state d.new)
@@ -135,6 +138,8 @@ impl Raft {
         ensures size { raft_size self.new ≡ raft_size self.old }
         ensures role { OnOk result (self.new.role ≢ Follower → self.new.role ≡ self.old.role) }
         ensures term { OnOk result (term ≤ (durable_state d.new).term) }
+        ensures raised { OnOk result ((durable_state d.old).term ≤ term →
+            (durable_state d.new).term ≡ term) }
         ensures log { OnOk result ((durable_state d.new).log ≡ (durable_state d.old).log) }
     {
         puts_in_turn::<D>();

@@ -2,6 +2,7 @@ ghost use Rattle.std.specs.Prelude.{◌≡◌, ◌==◌, ◌↔◌, ◌≤◌, �
 ghost use Rattle.std.specs.Result.{result_err};
 ghost use Rattle.can_frame.specs.declared.step.Role.TheVariants.{Candidate};
 ghost use Rattle.can_frame.specs.Log.{last_term};
+ghost use Rattle.raft_log.specs.declared.origin.TheConstants.{LEADER, WIN};
 ghost use Rattle.raft_log.specs.DurableViews.{durable_state};
 ghost use Rattle.raft_log.specs.Stored.{Stored};
 ghost use Rattle.raft_model.specs.Decisions.{grants};
@@ -12,7 +13,7 @@ ghost use Rattle.raft_model.specs.Moves.Elections.{MayGrant, counts, has_quorum,
 ghost use Rattle.raft_model.specs.Moves.Move.{TakeVoteRequest, TakeVoteAnswer};
 ghost use Rattle.raft_model.specs.Server.{Plain, put_all};
 ghost use Rattle.raft_core.specs.Handled.{answer_of, vote_request_of};
-ghost use Rattle.raft_core.specs.StoredPuts.{DoesPuts, KeepsFaults, store_of};
+ghost use Rattle.raft_core.specs.StoredPuts.{DoesPuts, KeepsFaults, noted, store_of};
 ghost use Rattle.raft_core.specs.Times as clock;
 ghost use Rattle.raft_core.specs.Times.{Times, given_at, is_awaited};
 
@@ -164,7 +165,8 @@ impl Raft {
         ensures puts { (members : List ℕ) (server : Plain) (times : Times) →
             StandsFor self.old members (durable_state d.old) server times →
             DoesPuts
-            (if has_quorum members (at server.memory.votes from true) then win_puts server.store else [])
+            (noted WIN
+            (if has_quorum members (at server.memory.votes from true) then win_puts server.store else []))
             d.old d.new (result_err result) }
         ensures stands { (members : List ℕ) (server : Plain) (times : Times) →
             StandsFor self.old members (durable_state d.old) server times →
@@ -190,7 +192,7 @@ impl Raft {
 fn vote<D: Disk>(d: &mut Durable<D>, node: u8) -> Result<(), Fault>
     requires least { 1 ≤ node }
     requires most { node ≤ 125 }
-    ensures puts { DoesPuts (vote_puts (store_of (durable_state d.old)).vote node)
+    ensures puts { DoesPuts (noted LEADER (vote_puts (store_of (durable_state d.old)).vote node))
         d.old d.new (result_err result) }
     ensures state { OnOk result (durable_state d.new
         ≡ record (durable_state d.old) { vote = if (durable_state d.old).vote == 0 then node else (durable_state d.old).vote }) }

@@ -36,7 +36,7 @@ fn after(member: Option<Member>, request: &AppendRequest) -> Option<(bool, u8, u
 }
 
 #[test]
-fn an_entry_that_may_not_stand_is_refused(rt: HostRuntime) {
+fn an_entry_is_refused_for_the_place(rt: HostRuntime) {
     let refused = Some((false, 3, 2, pair(2, 9, 123)));
     let new = pair(3, 10, 122);
     let broken = [
@@ -46,6 +46,17 @@ fn an_entry_that_may_not_stand_is_refused(rt: HostRuntime) {
             "committed, and of another term",
             request(1, 1, 3, Some(new)),
         ),
+        ("an older term", request(2, 3, 3, Some(pair(1, 10, 122)))),
+    ];
+    for (name, request) in broken {
+        assert_eq!(rt; after(follower(), &request), refused, "{name}");
+    }
+}
+
+#[test]
+fn an_entry_that_may_not_stand_is_refused(rt: HostRuntime) {
+    let refused = Some((false, 3, 2, pair(2, 9, 123)));
+    let broken = [
         (
             "a unique ID without a node ID",
             request(2, 3, 3, Some(pair(3, 10, 0))),
@@ -54,7 +65,6 @@ fn an_entry_that_may_not_stand_is_refused(rt: HostRuntime) {
             "a node ID of a tool",
             request(2, 3, 3, Some(pair(3, 10, 126))),
         ),
-        ("an older term", request(2, 3, 3, Some(pair(1, 10, 122)))),
         (
             "a later term than the request",
             request(2, 3, 3, Some(pair(4, 10, 122))),
@@ -73,7 +83,6 @@ fn an_entry_that_may_not_stand_is_refused(rt: HostRuntime) {
 
 #[test]
 fn an_entry_that_may_stand_is_taken(rt: HostRuntime) {
-    let old = pair(2, 9, 123);
     let new = pair(3, 10, 122);
     let again = pair(3, 9, 123);
     let taken = [
@@ -98,6 +107,17 @@ fn an_entry_that_may_stand_is_taken(rt: HostRuntime) {
             request(1, 2, 0, Some(again)),
             (3, 2, again),
         ),
+    ];
+    for (name, request, (last, commit, entry)) in taken {
+        let want = Some((true, last, commit, entry));
+        assert_eq!(rt; after(follower(), &request), want, "{name}");
+    }
+}
+
+#[test]
+fn a_log_that_has_it_already_is_kept(rt: HostRuntime) {
+    let old = pair(2, 9, 123);
+    let kept = [
         ("it is there", request(1, 2, 9, Some(old)), (3, 3, old)),
         (
             "it is there, and committed",
@@ -111,10 +131,22 @@ fn an_entry_that_may_stand_is_taken(rt: HostRuntime) {
             (3, 2, old),
         ),
     ];
-    for (name, request, (last, commit, entry)) in taken {
+    for (name, request, (last, commit, entry)) in kept {
         let want = Some((true, last, commit, entry));
         assert_eq!(rt; after(follower(), &request), want, "{name}");
     }
+}
+
+/// The origins of the second and the third entry, of which a request replaces the third.
+fn origins() -> Option<(u8, u8)> {
+    let request = request(1, 2, 3, Some(pair(3, 10, 122)));
+    let (member, _) = follower()?.append_request(2, &request, 100)?;
+    Some((member.origin(2)?, member.origin(3)?))
+}
+
+#[test]
+fn what_a_leader_sends_is_stored_as_such(rt: HostRuntime) {
+    assert_eq!(rt; origins(), Some((1, 0)));
 }
 
 /// A follower of term 3 with as many entries as a log takes.
@@ -153,13 +185,18 @@ fn of_leader(term: u32) -> Option<(AppendAnswer, View)> {
 }
 
 #[test]
-fn an_older_term_is_refused_and_a_leader_refuses_its_own(rt: HostRuntime) {
+fn an_older_term_is_refused(rt: HostRuntime) {
     let follows = (Role::Follower, 3, 0, 0, 0);
-    let leads = (Role::Leader, 3, 1, 0, 0);
     let later = Some((answer(4, true), (Role::Follower, 4, 0, 0, 0)));
     assert_eq!(rt; of_follower(2), Some((answer(3, false), follows)));
     assert_eq!(rt; of_follower(3), Some((answer(3, true), follows)));
     assert_eq!(rt; of_follower(4), later);
+}
+
+#[test]
+fn a_leader_refuses_its_own_term(rt: HostRuntime) {
+    let leads = (Role::Leader, 3, 1, 0, 0);
+    let later = Some((answer(4, true), (Role::Follower, 4, 0, 0, 0)));
     assert_eq!(rt; of_leader(2), Some((answer(3, false), leads)));
     assert_eq!(rt; of_leader(3), Some((answer(3, false), leads)));
     assert_eq!(rt; of_leader(4), later);

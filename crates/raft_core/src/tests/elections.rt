@@ -282,6 +282,12 @@ fn answered(from: u8, id: u8, term: u32, granted: bool) -> Option<(bool, Role, b
 fn a_vote_answer_is_taken_from_its_peer_under_its_transfer_id(rt: HostRuntime) {
     let refused = Some((false, Role::Candidate, true));
     assert_eq!(rt; answered(2, 5, 3, true), Some((true, Role::Leader, false)));
+    assert_eq!(rt; answered(2, 6, 3, true), refused);
+    assert_eq!(rt; answered(3, 5, 3, true), refused);
+}
+
+#[test]
+fn a_vote_counts_where_it_is_granted_in_the_term(rt: HostRuntime) {
     assert_eq!(rt;
         answered(2, 5, 3, false),
         Some((true, Role::Candidate, false))
@@ -294,8 +300,6 @@ fn a_vote_answer_is_taken_from_its_peer_under_its_transfer_id(rt: HostRuntime) {
         answered(2, 5, 4, true),
         Some((true, Role::Follower, false))
     );
-    assert_eq!(rt; answered(2, 6, 3, true), refused);
-    assert_eq!(rt; answered(3, 5, 3, true), refused);
 }
 
 /// The call to a peer that is pending after what was heard, of the candidate that made it.
@@ -312,23 +316,26 @@ fn pending_after_a_win() -> Option<Option<Pending>> {
     Some(member.raft.pending(3))
 }
 
+/// The vote request to member 2.
+const ASKED: Pending = Pending {
+    service: 31,
+    id: 5,
+    step: 1,
+    sent: 2000,
+};
+
 #[test]
-fn an_election_and_a_win_forget_the_calls_and_nothing_else_does(rt: HostRuntime) {
-    let asked = Pending {
-        service: 31,
-        id: 5,
-        step: 1,
-        sent: 2000,
-    };
-    let follows = Heard::Append(3, 2);
-    assert_eq!(rt; pending_after(follows, 2500, 2), Some(Some(asked)));
-    assert_eq!(rt;
-        pending_after(Heard::Vote(9, 1), 2500, 2),
-        Some(Some(asked))
-    );
-    assert_eq!(rt; pending_after(Heard::Tick, 3999, 2), Some(Some(asked)));
+fn an_election_and_a_win_forget_the_calls(rt: HostRuntime) {
+    assert_eq!(rt; pending_after(Heard::Tick, 3999, 2), Some(Some(ASKED)));
     assert_eq!(rt; pending_after(Heard::Tick, 4000, 2), Some(None));
     assert_eq!(rt; pending_after_a_win(), Some(None));
+}
+
+#[test]
+fn a_request_of_another_forgets_no_call(rt: HostRuntime) {
+    let asked = Some(Some(ASKED));
+    assert_eq!(rt; pending_after(Heard::Append(3, 2), 2500, 2), asked);
+    assert_eq!(rt; pending_after(Heard::Vote(9, 1), 2500, 2), asked);
 }
 
 /// Whether the answer to a call of a candidate is taken by the follower that it became, and its role.

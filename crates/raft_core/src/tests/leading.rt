@@ -6,6 +6,7 @@ use super::member::{Member, View, blank, pair, reservation, stored};
 use crate::{Call, Pending, Proposed, Raft, Role, Telling};
 use can_frame::{Entry, NodeId};
 use dsdl_codec::AppendRequest;
+use raft_log::origin;
 use std::test::Fail;
 
 /// A follower of term 1 with one entry, which is committed.
@@ -34,17 +35,41 @@ fn proposed(member: Option<Member>, byte: u8, node: u8) -> Option<(Proposed, u8,
 
 #[test]
 fn a_leader_proposes_what_is_new_where_there_is_room(rt: HostRuntime) {
-    let old = pair(1, 7, 125);
-    let not_leader = Some((Proposed::NotLeader, 1, old));
-    let taken = Some((Proposed::Taken, 1, old));
+    let taken = Some((Proposed::Taken, 1, pair(1, 7, 125)));
     let added = Some((Proposed::Added, 2, pair(2, 8, 124)));
-    let log_full = Some((Proposed::LogFull, 127, blank(1)));
-    assert_eq!(rt; proposed(follower(), 8, 124), not_leader);
     assert_eq!(rt; proposed(leader(), 8, 124), added);
     assert_eq!(rt; proposed(leader(), 7, 124), taken);
     assert_eq!(rt; proposed(leader(), 8, 125), taken);
+}
+
+#[test]
+fn a_follower_and_a_full_log_take_no_proposal(rt: HostRuntime) {
+    let not_leader = Some((Proposed::NotLeader, 1, pair(1, 7, 125)));
+    let log_full = Some((Proposed::LogFull, 127, blank(1)));
+    assert_eq!(rt; proposed(follower(), 8, 124), not_leader);
     assert_eq!(rt; proposed(full(), 8, 124), log_full);
     assert_eq!(rt; proposed(full(), 7, 125), log_full);
+}
+
+/// The origins in the log of a leader that won beside an entry that was not committed, and then recorded a
+/// pair by the exchange and one by GetNodeInfo, and reserved a node ID.
+fn origins() -> Option<[u8; 5]> {
+    let member = Member::leader(stored(1, &[pair(1, 7, 125)], 0)?)?;
+    let (member, _) = member.propose_from(8, 124, origin::EXCHANGE)?;
+    let (member, _) = member.propose_from(9, 123, origin::NODE_INFO)?;
+    let (member, _) = member.reserve(122)?;
+    Some([
+        member.origin(1)?,
+        member.origin(2)?,
+        member.origin(3)?,
+        member.origin(4)?,
+        member.origin(5)?,
+    ])
+}
+
+#[test]
+fn a_leader_stores_how_it_has_each_entry(rt: HostRuntime) {
+    assert_eq!(rt; origins(), Some([1, 4, 1, 2, 3]));
 }
 
 /// What becomes of a reservation, and last and the last entry after it.
@@ -67,27 +92,34 @@ fn beside_reservation() -> Option<Member> {
 
 #[test]
 fn a_leader_reserves_a_node_id_that_is_not_recorded(rt: HostRuntime) {
-    let old = pair(1, 7, 125);
-    let not_leader = Some((Proposed::NotLeader, 1, old));
-    let taken = Some((Proposed::Taken, 1, old));
+    let taken = Some((Proposed::Taken, 1, pair(1, 7, 125)));
     let added = Some((Proposed::Added, 2, reservation(2, 124)));
-    let log_full = Some((Proposed::LogFull, 127, blank(1)));
     let after_blanks = Some((Proposed::Added, 4, reservation(2, 124)));
-    assert_eq!(rt; reserved(follower(), 124), not_leader);
     assert_eq!(rt; reserved(leader(), 124), added);
     assert_eq!(rt; reserved(leader(), 125), taken);
-    assert_eq!(rt; reserved(full(), 124), log_full);
-    assert_eq!(rt; reserved(full(), 125), log_full);
     assert_eq!(rt; reserved(beside_blanks(), 124), after_blanks);
 }
 
 #[test]
-fn a_reservation_keeps_its_node_id_back_and_no_other(rt: HostRuntime) {
+fn a_follower_and_a_full_log_take_no_reservation(rt: HostRuntime) {
+    let not_leader = Some((Proposed::NotLeader, 1, pair(1, 7, 125)));
+    let log_full = Some((Proposed::LogFull, 127, blank(1)));
+    assert_eq!(rt; reserved(follower(), 124), not_leader);
+    assert_eq!(rt; reserved(full(), 124), log_full);
+    assert_eq!(rt; reserved(full(), 125), log_full);
+}
+
+#[test]
+fn a_reservation_keeps_its_node_id_back(rt: HostRuntime) {
     let taken = Some((Proposed::Taken, 2, reservation(2, 124)));
-    let second = Some((Proposed::Added, 3, reservation(2, 123)));
-    let given = Some((Proposed::Added, 3, pair(2, 8, 123)));
     assert_eq!(rt; reserved(beside_reservation(), 124), taken);
     assert_eq!(rt; proposed(beside_reservation(), 8, 124), taken);
+}
+
+#[test]
+fn a_reservation_keeps_no_other_node_id_back(rt: HostRuntime) {
+    let second = Some((Proposed::Added, 3, reservation(2, 123)));
+    let given = Some((Proposed::Added, 3, pair(2, 8, 123)));
     assert_eq!(rt; reserved(beside_reservation(), 123), second);
     assert_eq!(rt; proposed(beside_reservation(), 8, 123), given);
 }

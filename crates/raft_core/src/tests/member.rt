@@ -10,7 +10,7 @@ use crate::{Call, Proposed, Raft, Role, Telling};
 use can_frame::{Entry, NodeId, Uid, is_zero};
 use disk_model::{IMAGE, MemoryDisk};
 use dsdl_codec::{AppendAnswer, AppendRequest, VoteAnswer, VoteRequest};
-use raft_log::{Durable, may_follow};
+use raft_log::{Durable, may_follow, origin};
 
 /// The entry that gives a node ID to the unique ID of one repeated byte.
 pub(super) fn pair(term: u32, byte: u8, node: u8) -> Entry {
@@ -37,7 +37,7 @@ pub(super) fn blank(term: u32) -> Entry {
     }
 }
 
-/// What is stored: a term, no vote, these entries, and a commit index.
+/// What is stored: a term, no vote, these entries, which came by the exchange, and a commit index.
 pub(super) fn stored(term: u32, entries: &[Entry], commit: u8) -> Option<Durable<MemoryDisk>> {
     let mut durable = Durable::open(MemoryDisk::new(&[0; IMAGE])).ok()?;
     if durable.term() < term {
@@ -56,7 +56,7 @@ fn append(durable: &mut Durable<MemoryDisk>, entry: Entry) -> Option<()> {
     if durable.last() >= 127 || !may_follow(durable.log(), durable.term(), &entry) {
         return None;
     }
-    durable.append(entry).ok()
+    durable.append(entry, origin::EXCHANGE).ok()
 }
 
 /// What is seen of a member: its role, term, vote, last and commit index.
@@ -105,6 +105,14 @@ impl Member {
             return None;
         }
         Some(self.durable.entry(place))
+    }
+
+    /// The origin of the entry at a place.
+    pub fn origin(&self, place: u8) -> Option<u8> {
+        if place < 1 || place > self.durable.last() {
+            return None;
+        }
+        Some(self.durable.origin(place))
     }
 
     /// A tick, with members 2 and 3 known.
@@ -206,8 +214,15 @@ impl Member {
         Some((Member { raft, durable }, answer))
     }
 
-    /// Proposes a node ID for the unique ID of one repeated byte.
+    /// Proposes a node ID for the unique ID of one repeated byte, which came by the exchange.
     pub fn propose(self, byte: u8, node: u8) -> Option<(Member, Proposed)> {
+        self.propose_from(byte, node, origin::EXCHANGE)
+    }
+
+    pub fn propose_from(self, byte: u8, node: u8, origin: u8) -> Option<(Member, Proposed)>
+        requires least { 1 ≤ origin }
+        requires most { origin ≤ 2 }
+    {
         let Member {
             mut raft,
             mut durable,
@@ -217,7 +232,7 @@ impl Member {
         if is_zero(&uid) || node.get() > 125 {
             return None;
         }
-        let proposed = raft.propose(&mut durable, &uid, node).ok()?;
+        let proposed = raft.propose(&mut durable, &uid, node, origin).ok()?;
         Some((Member { raft, durable }, proposed))
     }
 

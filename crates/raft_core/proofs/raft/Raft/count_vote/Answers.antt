@@ -1,4 +1,4 @@
-use Rattle.std.proofs.Common.{rules, true, sym, ◌∙◌}
+use Rattle.std.proofs.Common.{rules, true, None, sym, ◌∙◌}
 use Rattle.raft_log.specs.DurableViews.{durable_state}
 use Rattle.raft_model.specs.Lists.{at}
 use Rattle.raft_model.specs.Server.{Plain}
@@ -16,7 +16,7 @@ returns-in_err-win-clause-puts g c = λ members p t st.
     let p1 : Plain = record p { memory = record p.memory { votes = votes } } in
     let st1 = c.count.ensures.stands members (durable_state c.args.d.now) p t st in
     let quorum = sym (counted_as c.count.new.self members (durable_state c.args.d.now) p1 t st1 (c.count.ensures.role ∙ c.requires.role) c.has_quorum.result c.has_quorum.ensures) ∙ c.if-has_quorum.true in
-    won_puts members p t votes c.args.d.now _ c.win.new.self _ quorum st.store (fails _ c.args.d.now _ c.in_err-win.field-0.0 _ (search rules) c.in_err-win.ensures.puts)
+    won_puts members p t votes c.args.d.now c.win.new.d c.win.new.self _ quorum st.store (fails _ c.args.d.now _ c.in_err-win.field-0.0 _ (search rules) c.in_err-win.ensures.puts)
 
 pub returns-in_ok-win-clause-puts : goal.returns-in_ok-win-clause-puts
 returns-in_ok-win-clause-puts g c = λ members p t st.
@@ -24,7 +24,7 @@ returns-in_ok-win-clause-puts g c = λ members p t st.
     let p1 : Plain = record p { memory = record p.memory { votes = votes } } in
     let st1 = c.count.ensures.stands members (durable_state c.args.d.now) p t st in
     let quorum = sym (counted_as c.count.new.self members (durable_state c.args.d.now) p1 t st1 (c.count.ensures.role ∙ c.requires.role) c.has_quorum.result c.has_quorum.ensures) ∙ c.if-has_quorum.true in
-    won_puts members p t votes c.args.d.now _ c.win.new.self _ quorum st.store c.in_ok-win.ensures.puts
+    won_puts members p t votes c.args.d.now c.win.new.d c.win.new.self None quorum st.store c.in_ok-win.ensures.puts
 
 pub returns-in_ok-win-clause-stands : goal.returns-in_ok-win-clause-stands
 returns-in_ok-win-clause-stands g c = λ members p t st.

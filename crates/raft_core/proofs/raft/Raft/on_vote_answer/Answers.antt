@@ -1,14 +1,15 @@
 use Rattle.std.proofs.Common.{rules, ◌≡◌, ◌++◌, false, refl, sym, subst, ap, ◌∙◌}
-use Rattle.std.specs.Prelude.{Some, None, nat_lt}
+use Rattle.std.specs.Prelude.{List, Some, None, nat_lt}
+use Rattle.raft_log.specs.declared.origin.TheConstants.{WIN}
 use Rattle.raft_log.specs.DurableViews.{durable_state}
 use Rattle.raft_model.specs.Moves.Elections.{counted, ended, term_puts}
-use Rattle.raft_model.specs.Server.{Plain, Store}
+use Rattle.raft_model.specs.Server.{Plain, Put, Store}
 use Rattle.raft_core.specs.Handled.{answer_of}
-use Rattle.raft_core.specs.StoredPuts.{DoesPuts, store_of}
+use Rattle.raft_core.specs.StoredPuts.{DoesPuts, noted, store_of}
 use Rattle.raft_core.specs.Times.{end_vote_call, given_at}
 use Rattle.raft_core.proofs.Answering.{count_failed, low_puts, no_vote_counted, not_higher, rest, term_failed, unraised, vote_counted}
 use Rattle.raft_core.proofs.VoteAnswer.{votes_puts}
-use Rattle.raft_core.proofs.Puts.{faults_at}
+use Rattle.raft_core.proofs.Puts.{alike, faults_at}
 use Rattle.raft_core.proofs.raft.Raft.on_vote_answer.Goals as goal
 
 pub returns-then-not-awaits_vote-clause-moves : goal.returns-then-not-awaits_vote-clause-moves
@@ -25,8 +26,9 @@ returns-in_err-raise-clause-moves g c = λ members n p t st awaited step r is.
     let a = answer_of step c.args.from r c.args.ans.now.term c.args.ans.now.granted in
     let more = rest members c.args.self.now.me n (given_at c.args.now) p t a old c.raise.new.d c.raise.new.self in (
       term_failed members c.args.self.now.me n (given_at c.args.now) p t a old c.raise.new.d c.raise.new.self _ c.in_err-raise.field-0.0 (search rules)
-          (subst (λ (z : Store). DoesPuts (term_puts z a.term ++ more) old c.raise.new.d (Some c.in_err-raise.field-0.0)) (sym st.store)
-          (c.puts_in_turn.ensures.cut_off (term_puts (store_of (durable_state old)) a.term) more old _ c.in_err-raise.field-0.0 c.in_err-raise.ensures.puts)),
+          (subst (λ (z : Store). DoesPuts (noted WIN (term_puts z a.term ++ more)) old c.raise.new.d (Some c.in_err-raise.field-0.0)) (sym st.store)
+          (alike WIN (term_puts (store_of (durable_state old)) a.term) more old _ (Some c.in_err-raise.field-0.0)
+          (c.puts_in_turn.ensures.cut_off _ (noted WIN more) old _ c.in_err-raise.field-0.0 (c.in_err-raise.ensures.puts WIN)))),
       search rules,
     )
 
@@ -46,7 +48,7 @@ returns-then-not-counts-clause-moves g c = λ members n p t st awaited step r is
     let st3 = unraised c.raise.new.self members (durable_state c.raise.new.d) p1 t1 c.args.now a.term low st2 in
     sym (c.counts.ensures.counts p1 a st3.role (ap (λ (z : Store). z.term) st3.store ∙ sym c.term.ensures) refl refl) ∙ c.if-not-counts.true in (
       no_vote_counted members c.args.self.now.me n (given_at c.args.now) p t a old c.raise.new.d c.raise.new.self none
-          (subst (λ (z : Store). DoesPuts (term_puts z a.term) old c.raise.new.d None) (sym st.store) c.in_ok-raise.ensures.puts) st2,
+          (subst (λ (z : Store). DoesPuts (noted WIN (term_puts z a.term)) old c.raise.new.d None) (sym st.store) (c.in_ok-raise.ensures.puts WIN)) st2,
       refl,
     )
 
@@ -76,10 +78,11 @@ returns-in_err-count_vote-clause-moves g c = λ members n p t st awaited step r 
     let so = sym (c.counts.ensures.counts p1 a st3.role (ap (λ (z : Store). z.term) st3.store ∙ sym c.term.ensures) refl refl) ∙ c.if-not-counts.false in
     let votes = votes_puts members p1 t (counted p.memory a) old c.count_vote.new.d c.count_vote.new.self in (
       count_failed members c.args.self.now.me n (given_at c.args.now) p t a old c.count_vote.new.d c.count_vote.new.self _ c.in_err-count_vote.field-0.0 (search rules) low so
-          (subst (λ l. DoesPuts l old c.count_vote.new.d broken) (low_puts p.store a.term votes low)
-          (subst (λ (z : Store). DoesPuts (term_puts z a.term ++ votes) old c.count_vote.new.d broken) (sym st.store)
-          (c.puts_in_turn.ensures.joined (term_puts (store_of (durable_state old)) a.term) votes old mid c.count_vote.new.d broken c.in_ok-raise.ensures.puts
-          (c.in_err-count_vote.ensures.puts members p1 t1 st3)))),
+          (subst (λ (l : List Put). DoesPuts (noted WIN l) old c.count_vote.new.d broken) (low_puts p.store a.term votes low)
+          (subst (λ (z : Store). DoesPuts (noted WIN (term_puts z a.term ++ votes)) old c.count_vote.new.d broken) (sym st.store)
+          (alike WIN (term_puts (store_of (durable_state old)) a.term) votes old c.count_vote.new.d broken
+          (c.puts_in_turn.ensures.joined _ (noted WIN votes) old mid c.count_vote.new.d broken (c.in_ok-raise.ensures.puts WIN)
+          (c.in_err-count_vote.ensures.puts members p1 t1 st3))))),
       search rules,
     )
 
@@ -102,10 +105,11 @@ returns-clause-moves g c = λ members n p t st awaited step r is.
     let so = sym (c.counts.ensures.counts p1 a st3.role (ap (λ (z : Store). z.term) st3.store ∙ sym c.term.ensures) refl refl) ∙ c.if-not-counts.false in
     let votes = votes_puts members p1 t (counted p.memory a) old c.count_vote.new.d c.count_vote.new.self in (
       vote_counted members c.args.self.now.me n (given_at c.args.now) p t a old c.count_vote.new.d c.count_vote.new.self low so
-          (subst (λ l. DoesPuts l old c.count_vote.new.d None) (low_puts p.store a.term votes low)
-          (subst (λ (z : Store). DoesPuts (term_puts z a.term ++ votes) old c.count_vote.new.d None) (sym st.store)
-          (c.puts_in_turn.ensures.joined (term_puts (store_of (durable_state old)) a.term) votes old mid c.count_vote.new.d _ c.in_ok-raise.ensures.puts
-          (c.in_ok-count_vote.ensures.puts members p1 t1 st3))))
+          (subst (λ (l : List Put). DoesPuts (noted WIN l) old c.count_vote.new.d None) (low_puts p.store a.term votes low)
+          (subst (λ (z : Store). DoesPuts (noted WIN (term_puts z a.term ++ votes)) old c.count_vote.new.d None) (sym st.store)
+          (alike WIN (term_puts (store_of (durable_state old)) a.term) votes old c.count_vote.new.d None
+          (c.puts_in_turn.ensures.joined _ (noted WIN votes) old mid c.count_vote.new.d _ (c.in_ok-raise.ensures.puts WIN)
+          (c.in_ok-count_vote.ensures.puts members p1 t1 st3)))))
           (c.in_ok-count_vote.ensures.stands members p1 t1 st3),
       refl,
     )
@@ -113,7 +117,7 @@ returns-clause-moves g c = λ members n p t st awaited step r is.
 pub returns-in_err-count_vote-clause-fault : goal.returns-in_err-count_vote-clause-fault
 returns-in_err-count_vote-clause-fault g c =
     faults_at _ c.count_vote.new.d c.in_err-count_vote.field-0.0 _ (search rules)
-    (c.puts_in_turn.ensures.faults c.args.d.now c.raise.new.d c.count_vote.new.d _ c.in_ok-raise.ensures.puts.faults c.in_err-count_vote.ensures.fault)
+    (c.puts_in_turn.ensures.faults c.args.d.now c.raise.new.d c.count_vote.new.d _ c.in_ok-raise.ensures.fault c.in_err-count_vote.ensures.fault)
 
 pub returns-clause-fault : goal.returns-clause-fault
-returns-clause-fault g c = c.puts_in_turn.ensures.faults c.args.d.now c.raise.new.d c.count_vote.new.d _ c.in_ok-raise.ensures.puts.faults c.in_ok-count_vote.ensures.fault
+returns-clause-fault g c = c.puts_in_turn.ensures.faults c.args.d.now c.raise.new.d c.count_vote.new.d _ c.in_ok-raise.ensures.fault c.in_ok-count_vote.ensures.fault
