@@ -83,7 +83,7 @@ info_more step d (byte ∷ bytes) g = itself g
 
 records_at_more : (step : ℕ) (uid : List ℕ) (node : Option ℕ) (g : Going) → Extends g (records_at step uid node g)
 records_at_more step uid None g = itself g
-records_at_more step uid (Some node) g = proposes_more step uid node g
+records_at_more step uid (Some node) g = proposes_more step _ uid node g
 
 records_more : (step : ℕ) (uid : List ℕ) (preference : ℕ) (g : Going) → Extends g (records step uid preference g)
 records_more step uid preference g = either_more (may_propose g.timed && not (some_unknown g.timed.watch (known g.timed) g.timed.now)) g (records_at step uid (chosen (taken g.timed) preference) g) g

@@ -5,7 +5,7 @@ use Rattle.can_frame.specs.Zeros.{zeros}
 use Rattle.cluster_discovery.specs.Members.{is_due}
 use Rattle.node_discovery.specs.Watch.{next_query}
 use Rattle.raft_core.specs.Taken.{proposal}
-use Rattle.raft_core.specs.Times.{given_at, given_tick}
+use Rattle.raft_core.specs.Times.{given_proposal, given_tick}
 use Rattle.raft_model.specs.Moves.Move.{ProposeEntry}
 use Rattle.raft_model.specs.Moves.Elections.{is_leader}
 use Rattle.can_frame.specs.declared.step.What.TheVariants.{InfoQ}
@@ -16,12 +16,12 @@ use Rattle.server_parts.specs.Tick.{asks, candidate, discovery_phase, election_m
 use Rattle.server_parts.specs.Extends.{Extends}
 use Rattle.server_parts.proofs.Extends.{and_more, either_more, itself, no_more, takes_more}
 
-pub proposes_more : (step : ℕ) (uid : List ℕ) (node : ℕ) (g : Going) → Extends g (proposes step uid node g)
-proposes_more step uid node g = takes_more step (given_at g.timed.now) (ProposeEntry (proposal g.timed.plain.store.term uid node) ∷ []) g
+pub proposes_more : (step origin : ℕ) (uid : List ℕ) (node : ℕ) (g : Going) → Extends g (proposes step origin uid node g)
+proposes_more step origin uid node g = takes_more step (given_proposal g.timed.now origin) (ProposeEntry (proposal g.timed.plain.store.term uid node) ∷ []) g
 
 records_as_more : (step node : ℕ) (uid : Option (List ℕ)) (g : Going) → Extends g (records_as step node uid g)
-records_as_more step node None g = proposes_more step zeros node g
-records_as_more step node (Some uid) g = proposes_more step uid node g
+records_as_more step node None g = proposes_more step _ zeros node g
+records_as_more step node (Some uid) g = proposes_more step _ uid node g
 
 records_node_more : (step : ℕ) (node : Option ℕ) (g : Going) → Extends g (records_node step node g)
 records_node_more step None g = itself g

@@ -1,10 +1,10 @@
 -- What a step does later: it adds puts behind those that are there, and leaves the sessions of its receiver.
 use Rattle.std.proofs.Common.{◌≡◌, ℕ, Bool, true, false, List, [], ◌++◌, refl, sym, ap, ◌∙◌, append_assoc}
 use Rattle.std.specs.Prelude.{if◌then◌else◌}
+use Rattle.raft_core.specs.Handled.{noted_puts}
+use Rattle.raft_core.specs.StoredPuts.{Noted}
 use Rattle.raft_core.specs.Times.{Given}
-use Rattle.raft_model.specs.Handlers.{puts_of_all}
 use Rattle.raft_model.specs.Moves.{Move}
-use Rattle.raft_model.specs.Server.{Put}
 use Rattle.server_parts.specs.TimedServer.{members_of}
 use Rattle.server_parts.specs.Extends.{Extends}
 use Rattle.server_parts.specs.Going.{Going, takes}
@@ -19,13 +19,13 @@ itself g = no_more g g refl refl refl
 pub and_more : (g mid later : Going) → Extends g mid → Extends mid later → Extends g later
 and_more g mid later a b = record {
   more = a.more ++ b.more;
-  puts = b.puts ∙ ap (λ (list : List Put). list ++ b.more) a.puts ∙ append_assoc g.puts a.more b.more;
+  puts = b.puts ∙ ap (λ (list : List Noted). list ++ b.more) a.puts ∙ append_assoc g.puts a.more b.more;
   sessions = b.sessions ∙ a.sessions;
   me = b.me ∙ a.me;
 }
 
 pub takes_more : (step : ℕ) (given : Given) (moves : List Move) (g : Going) → Extends g (takes step given moves g)
-takes_more step given moves g = record { more = puts_of_all (members_of g.timed) g.timed.me step g.timed.plain moves; puts = refl; sessions = refl; me = refl }
+takes_more step given moves g = record { more = noted_puts (members_of g.timed) g.timed.me step given g.timed.plain moves; puts = refl; sessions = refl; me = refl }
 
 pub either_more : (b : Bool) (g x y : Going) → Extends g x → Extends g y → Extends g (if b then x else y)
 either_more true g x y a b = a

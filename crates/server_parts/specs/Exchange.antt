@@ -39,7 +39,7 @@ gives_pair step move place g = gives_entry step move (slice_index_or g.timed.pla
 
 abbrev pub records_at : ℕ → List ℕ → Option ℕ → Going → Going
 records_at step uid None g = g
-records_at step uid (Some node) g = proposes step uid node g
+records_at step uid (Some node) g = proposes step 1 uid node g
 
 -- a leader with room gives the ID that the preference leads to, where no online node is unknown: one that is not known
 -- and has not told its unique ID

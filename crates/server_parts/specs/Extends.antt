@@ -1,11 +1,11 @@
 -- What a step does later: it adds puts behind those that are there, and leaves the sessions of the receiver
 -- and the node ID.
 use Rattle.std.specs.Prelude.{◌≡◌, ◌++◌, List}
-use Rattle.raft_model.specs.Server.{Put}
+use Rattle.raft_core.specs.StoredPuts.{Noted}
 use Rattle.server_parts.specs.Going.{Going}
 
 pub record Extends (g later : Going) : Type 0 where
-  pub more : List Put
+  pub more : List Noted
   pub puts : later.puts ≡ g.puts ++ more
   pub sessions : later.timed.sessions ≡ g.timed.sessions
   pub me : later.timed.me ≡ g.timed.me

@@ -3,11 +3,12 @@
 use Rattle.std.specs.Prelude.{ℕ, Bool, List, [], ◌∷◌, ◌++◌, Option, None, Some, map, filter_map, if◌then◌else◌}
 use Rattle.can_frame.specs.declared.step.Sent.{Sent}
 use Rattle.can_frame.specs.declared.step.What.{What}
+use Rattle.raft_core.specs.Handled.{noted_puts}
+use Rattle.raft_core.specs.StoredPuts.{Noted}
 use Rattle.raft_core.specs.Times.{Given as HandedIn, times_after_all}
-use Rattle.raft_model.specs.Handlers.{plain_after_all, puts_of_all}
+use Rattle.raft_model.specs.Handlers.{plain_after_all}
 use Rattle.raft_model.specs.Messages.{Message}
 use Rattle.raft_model.specs.Moves.{Move}
-use Rattle.raft_model.specs.Server.{Put}
 use Rattle.transfer_rx.specs.Reassembly.{Delivery}
 use Rattle.transfer_tx.specs.Queue.{queued_frames}
 use Rattle.server_parts.specs.Transfers.{Given, Offer, given_in, has_room, id_of, message_of, outgoing, sent_of}
@@ -17,7 +18,8 @@ use Rattle.server_parts.specs.TimedServer.{Timed, members_of}
 pub record Going : Type 0 where
   pub timed : Timed
   pub moves : List Move
-  pub puts : List Put
+  -- those of the moves, each with the origin that its entry gets
+  pub puts : List Noted
   pub offers : List Offer
 
 -- a step that has done nothing yet
@@ -40,7 +42,7 @@ abbrev pub takes : ℕ → HandedIn → List Move → Going → Going
 takes step given moves g = record g {
   timed = moved step given moves g.timed;
   moves = g.moves ++ moves;
-  puts = g.puts ++ puts_of_all (members_of g.timed) g.timed.me step g.timed.plain moves;
+  puts = g.puts ++ noted_puts (members_of g.timed) g.timed.me step given g.timed.plain moves;
 }
 
 -- ---- transfers: all frames go into the queue where there is room, and it is listed either way

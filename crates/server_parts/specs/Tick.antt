@@ -12,7 +12,7 @@ use Rattle.node_discovery.specs.History.{Asked, identity, is_silent}
 use Rattle.node_discovery.specs.Watch.{devices, history, next_query, of_node}
 use Rattle.raft_core.specs.Handled.{moves_of_tick}
 use Rattle.raft_core.specs.Taken.{proposal}
-use Rattle.raft_core.specs.Times.{given_at, given_tick}
+use Rattle.raft_core.specs.Times.{given_proposal, given_tick}
 use Rattle.raft_model.specs.Moves.{Move}
 use Rattle.raft_model.specs.Moves.Elections.{is_leader}
 use Rattle.raft_model.specs.Moves.Move.{ProposeEntry}
@@ -55,11 +55,12 @@ election_phase step word g = takes step (given_tick g.timed.now word) (election_
 
 -- ---- the log: a leader records a pair, or keeps back a node ID
 
-abbrev pub proposes : ℕ → List ℕ → ℕ → Going → Going
-proposes step uid node g = takes step (given_at g.timed.now) (ProposeEntry (proposal g.timed.plain.store.term uid node) ∷ []) g
+-- the origin says how it got the pair: 1 by the exchange, 2 by GetNodeInfo, 3 a reservation
+abbrev pub proposes : ℕ → ℕ → List ℕ → ℕ → Going → Going
+proposes step origin uid node g = takes step (given_proposal g.timed.now origin) (ProposeEntry (proposal g.timed.plain.store.term uid node) ∷ []) g
 
 abbrev pub reserves : ℕ → ℕ → Going → Going
-reserves step node g = proposes step zeros node g
+reserves step node g = proposes step 3 zeros node g
 
 -- it told its unique ID, or stays silent; and it is online, and not known
 abbrev pub is_candidate : Timed → ℕ → Bool
@@ -81,7 +82,7 @@ new_uid t node = if_new t.plain.store.log (identity (history node t.watch) t.now
 -- it is proposed with a new unique ID, and else reserved
 abbrev pub records_as : ℕ → ℕ → Option (List ℕ) → Going → Going
 records_as step node None g = reserves step node g
-records_as step node (Some uid) g = proposes step uid node g
+records_as step node (Some uid) g = proposes step 2 uid node g
 
 abbrev pub records_node : ℕ → Option ℕ → Going → Going
 records_node step None g = g

@@ -1,12 +1,17 @@
 //! Laws of the definitions, each the contract of a function that does nothing.
 
-ghost use Rattle.std.specs.Prelude.{ℕ};
+ghost use Rattle.std.specs.Prelude.{◌≡◌, ◌++◌, ℕ, None, List, Some};
+ghost use Rattle.can_frame.specs.Zeros.{zeros};
+ghost use Rattle.raft_core.specs.Proposing.{entry_puts};
+ghost use Rattle.raft_core.specs.StoredPuts.{noted};
+ghost use Rattle.raft_core.specs.Taken.{proposal};
 ghost use Rattle.transfer_rx.specs.Reassembly.{Answer};
 ghost use Rattle.server_parts.specs.Ending.{call_phase, commit_phase, ends, tell_phase};
+ghost use Rattle.server_parts.specs.Exchange.{records_at};
 ghost use Rattle.server_parts.specs.Extends.{Extends};
 ghost use Rattle.server_parts.specs.Going.{Going};
 ghost use Rattle.server_parts.specs.Step.{with_answer};
-ghost use Rattle.server_parts.specs.Tick.{query_phase, record_phase, ticks};
+ghost use Rattle.server_parts.specs.Tick.{query_phase, record_phase, records_as, ticks};
 
 /// A phase of a step adds puts behind those that the step has made, and takes no frame; it goes on
 /// under the same node ID.
@@ -19,4 +24,18 @@ pub fn phases_add_puts()
     ensures ends { (step : ℕ) (g : Going) → Extends g (ends step g) }
     ensures commit { (step : ℕ) (g : Going) → Extends g (commit_phase step g) }
     ensures tell { (step : ℕ) (g : Going) → Extends g (call_phase step (tell_phase step g)) }
+{}
+
+/// An entry that a leader records has the origin by which the leader got it: 1 for a pair of the
+/// exchange, 2 for a node that told its unique ID by GetNodeInfo, 3 for a reservation.
+pub fn entries_have_their_origin()
+    ensures exchange { (step : ℕ) (uid : List ℕ) (node : ℕ) (g : Going) →
+        (records_at step uid (Some node) g).puts
+        ≡ g.puts ++ noted 1 (entry_puts (proposal g.timed.plain.store.term uid node)) }
+    ensures told { (step node : ℕ) (uid : List ℕ) (g : Going) →
+        (records_as step node (Some uid) g).puts
+        ≡ g.puts ++ noted 2 (entry_puts (proposal g.timed.plain.store.term uid node)) }
+    ensures reserved { (step node : ℕ) (g : Going) →
+        (records_as step node None g).puts
+        ≡ g.puts ++ noted 3 (entry_puts (proposal g.timed.plain.store.term zeros node)) }
 {}

@@ -9,7 +9,8 @@
 //!
 //! The parts: the transfers that an allocator sends and receives ([`accept_rows`], [`ident_of`]),
 //! the queue with its transfer IDs ([`Outbox`]), the list of what a step offered ([`Offered`]), and
-//! what goes in and out of a step ([`Event`], [`Outcome`], [`View`]).
+//! what goes in and out of a step ([`Event`], [`Outcome`], [`View`]). [`laws`] says that phases of
+//! a step only add puts, and which origin the entries have that a leader records.
 #![tactic(auto)]
 
 mod counters;
