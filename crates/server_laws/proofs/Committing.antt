@@ -9,7 +9,7 @@ use Rattle.server_parts.specs.Step.{Event}
 use Rattle.server_parts.specs.TimedServer.{Timed, members_of}
 use Rattle.server_laws.specs.Coming.{MayStep}
 use Rattle.server_laws.specs.Phases.{when_committed, when_seen}
-use Rattle.server_laws.proofs.LawsBelow.{Laws}
+use Rattle.server_laws.specs.LawsBelow.{Laws}
 use Rattle.server_laws.proofs.Dutiful.{commits}
 use Rattle.server_laws.proofs.Ranges.{me_when_seen}
 use Rattle.server_laws.proofs.Steady.{Steady}

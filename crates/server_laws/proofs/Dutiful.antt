@@ -30,7 +30,7 @@ use Rattle.server_parts.specs.Tick.{asks, candidate, discovery_phase, election_p
 use Rattle.server_parts.specs.TimedServer.{Timed, is_zero, known, knows_all, may_propose, members_of, start_of}
 use Rattle.server_parts.specs.Transfers.{has_room, id_of}
 use Rattle.server_laws.specs.Phases.{TellsDuly, has_room_to_tell, told_allocation, when_committed, when_told}
-use Rattle.server_laws.proofs.LawsBelow.{Laws}
+use Rattle.server_laws.specs.LawsBelow.{Laws}
 use Rattle.server_laws.proofs.Choices.{either, lt_tells, tell}
 use Rattle.server_laws.proofs.Logs.{are_zeros, no_zeros}
 

@@ -5,17 +5,19 @@ use Rattle.can_frame.specs.declared.identifier.Kind.TheVariants.{Message as Broa
 use Rattle.can_frame.specs.Log.{IsPrefix}
 use Rattle.cluster_discovery.specs.Members.{Event as Hearing, Names, Start, is_complete}
 use Rattle.cluster_discovery.specs.Members as cluster
-use Rattle.cluster_discovery.specs.Members.Event.{Heard}
+use Rattle.cluster_discovery.specs.Members.Event.{Heard, Sent}
 use Rattle.dsdl_codec.specs.declared.discovery.Discovery.{Discovery}
 use Rattle.dsdl_codec.specs.Discovery.{discovery_of}
 use Rattle.raft_model.specs.Lists.{In}
 use Rattle.transfer_rx.specs.Reassembly.{Delivery}
-use Rattle.server_parts.specs.Going.{Going}
+use Rattle.server_parts.specs.Delivered.{hears_discovery}
+use Rattle.server_parts.specs.Going.{Going, standing}
 use Rattle.server_parts.specs.Step.{Event, step}
 use Rattle.server_parts.specs.TimedServer.{Timed, knows_all, members_of, start_of}
 use Rattle.server_laws.specs.Listing.{IsDelivered, IsNamed}
+use Rattle.server_laws.proofs.Keeping.{IsLike}
 use Rattle.server_laws.proofs.Logs.{get_in}
-use Rattle.server_laws.proofs.Walk.{IsLike, step_keeps}
+use Rattle.server_laws.proofs.Walk.{step_keeps}
 
 in_contains : (xs : List ℕ) (x : ℕ) → In x xs → Contains xs x
 in_contains [] x i = elim i [ ]
@@ -34,6 +36,28 @@ in_take (suc count) x (y ∷ ys) (inr i) = inr (in_take count x ys i)
 -- a fact of the list moves along a change that is no hearing
 moves_along : (Fact : Start → List Hearing → Type 0) (a b : Timed) → IsLike a b → Fact (start_of b) b.heard → Fact (start_of a) a.heard
 moves_along Fact a b like h = subst (λ (s : Start). Fact s a.heard) (sym like.start) (subst (λ (l : List Hearing). Fact (start_of b) l) (sym like.heard) h)
+
+-- a fact of the list is kept, where hearing a Discovery keeps it
+module _ (t : Timed) (number : ℕ) (event : Event) (Fact : Start → List Hearing → Type 0) where
+  abbrev HoldsOf : Going → Type 0
+  HoldsOf g = Fact (start_of g.timed) g.timed.heard
+
+  listed_so : ((start : Start) (heard : List Hearing) (moment : ℕ) → Fact start heard → Fact start (Sent moment ∷ heard))
+      → ((d : Delivery) (message : Discovery) (g : Going) → IsDelivered t number event d → d.ident.kind ≡ Broadcast
+      → nat_eq d.ident.number 341 ≡ false → discovery_of d.payload ≡ Some message → HoldsOf g → HoldsOf (hears_discovery d message g))
+      → HoldsOf (standing t) → HoldsOf (step t number event).going
+  listed_so tells hears h =
+      step_keeps number event HoldsOf (IsDelivered t number event) (record {
+        takes_keep = λ given moves g quiet h. h;
+        proposes_keep = λ origin uid node g found h. h;
+        sends_keep = λ what to payload says g sends h. h;
+        calls_keep = λ what peer move request payload g makes fits h. h;
+        responds_keep = λ what d payload says g comes responds h. h;
+        changes_keep = λ u g like h. moves_along Fact u g.timed like h;
+        watches_keep = λ node happens g has h. h;
+        tells_keep = λ g h. tells (start_of g.timed) g.timed.heard g.timed.now h;
+        hears_keep = hears;
+      }) t (λ arrival is d e. record { arrival = arrival; comes = is; gives = e }) h
 
 module _ (t : Timed) (number : ℕ) (event : Event) where
   -- who is new was named
@@ -62,10 +86,7 @@ module _ (t : Timed) (number : ℕ) (event : Event) where
     )
 
     pub named : (node : ℕ) → In node (members_of (step t number event).going.timed) → In node (members_of t) ⊎ IsNamed t number event node
-    named = (step_keeps number (λ g. Named (start_of g.timed) g.timed.heard) (IsDelivered t number event) (λ given moves g h. h)
-        (λ what to payload says g is said h. h) (λ what d payload says g is kind comes said h. h)
-        (λ u g like h. moves_along Named u g.timed like h) (λ g h. h) hears_named t event
-        (λ arrival is d e. record { arrival = arrival; comes = is; gives = e }) (refl, λ node i. inl i)).1
+    named = (listed_so t number event Named (λ start heard moment h. h) hears_named (refl, λ node i. inl i)).1
 
   -- who was known stays known
   module _ (stays : (start : Start) (events : List Hearing) (from : ℕ) (message : Discovery)
@@ -80,10 +101,7 @@ module _ (t : Timed) (number : ℕ) (event : Event) where
         (subst (λ (l : List ℕ). In node l) (sym (stays (start_of g.timed) g.timed.heard d.ident.source message)) (h node i))
 
     pub kept : (node : ℕ) → In node (members_of t) → In node (members_of (step t number event).going.timed)
-    kept = step_keeps number (λ g. Kept (start_of g.timed) g.timed.heard) (IsDelivered t number event) (λ given moves g h. h)
-        (λ what to payload says g is said h. h) (λ what d payload says g is kind comes said h. h)
-        (λ u g like h. moves_along Kept u g.timed like h) (λ g h. h) hears_kept t event
-        (λ arrival is d e. record { arrival = arrival; comes = is; gives = e }) (λ node i. i)
+    kept = listed_so t number event Kept (λ start heard moment h. h) hears_kept (λ node i. i)
 
   -- a list that is complete does not change
   module _ (stays : (start : Start) (events : List Hearing) (from : ℕ) (message : Discovery) → is_complete start events ≡ true
@@ -102,7 +120,4 @@ module _ (t : Timed) (number : ℕ) (event : Event) where
     )
 
     pub whole : knows_all t ≡ true → members_of (step t number event).going.timed ≡ members_of t
-    whole complete = (step_keeps number (λ g. Whole (start_of g.timed) g.timed.heard) (IsDelivered t number event) (λ given moves g h. h)
-        (λ what to payload says g is said h. h) (λ what d payload says g is kind comes said h. h)
-        (λ u g like h. moves_along Whole u g.timed like h) (λ g h. h) hears_whole t event
-        (λ arrival is d e. record { arrival = arrival; comes = is; gives = e }) (complete, refl)).1
+    whole complete = (listed_so t number event Whole (λ start heard moment h. h) hears_whole (complete, refl)).1

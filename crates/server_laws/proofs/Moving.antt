@@ -29,7 +29,7 @@ use Rattle.node_discovery.specs.Watch.{history, next_query, some_unknown}
 use Rattle.raft_core.specs.Handled as handled
 use Rattle.raft_core.specs.Taken.{proposal}
 use Rattle.raft_core.specs.Calls.{due, due_unless, owed}
-use Rattle.raft_core.specs.Times.{Given, Sending, Times, awaits, given_at, given_call, given_tick, has_waited, is_awaited, is_silent, overdue}
+use Rattle.raft_core.specs.Times.{Given, Sending, Times, awaits, given_at, given_call, given_proposal, given_tick, has_waited, is_awaited, is_silent, overdue}
 use Rattle.raft_model.specs.Fit.{IsFit}
 use Rattle.raft_model.specs.Decisions.{commit_index, grants, judges}
 use Rattle.raft_model.specs.Duty as duty
@@ -59,10 +59,11 @@ use Rattle.server_parts.specs.Tick.{asks, candidate, discovery_of as own_discove
 use Rattle.server_parts.specs.TimedServer.{is_zero, known, knows_all, may_propose, members_of, recorded_at, start_of, status_of, taken}
 use Rattle.server_parts.specs.Transfers.{Given as Pair, given_in, has_room, id_of, message_by, pair_message}
 use Rattle.server_laws.specs.Coming.{AnswersFrom, RequestsFrom, SaysFrom}
-use Rattle.server_laws.proofs.LawsBelow.{Laws}
-use Rattle.server_laws.proofs.Choices.{and_left, and_right, either, le_true, lt_true, not_true, tell}
+use Rattle.server_laws.specs.LawsBelow.{Laws}
+use Rattle.server_laws.proofs.Calling.{commit_quiet, expire_quiet, quiet_calls, tick_quiet}
+use Rattle.server_laws.proofs.Choices.{and_left, and_right, either, eq_false, eq_true, le_true, lt_true, not_true, tell}
 use Rattle.server_laws.proofs.Listed.{sent}
-use Rattle.server_laws.proofs.Lists.{in_append, in_drop, in_front}
+use Rattle.server_laws.proofs.Lists.{in_drop, in_front}
 use Rattle.server_laws.proofs.Peers.{ArePeers, list_peers, members_list}
 use Rattle.server_laws.proofs.Logs.{are_zeros, no_zeros, not_told, told_at}
 use Rattle.server_laws.proofs.Proposing.{IsNewEntry, candidate_is, chosen_new, leader_of, may_record, new_is, stood}
@@ -109,11 +110,6 @@ expire_stays [] i = i
 expire_stays (node ∷ nodes) (inl e) = absurd (cc (e))
 expire_stays (node ∷ nodes) (inr i) = expire_stays nodes i
 
-expire_calls : (nodes : List ℕ) (peer : ℕ) → In peer (calls_of_all (handled.moves_of_expire nodes)) → ⊥
-expire_calls [] peer i = i
-expire_calls (node ∷ nodes) peer i =
-    elim (in_append peer (calls_of_all (handled.moves_of_expire nodes)) [] i) [ inl j ↦ expire_calls nodes peer j | inr j ↦ j ]
-
 pub expire_log : (list : List ℕ) (me number : ℕ) (nodes : List ℕ) (plain : Plain)
     → (plain_after_all list me number plain (handled.moves_of_expire nodes)).store ≡ plain.store
 expire_log list me number [] plain = refl
@@ -132,20 +128,6 @@ commit_stays list me server =
     go None i = i
     go (Some index) (inl e) = absurd (cc (e))
     go (Some index) (inr i) = i
-
-commit_calls : (list : List ℕ) (me peer : ℕ) (server : Plain) → In peer (calls_of_all (duty.commit_phase list me server)) → ⊥
-commit_calls list me peer server =
-    either (λ (moves : List Move). In peer (calls_of_all moves) → ⊥) (is_leader server.memory.role) (duty.commit_moves (commit_index list me server)) []
-    (λ e. go (commit_index list me server)) (λ e i. i)
-  where
-    go : (index : Option ℕ) → In peer (calls_of_all (duty.commit_moves index)) → ⊥
-    go None i = i
-    go (Some index) i = i
-
-tick_calls : (waited : Bool) (server : Plain) (peer : ℕ) → In peer (calls_of_all (duty.tick_phase waited server)) → ⊥
-tick_calls waited server peer =
-    either (λ (moves : List Move). In peer (calls_of_all moves) → ⊥) (waited && (not (is_leader server.memory.role) && nat_lt server.store.term term_limit))
-    (TimeOut ∷ []) [] (λ e i. i) (λ e i. i)
 
 -- ---- the phases
 
@@ -199,7 +181,7 @@ module _ (laws : Laws) (members : List ℕ) (number : ℕ) (bag : List Message) 
   pub gives_up_sure : (g : Going) → Sure g → Sure (gives_up number g)
   gives_up_sure g h =
       quietly (given_at g.timed.now) (handled.moves_of_expire (overdue g.timed.times g.timed.now all_nodes)) g h
-      (expire_stays (overdue g.timed.times g.timed.now all_nodes)) (expire_calls (overdue g.timed.times g.timed.now all_nodes))
+      (expire_stays (overdue g.timed.times g.timed.now all_nodes)) (quiet_calls (handled.moves_of_expire (overdue g.timed.times g.timed.now all_nodes)) (expire_quiet (overdue g.timed.times g.timed.now all_nodes)))
       (λ s e. expire_comes (members_of g.timed) g.timed.me number bag (overdue g.timed.times g.timed.now all_nodes) s)
 
   -- ---- a tick
@@ -253,14 +235,18 @@ module _ (laws : Laws) (members : List ℕ) (number : ℕ) (bag : List Message) 
         ])
         (λ s e free. subst (λ (p : Plain). AllCome (members_of g.timed) g.timed.me number bag s (duty.tick_phase (knows_all g.timed && has_waited g.timed.times g.timed.now) p)) e
         (laws.tick_comes (members_of g.timed) g.timed.me number bag (knows_all g.timed && has_waited g.timed.times g.timed.now) s))
-        (λ peer l. (tt, tick_calls (knows_all g.timed && has_waited g.timed.times g.timed.now) g.timed.plain peer));
+        (λ peer l. (
+          tt,
+          quiet_calls (handled.moves_of_tick (knows_all g.timed) g.timed.now g.timed.plain g.timed.times)
+              (tick_quiet (knows_all g.timed && has_waited g.timed.times g.timed.now) g.timed.plain) peer,
+        ));
     once = election_once (members_of g.timed) g.timed.me (knows_all g.timed && has_waited g.timed.times g.timed.now) g.timed.plain h.once;
   }
 
-  proposes_sure : (uid : List ℕ) (node : ℕ) (g : Going) → Sure g → IsInjective g.timed.plain.store.log → may_propose g.timed ≡ true
-      → IsNewEntry g.timed.plain.store.log uid node → Sure (proposes number uid node g)
-  proposes_sure uid node g h once may new =
-      one_move (given_at g.timed.now) (ProposeEntry (proposal g.timed.plain.store.term uid node)) g h (λ e. cc) (λ peer i. i)
+  proposes_sure : (origin : ℕ) (uid : List ℕ) (node : ℕ) (g : Going) → Sure g → IsInjective g.timed.plain.store.log → may_propose g.timed ≡ true
+      → IsNewEntry g.timed.plain.store.log uid node → Sure (proposes number origin uid node g)
+  proposes_sure origin uid node g h once may new =
+      one_move (given_proposal g.timed.now origin) (ProposeEntry (proposal g.timed.plain.store.term uid node)) g h (λ e. cc) (λ peer i. i)
       (λ called. may_record laws.blank_keeps laws.reservation_keeps laws.pair_keeps g.timed.plain uid node
       (leader_of g.timed.plain.memory.role (and_left (is_leader g.timed.plain.memory.role) (nat_lt (length g.timed.plain.store.log) 127) may))
       (lt_true (length g.timed.plain.store.log) 127 (and_right (is_leader g.timed.plain.memory.role) (nat_lt (length g.timed.plain.store.log) 127) may))
@@ -272,9 +258,9 @@ module _ (laws : Laws) (members : List ℕ) (number : ℕ) (bag : List Message) 
     where
       recorded : may_propose g.timed ≡ true → (node : ℕ) → (1 ≤ node) × (node ≤ 125) × (HasNodeId g.timed.plain.store.log node → ⊥)
           → (uid : Option (List ℕ)) → new_uid g.timed node ≡ uid → Sure (records_as number node uid g)
-      recorded may node new None e = proposes_sure zeros node g h.sure h.once may
+      recorded may node new None e = proposes_sure 3 zeros node g h.sure h.once may
           (record { least = new.0; most = new.1; given = new.2; told = inl refl })
-      recorded may node new (Some uid) e = proposes_sure uid node g h.sure h.once may
+      recorded may node new (Some uid) e = proposes_sure 2 uid node g h.sure h.once may
           (record { least = new.0; most = new.1; given = new.2; told = inr (new_is g.timed.plain.store.log (identity (history node g.timed.watch) g.timed.now) uid e) })
 
       go : may_propose g.timed ≡ true → (node : Option ℕ) → candidate g.timed ≡ node → Sure (records_node number node g)
@@ -348,7 +334,7 @@ module _ (laws : Laws) (members : List ℕ) (number : ℕ) (bag : List Message) 
       go may None e = h
       go may (Some node) e =
           let c = chosen_new laws.chosen_is g.timed preferred node e in
-          proposes_sure uid node g h once may (record {
+          proposes_sure 1 uid node g h once may (record {
             least = c.0;
             most = c.1;
             given = c.2;
@@ -470,15 +456,15 @@ module _ (laws : Laws) (members : List ℕ) (number : ℕ) (bag : List Message) 
       → Sure (request number d g).going
   request_sure d g h from =
       either (λ (s : Sight). Sure s.going) (nat_eq d.ident.number 1) (asks_info number d d.payload g) _ (λ e. asks_sure d d.payload g h)
-      (λ e. either (λ (s : Sight). Sure s.going) (nat_eq d.ident.number 30) (reads (takes_append_request number d) (append_request_of d.payload) g)
+      (λ other. either (λ (s : Sight). Sure s.going) (nat_eq d.ident.number 30) (reads (takes_append_request number d) (append_request_of d.payload) g)
       (reads (takes_vote_request number d) (vote_request_of d.payload) g)
-      (λ e. reads_sure (takes_append_request number d) (append_request_of d.payload) g h (λ asked is.
+      (λ service. reads_sure (takes_append_request number d) (append_request_of d.payload) g h (λ asked is.
       either Sure (is_listed d g.timed) _ g
-      (λ listed. append_sure d (handled.append_request_of asked d.mark.step d.ident.source g.timed.me) g h ((from listed).appends asked is) refl refl)
+      (λ listed. append_sure d (handled.append_request_of asked d.mark.step d.ident.source g.timed.me) g h ((from listed).appends (eq_true d.ident.number 30 service) asked is) refl refl)
       (λ e. h)))
-      (λ e. reads_sure (takes_vote_request number d) (vote_request_of d.payload) g h (λ asked is.
+      (λ service. reads_sure (takes_vote_request number d) (vote_request_of d.payload) g h (λ asked is.
       either Sure (is_listed d g.timed) _ g
-      (λ listed. vote_sure d (handled.vote_request_of asked d.mark.step d.ident.source g.timed.me) g h ((from listed).votes asked is) refl refl)
+      (λ listed. vote_sure d (handled.vote_request_of asked d.mark.step d.ident.source g.timed.me) g h ((from listed).votes (eq_false d.ident.number 1 other) (eq_false d.ident.number 30 service) asked is) refl refl)
       (λ e. h))))
 
   response_sure : (d : Delivery) (g : Going) → Sure g
@@ -488,16 +474,16 @@ module _ (laws : Laws) (members : List ℕ) (number : ℕ) (bag : List Message) 
   response_sure d g h from =
       either (λ (s : Sight). Sure s.going) (nat_eq d.ident.number 1) (reads (hears_info d) (node_info_of d.payload) g) _
       (λ e. reads_sure (hears_info d) (node_info_of d.payload) g h (λ info is. h))
-      (λ e. either (λ (s : Sight). Sure s.going) (nat_eq d.ident.number 30) (reads (takes_append_answer number d) (append_answer_of d.payload) g)
+      (λ other. either (λ (s : Sight). Sure s.going) (nat_eq d.ident.number 30) (reads (takes_append_answer number d) (append_answer_of d.payload) g)
       (reads (takes_vote_answer number d) (vote_answer_of d.payload) g)
-      (λ e. reads_sure (takes_append_answer number d) (append_answer_of d.payload) g h (λ says is.
+      (λ service. reads_sure (takes_append_answer number d) (append_answer_of d.payload) g h (λ says is.
       either Sure (is_listed d g.timed) (ends_append_call number d says g) g
       (λ listed. either Sure (is_awaited g.timed.plain g.timed.times d.ident.source true d.id) _ g
-      (λ waits. append_answer_sure d says g h (λ call pending. (from listed call pending).appends says is waits) waits) (λ e. h)) (λ e. h)))
-      (λ e. reads_sure (takes_vote_answer number d) (vote_answer_of d.payload) g h (λ says is.
+      (λ waits. append_answer_sure d says g h (λ call pending. (from listed call pending).appends (eq_true d.ident.number 30 service) says is waits) waits) (λ e. h)) (λ e. h)))
+      (λ service. reads_sure (takes_vote_answer number d) (vote_answer_of d.payload) g h (λ says is.
       either Sure (is_listed d g.timed) (ends_vote_call number d says g) g
       (λ listed. either Sure (is_awaited g.timed.plain g.timed.times d.ident.source false d.id) _ g
-      (λ waits. vote_answer_sure d says g h (λ call pending. (from listed call pending).votes says is waits) waits) (λ e. h)) (λ e. h))))
+      (λ waits. vote_answer_sure d says g h (λ call pending. (from listed call pending).votes (eq_false d.ident.number 1 other) (eq_false d.ident.number 30 service) says is waits) waits) (λ e. h)) (λ e. h))))
 
   kind_sure : (d : Delivery) (kind : Kind) (g : Going) → Sure g → IsInjective g.timed.plain.store.log → SaysFrom bag g.timed d kind
       → Sure (by_kind number d kind g).going
@@ -517,7 +503,7 @@ module _ (laws : Laws) (members : List ℕ) (number : ℕ) (bag : List Message) 
   commit_sure : (g : Going) → Sure g → Sure (commit_phase number g)
   commit_sure g h =
       quietly (given_at g.timed.now) (duty.commit_phase (members_of g.timed) g.timed.me g.timed.plain) g h
-      (commit_stays (members_of g.timed) g.timed.me g.timed.plain) (λ peer. commit_calls (members_of g.timed) g.timed.me peer g.timed.plain)
+      (commit_stays (members_of g.timed) g.timed.me g.timed.plain) (quiet_calls (duty.commit_phase (members_of g.timed) g.timed.me g.timed.plain) (commit_quiet (members_of g.timed) g.timed.me g.timed.plain))
       (λ s e. subst (λ (p : Plain). AllCome (members_of g.timed) g.timed.me number bag s (duty.commit_phase (members_of g.timed) g.timed.me p)) e
       (laws.commit_comes (members_of g.timed) g.timed.me number bag s))
 

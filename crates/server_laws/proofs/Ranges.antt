@@ -3,7 +3,7 @@ use Rattle.std.proofs.Common.{◌≡◌, ℕ, zero, suc, ◌<◌, ◌≤◌, Boo
 use Rattle.std.specs.Prelude.{⊤, cond, ◌^◌, slice_index, slice_set, Ok, Err}
 use Rattle.can_frame.specs.declared.identifier.Ident.{Ident}
 use Rattle.can_frame.specs.declared.identifier.Kind.{Kind}
-use Rattle.can_frame.specs.declared.identifier.Kind.TheVariants.{Request as RequestKind, Response}
+use Rattle.can_frame.specs.declared.identifier.Kind.TheVariants.{Anonymous, Message as Broadcast, Request as RequestKind, Response}
 use Rattle.can_frame.specs.declared.step.What.{What}
 use Rattle.can_frame.specs.declared.step.What.TheVariants.{Alloc, Disc, Stat, InfoQ, Info, VoteQ, Vote, AppQ, App}
 use Rattle.can_frame.specs.Identifier.{IsIdentifier, IsInRange as HasRanges, Spells, identifier_of}
@@ -27,6 +27,7 @@ use Rattle.server_parts.specs.TimedServer.{Timed, opening, start_of}
 use Rattle.server_parts.specs.Transfers.{Ids, Offer, first_ids, following, has_room, id_of, ids_after, kind_of}
 use Rattle.server_parts.specs.Outbox.{counted_if}
 use Rattle.server_laws.specs.Sound.{AreIds, IsDestination, IsInRange, IsOnTheBus, IsSound}
+use Rattle.server_laws.proofs.Keeping.{IsSentTo, Keeping}
 use Rattle.server_laws.proofs.Lists.{in_append}
 use Rattle.server_laws.proofs.Walk.{event_keeps, step_keeps, tell_keeps}
 
@@ -38,27 +39,37 @@ HasStart start g = start_of g.timed ≡ start
 abbrev Anything : Delivery → Type 0
 Anything d = ⊤
 
+start_keeping : (number : ℕ) (event : Event) (start : Start) → Keeping number event (HasStart start) Anything
+start_keeping number event start = record {
+  takes_keep = λ given moves g quiet h. h;
+  proposes_keep = λ origin uid node g found h. h;
+  sends_keep = λ what to payload says g sends h. h;
+  calls_keep = λ what peer move request payload g makes fits h. h;
+  responds_keep = λ what d payload says g comes responds h. h;
+  changes_keep = λ u g like h. like.start ∙ h;
+  watches_keep = λ node happens g has h. h;
+  tells_keep = λ g h. h;
+  hears_keep = λ d message g comes kind other read h. h;
+}
+
+start_when_seen : (t : Timed) (number : ℕ) (event : Event)
+    → start_of (event_phase number event (begins number (moment_of event) t)).going.timed ≡ start_of t
+start_when_seen t number event =
+    event_keeps number event (HasStart (start_of t)) Anything (start_keeping number event (start_of t)) (begins number (moment_of event) t)
+    (λ arrival is d e. tt) refl
+
 pub start_when_told : (t : Timed) (number : ℕ) (event : Event)
     → start_of (tell_phase number (commit_phase number (event_phase number event (begins number (moment_of event) t)).going)).timed ≡ start_of t
 start_when_told t number event =
-    tell_keeps number (HasStart (start_of t)) Anything (λ given moves g h. h) (λ what to payload says g is said h. h)
-    (λ what d payload says g is kind comes said h. h) (λ u g like h. like.start ∙ h) (λ g h. h) (λ d message g comes kind other read h. h)
-    (commit_phase number (event_phase number event (begins number (moment_of event) t)).going)
-    (event_keeps number (HasStart (start_of t)) Anything (λ given moves g h. h) (λ what to payload says g is said h. h)
-    (λ what d payload says g is kind comes said h. h) (λ u g like h. like.start ∙ h) (λ g h. h) (λ d message g comes kind other read h. h) event (begins number (moment_of event) t)
-    (λ arrival is d e. tt) refl)
+    tell_keeps number event (HasStart (start_of t)) Anything (start_keeping number event (start_of t))
+    (commit_phase number (event_phase number event (begins number (moment_of event) t)).going) (start_when_seen t number event)
 
 pub me_when_seen : (t : Timed) (number : ℕ) (event : Event) → (event_phase number event (begins number (moment_of event) t)).going.timed.me ≡ t.me
-me_when_seen t number event = ap (λ (s : Start). s.me)
-    (event_keeps number (HasStart (start_of t)) Anything (λ given moves g h. h) (λ what to payload says g is said h. h)
-    (λ what d payload says g is kind comes said h. h) (λ u g like h. like.start ∙ h) (λ g h. h) (λ d message g comes kind other read h. h) event (begins number (moment_of event) t)
-    (λ arrival is d e. tt) refl)
+me_when_seen t number event = ap (λ (s : Start). s.me) (start_when_seen t number event)
 
 pub same_start : (t : Timed) (number : ℕ) (event : Event) → start_of (step t number event).going.timed ≡ start_of t
 same_start t number event =
-    step_keeps number (HasStart (start_of t)) Anything (λ given moves g h. h) (λ what to payload says g is said h. h)
-    (λ what d payload says g is kind comes said h. h) (λ u g like h. like.start ∙ h) (λ g h. h) (λ d message g comes kind other read h. h) t event
-    (λ arrival is d e. tt) refl
+    step_keeps number event (HasStart (start_of t)) Anything (start_keeping number event (start_of t)) t (λ arrival is d e. tt) refl
 
 -- ---- transfer IDs
 
@@ -163,6 +174,12 @@ with_one offers new h is offer i = elim (in_append offer offers (new ∷ []) i) 
   | inr (inr j) ↦ absurd j
 ]
 
+destination : (kind : Kind) (to : ℕ) → IsSentTo kind to → IsDestination kind to
+destination Anonymous to is = is
+destination Broadcast to is = is
+destination RequestKind to is = is
+destination Response to is = absurd is
+
 sends_in_range : (step : ℕ) (what : What) (to : ℕ) (payload : List ℕ) (says : Option Message) (g : Going) → IsDestination (kind_of what) to
     → InRange g → InRange (sends step what to payload says g)
 sends_in_range step what to payload says g is h = record {
@@ -188,6 +205,26 @@ signed false signature ident w e = absurd (cc)
 signed true None ident w e = absurd (cc)
 signed true (Some n) ident w e = let same : w ≡ record { ident = ident; signature = n } = cc in ap (λ (x : Wanted). x.ident) same
 
+-- and its data type is one of the table
+pub wanted_type : (rows : List AcceptRow) (me id : ℕ) (w : Wanted) → wanted rows me id ≡ Ok w
+    → (signature : ℕ) × (first_signature rows w.ident.kind w.ident.number ≡ Some signature)
+unfolding wanted
+wanted_type rows me id w h = go (identifier_of id) h
+  where
+    there : (for_us : Bool) (ident : Ident) (found : Option ℕ) → first_signature rows ident.kind ident.number ≡ found
+        → cond for_us (with_signature ident found) (Err NotWanted) ≡ Ok w
+        → (signature : ℕ) × (first_signature rows w.ident.kind w.ident.number ≡ Some signature)
+    there false ident found e a = absurd (cc (a))
+    there true ident None e a = absurd (cc (a))
+    there true ident (Some n) e a =
+        let same : w ≡ record { ident = ident; signature = n } = cc (a) in
+        (n, ap (λ (x : Wanted). first_signature rows x.ident.kind x.ident.number) same ∙ e)
+
+    go : (read : Option Ident) → accepted rows me read ≡ Ok w
+        → (signature : ℕ) × (first_signature rows w.ident.kind w.ident.number ≡ Some signature)
+    go None a = absurd (cc (a))
+    go (Some ident) a = there (is_for me ident) ident (first_signature rows ident.kind ident.number) refl a
+
 wanted_ident : (rows : List AcceptRow) (me id : ℕ) (w : Wanted) → wanted rows me id ≡ Ok w → identifier_of id ≡ Some w.ident
 unfolding wanted
 wanted_ident rows me id w h = go (identifier_of id) refl h
@@ -210,16 +247,21 @@ module _ (in_the_table : (id : ℕ) (ident : Ident) → id < 2 ^ 29 → identifi
 
   step_in_range : (t : Timed) (number : ℕ) (event : Event) → AreIds t.ids → IsOnTheBus event → InRange (step t number event).going
   step_in_range t number event ids bus =
-      step_keeps number InRange IsRead (λ given moves g h. record { ids = h.ids; offers = h.offers })
-      (λ what to payload says g is said h. sends_in_range number what to payload says g is h)
-      (λ what d payload says g is kind comes said h. record {
-        ids = h.ids;
-        offers = with_one g.offers _ h.offers (record { id = comes.id; to = asker d.ident what comes.ident kind is });
+      step_keeps number event InRange IsRead (record {
+        takes_keep = λ given moves g quiet h. record { ids = h.ids; offers = h.offers };
+        proposes_keep = λ origin uid node g found h. record { ids = h.ids; offers = h.offers };
+        sends_keep = λ what to payload says g sends h. sends_in_range number what to payload says g (destination (kind_of what) to sends.destination) h;
+        calls_keep = λ what peer move request payload g makes fits h. record { ids = h.ids; offers = h.offers };
+        responds_keep = λ what d payload says g comes responds h. record {
+          ids = h.ids;
+          offers = with_one g.offers _ h.offers (record { id = comes.id; to = asker d.ident what comes.ident responds.kind responds.is });
+        };
+        changes_keep = λ u g like h. record { ids = subst (λ (i : Ids). AreIds i) (sym like.ids) h.ids; offers = h.offers };
+        watches_keep = λ node happens g has h. record { ids = h.ids; offers = h.offers };
+        tells_keep = λ g h. record { ids = h.ids; offers = h.offers };
+        hears_keep = λ d message g comes kind other read h. record { ids = h.ids; offers = h.offers };
       })
-      (λ u g like h. record { ids = subst (λ (i : Ids). AreIds i) (sym like.ids) h.ids; offers = h.offers })
-      (λ g h. record { ids = h.ids; offers = h.offers })
-      (λ d message g comes kind other read h. record { ids = h.ids; offers = h.offers })
-      t event
+      t
       (λ arrival is d e. reads_ident _ _ _ d
       (subst (λ (v : Event). IsOnTheBus v) is bus) (delivered _ _ _ d e))
       (record { ids = ids; offers = λ offer i. absurd i })

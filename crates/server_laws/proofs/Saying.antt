@@ -28,8 +28,14 @@ one_says number me own offers new same h said offer i = elim (in_append offer of
 
 pub all_say : (t : Timed) (number : ℕ) (event : Event) (offer : Offer) → In offer (step t number event).going.offers → Says number t.me offer
 all_say t number event =
-    (step_keeps number (AllSay number t.me) (λ d. ⊤) (λ given moves g h. h)
-    (λ what to payload says g is said h. (h.0, one_says number t.me g.timed.me g.offers _ h.0 h.1 said))
-    (λ what d payload says g is kind comes said h. (h.0, one_says number t.me g.timed.me g.offers _ h.0 h.1 said))
-    (λ u g like h. (ap (λ (s : Start). s.me) like.start ∙ h.0, h.1)) (λ g h. h) (λ d message g comes kind other read h. h) t event
-    (λ arrival is d e. tt) (refl, λ offer i. absurd i)).1
+    (step_keeps number event (AllSay number t.me) (λ d. ⊤) (record {
+      takes_keep = λ given moves g quiet h. h;
+      proposes_keep = λ origin uid node g found h. h;
+      sends_keep = λ what to payload says g sends h. (h.0, one_says number t.me g.timed.me g.offers _ h.0 h.1 sends.said);
+      calls_keep = λ what peer move request payload g makes fits h. h;
+      responds_keep = λ what d payload says g comes responds h. (h.0, one_says number t.me g.timed.me g.offers _ h.0 h.1 responds.said);
+      changes_keep = λ u g like h. (ap (λ (s : Start). s.me) like.start ∙ h.0, h.1);
+      watches_keep = λ node happens g has h. h;
+      tells_keep = λ g h. h;
+      hears_keep = λ d message g comes kind other read h. h;
+    }) t (λ arrival is d e. tt) (refl, λ offer i. absurd i)).1

@@ -3,6 +3,8 @@ use Rattle.std.proofs.Common.{◌≡◌, ◌≢◌, ℕ, true, List, [], ◌∷�
 use Rattle.std.specs.Prelude.{◌&&◌, ◌==◌, nat_lt}
 use Rattle.cluster_discovery.specs.Members.{Event as Heard, Start, is_complete}
 use Rattle.cluster_discovery.specs.Members as cluster
+use Rattle.raft_core.specs.Handled.{noted_puts}
+use Rattle.raft_core.specs.StoredPuts.{Noted, plain_puts}
 use Rattle.raft_core.specs.Times.{Given}
 use Rattle.raft_model.specs.Fit.{IsFit}
 use Rattle.raft_model.specs.Handlers.{puts_of_all, calls_of_all, offers_of_all, plain_after, plain_after_all}
@@ -22,7 +24,7 @@ use Rattle.server_parts.specs.Going.{Going, takes}
 use Rattle.server_parts.specs.TimedServer.{members_of, start_of}
 use Rattle.server_parts.specs.Transfers.{Offer, message_of}
 use Rattle.server_laws.specs.Coming.{OwnCalls}
-use Rattle.server_laws.proofs.LawsBelow.{Laws}
+use Rattle.server_laws.specs.LawsBelow.{Laws}
 use Rattle.server_laws.proofs.Choices.{either, tell}
 use Rattle.server_laws.proofs.Lists.{in_append, in_back}
 
@@ -138,8 +140,8 @@ Knows members start heard role = role ≢ Follower → IsWhole members start hea
 
 module _ (members : List ℕ) (number : ℕ) (bag : List Message) (site : Site) where
   -- no peer that is free was called
-  pub record Goes (Free : ℕ → Type 0) (me : ℕ) (plain : Plain) (moves : List Move) (puts : List Put) (offers : List Offer) : Type 0 where
-    pub made : puts ≡ puts_of_all members me number site.plain moves
+  pub record Goes (Free : ℕ → Type 0) (me : ℕ) (plain : Plain) (moves : List Move) (puts : List Noted) (offers : List Offer) : Type 0 where
+    pub made : plain_puts puts ≡ puts_of_all members me number site.plain moves
     pub come : AllCome members me number bag site moves
     pub leave : (all_moved members me number site moves).plain ≡ plain
     pub say : (offer : Offer) → In offer offers → offer.fitted ≡ true → (message : Message) → message_of number me offer ≡ Some message
@@ -153,7 +155,7 @@ module _ (members : List ℕ) (number : ℕ) (bag : List Message) (site : Site) 
       × Knows members (start_of g.timed) g.timed.heard g.timed.plain.memory.role
 
   -- a transfer is offered that says nothing but what the moves offered
-  pub offers_steady : (Free : ℕ → Type 0) (me : ℕ) (plain : Plain) (moves : List Move) (puts : List Put) (offers : List Offer) (new : Offer)
+  pub offers_steady : (Free : ℕ → Type 0) (me : ℕ) (plain : Plain) (moves : List Move) (puts : List Noted) (offers : List Offer) (new : Offer)
       → Goes Free me plain moves puts offers
       → (new.fitted ≡ true → (message : Message) → message_of number me new ≡ Some message → In message (all_moved members me number site moves).offered)
       → Goes Free me plain moves puts (offers ++ new ∷ [])
@@ -219,12 +221,14 @@ module _ (members : List ℕ) (number : ℕ) (bag : List Message) (site : Site) 
           ∙ sym (laws.all_after (members_of g.timed) members g.timed.me number g.timed.plain moves (enough g.timed.plain refl)))
 
       -- the puts of these moves, over the server's own list, are those over all members
-      written : g.puts ++ puts_of_all (members_of g.timed) g.timed.me number g.timed.plain moves
+      written : plain_puts (g.puts ++ noted_puts (members_of g.timed) g.timed.me number given g.timed.plain moves)
           ≡ puts_of_all members g.timed.me number site.plain (g.moves ++ moves)
       written =
-          ap (λ (l : List Put). l ++ puts_of_all (members_of g.timed) g.timed.me number g.timed.plain moves) h.0.made
+          laws.both_plain g.puts (noted_puts (members_of g.timed) g.timed.me number given g.timed.plain moves)
+          ∙ (ap (λ (l : List Put). l ++ plain_puts (noted_puts (members_of g.timed) g.timed.me number given g.timed.plain moves)) h.0.made
           ∙ (ap (λ (l : List Put). puts_of_all members g.timed.me number site.plain g.moves ++ l)
-          (laws.all_puts (members_of g.timed) members g.timed.me number g.timed.plain moves (enough g.timed.plain refl)
+          (laws.noted_plain (members_of g.timed) g.timed.me number given g.timed.plain moves
+          ∙ (laws.all_puts (members_of g.timed) members g.timed.me number g.timed.plain moves (enough g.timed.plain refl)
           ∙ ap (λ (p : Plain). puts_of_all members g.timed.me number p moves)
-          (sym (sym (laws.same_plain members g.timed.me number g.moves site) ∙ h.0.leave)))
-          ∙ sym (laws.joined_puts members g.timed.me number g.moves moves site.plain))
+          (sym (sym (laws.same_plain members g.timed.me number g.moves site) ∙ h.0.leave))))
+          ∙ sym (laws.joined_puts members g.timed.me number g.moves moves site.plain)))

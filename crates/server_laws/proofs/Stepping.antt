@@ -21,7 +21,7 @@ use Rattle.server_parts.specs.Step.Event.{Rx, Tick}
 use Rattle.server_parts.specs.TimedServer.{Timed, members_of, opening}
 use Rattle.server_parts.specs.Transfers.{Offer, message_of}
 use Rattle.server_laws.specs.Coming.{AnswerFrom, Begins, IsOfTheMachine, KeepsOrder, MayStep, SaysFrom}
-use Rattle.server_laws.proofs.LawsBelow.{Laws}
+use Rattle.server_laws.specs.LawsBelow.{Laws}
 use Rattle.server_laws.proofs.Choices.{tell}
 use Rattle.server_laws.proofs.Moving.{delivers_sure, ends_sure, expire_log, gives_up_sure, ticks_sure}
 use Rattle.server_laws.proofs.Ranges.{same_server}

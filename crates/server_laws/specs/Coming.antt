@@ -12,6 +12,7 @@ use Rattle.dsdl_codec.specs.AppendRequest.{append_request_of}
 use Rattle.dsdl_codec.specs.VoteAnswer.{vote_answer_of}
 use Rattle.dsdl_codec.specs.VoteRequest.{vote_request_of}
 use Rattle.raft_core.specs.Handled as handled
+use Rattle.raft_core.specs.StoredPuts.{plain_puts}
 use Rattle.raft_core.specs.Times.{Times, is_awaited}
 use Rattle.raft_model.specs.Fit.{IsFit}
 use Rattle.raft_model.specs.Handlers.{puts_of_all}
@@ -31,19 +32,23 @@ use Rattle.server_parts.specs.Step.{Event, at_step, begins}
 use Rattle.server_parts.specs.Step.Event.{Rx, Tick}
 use Rattle.server_parts.specs.TimedServer.{Timed, knows_all, members_of}
 
--- ---- what a delivered transfer of a member says is in the bag
+-- ---- what a delivered transfer of a member says is in the bag; service 1 is GetNodeInfo, 30 AppendEntries, the other RequestVote
 
 pub record RequestsFrom (bag : List Message) (me : ℕ) (d : Delivery) : Type 0 where
-  pub votes : (request : VoteRequest) → vote_request_of d.payload ≡ Some request
+  pub votes : d.ident.number ≢ 1 → d.ident.number ≢ 30
+      → (request : VoteRequest) → vote_request_of d.payload ≡ Some request
       → In (Requests (handled.vote_request_of request d.mark.step d.ident.source me)) bag
-  pub appends : (request : AppendRequest) → append_request_of d.payload ≡ Some request
+  pub appends : d.ident.number ≡ 30
+      → (request : AppendRequest) → append_request_of d.payload ≡ Some request
       → In (Requests (handled.append_request_of request d.mark.step d.ident.source me)) bag
 
 -- a response that the pending call takes answers that very call
 pub record AnswersFrom (bag : List Message) (plain : Plain) (times : Times) (d : Delivery) (call : Request) : Type 0 where
-  pub votes : (says : VoteAnswer) → vote_answer_of d.payload ≡ Some says → is_awaited plain times d.ident.source false d.id ≡ true
+  pub votes : d.ident.number ≢ 1 → d.ident.number ≢ 30
+      → (says : VoteAnswer) → vote_answer_of d.payload ≡ Some says → is_awaited plain times d.ident.source false d.id ≡ true
       → In (Answers (handled.answer_of d.mark.step d.ident.source call says.term says.granted)) bag
-  pub appends : (says : AppendAnswer) → append_answer_of d.payload ≡ Some says → is_awaited plain times d.ident.source true d.id ≡ true
+  pub appends : d.ident.number ≡ 30
+      → (says : AppendAnswer) → append_answer_of d.payload ≡ Some says → is_awaited plain times d.ident.source true d.id ≡ true
       → In (Answers (handled.answer_of d.mark.step d.ident.source call says.term says.success)) bag
 
 abbrev pub SaysFrom : List Message → Timed → Delivery → Kind → Type 0
@@ -91,7 +96,7 @@ pub record Begins (t : Timed) (site : Site) : Type 0 where
 -- the step went as a step of the machine: its moves may come, with its puts in order, they leave its server, and offer what it said
 pub record IsOfTheMachine (members : List ℕ) (me number : ℕ) (bag : List Message) (site : Site) (going : Going) : Type 0 where
   pub come : AllCome members me number bag site going.moves
-  pub puts : going.puts ≡ puts_of_all members me number site.plain going.moves
+  pub puts : plain_puts going.puts ≡ puts_of_all members me number site.plain going.moves
   pub leave : (all_moved members me number site going.moves).plain ≡ going.timed.plain
   pub say : (message : Message) → In message (messages number going) → In message (all_moved members me number site going.moves).offered
 

@@ -1,6 +1,11 @@
 pub mod Apart
+pub mod Calls
 pub mod Coming
+pub mod LawsBelow
 pub mod Listing
 pub mod Phases
+pub mod Proposals
+pub mod Responses
 pub mod Saying
 pub mod Sound
+pub mod Waiting

@@ -7,6 +7,9 @@ use Rattle.cluster_discovery.specs.Members as cluster
 use Rattle.cluster_discovery.specs.Members.Event.{Heard}
 use Rattle.dsdl_codec.specs.declared.discovery.Discovery.{Discovery}
 use Rattle.id_selector.specs.Choice.{IsChoice, chosen}
+use Rattle.raft_core.specs.Handled.{noted_puts}
+use Rattle.raft_core.specs.StoredPuts.{Noted, plain_puts}
+use Rattle.raft_core.specs.Times.{Given}
 use Rattle.raft_model.specs.Decisions.{commit_index, grants, judges}
 use Rattle.raft_model.specs.Duty.{CommitDuty, TellDuty, TickDuty, commit_phase, tell_phase, tick_phase}
 use Rattle.raft_model.specs.Fit.{IsFit}
@@ -47,6 +50,9 @@ pub record Laws : Type 0 where
       → AllCome members member step bag site (first ++ second)
   pub all_after : (list members : List ℕ) (member step : ℕ) (server : Plain) (moves : List Move) → KnowsEnough list members server moves
       → plain_after_all list member step server moves ≡ plain_after_all members member step server moves
+  pub noted_plain : (members : List ℕ) (member step : ℕ) (given : Given) (server : Plain) (moves : List Move)
+      → plain_puts (noted_puts members member step given server moves) ≡ puts_of_all members member step server moves
+  pub both_plain : (first second : List Noted) → plain_puts (first ++ second) ≡ plain_puts first ++ plain_puts second
   pub joined_puts : (members : List ℕ) (member step : ℕ) (first second : List Move) (server : Plain)
       → puts_of_all members member step server (first ++ second)
       ≡ puts_of_all members member step server first ++ puts_of_all members member step (plain_after_all members member step server first) second
