@@ -3,12 +3,12 @@ use Rattle.std.proofs.Common.{◌≡◌, ℕ, List, [], ◌∷◌, refl, sym, su
 use Rattle.std.specs.Prelude.{None}
 use Rattle.disk_model.specs.declared.disk.Disk.{Ghosts}
 use Rattle.raft_log.specs.declared.durable.Durable.{Durable}
-use Rattle.raft_core.specs.Handled.{moves_of_expire}
-use Rattle.raft_core.specs.StoredPuts.{DoesPuts}
-use Rattle.raft_core.specs.Times.{overdue}
-use Rattle.raft_model.specs.Handlers.{plain_after, puts_of_all}
+use Rattle.raft_core.specs.Handled.{moves_of_expire, noted_puts}
+use Rattle.raft_core.specs.StoredPuts.{DoesPuts, Noted}
+use Rattle.raft_core.specs.Times.{Given, given_at, overdue}
+use Rattle.raft_model.specs.Handlers.{plain_after}
 use Rattle.raft_model.specs.Moves.Move.{GiveUp}
-use Rattle.raft_model.specs.Server.{Plain, Put}
+use Rattle.raft_model.specs.Server.{Plain}
 use Rattle.server_parts.specs.declared.offered.Offered.{Offered}
 use Rattle.server_parts.specs.Step.{all_nodes, at_moment, at_sessions, begins}
 use Rattle.server_parts.specs.TimedServer.{Timed, members_of}
@@ -17,9 +17,9 @@ use Rattle.alloc_member.specs.declared.member.Member.{Member}
 use Rattle.alloc_member.specs.Stands.{IsFresh, IsGoing, StandsFor}
 
 -- giving up calls makes no puts
-expire_is_quiet : (members : List ℕ) (me step : ℕ) (plain : Plain) (nodes : List ℕ) → puts_of_all members me step plain (moves_of_expire nodes) ≡ []
-expire_is_quiet members me step plain [] = refl
-expire_is_quiet members me step plain (node ∷ nodes) = expire_is_quiet members me step (plain_after members me step plain (GiveUp node)) nodes
+expire_is_quiet : (members : List ℕ) (me step : ℕ) (given : Given) (plain : Plain) (nodes : List ℕ) → noted_puts members me step given plain (moves_of_expire nodes) ≡ []
+expire_is_quiet members me step given plain [] = refl
+expire_is_quiet members me step given plain (node ∷ nodes) = expire_is_quiet members me step given (plain_after members me step plain (GiveUp node)) nodes
 
 pub begun : {D : Type 0} {disk : Ghosts D} (start : Durable D disk) (member : Member D disk) (t : Timed) (offered : Offered) (step now : ℕ) (sessions : List Session)
     → DoesPuts [] start start None → member.durable ≡ start → IsFresh offered → StandsFor member (begins step now t).timed
@@ -39,6 +39,6 @@ begun start member t offered step now sessions nothing same fresh h = record {
   };
   sent = fresh.sent;
   given = fresh.given;
-  puts = subst (λ (list : List Put). DoesPuts list start member.durable None) (sym (expire_is_quiet (members_of t) t.me step t.plain (overdue t.times (at_moment now t).now all_nodes)))
+  puts = subst (λ (list : List Noted). DoesPuts list start member.durable None) (sym (expire_is_quiet (members_of t) t.me step (given_at (at_moment now t).now) t.plain (overdue t.times (at_moment now t).now all_nodes)))
       (subst (λ (d : Durable _ _). DoesPuts [] start d None) (sym same) nothing);
 }

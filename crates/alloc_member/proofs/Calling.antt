@@ -9,7 +9,8 @@ use Rattle.dsdl_codec.specs.declared.vote_request.VoteRequest.{VoteRequest}
 use Rattle.raft_core.specs.declared.calls.Call.{Call}
 use Rattle.raft_core.specs.declared.calls.Call.TheVariants.{Append, Vote}
 use Rattle.raft_core.specs.Calls.{Says, SaysAppend, SaysVote}
-use Rattle.raft_model.specs.Handlers.{puts_of_all}
+use Rattle.raft_core.specs.Handled.{noted_puts}
+use Rattle.raft_core.specs.Times.{Given}
 use Rattle.raft_model.specs.Messages.{Request}
 use Rattle.raft_model.specs.Moves.{Move}
 use Rattle.raft_model.specs.Moves.Leading.{append_request, vote_request}
@@ -57,7 +58,7 @@ calls_as step peer g (Append asked) move says =
     )
 
 -- a call makes no puts
-pub call_is_quiet : (members : List ℕ) (me step : ℕ) (plain : Plain) (peer : ℕ) (call : Call) (move : Move) → Says me step plain peer call move
-    → puts_of_all members me step plain (move ∷ []) ≡ []
-call_is_quiet members me step plain peer (Vote asked) move says = ap (λ (m : Move). puts_of_all members me step plain (m ∷ [])) says.0
-call_is_quiet members me step plain peer (Append asked) move says = ap (λ (m : Move). puts_of_all members me step plain (m ∷ [])) says.1
+pub call_is_quiet : (members : List ℕ) (me step : ℕ) (given : Given) (plain : Plain) (peer : ℕ) (call : Call) (move : Move) → Says me step plain peer call move
+    → noted_puts members me step given plain (move ∷ []) ≡ []
+call_is_quiet members me step given plain peer (Vote asked) move says = ap (λ (m : Move). noted_puts members me step given plain (m ∷ [])) says.0
+call_is_quiet members me step given plain peer (Append asked) move says = ap (λ (m : Move). noted_puts members me step given plain (m ∷ [])) says.1

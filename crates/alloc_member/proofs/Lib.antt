@@ -5,6 +5,7 @@ pub mod Calling
 pub mod Candidates
 pub mod Choosing
 pub mod Electing
+pub mod Faults
 pub mod Giving
 pub mod Lists
 pub mod Nodes

@@ -13,16 +13,17 @@ use Rattle.node_discovery.specs.Watch.{Watched}
 use Rattle.node_discovery.specs.Stands as watch
 use Rattle.raft_core.specs.declared.raft.Raft.{Raft}
 use Rattle.raft_core.specs.Stands as raft
-use Rattle.raft_core.specs.StoredPuts.{DoesPuts}
+use Rattle.raft_core.specs.Handled.{noted_puts}
+use Rattle.raft_core.specs.StoredPuts.{DoesPuts, Noted}
 use Rattle.raft_core.specs.RaftViews.{raft_role}
 use Rattle.raft_core.specs.Times.{Given, Times, times_after_all}
 use Rattle.can_frame.specs.declared.step.Role.TheVariants.{Follower}
 use Rattle.raft_log.specs.Stored.{Stored}
 use Rattle.raft_log.specs.declared.durable.Durable.{Durable}
 use Rattle.raft_log.specs.DurableViews.{durable_state}
-use Rattle.raft_model.specs.Handlers.{plain_after_all, puts_of_all}
+use Rattle.raft_model.specs.Handlers.{plain_after_all}
 use Rattle.raft_model.specs.Moves.{Move}
-use Rattle.raft_model.specs.Server.{Plain, Put}
+use Rattle.raft_model.specs.Server.{Plain}
 use Rattle.alloc_member.specs.declared.member.Member.{Member}
 use Rattle.server_parts.specs.declared.offered.Offered.{Offered}
 use Rattle.server_parts.specs.TimedServer.{members_of, start_of}
@@ -130,7 +131,7 @@ module _ {D : Type 0} {disk : Ghosts D} (start : Durable D disk) (member : Membe
 
   -- moves without puts were made
   pub noted_moves : (step : ℕ) (given : Given) (moves : List Move) (r : Raft)
-      → puts_of_all (members_of g.timed) g.timed.me step g.timed.plain moves ≡ []
+      → noted_puts (members_of g.timed) g.timed.me step given g.timed.plain moves ≡ []
       → raft.StandsFor r (members_of g.timed) (durable_state member.durable) (plain_after_all (members_of g.timed) g.timed.me step g.timed.plain moves) (times_after_all (members_of g.timed) g.timed.me step given g.timed.plain moves g.timed.times)
       → IsGoing start (record member { raft = r }) offered (takes step given moves g)
   noted_moves step given moves r quiet counts = record {
@@ -148,5 +149,5 @@ module _ {D : Type 0} {disk : Ghosts D} (start : Durable D disk) (member : Membe
     };
     sent = h.sent;
     given = h.given;
-    puts = subst (λ (list : List Put). DoesPuts list start member.durable None) (sym (ap (λ (list : List Put). g.puts ++ list) quiet ∙ append_none g.puts)) h.puts;
+    puts = subst (λ (list : List Noted). DoesPuts list start member.durable None) (sym (ap (λ (list : List Noted). g.puts ++ list) quiet ∙ append_none g.puts)) h.puts;
   }

@@ -7,13 +7,12 @@ use Rattle.kv_store.specs.declared.fault.Fault.{Fault}
 use Rattle.raft_log.specs.declared.durable.Durable.{Durable}
 use Rattle.raft_log.specs.DurableViews.{durable_state}
 use Rattle.raft_core.specs.declared.raft.Raft.{Raft}
-use Rattle.raft_core.specs.Handled.{MakesMoves}
+use Rattle.raft_core.specs.Handled.{MakesMoves, noted_puts}
 use Rattle.raft_core.specs.Stands as stands
-use Rattle.raft_core.specs.StoredPuts.{DoesPuts}
+use Rattle.raft_core.specs.StoredPuts.{DoesPuts, Noted}
 use Rattle.raft_core.specs.Times.{Given, times_after_all}
-use Rattle.raft_model.specs.Handlers.{plain_after_all, puts_of_all}
+use Rattle.raft_model.specs.Handlers.{plain_after_all}
 use Rattle.raft_model.specs.Moves.{Move}
-use Rattle.raft_model.specs.Server.{Put}
 use Rattle.alloc_member.specs.declared.member.Member.{Member}
 use Rattle.server_parts.specs.declared.offered.Offered.{Offered}
 use Rattle.server_parts.specs.TimedServer.{members_of}
@@ -29,7 +28,7 @@ module _ {D : Type 0} {disk : Ghosts D} (start : Durable D disk) (old : Member D
       → MakesMoves (members_of g.timed) g.timed.me step given moves g.timed.plain g.timed.times old.durable durable raft failed
       → GoesTo start (record old { durable = durable; raft = raft }) offered (takes step given moves g) failed
   took_moves laws made =
-      let puts : DoesPuts (g.puts ++ puts_of_all (members_of g.timed) g.timed.me step g.timed.plain moves) start durable failed =
+      let puts : DoesPuts (g.puts ++ noted_puts (members_of g.timed) g.timed.me step given g.timed.plain moves) start durable failed =
       laws.joined g.puts _ start old.durable durable failed h.puts made.puts in
       record {
         puts = puts;
@@ -48,7 +47,7 @@ module _ {D : Type 0} {disk : Ghosts D} (start : Durable D disk) (old : Member D
           };
           sent = h.sent;
           given = h.given;
-          puts = subst (λ (f : Option Fault). DoesPuts (g.puts ++ puts_of_all (members_of g.timed) g.timed.me step g.timed.plain moves) start durable f) none puts;
+          puts = subst (λ (f : Option Fault). DoesPuts (g.puts ++ noted_puts (members_of g.timed) g.timed.me step given g.timed.plain moves) start durable f) none puts;
         };
       }
 
@@ -61,7 +60,7 @@ module _ {D : Type 0} {disk : Ghosts D} (start : Durable D disk) (new : Member D
   pub goes_failed : PutsGoOn D disk → (failed failed2 : Option Fault) → Extends g g2 → failed ≡ Some fault → failed2 ≡ Some fault
       → GoesTo start new offered g failed → GoesTo start new later g2 failed2
   goes_failed laws failed failed2 more is is2 goes = subst (λ (f : Option Fault). GoesTo start new later g2 f) (sym is2) (record {
-    puts = subst (λ (list : List Put). DoesPuts list start new.durable (Some fault)) (sym more.puts)
+    puts = subst (λ (list : List Noted). DoesPuts list start new.durable (Some fault)) (sym more.puts)
         (laws.cut_off g.puts more.more start new.durable fault (subst (λ (f : Option Fault). DoesPuts g.puts start new.durable f) is goes.puts));
     going = λ none. cc;
   })

@@ -5,6 +5,7 @@ ghost use Rattle.std.specs.Result.{result_err};
 ghost use Rattle.arrayvec.specs.ArrayVec.{array_vec_len};
 ghost use Rattle.alloc_member.specs.Calling as calling;
 ghost use Rattle.raft_core.specs.Calls.{IsWritable};
+ghost use Rattle.raft_core.specs.StoredPuts.{KeepsFaults};
 ghost use Rattle.server_parts.specs.declared.offered.Offered.{Offered};
 ghost use Rattle.server_parts.specs.Ending.{call_phase, calls_all, calls_peer, commit_phase, ends, tell_phase};
 ghost use Rattle.server_parts.specs.TimedServer.{Timed, members_of};
@@ -31,6 +32,7 @@ impl<D: Disk> Member<D> {
         ensures goes { GoesUpTo self.old self.new offered.old offered.new (ends offered.old.step)
             (result_err result) }
         ensures ready { OnOk result (IsReady self.new) }
+        ensures faults { KeepsFaults self.old.durable self.new.durable (result_err result) }
     {
         phases_add_puts();
         puts_go_on::<D>();
@@ -45,6 +47,7 @@ impl<D: Disk> Member<D> {
         ensures goes { (offered : Offered) (step : ℕ) →
             GoesUpTo self.old self.new offered offered (commit_phase step) (result_err result) }
         ensures ready { OnOk result (IsReady self.new) }
+        ensures faults { KeepsFaults self.old.durable self.new.durable (result_err result) }
     {
         puts_go_on::<D>();
         self.raft.commit(&mut self.durable)
@@ -59,6 +62,7 @@ impl<D: Disk> Member<D> {
             (tell_phase offered.old.step) }
         ensures ready { IsReady self.new }
         ensures lists { ListsUpTo 1 1 offered.old offered.new }
+        ensures durable { self.new.durable ≡ self.old.durable }
     {
         match self.raft.tell(&self.durable) {
             Telling::Nothing => {}
@@ -79,6 +83,7 @@ impl<D: Disk> Member<D> {
             (call_phase offered.old.step) }
         ensures ready { IsReady self.new }
         ensures lists { ListsUpTo 5 0 offered.old offered.new }
+        ensures durable { self.new.durable ≡ self.old.durable }
     {
         let peers = self.peers();
         self.call_each(peers.as_slice(), offered);
@@ -109,6 +114,7 @@ impl<D: Disk> Member<D> {
             (calls_all offered.old.step peers.now) }
         ensures ready { IsReady self.new }
         ensures lists { ListsUpTo (length peers.now) 0 offered.old offered.new }
+        ensures durable { self.new.durable ≡ self.old.durable }
     {
         for peer in peers {
             self.call(*peer, offered);
@@ -125,6 +131,7 @@ impl<D: Disk> Member<D> {
             (calls_peer offered.old.step peer) }
         ensures ready { IsReady self.new }
         ensures lists { ListsUpTo 1 0 offered.old offered.new }
+        ensures durable { self.new.durable ≡ self.old.durable }
     {
         let Some(call) = self.raft.call(&self.durable, peer, self.latest) else {
             return;

@@ -1,11 +1,13 @@
 //! What a member does with a whole transfer.
 
 ghost use Rattle.std.specs.Prelude.{◌≡◌, ◌≤◌, ◌<◌, ℕ, OnOk};
+ghost use Rattle.std.specs.Result.{result_err};
 ghost use Rattle.arrayvec.specs.ArrayVec.{array_vec_len};
 ghost use Rattle.can_frame.specs.Identifier.{IsIdentifier};
 ghost use Rattle.can_frame.specs.declared.identifier.Kind.TheVariants.{Request};
 ghost use Rattle.dsdl_codec.specs.Discovery.{discovery_of};
 ghost use Rattle.dsdl_codec.specs.NodeStatus.{node_status_of};
+ghost use Rattle.raft_core.specs.StoredPuts.{KeepsFaults};
 ghost use Rattle.server_parts.specs.declared.offered.Offered.{Offered};
 ghost use Rattle.server_parts.specs.Delivered.{delivers, hears_discovery, hears_status, message, reads, request, response};
 ghost use Rattle.transfer_rx.specs.Told.{delivery_of};
@@ -33,6 +35,7 @@ impl<D: Disk> Member<D> {
             (delivers offered.old.step (delivery_of transfer.now)) result }
         ensures ready { OnOk result (IsReady self.new) }
         ensures lists { ListsUpTo 1 1 offered.old offered.new }
+        ensures faults { KeepsFaults self.old.durable self.new.durable (result_err result) }
     {
         match transfer.ident.kind {
             Kind::Anonymous => self.hear_allocation(transfer, offered),
@@ -48,6 +51,7 @@ impl<D: Disk> Member<D> {
         ensures sees { (offered : Offered) → SeesOn self.old self.new offered offered (message
             (delivery_of transfer.now)) result }
         ensures ready { IsReady self.new }
+        ensures durable { self.new.durable ≡ self.old.durable }
     {
         if transfer.ident.number == NODE_STATUS {
             self.hear_status(transfer)
@@ -62,6 +66,7 @@ impl<D: Disk> Member<D> {
             (reads (λ status. hears_status (delivery_of transfer.now))
             (node_status_of transfer.now.payload.items)) result }
         ensures ready { IsReady self.new }
+        ensures durable { self.new.durable ≡ self.old.durable }
     {
         let Some(_) = NodeStatus::read(&transfer.payload) else {
             return Seen::Bad;
@@ -76,6 +81,7 @@ impl<D: Disk> Member<D> {
             (reads (hears_discovery (delivery_of transfer.now))
             (discovery_of transfer.now.payload.items)) result }
         ensures ready { IsReady self.new }
+        ensures durable { self.new.durable ≡ self.old.durable }
     {
         a_complete_list_stays();
         let Some(message) = Discovery::read(&transfer.payload) else {
@@ -96,6 +102,7 @@ impl<D: Disk> Member<D> {
             (delivery_of transfer.now)) result }
         ensures ready { OnOk result (IsReady self.new) }
         ensures lists { ListsUpTo 1 0 offered.old offered.new }
+        ensures faults { KeepsFaults self.old.durable self.new.durable (result_err result) }
     {
         if transfer.ident.number == GET_NODE_INFO {
             Ok(self.tell_info(transfer, offered))
@@ -112,6 +119,7 @@ impl<D: Disk> Member<D> {
             SeesUpTo self.old self.new offered offered (response step
             (delivery_of transfer.now)) result }
         ensures ready { OnOk result (IsReady self.new) }
+        ensures faults { KeepsFaults self.old.durable self.new.durable (result_err result) }
     {
         if transfer.ident.number == GET_NODE_INFO {
             Ok(self.hear_info(transfer))

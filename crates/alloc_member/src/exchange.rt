@@ -13,6 +13,7 @@ ghost use Rattle.can_frame.specs.declared.step.What.TheVariants.{Alloc};
 ghost use Rattle.dsdl_codec.specs.Allocation.{allocation_of};
 ghost use Rattle.raft_log.specs.DurableViews.{durable_state};
 ghost use Rattle.alloc_member.specs.Stands.{ListsUpTo};
+ghost use Rattle.raft_core.specs.StoredPuts.{KeepsFaults};
 ghost use Rattle.server_parts.specs.declared.offered.Offered.{Offered};
 ghost use Rattle.server_parts.specs.Delivered.{reads};
 ghost use Rattle.server_parts.specs.Exchange as exchange;
@@ -31,6 +32,7 @@ use dsdl_codec::{Allocation, Payload};
 use id_selector::choose;
 use kv_store::Fault;
 use raft_log::laws::a_durable_state_is_kept;
+use raft_log::origin;
 use server_parts::Offered;
 use transfer_rx::Transfer;
 
@@ -52,6 +54,7 @@ impl<D: Disk> Member<D> {
             result }
         ensures ready { OnOk result (IsReady self.new) }
         ensures lists { ListsUpTo 1 1 offered.old offered.new }
+        ensures faults { KeepsFaults self.old.durable self.new.durable (result_err result) }
     {
         puts_go_on::<D>();
         let Some(message) = Allocation::read(&transfer.payload) else {
@@ -69,6 +72,7 @@ impl<D: Disk> Member<D> {
             (hears_allocation offered.old.step message.now) (result_err result) }
         ensures ready { OnOk result (IsReady self.new) }
         ensures lists { ListsUpTo 1 1 offered.old offered.new }
+        ensures faults { KeepsFaults self.old.durable self.new.durable (result_err result) }
     {
         match self.hear(message) {
             Heard::FollowUp(bytes) => {
@@ -90,6 +94,7 @@ impl<D: Disk> Member<D> {
         ensures going { (offered : Offered) → GoesOn self.old self.new offered offered
             (with_request message.now) }
         ensures ready { IsReady self.new }
+        ensures durable { self.new.durable ≡ self.old.durable }
     {
         let may_follow = self.may_follow();
         self.exchange.heard(message, self.latest, may_follow)
@@ -112,6 +117,7 @@ impl<D: Disk> Member<D> {
             (sends offered.old.step Alloc 0 (allocation_payload 0 bytes.now) None) }
         ensures ready { IsReady self.new }
         ensures lists { ListsUpTo 1 0 offered.old offered.new }
+        ensures durable { self.new.durable ≡ self.old.durable }
     {
         self.send(What::Alloc, 0, allocation(0, bytes), offered);
     }
@@ -126,6 +132,7 @@ impl<D: Disk> Member<D> {
             (hears_whole offered.old.step uid.now preference) (result_err result) }
         ensures ready { OnOk result (IsReady self.new) }
         ensures lists { ListsUpTo 1 1 offered.old offered.new }
+        ensures faults { KeepsFaults self.old.durable self.new.durable (result_err result) }
     {
         if is_zero(uid) {
             return Ok(());
@@ -149,6 +156,7 @@ impl<D: Disk> Member<D> {
             (answers_again offered.old.step place) }
         ensures ready { IsReady self.new }
         ensures lists { ListsUpTo 1 1 offered.old offered.new }
+        ensures durable { self.new.durable ≡ self.old.durable }
     {
         a_durable_state_is_kept::<D>();
         if place >= usize::from(self.durable.commit()) {
@@ -167,13 +175,14 @@ impl<D: Disk> Member<D> {
             GoesUpTo self.old self.new offered offered (records step uid.now preference)
             (result_err result) }
         ensures ready { OnOk result (IsReady self.new) }
+        ensures faults { KeepsFaults self.old.durable self.new.durable (result_err result) }
     {
         puts_go_on::<D>();
         if !self.may_record() {
             return Ok(());
         }
         match choose(&self.taken(), preference) {
-            Some(node) => self.propose(uid, node),
+            Some(node) => self.propose(uid, node, origin::EXCHANGE),
             None => Ok(()),
         }
     }
@@ -201,6 +210,7 @@ impl<D: Disk> Member<D> {
         ensures rest { self.new ≡ record self.old { outbox = self.new.outbox } }
         ensures ready { IsReady self.new }
         ensures lists { ListsUpTo 1 1 offered.old offered.new }
+        ensures durable { self.new.durable ≡ self.old.durable }
     {
         let fitted = self.send(What::Alloc, 0, allocation(node, uid), offered);
         give_if(fitted, uid, node, offered);

@@ -170,6 +170,7 @@ impl<D: Disk> Member<D> {
         ensures ready { IsReady self.new }
         ensures lists { ListsUpTo 1 0 offered.old offered.new }
         ensures given { offered.new.answers ≡ offered.old.answers }
+        ensures durable { self.new.durable ≡ self.old.durable }
     {
         let fitted = self.outbox.send(what, to, payload, offered.step);
         offered.list(what, to, fitted);
@@ -194,6 +195,7 @@ impl<D: Disk> Member<D> {
         ensures rest { self.new ≡ record self.old { outbox = self.new.outbox } }
         ensures ready { IsReady self.new }
         ensures lists { ListsUpTo 1 0 offered.old offered.new }
+        ensures durable { self.new.durable ≡ self.old.durable }
     {
         let to = request.ident.source;
         let step = offered.step;

@@ -9,6 +9,7 @@ ghost use Rattle.dsdl_codec.specs.AppendRequest as append_request;
 ghost use Rattle.dsdl_codec.specs.NodeInfo.{node_info_of};
 ghost use Rattle.dsdl_codec.specs.VoteAnswer as vote_answer;
 ghost use Rattle.dsdl_codec.specs.VoteRequest as vote_request;
+ghost use Rattle.raft_core.specs.StoredPuts.{KeepsFaults};
 ghost use Rattle.server_parts.specs.declared.offered.Offered.{Offered};
 ghost use Rattle.server_parts.specs.Delivered.{asks_info, reads};
 ghost use Rattle.server_parts.specs.Services as services;
@@ -40,6 +41,7 @@ impl<D: Disk> Member<D> {
             (asks_info offered.old.step (delivery_of request.now) request.now.payload.items) result }
         ensures ready { IsReady self.new }
         ensures lists { ListsUpTo 1 0 offered.old offered.new }
+        ensures durable { self.new.durable ≡ self.old.durable }
     {
         if !request.payload.is_empty() {
             return Seen::Bad;
@@ -56,6 +58,7 @@ impl<D: Disk> Member<D> {
             (reads (hears_info (delivery_of response.now))
             (node_info_of response.now.payload.items)) result }
         ensures ready { IsReady self.new }
+        ensures durable { self.new.durable ≡ self.old.durable }
     {
         let Some(info) = NodeInfo::read(&response.payload) else {
             return Seen::Bad;
@@ -78,6 +81,7 @@ impl<D: Disk> Member<D> {
             (vote_request.vote_request_of transfer.now.payload.items)) result }
         ensures ready { OnOk result (IsReady self.new) }
         ensures lists { ListsUpTo 1 0 offered.old offered.new }
+        ensures faults { KeepsFaults self.old.durable self.new.durable (result_err result) }
     {
         puts_go_on::<D>();
         let Some(request) = VoteRequest::read(&transfer.payload) else {
@@ -106,6 +110,7 @@ impl<D: Disk> Member<D> {
             (result_err result) }
         ensures ready { OnOk result (IsReady self.new) }
         ensures lists { ListsUpTo 1 0 offered.old offered.new }
+        ensures faults { KeepsFaults self.old.durable self.new.durable (result_err result) }
     {
         puts_go_on::<D>();
         let from = transfer.ident.source;
@@ -129,6 +134,7 @@ impl<D: Disk> Member<D> {
             (append_request.append_request_of transfer.now.payload.items)) result }
         ensures ready { OnOk result (IsReady self.new) }
         ensures lists { ListsUpTo 1 0 offered.old offered.new }
+        ensures faults { KeepsFaults self.old.durable self.new.durable (result_err result) }
     {
         puts_go_on::<D>();
         let Some(request) = AppendRequest::read(&transfer.payload) else {
@@ -157,6 +163,7 @@ impl<D: Disk> Member<D> {
             (result_err result) }
         ensures ready { OnOk result (IsReady self.new) }
         ensures lists { ListsUpTo 1 0 offered.old offered.new }
+        ensures faults { KeepsFaults self.old.durable self.new.durable (result_err result) }
     {
         puts_go_on::<D>();
         let from = transfer.ident.source;
@@ -173,6 +180,7 @@ impl<D: Disk> Member<D> {
             (reads (takes_vote_answer step (delivery_of transfer.now))
             (vote_answer.vote_answer_of transfer.now.payload.items)) result }
         ensures ready { OnOk result (IsReady self.new) }
+        ensures faults { KeepsFaults self.old.durable self.new.durable (result_err result) }
     {
         puts_go_on::<D>();
         let Some(answer) = VoteAnswer::read(&transfer.payload) else {
@@ -191,6 +199,7 @@ impl<D: Disk> Member<D> {
         ensures goes { (offered : Offered) (step : ℕ) → GoesUpTo self.old self.new offered offered
             (ends_vote_call step (delivery_of transfer.now) answer.now) (result_err result) }
         ensures ready { OnOk result (IsReady self.new) }
+        ensures faults { KeepsFaults self.old.durable self.new.durable (result_err result) }
     {
         puts_go_on::<D>();
         let from = transfer.ident.source;
@@ -206,6 +215,7 @@ impl<D: Disk> Member<D> {
             (reads (takes_append_answer step (delivery_of transfer.now))
             (append_answer.append_answer_of transfer.now.payload.items)) result }
         ensures ready { OnOk result (IsReady self.new) }
+        ensures faults { KeepsFaults self.old.durable self.new.durable (result_err result) }
     {
         puts_go_on::<D>();
         let Some(answer) = AppendAnswer::read(&transfer.payload) else {
@@ -224,6 +234,7 @@ impl<D: Disk> Member<D> {
         ensures goes { (offered : Offered) (step : ℕ) → GoesUpTo self.old self.new offered offered
             (ends_append_call step (delivery_of transfer.now) answer.now) (result_err result) }
         ensures ready { OnOk result (IsReady self.new) }
+        ensures faults { KeepsFaults self.old.durable self.new.durable (result_err result) }
     {
         puts_go_on::<D>();
         let from = transfer.ident.source;

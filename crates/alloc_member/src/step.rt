@@ -1,7 +1,9 @@
 //! A whole step of a member.
 
 ghost use Rattle.std.specs.Prelude.{◌≡◌, ◌≤◌, ◌<◌, OnOk};
+ghost use Rattle.std.specs.Result.{result_err};
 ghost use Rattle.arrayvec.specs.ArrayVec.{array_vec_len};
+ghost use Rattle.raft_core.specs.StoredPuts.{KeepsFaults};
 ghost use Rattle.server_parts.specs.Step.{Tick, step, takes_answer, with_answer};
 ghost use Rattle.server_parts.specs.TimedServer.{Timed};
 ghost use Rattle.transfer_rx.specs.Ranges.{IfDelivered, IsInRange};
@@ -27,6 +29,7 @@ impl<D: Disk> Member<D> {
             SeesTo self.old.durable self.new offered.new (step t offered.old.step
             (Tick now word)) result }
         ensures ready { OnOk result (IsReady self.new) }
+        ensures faults { KeepsFaults self.old.durable self.new.durable (result_err result) }
     {
         puts_go_on::<D>();
         phases_add_puts();
@@ -45,6 +48,7 @@ impl<D: Disk> Member<D> {
         ensures sees { SeesUpTo self.old self.new offered.old offered.new
             (takes_answer offered.old.step (told took.now)) result }
         ensures ready { OnOk result (IsReady self.new) }
+        ensures faults { KeepsFaults self.old.durable self.new.durable (result_err result) }
     {
         puts_go_on::<D>();
         phases_add_puts();
@@ -63,6 +67,7 @@ impl<D: Disk> Member<D> {
             (with_answer offered.old.step (told took.now)) result }
         ensures ready { OnOk result (IsReady self.new) }
         ensures lists { ListsUpTo 1 1 offered.old offered.new }
+        ensures faults { KeepsFaults self.old.durable self.new.durable (result_err result) }
     {
         match took {
             Took::Delivered(transfer) => self.deliver(transfer, offered),

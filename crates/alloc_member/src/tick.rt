@@ -8,6 +8,7 @@ ghost use Rattle.can_frame.specs.Zeros.{zeros};
 ghost use Rattle.can_frame.specs.declared.step.Role.TheVariants.{Leader};
 ghost use Rattle.raft_core.specs.RaftViews.{raft_role};
 ghost use Rattle.raft_log.specs.DurableViews.{durable_state};
+ghost use Rattle.raft_core.specs.StoredPuts.{KeepsFaults};
 ghost use Rattle.server_parts.specs.declared.offered.Offered.{Offered};
 ghost use Rattle.server_parts.specs.Tick.{asks, candidate, discovery_phase, election_phase, is_candidate, new_uid, proposes, query_phase, record_phase, records_as, reserves, status_phase, ticks};
 ghost use Rattle.server_parts.specs.TimedServer.{Timed};
@@ -18,6 +19,7 @@ use arrayvec::ArrayVec;
 use can_frame::{NodeId, Uid, What, is_zero};
 use disk_model::Disk;
 use kv_store::Fault;
+use raft_log::origin;
 use server_parts::Offered;
 use server_parts::laws::phases_add_puts;
 
@@ -33,6 +35,7 @@ impl<D: Disk> Member<D> {
             (ticks offered.old.step word) (result_err result) }
         ensures ready { OnOk result (IsReady self.new) }
         ensures lists { ListsUpTo 3 0 offered.old offered.new }
+        ensures faults { KeepsFaults self.old.durable self.new.durable (result_err result) }
     {
         phases_add_puts();
         puts_go_on::<D>();
@@ -52,6 +55,7 @@ impl<D: Disk> Member<D> {
             (discovery_phase offered.old.step) }
         ensures ready { IsReady self.new }
         ensures lists { ListsUpTo 1 0 offered.old offered.new }
+        ensures durable { self.new.durable ≡ self.old.durable }
     {
         if !self.cluster.due(self.latest) {
             return;
@@ -69,6 +73,7 @@ impl<D: Disk> Member<D> {
             (status_phase offered.old.step) }
         ensures ready { IsReady self.new }
         ensures lists { ListsUpTo 1 0 offered.old offered.new }
+        ensures durable { self.new.durable ≡ self.old.durable }
     {
         if self.latest - self.status_at < 1000 {
             return;
@@ -85,6 +90,7 @@ impl<D: Disk> Member<D> {
             GoesUpTo self.old self.new offered offered (election_phase step word)
             (result_err result) }
         ensures ready { OnOk result (IsReady self.new) }
+        ensures faults { KeepsFaults self.old.durable self.new.durable (result_err result) }
     {
         puts_go_on::<D>();
         let members = self.cluster.members();
@@ -105,6 +111,7 @@ impl<D: Disk> Member<D> {
         ensures goes { (offered : Offered) (step : ℕ) →
             GoesUpTo self.old self.new offered offered (record_phase step) (result_err result) }
         ensures ready { OnOk result (IsReady self.new) }
+        ensures faults { KeepsFaults self.old.durable self.new.durable (result_err result) }
     {
         puts_go_on::<D>();
         if !self.may_propose() {
@@ -169,9 +176,10 @@ impl<D: Disk> Member<D> {
             GoesUpTo self.old self.new offered offered (records_as step node uid)
             (result_err result) }
         ensures ready { OnOk result (IsReady self.new) }
+        ensures faults { KeepsFaults self.old.durable self.new.durable (result_err result) }
     {
         match uid {
-            Some(uid) => self.propose(&uid, node),
+            Some(uid) => self.propose(&uid, node, origin::NODE_INFO),
             None => self.reserve(node),
         }
     }
@@ -184,6 +192,7 @@ impl<D: Disk> Member<D> {
             (query_phase offered.old.step) }
         ensures ready { IsReady self.new }
         ensures lists { ListsUpTo 1 0 offered.old offered.new }
+        ensures durable { self.new.durable ≡ self.old.durable }
     {
         if !self.leads() {
             return;
@@ -202,6 +211,7 @@ impl<D: Disk> Member<D> {
             (Some node)) }
         ensures ready { IsReady self.new }
         ensures lists { ListsUpTo 1 0 offered.old offered.new }
+        ensures durable { self.new.durable ≡ self.old.durable }
     {
         let to = node.get();
         let id = self.outbox.next_id(What::InfoQ, to);
@@ -210,22 +220,26 @@ impl<D: Disk> Member<D> {
         }
     }
 
-    /// A leader with room records a pair whose unique ID and node ID are not recorded.
-    pub fn propose(&mut self, uid: &Uid, node: NodeId) -> Result<(), Fault>
+    /// A leader with room records a pair whose unique ID and node ID are not recorded. The origin says how
+    /// it came here.
+    pub fn propose(&mut self, uid: &Uid, node: NodeId, origin: u8) -> Result<(), Fault>
         requires ready { IsReady self.old }
         requires leads { raft_role self.old.raft ≡ Leader }
         requires log_room { length (durable_state self.old.durable).log < log_limit }
         requires node { node ≤ 125 }
         requires some { uid.now ≢ zeros }
+        requires least { 1 ≤ origin }
+        requires most { origin ≤ 2 }
         requires free { HasUid (durable_state self.old.durable).log uid.now → ⊥ }
         requires free_node { HasNodeId (durable_state self.old.durable).log node → ⊥ }
         ensures goes { (offered : Offered) (step : ℕ) →
-            GoesUpTo self.old self.new offered offered (proposes step uid.now node)
+            GoesUpTo self.old self.new offered offered (proposes step origin uid.now node)
             (result_err result) }
         ensures ready { OnOk result (IsReady self.new) }
+        ensures faults { KeepsFaults self.old.durable self.new.durable (result_err result) }
     {
         puts_go_on::<D>();
-        self.raft.propose(&mut self.durable, uid, node)?;
+        self.raft.propose(&mut self.durable, uid, node, origin)?;
         Ok(())
     }
 
@@ -239,6 +253,7 @@ impl<D: Disk> Member<D> {
         ensures goes { (offered : Offered) (step : ℕ) →
             GoesUpTo self.old self.new offered offered (reserves step node) (result_err result) }
         ensures ready { OnOk result (IsReady self.new) }
+        ensures faults { KeepsFaults self.old.durable self.new.durable (result_err result) }
     {
         puts_go_on::<D>();
         self.raft.reserve(&mut self.durable, node)?;

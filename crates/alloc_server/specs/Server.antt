@@ -1,16 +1,16 @@
 -- What contracts see of a server of the code, and what it stands for.
-use Rattle.std.specs.Prelude.{◌≡◌, ◌≤◌, IfOk, ℕ, List, Option, None, OnOk, IfErr, Result, true, is_ok}
+use Rattle.std.specs.Prelude.{◌≡◌, IfOk, ℕ, List, Option, None, OnOk, Result, true, is_ok}
 use Rattle.disk_model.specs.declared.disk.Disk.{Ghosts}
 use Rattle.disk_model.specs.Contents.{MayLeave}
 use Rattle.disk_model.specs.Device.{Makes}
 use Rattle.kv_store.specs.declared.fault.Fault.{Fault}
-use Rattle.outside.specs.Faults.{Rose}
 use Rattle.raft_log.specs.declared.durable.Durable.{Durable}
+use Rattle.raft_log.specs.Calls.{MakesPuts}
 use Rattle.raft_log.specs.DeviceCalls.{copies_after, device_calls}
 use Rattle.raft_log.specs.DurableViews.{durable_copies, durable_disk, durable_fault, durable_state}
 use Rattle.raft_log.specs.Rules.{StandsForState}
 use Rattle.raft_log.specs.Stored.{AfterSome, after_puts}
-use Rattle.raft_core.specs.StoredPuts.{stored_puts}
+use Rattle.raft_core.specs.StoredPuts.{Noted, stored_puts}
 use Rattle.transfer_rx.specs.declared.receiver.Receiver.{Receiver}
 use Rattle.transfer_rx.specs.Views as receiver
 use Rattle.transfer_rx.specs.Views.{accept_of, setting_of}
@@ -23,7 +23,6 @@ use Rattle.alloc_server.specs.declared.server.Server.{Server}
 use Rattle.can_frame.specs.declared.step.Seen.{Seen}
 use Rattle.server_parts.specs.declared.offered.Offered.{Offered}
 use Rattle.transfer_rx.specs.Reassembly.{arrival_of}
-use Rattle.raft_model.specs.Server.{Put}
 use Rattle.server_parts.specs.Accepted.{setting_for}
 use Rattle.server_parts.specs.Going.{pairs, sents}
 use Rattle.alloc_member.specs.Stands as member
@@ -70,17 +69,17 @@ module _ {D F : Type 0} {disk : Ghosts D} where
   accepts server = accept_of server.receiver
 
   -- a stop at any moment of a step that makes these puts leaves the state after some of the first of them
-  abbrev pub LeavesSome : Server D F disk → Server D F disk → List Put → Type 0
+  abbrev pub LeavesSome : Server D F disk → Server D F disk → List Noted → Type 0
   LeavesSome old new puts = disk.tells (disk_of old) ≡ true → (image : List ℕ) → MayLeave (disk.contents (disk_of new)) image →
       AfterSome (StandsForState image) (stored_puts puts (durable_state (durable_of old))) (durable_state (durable_of old))
 
   -- the device calls of these puts were made, up to the first that failed
-  abbrev pub MakesCalls : {T : Type 0} → Server D F disk → Server D F disk → List Put → Result T Fault → Type 0
+  abbrev pub MakesCalls : {T : Type 0} → Server D F disk → Server D F disk → List Noted → Result T Fault → Type 0
   MakesCalls old new puts result = Makes disk.does (device_calls (stored_puts puts (durable_state (durable_of old))) (durable_state (durable_of old)) (durable_copies (durable_of old)))
       (is_ok result) (disk_of old) (disk_of new)
 
   -- a step that finishes has made them: what is stored then, and which copies are chosen
-  pub record HasPut (old new : Server D F disk) (puts : List Put) : Type 0 where
+  pub record HasPut (old new : Server D F disk) (puts : List Noted) : Type 0 where
     pub state : durable_state (durable_of new) ≡ after_puts (stored_puts puts (durable_state (durable_of old))) (durable_state (durable_of old))
     pub copies : durable_copies (durable_of new) ≡ copies_after (stored_puts puts (durable_state (durable_of old))) (durable_state (durable_of old)) (durable_copies (durable_of old))
 
@@ -93,10 +92,8 @@ module _ {D F : Type 0} {disk : Ghosts D} where
     pub leaves : LeavesSome old new sight.going.puts
     pub made : MakesCalls old new sight.going.puts result
     pub put : OnOk result (HasPut old new sight.going.puts)
-    -- a fault has a cause in this step
-    pub cause : IfErr result (λ fault. (fault.count ≡ disk.faults (disk_of new)) × Rose (disk.faults (disk_of old)) (disk.faults (disk_of new)))
-    pub later : disk.faults (disk_of old) ≤ disk.faults (disk_of new)
-    pub told : disk.tells (disk_of new) ≡ disk.tells (disk_of old)
+    -- and all else that the store says of its puts: each that was tried was allowed
+    pub puts : MakesPuts (stored_puts sight.going.puts (durable_state (durable_of old))) (durable_of old) (durable_of new) (is_ok result)
 
 -- what a step has come to: the member and its receiver, what was listed, what it saw
 pub record ComesTo {D F : Type 0} {disk : Ghosts D} (start : Durable D disk) (t : Timed) (after : Member D disk) (r : Receiver F 160 128) (offered : Offered) (sight : Sight) (result : Result Seen Fault) : Type 0 where

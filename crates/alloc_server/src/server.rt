@@ -1,13 +1,15 @@
 ghost use Rattle.std.specs.Prelude.{◌≡◌, ◌≤◌, ◌<◌, ◌↔◌, ℕ, [], None, Some, IsTrue, IsNone, IsSome, IfOk, IfErr, IfSome, Err, true, length, option_map};
+ghost use Rattle.std.specs.Result.{result_err};
 ghost use Rattle.can_frame.specs.Log.{entry_at};
+ghost use Rattle.disk_model.specs.Contents.{AddsNoImage};
 ghost use Rattle.disk_model.specs.Device.{Makes};
-ghost use Rattle.kv_store.specs.Image.{chosen_copy, key_count, open_calls};
-ghost use Rattle.kv_store.specs.Opening.{was_read};
+ghost use Rattle.kv_store.specs.Image.{open_calls};
 ghost use Rattle.kv_store.specs.declared.fault.Fault.{Fault};
 ghost use Rattle.kv_store.specs.declared.fault.OpenFault.TheVariants.{Fault as DiskFault, Damaged};
 ghost use Rattle.outside.specs.Faults.{Rose};
-ghost use Rattle.raft_log.specs.DurableViews.{durable_copies, durable_state};
-ghost use Rattle.raft_log.specs.Rules.{IsDamagedAt, StandsForState};
+ghost use Rattle.raft_log.specs.DurableViews.{durable_copies, durable_fault, durable_state};
+ghost use Rattle.raft_log.specs.Opening.{FailsToOpen, OpensTo};
+ghost use Rattle.raft_log.specs.Rules.{AlwaysStandsForState, IsDamagedAt};
 ghost use Rattle.raft_core.specs.StoredPuts.{store_of};
 ghost use Rattle.transfer_rx.specs.Acceptance.{AnswersByRows};
 ghost use Rattle.transfer_tx.specs.Queue.{next_out};
@@ -45,13 +47,16 @@ pub struct Server<D: Disk, F> {
 
     ghost rows: { (setting_of receiver).rows ≡ accepted.rows },
     ghost ready: { fault ≡ None → IsReady member } by { Prim.hlevel (props, ReachesUpTo-prop) },
+    ghost kept: { durable_fault member.durable ≡ fault } by { Prim.hlevel props },
+    ghost silent: { (why : Fault) → fault ≡ Some why → member.outbox.queue ≡ [] },
 }
 
 impl<D: Disk, F: Fn(Kind, u16) -> Option<u64> + Copy> Server<D, F> {
     ghost use Rattle.alloc_server.specs.Server.{StandsFor, StepsTo, accepts, disk_of, durable_of, event_of, fault_of, queued};
 
-    /// A server of the node `me`, in a cluster of `size` members, with what its disk has stored.
-    /// The word makes its wait for an election differ from the others'.
+    /// A server of the node `me`, in a cluster of `size` members, with what its disk has stored, which
+    /// is brought to version 2 of the store. The word makes its wait for an election differ from the
+    /// others'.
     pub fn open(
         me: u8,
         size: u8,
@@ -71,18 +76,29 @@ impl<D: Disk, F: Fn(Kind, u16) -> Option<u64> + Copy> Server<D, F> {
         requires answers { AnswersByRows (F.post accept) rows.items }
         ensures stands { IfOk result (λ server. StandsFor server (opening me size (store_of
             (durable_state (durable_of server))) now word)) }
-        ensures state { IfOk result (λ server. D.tells disk ≡ true →
-            StandsForState (D.contents disk).seen (durable_state (durable_of server))) }
-        ensures copies { IfOk result (λ server. D.tells disk ≡ true → (key : ℕ) → key < key_count →
-            durable_copies (durable_of server) key ≡ chosen_copy (D.contents disk).seen key) }
         ensures accepts { IfOk result (λ server. accepts server ≡ accept) }
-        ensures made { IfOk result (λ server. Makes D.does open_calls true disk (disk_of server)) }
+
+        // What was read is found and the puts of the opening are made, and a stop leaves the state after them.
+        ensures opens { IfOk result (λ server. OpensTo disk (durable_of server)) }
+        ensures durable { IfOk result (λ server. D.tells disk ≡ true →
+            AlwaysStandsForState (D.contents (disk_of server)) (durable_state (durable_of server))) }
+        ensures version { IfOk result (λ server. (durable_state (durable_of server)).version ≡ 2) }
+        ensures tells { IfOk result (λ server. D.tells (disk_of server) ≡ D.tells disk) }
+        ensures later { IfOk result (λ server. D.faults disk ≤ D.faults (disk_of server)) }
+
+        // It refuses a disk of which a key is damaged, and puts nothing there; and one that fails.
         ensures damaged { IfErr result (λ refused. (key : ℕ) → refused.why ≡ Damaged key →
             D.tells disk ≡ true → IsDamagedAt (D.contents disk).seen key) }
+        ensures damaged_made { IfErr result (λ refused. (key : ℕ) → refused.why ≡ Damaged key →
+            Makes D.does open_calls true disk refused.disk) }
+        ensures damaged_images { IfErr result (λ refused. (key : ℕ) → refused.why ≡ Damaged key →
+            D.tells disk ≡ true → AddsNoImage (D.contents disk) (D.contents refused.disk)) }
         ensures fault { IfErr result (λ refused. (fault : Fault) → refused.why ≡ DiskFault fault →
             (fault.count ≡ D.faults refused.disk) × Rose (D.faults disk) (D.faults refused.disk)) }
-        ensures refused_made { IfErr result (λ refused. Makes D.does open_calls
-            (was_read refused.why) disk refused.disk) }
+        ensures failed { IfErr result (λ refused. (fault : Fault) → refused.why ≡ DiskFault fault →
+            FailsToOpen D.Disk disk refused.disk) }
+        ensures refused_tells { IfErr result (λ refused. D.tells refused.disk ≡ D.tells disk) }
+        ensures refused_later { IfErr result (λ refused. D.faults disk ≤ D.faults refused.disk) }
     {
         match Durable::open(disk) {
             Ok(durable) => Ok(Server {
@@ -103,11 +119,18 @@ impl<D: Disk, F: Fn(Kind, u16) -> Option<u64> + Copy> Server<D, F> {
 
         ensures steps { (t : Timed) → StandsFor self.old t →
             StepsTo self.old self.new (steps.step t step (event_of event)) result }
-        ensures failed { IfErr result (λ fault. fault_of self.new ≡ Some fault) }
-        ensures lost { IsNone (fault_of self.old) → IfErr result (λ _. queued self.new ≡ []) }
+        ensures accepts { accepts self.new ≡ accepts self.old }
+
+        // A fault is one of the disk in this step. It is kept, and every later step gives it again.
+        ensures cause { IsNone (fault_of self.old) → IfErr result (λ fault.
+            (fault.count ≡ D.faults (disk_of self.new)) ×
+            Rose (D.faults (disk_of self.old)) (D.faults (disk_of self.new))) }
+        ensures failed { fault_of self.new ≡ result_err result }
+        ensures lost { IfErr result (λ _. queued self.new ≡ []) }
         ensures again { IfSome (fault_of self.old) (λ fault. (result ≡ Err fault) ×
             (self.new ≡ self.old)) }
-        ensures accepts { accepts self.new ≡ accepts self.old }
+        ensures later { D.faults (disk_of self.old) ≤ D.faults (disk_of self.new) }
+        ensures told { D.tells (disk_of self.new) ≡ D.tells (disk_of self.old) }
     {
         if let Some(fault) = self.fault {
             return Err(fault);
@@ -132,6 +155,8 @@ impl<D: Disk, F: Fn(Kind, u16) -> Option<u64> + Copy> Server<D, F> {
         ensures next { option_map queued_of result ≡ next_out (queued self.old) }
         ensures rest { (t : Timed) → StandsFor self.old t → StandsFor self.new (popped t) }
         ensures none { IsNone result ↔ (queued self.old ≡ []) }
+        ensures unchanged { IsNone result → self.new ≡ self.old }
+        ensures closed { IsSome (fault_of self.old) → IsNone result }
         ensures durable { durable_of self.new ≡ durable_of self.old }
         ensures fault { fault_of self.new ≡ fault_of self.old }
         ensures accepts { accepts self.new ≡ accepts self.old }
@@ -139,8 +164,14 @@ impl<D: Disk, F: Fn(Kind, u16) -> Option<u64> + Copy> Server<D, F> {
         self.member.outbox.pop()
     }
 
+    /// What it shows of itself. Of a server that failed this is what it kept.
     pub fn view(&self) -> View
-        ensures { (t : Timed) → StandsFor self.now t → result ≡ view_of t }
+        ensures stands { (t : Timed) → StandsFor self.now t → result ≡ view_of t }
+        ensures term { result.term ≡ (durable_state (durable_of self.now)).term }
+        ensures vote { result.vote ≡ (durable_state (durable_of self.now)).vote }
+        ensures last { result.last ≡ length (durable_state (durable_of self.now)).log }
+        ensures commit { result.commit ≡ (durable_state (durable_of self.now)).commit }
+        ensures queued { result.queued ≡ length (queued self.now) }
     {
         let durable = &self.member.durable;
         View {

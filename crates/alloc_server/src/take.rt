@@ -1,8 +1,10 @@
 //! The part of a step that may fail.
 
 ghost use Rattle.std.specs.Prelude.{◌≡◌, OnOk};
+ghost use Rattle.std.specs.Result.{result_err};
 ghost use Rattle.alloc_member.specs.Stands.{IsFresh, IsReady, StandsFor as IsMember};
 ghost use Rattle.alloc_server.specs.Server.{ComesTo, event_of};
+ghost use Rattle.raft_core.specs.StoredPuts.{KeepsFaults};
 ghost use Rattle.server_parts.specs.Accepted as accepted;
 ghost use Rattle.server_parts.specs.Step as steps;
 ghost use Rattle.server_parts.specs.TimedServer.{Timed};
@@ -36,6 +38,7 @@ pub fn take<D: Disk, F: Fn(Kind, u16) -> Option<u64> + Copy>(
         ComesTo member.old.durable t member.new receiver.new offered.new
         (steps.step t offered.old.step (event_of event)) result }
     ensures ready { OnOk result (IsReady member.new) }
+    ensures faults { KeepsFaults member.old.durable member.new.durable (result_err result) }
     ensures accept { accept_of receiver.new ≡ accept_of receiver.old }
     ensures setting { setting_of receiver.new ≡ setting_of receiver.old }
 {

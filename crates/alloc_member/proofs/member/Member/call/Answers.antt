@@ -56,7 +56,7 @@ returns-then-send-clause-going g c start going h =
     (subst (λ (x : Going). IsGoing start (record c.send.new.self { raft = c.called.new.self }) c.send.new.offered x) (sym by.1)
     (then_ (λ (x : Going). IsGoing start (record c.send.new.self { raft = c.called.new.self }) c.send.new.offered x) _ _ _ (room ∙ c.if-send.true)
     (noted_moves start c.send.new.self c.send.new.offered sent is_sent s (given_call t.now (id_of t.ids (what_of c.in-Some.call) c.args.peer)) (owes.0 ∷ []) c.called.new.self
-    (call_is_quiet (members_of t) t.me s t.plain c.args.peer c.in-Some.call owes.0 says)
+    (call_is_quiet (members_of t) t.me s (given_call t.now (id_of t.ids (what_of c.in-Some.call) c.args.peer)) t.plain c.args.peer c.in-Some.call owes.0 says)
     (subst (λ (n : ℕ). raft.StandsFor c.called.new.self (members_of t) (durable_state c.send.new.self.durable) (plain_after_all (members_of t) t.me s t.plain (owes.0 ∷ [])) (times_after_all (members_of t) t.me s (given_call t.now n) t.plain (owes.0 ∷ []) t.times)) id
     (subst (λ (now : ℕ). raft.StandsFor c.called.new.self (members_of t) (durable_state c.send.new.self.durable) (plain_after_all (members_of t) t.me s t.plain (owes.0 ∷ [])) (times_after_all (members_of t) t.me s (given_call now c.next_id-id.result) t.plain (owes.0 ∷ []) t.times)) is_sent.stands.now
     (subst (λ (me : ℕ). raft.StandsFor c.called.new.self (members_of t) (durable_state c.send.new.self.durable) (plain_after_all (members_of t) me s t.plain (owes.0 ∷ [])) (times_after_all (members_of t) me s (given_call c.send.new.self.latest c.next_id-id.result) t.plain (owes.0 ∷ []) t.times)) (c.send.ensures.ready.raft_me ∙ is_sent.stands.me)

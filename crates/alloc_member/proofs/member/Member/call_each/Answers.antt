@@ -21,6 +21,7 @@ loop-peer-preserved g c =
             next_peer s peers i by.0 begun below by.2,
           );
       ready = c.call.ensures.ready;
+      durable = c.call.ensures.durable ∙ c.loop-peer.invariant.durable;
       lists = record {
         step = c.call.ensures.lists.step ∙ c.loop-peer.invariant.lists.step;
         sent_most = omega (arith, c.call.ensures.lists.sent_most, c.loop-peer.invariant.lists.sent_most);

@@ -11,5 +11,6 @@ invariant-loop-peer g l = record {
   going : (start : Durable g.row.D.Denot g.D.Disk) (begun : Going) → IsGoing start l.fn.self l.fn.offered begun →
       (h : Going) × IsGoing start l.self l.offered h × (calls_all l.fn.offered.step (drop l.peer-index l.peers) h ≡ calls_all l.fn.offered.step l.peers begun);
   ready : IsReady l.self;
+  durable : l.self.durable ≡ l.fn.self.durable;
   lists : ListsUpTo l.peer-index 0 l.fn.offered l.offered;
 }

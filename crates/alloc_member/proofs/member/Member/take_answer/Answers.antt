@@ -1,4 +1,4 @@
-use Rattle.std.proofs.Common.{ap, subst, sym, ◌∙◌, ◌≡◌, ℕ}
+use Rattle.std.proofs.Common.{ap, refl, subst, sym, ◌∙◌, ◌≡◌, ℕ}
 use Rattle.std.specs.Prelude.{IfOk, Option, Result, Some}
 use Rattle.std.specs.Result.{result_err}
 use Rattle.can_frame.specs.declared.step.Seen.{Seen}
@@ -9,6 +9,7 @@ use Rattle.server_parts.specs.Step.{ended, with_answer}
 use Rattle.transfer_rx.specs.Told.{told}
 use Rattle.alloc_member.specs.Stands.{GoesTo}
 use Rattle.alloc_member.proofs.Sights.{sees, sees_failed}
+use Rattle.alloc_member.proofs.Faults.{faults_in_turn}
 use Rattle.alloc_member.proofs.Taking.{given_on, goes_failed}
 use Rattle.alloc_member.proofs.member.Member.take_answer.Goals as goal
 
@@ -41,3 +42,14 @@ returns-clause-sees g c start going h =
     let h2 = subst (λ (n : ℕ). GoesTo start c.end.new.self c.end.new.offered (ends n sight.going) (result_err c.end.result)) c.take_delivery.ensures.lists.step
     (c.end.ensures.goes start sight.going (h1.goes.going (ap result_err c.in_ok-seen.was))) in
     sees start c.end.new.self c.end.new.offered (ended s sight) c.in_ok-seen.seen (subst (λ (r : Result Seen Fault). IfOk r (λ seen. seen ≡ sight.seen)) c.in_ok-seen.was h1.seen) (h2.going (ap result_err c.in_ok-end.was))
+
+pub returns-in_err-end-clause-faults : goal.returns-in_err-end-clause-faults
+returns-in_err-end-clause-faults g c =
+    let given = given_on _ _ c.from_residual-in_err-end.ensures.0 c.from_residual-in_err-end.ensures.1 in
+    faults_in_turn c.puts_go_on.ensures _ _ _ _ _ _ _ _ refl refl (ap result_err c.in_ok-seen.was) (ap result_err c.in_err-end.was ∙ sym given)
+    c.take_delivery.ensures.faults c.end.ensures.faults
+
+pub returns-clause-faults : goal.returns-clause-faults
+returns-clause-faults g c =
+    faults_in_turn c.puts_go_on.ensures _ _ _ _ _ _ _ _ refl refl (ap result_err c.in_ok-seen.was) (ap result_err c.in_ok-end.was)
+    c.take_delivery.ensures.faults c.end.ensures.faults

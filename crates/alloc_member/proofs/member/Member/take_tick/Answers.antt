@@ -8,6 +8,7 @@ use Rattle.server_parts.specs.Going.{Going}
 use Rattle.server_parts.specs.Step.{Tick, begins, step}
 use Rattle.server_parts.specs.Tick.{ticks}
 use Rattle.alloc_member.specs.Stands.{GoesTo}
+use Rattle.alloc_member.proofs.Faults.{faults_in_turn}
 use Rattle.alloc_member.proofs.Sights.{sees, sees_failed}
 use Rattle.alloc_member.proofs.Taking.{given_on, goes_failed}
 use Rattle.alloc_member.proofs.member.Member.take_tick.Goals as goal
@@ -47,3 +48,13 @@ returns-clause-sees g c t h =
     let h2 = subst (λ (n : ℕ). GoesTo c.args.self.now.durable c.end.new.self c.end.new.offered (ends n g1) (result_err c.end.result)) c.tick.ensures.lists.step
     (c.end.ensures.goes c.args.self.now.durable g1 (h1.going (ap result_err c.in_ok-tick.was))) in
     sees c.args.self.now.durable c.end.new.self c.end.new.offered (step t s (Tick c.args.now c.args.word)) Ticked refl (h2.going (ap result_err c.in_ok-end.was))
+
+pub returns-in_err-end-clause-faults : goal.returns-in_err-end-clause-faults
+returns-in_err-end-clause-faults g c =
+    let given = given_on _ _ c.from_residual-in_err-end.ensures.0 c.from_residual-in_err-end.ensures.1 in
+    faults_in_turn c.puts_go_on.ensures _ _ _ _ _ _ _ _ c.begin.ensures.durable refl (ap result_err c.in_ok-tick.was) (ap result_err c.in_err-end.was ∙ sym given)
+    c.tick.ensures.faults c.end.ensures.faults
+
+pub returns-clause-faults : goal.returns-clause-faults
+returns-clause-faults g c =
+    faults_in_turn c.puts_go_on.ensures _ _ _ _ _ _ _ _ c.begin.ensures.durable refl (ap result_err c.in_ok-tick.was) (ap result_err c.in_ok-end.was) c.tick.ensures.faults c.end.ensures.faults

@@ -1,9 +1,10 @@
-use Rattle.std.proofs.Common.{ap, subst, ◌∙◌, ◌≡◌, ℕ}
+use Rattle.std.proofs.Common.{ap, refl, subst, sym, ◌∙◌, ◌≡◌, ℕ}
 use Rattle.std.specs.Prelude.{Some}
 use Rattle.std.specs.Result.{result_err}
 use Rattle.server_parts.specs.Going.{Going}
 use Rattle.alloc_member.specs.Stands.{IsGoing}
 use Rattle.server_parts.specs.Tick.{discovery_phase, election_phase, record_phase, query_phase, status_phase}
+use Rattle.alloc_member.proofs.Faults.{faults_in_turn}
 use Rattle.alloc_member.proofs.Taking.{given_on, goes_failed, is_going}
 use Rattle.alloc_member.proofs.member.Member.tick.Goals as goal
 
@@ -47,3 +48,14 @@ returns-clause-goes g c start going h =
     let h4 = (c.record_node.ensures.goes c.tell_status.new.offered s start g3 h3).going (ap result_err c.in_ok-record_node.was) in
     is_going start c.ask_node.new.self c.ask_node.new.offered _
     (subst (λ (n : ℕ). IsGoing start c.ask_node.new.self c.ask_node.new.offered (query_phase n g4)) (c.tell_status.ensures.lists.step ∙ c.tell_members.ensures.lists.step) (c.ask_node.ensures.going start g4 h4))
+
+pub returns-in_err-record_node-clause-faults : goal.returns-in_err-record_node-clause-faults
+returns-in_err-record_node-clause-faults g c =
+    let given = given_on _ _ c.from_residual-in_err-record_node.ensures.0 c.from_residual-in_err-record_node.ensures.1 in
+    faults_in_turn c.puts_go_on.ensures _ _ _ _ _ _ _ _ (c.tell_status.ensures.durable ∙ c.tell_members.ensures.durable) refl (ap result_err c.in_ok-elect.was) (ap result_err c.in_err-record_node.was ∙ sym given)
+    c.elect.ensures.faults c.record_node.ensures.faults
+
+pub returns-clause-faults : goal.returns-clause-faults
+returns-clause-faults g c =
+    faults_in_turn c.puts_go_on.ensures _ _ _ _ _ _ _ _ (c.tell_status.ensures.durable ∙ c.tell_members.ensures.durable) c.ask_node.ensures.durable (ap result_err c.in_ok-elect.was) (ap result_err c.in_ok-record_node.was)
+    c.elect.ensures.faults c.record_node.ensures.faults

@@ -38,9 +38,7 @@ returns-in-Ok-clause-steps g c t h =
       leaves = λ tells image left. puts.made.stop h.works tells image left;
       made = puts.made.made h.works;
       put = record { state = puts.made.state refl; copies = puts.made.copies refl };
-      cause = tt;
-      later = faults.later;
-      told = faults.tells;
+      puts = puts.made;
     }
 
 pub returns-in-Err-clause-steps : goal.returns-in-Err-clause-steps
@@ -57,7 +55,5 @@ returns-in-Err-clause-steps g c t h =
       leaves = λ tells image left. puts.made.stop h.works tells image left;
       made = puts.made.made h.works;
       put = tt;
-      cause = faults.cause h.works;
-      later = faults.later;
-      told = faults.tells;
+      puts = puts.made;
     }
