@@ -1,0 +1,378 @@
+-- A step that finished is one event of the run, and what is shown is shown after it.
+use Rattle.std.proofs.Common.{◌≡◌, ◌≢◌, ℕ, suc, ◌+◌, ◌<◌, ◌≤◌, Bool, true, List, [], ◌∷◌, length, refl, sym, ap, subst, ◌∙◌, arith, ◌⊎◌, inl, inr, Some}
+use Rattle.std.specs.Prelude.{slice_index_or}
+use Rattle.std.proofs.lemmas.Bool.Decides.{eqb_tells}
+use Rattle.can_frame.specs.declared.step.What.TheVariants.{Disc}
+use Rattle.cluster_discovery.specs.Members.{IsMemberList, IsStart, Start}
+use Rattle.cluster_discovery.specs.Members as discovery
+use Rattle.dsdl_codec.specs.declared.discovery.Discovery.{Discovery}
+use Rattle.dsdl_codec.specs.Discovery.{discovery_of}
+use Rattle.kv_store.specs.Shelf.{Shelf}
+use Rattle.raft_core.specs.StoredPuts.{AreOfNodes, IsOfNode, Noted, VoteForNodes, plain_puts, store_of, stored_puts}
+use Rattle.raft_log.specs.Shelf.{are_put, puts_on}
+use Rattle.raft_log.specs.Stored.{Put as StoredPut, Stored, after_puts}
+use Rattle.raft_model.specs.Handlers.{plain_after_all, puts_of_all}
+use Rattle.raft_model.specs.Invariants.{Invariants}
+use Rattle.raft_model.specs.Lists.{In, at, at_here, at_other}
+use Rattle.raft_model.specs.Members.{HasNoneTwice}
+use Rattle.raft_model.specs.Messages.{Message, Request}
+use Rattle.raft_model.specs.Messages.Message.{Answers, Requests}
+use Rattle.raft_model.specs.Moves.{Comes, Move}
+use Rattle.raft_model.specs.Moves.Move.{AnswerAgain, CallForVote, CallToAppend, CommitTo, GiveUp, ProposeEntry, TakeAppendAnswer, TakeAppendRequest, TakeVoteAnswer, TakeVoteRequest, TellNothing, TellPair, TimeOut}
+use Rattle.raft_model.specs.Runs as machine
+use Rattle.raft_model.specs.Runs.{MayCome, after, posted, site_after, site_of}
+use Rattle.raft_model.specs.Runs.Event.{Steps}
+use Rattle.raft_model.specs.Server.{Plain, Put, Store, put_all}
+use Rattle.raft_model.specs.Stops.{AllCome, Site, all_moved, moved}
+use Rattle.server_laws.specs.Coming.{Begins, IsOfTheMachine, KeepsOrder, KnowsMembers, MayStep, TakesFrom}
+use Rattle.server_laws.specs.Listing.{IsNamed}
+use Rattle.server_laws.specs.Proposals.{HasUids}
+use Rattle.server_laws.specs.Sound.{IsInRange, IsOnTheBus, IsSound}
+use Rattle.server_parts.specs.Going.{Going, messages}
+use Rattle.server_parts.specs.Step.{Event, step}
+use Rattle.server_parts.specs.Step.Event.{Rx, Tick}
+use Rattle.server_parts.specs.TimedServer.{Timed, members_of, start_of}
+use Rattle.server_parts.specs.Transfers.{Made, Offer}
+use Rattle.world_parts.specs.Cluster.{AreMembers, Cluster}
+use Rattle.world_parts.specs.Members.{Member}
+use Rattle.world_parts.specs.Members.Life.{Up}
+use Rattle.world_parts.specs.Refinement.{made_of}
+use Rattle.world_laws.specs.Said.{AreWritable, IsRunWritable, IsStoreWritable, ProposesWell}
+use Rattle.world_laws.specs.Shows.{HoldsOfMade, IsAtWork, IsInRun, Shows, ShowsUp}
+use Rattle.can_frame.specs.Log.{IsInjective}
+use Rattle.world_laws.proofs.Hearing.{takes_from}
+use Rattle.world_laws.proofs.Lists.{equal}
+use Rattle.world_laws.proofs.Kept.{bus_more, with_one}
+use Rattle.world_laws.proofs.LawsBelow.{FrameLaws}
+use Rattle.world_laws.proofs.Making.{each_made, still_made}
+use Rattle.world_laws.proofs.Ranging.{IsMessageWritable, Moved, moved_fits}
+use Rattle.world_laws.proofs.Starting.{firm_after}
+use Rattle.world_laws.specs.Events.{MayHappen, TellsMembers}
+use Rattle.world_laws.proofs.Stepping.{StepLaws, among_after, answered_after, called_after, heard_after, queue_after, said_after, transfers_after}
+use Rattle.world_laws.proofs.Taking.{CodecLaws}
+
+-- ---- what is known besides
+
+pub record MoreLaws : Type 0 where
+  pub moves : (t : Timed) (number : ℕ) (event : Event) (members : List ℕ) (bag : List Message) → MayStep t number event members bag
+      → (site : Site) → Begins t site → IsOfTheMachine members t.me number bag site (step t number event).going
+  pub keeps : (t : Timed) (number : ℕ) (event : Event) (members : List ℕ) (bag : List Message) → MayStep t number event members bag
+      → KeepsOrder (step t number event).going.timed
+  pub sound : (t : Timed) (number : ℕ) (event : Event) → IsSound t → IsOnTheBus event → IsSound (step t number event).going.timed
+  pub ranges : (t : Timed) (number : ℕ) (event : Event) → IsSound t → IsOnTheBus event
+      → (offer : Offer) → In offer (step t number event).going.offers → IsInRange offer
+  pub size : (t : Timed) (number : ℕ) (event : Event) → (step t number event).going.timed.size ≡ t.size
+  pub up : (t : Timed) (number : ℕ) (event : Event) → (step t number event).going.timed.plain.memory.up ≡ t.plain.memory.up
+  pub named : (t : Timed) (number : ℕ) (event : Event) (node : ℕ) → In node (members_of (step t number event).going.timed)
+      → In node (members_of t) ⊎ IsNamed t number event node
+  pub uids : (t : Timed) (number : ℕ) (event : Event) → HasUids t.watch → HasUids (step t number event).going.timed.watch
+  pub records : (t : Timed) (number : ℕ) (event : Event) → HasUids t.watch → ProposesWell (step t number event).going.moves
+  pub tells : (t : Timed) (number : ℕ) (event : Event) → TellsMembers t (step t number event).going.offers
+  pub list : (start : Start) (events : List discovery.Event) → IsStart start → IsMemberList start.me start.size (discovery.members start events)
+  pub done : (shelf : Shelf Stored) (puts : List StoredPut) → are_put puts shelf.calls ≡ true → ((puts_on puts shelf).store ≡ after_puts puts shelf.store)
+  pub votes : (members : List ℕ) (member number : ℕ) (server : Plain) (moves : List Move) → 1 ≤ member → AreOfNodes moves
+      → VoteForNodes (puts_of_all members member number server moves)
+  pub same : (puts : List Noted) (state : Stored) → VoteForNodes (plain_puts puts)
+      → store_of (after_puts (stored_puts puts state) state) ≡ put_all (store_of state) (plain_puts puts)
+  pub plain : (members : List ℕ) (member number : ℕ) (moves : List Move) (site : Site)
+      → (all_moved members member number site moves).plain ≡ plain_after_all members member number site.plain moves
+  pub store : (members : List ℕ) (member number : ℕ) (moves : List Move) (server : Plain)
+      → (plain_after_all members member number server moves).store ≡ put_all server.store (puts_of_all members member number server moves)
+
+-- ---- small facts
+
+none_twice : (xs : List ℕ) → ((i j : ℕ) → i < j → j < length xs → slice_index_or xs i 0 ≢ slice_index_or xs j 0) → HasNoneTwice xs
+none_twice [] apart = tt
+none_twice (x ∷ xs) apart = (
+  λ i. not_behind xs (λ j h. apart 0 (suc j) (omega arith) (omega (arith, h))) i,
+  none_twice xs (λ i j h k. apart (suc i) (suc j) (omega (arith, h)) (omega (arith, k))),
+)
+  where
+    not_behind : (ys : List ℕ) → ((j : ℕ) → j < length ys → x ≢ slice_index_or ys j 0) → In x ys → ⊥
+    not_behind [] each i = i
+    not_behind (y ∷ ys) each (inl e) = each 0 (omega arith) e
+    not_behind (y ∷ ys) each (inr i) = not_behind ys (λ j h. each (suc j) (omega (arith, h))) i
+
+pub posted_when : (messages bag : List Message) (message : Message) → In message (posted messages bag) → In message messages ⊎ In message bag
+posted_when [] bag message i = inr i
+posted_when (first ∷ rest) bag message i = elim (posted_when rest (first ∷ bag) message i) [
+  | inl j ↦ inl (inr j)
+  | inr (inl e) ↦ inl (inl e)
+  | inr (inr j) ↦ inr j
+]
+
+of_node : (members : List ℕ) (me : ℕ) (bag : List Message) → ((request : Request) → In (Requests request) bag → 1 ≤ request.from)
+    → (called : List ℕ) (plain : Plain) (move : Move) → Comes members me bag called plain move → IsOfNode move
+of_node members me bag senders called plain TimeOut c = tt
+of_node members me bag senders called plain (TakeVoteRequest request granted) c = senders request c.0
+of_node members me bag senders called plain (TakeVoteAnswer answer) c = tt
+of_node members me bag senders called plain (TakeAppendRequest request verdict) c = tt
+of_node members me bag senders called plain (TakeAppendAnswer answer) c = tt
+of_node members me bag senders called plain (ProposeEntry entry) c = tt
+of_node members me bag senders called plain (CommitTo index) c = tt
+of_node members me bag senders called plain TellPair c = tt
+of_node members me bag senders called plain TellNothing c = tt
+of_node members me bag senders called plain (CallForVote peer) c = tt
+of_node members me bag senders called plain (CallToAppend peer previous with_entry) c = tt
+of_node members me bag senders called plain (AnswerAgain place) c = tt
+of_node members me bag senders called plain (GiveUp peer) c = tt
+
+pub of_nodes : (members : List ℕ) (me number : ℕ) (bag : List Message) → ((request : Request) → In (Requests request) bag → 1 ≤ request.from)
+    → (moves : List Move) (site : Site) → AllCome members me number bag site moves → AreOfNodes moves
+of_nodes members me number bag senders [] site come = tt
+of_nodes members me number bag senders (move ∷ moves) site come =
+    (of_node members me bag senders site.called site.plain move come.0, of_nodes members me number bag senders moves (moved members me number site move) come.1)
+
+-- ---- a step that may come
+
+module _ (laws : StepLaws) (more : MoreLaws) (frame_laws : FrameLaws) (codec : CodecLaws) (choice : ℕ → Bool) (made : List Made) (w : Cluster)
+    (run : machine.World) (shows : Shows choice made w run) (members : AreMembers w.ids) (sound : Invariants run) (written : IsRunWritable run)
+    (t : Timed) (listed : In t.me w.ids) (is : ShowsUp made w.ids w.frames run t.me t (w.member t.me).disk) (event : Event)
+    (may : MayHappen w.frames t event) (narrow : IsOnTheBus event) where
+  abbrev number : ℕ
+  number = w.rows + 1
+
+  abbrev going : Going
+  going = (step t number event).going
+
+  abbrev low : (n : ℕ) → In n w.ids → 1 ≤ n
+  low n i = (members.nodes n i).0
+
+  abbrev high : (n : ℕ) → In n w.ids → n ≤ 125
+  high n i = (members.nodes n i).1
+
+  its_list : IsMemberList t.me t.size (members_of t)
+  its_list = more.list (start_of t) t.heard (record {
+    numbered = low t.me listed;
+    device = high t.me listed;
+    least = omega (arith, members.some, is.runs.size);
+    most = omega (arith, members.five, is.runs.size);
+  })
+
+  knows : KnowsMembers t w.ids
+  knows = record {
+    all = λ e. record {
+      once = none_twice (members_of t) its_list.different;
+      among = is.works.among;
+      as_many = equal (length (members_of t)) t.size e ∙ is.runs.size;
+    };
+    counting = is.runs.order.counting;
+  }
+
+  takes : (e : Event) → event ≡ e → TakesFrom number run.bag t e
+  takes (Tick now word) same = tt
+  takes (Rx arrival) same = takes_from frame_laws codec w.ids low high made shows.holds.transfers run.bag shows.holds.said shows.holds.written shows.holds.answered
+      w.frames shows.bus t (low t.me listed) is.works.among is.works.heard is.works.called number arrival (may.came arrival same) (may.fine arrival same)
+
+  pub may_step : MayStep t number event w.ids run.bag
+  may_step = record {
+    knows = knows;
+    fit = is.runs.order.fit;
+    calls = is.runs.order.calls;
+    injective = subst (λ (p : Plain). IsInjective p.store.log) is.runs.plain (sound.stores t.me).injective;
+    takes = takes event refl;
+  }
+
+  abbrev site : Site
+  site = site_of run t.me
+
+  pub of_machine : IsOfTheMachine w.ids t.me number run.bag site going
+  of_machine = more.moves t number event w.ids run.bag may_step site (record { plain = is.runs.plain; called = λ peer i. i })
+
+  pub all_come : AllCome run.members t.me number run.bag site going.moves
+  all_come = subst (λ (ms : List ℕ). AllCome ms t.me number run.bag site going.moves) (sym shows.members) of_machine.come
+
+  abbrev finished : machine.Event
+  finished = Steps t.me number going.moves (messages number going)
+
+  pub may_finish : MayCome run finished
+  may_finish = (
+    ap (λ (p : Plain). p.memory.up) is.runs.plain ∙ is.runs.up,
+    omega (arith, shows.steps),
+    all_come,
+    λ m i. subst (λ (ms : List ℕ). In m (all_moved ms t.me number site going.moves).offered) (sym shows.members) (of_machine.say m i),
+  )
+
+  pub are_of_nodes : AreOfNodes going.moves
+  are_of_nodes = of_nodes w.ids t.me number run.bag shows.holds.written.senders going.moves site of_machine.come
+
+  pub puts_vote : VoteForNodes (plain_puts going.puts)
+  puts_vote = subst VoteForNodes (sym of_machine.puts) (more.votes w.ids t.me number site.plain going.moves (low t.me listed) are_of_nodes)
+
+  module _ (well : ProposesWell going.moves) where
+    pub moved_well : Moved w.ids t.me (low t.me listed) number run.bag shows.holds.written (all_moved w.ids t.me number site going.moves)
+    moved_well = moved_fits w.ids t.me (low t.me listed) number run.bag shows.holds.written going.moves site of_machine.come well
+        (record { store = written.stores t.me; offered = λ m i. absurd i })
+
+    offered_well : (message : Message) → In message (messages number going)
+        → IsMessageWritable w.ids t.me (low t.me listed) number run.bag shows.holds.written message
+    offered_well message i = moved_well.offered message (of_machine.say message i)
+
+    written_after : AreWritable (posted (messages number going) run.bag)
+    written_after = record {
+      requests = λ request i. elim (posted_when (messages number going) run.bag (Requests request) i) [
+        | inl new ↦ (offered_well (Requests request) new).0
+        | inr old ↦ shows.holds.written.requests request old
+      ];
+      senders = λ request i. elim (posted_when (messages number going) run.bag (Requests request) i) [
+        | inl new ↦ (offered_well (Requests request) new).1
+        | inr old ↦ shows.holds.written.senders request old
+      ];
+      answers = λ answer i. elim (posted_when (messages number going) run.bag (Answers answer) i) [
+        | inl new ↦ offered_well (Answers answer) new
+        | inr old ↦ shows.holds.written.answers answer old
+      ];
+    }
+
+    -- ---- what its server is in the run
+
+    abbrev after_run : machine.World
+    after_run = after run finished
+
+    plain_after : (site_after run t.me number going.moves).plain ≡ going.timed.plain
+    plain_after = ap (λ (ms : List ℕ). (all_moved ms t.me number site going.moves).plain) shows.members ∙ of_machine.leave
+
+    its_plain : after_run.server t.me ≡ going.timed.plain
+    its_plain = at_here run.server t.me t.me (site_after run t.me number going.moves).plain refl ∙ plain_after
+
+    its_store : going.timed.plain.store ≡ put_all t.plain.store (plain_puts going.puts)
+    its_store =
+        ap (λ (p : Plain). p.store) (sym of_machine.leave)
+        ∙ (ap (λ (p : Plain). p.store) (more.plain w.ids t.me number going.moves site)
+        ∙ (more.store w.ids t.me number going.moves site.plain
+        ∙ (ap (λ (l : List Put). put_all site.plain.store l) (sym of_machine.puts)
+        ∙ ap (λ (p : Plain). put_all p.store (plain_puts going.puts)) is.runs.plain)))
+
+    module _ (done : are_put (stored_puts going.puts (w.member t.me).disk.store) (w.member t.me).disk.calls ≡ true) where
+      abbrev disk : Shelf Stored
+      disk = (w.member t.me).disk
+
+      abbrev disk_after : Shelf Stored
+      disk_after = puts_on (stored_puts going.puts disk.store) disk
+
+      stored_after : store_of disk_after.store ≡ going.timed.plain.store
+      stored_after =
+          ap store_of (more.done disk (stored_puts going.puts disk.store) done)
+          ∙ (more.same going.puts disk.store puts_vote
+          ∙ (ap (λ (s : Store). put_all s (plain_puts going.puts)) is.runs.stored ∙ sym its_store))
+
+      abbrev made_after : List Made
+      made_after = made_of number t.me going.offers made
+
+      still_there : (x : Made) → In x made → In x made_after
+      still_there x i = still_made number t.me going.offers made x i
+
+      past : (x : Made) → In x made → x.step < number
+      past x i = omega (arith, shows.past x i)
+
+      in_range : (offer : Offer) → In offer going.offers → IsInRange offer
+      in_range = more.ranges t number event is.runs.sound narrow
+
+      abbrev x_after : Member
+      x_after = record (w.member t.me) { life = Up going.timed; disk = disk_after }
+
+      runs_after : IsInRun w.ids after_run t.me going.timed disk_after
+      runs_after = record {
+        me = laws.me t number event;
+        size = more.size t number event ∙ is.runs.size;
+        plain = its_plain;
+        up = more.up t number event ∙ is.runs.up;
+        stored = stored_after;
+        firm = firm_after (stored_puts going.puts disk.store) disk done is.runs.firm;
+        sound = more.sound t number event is.runs.sound narrow;
+        order = more.keeps t number event w.ids run.bag may_step;
+        uids = more.uids t number event is.runs.uids;
+      }
+
+      works_after : IsAtWork made_after w.ids w.frames t.me going.timed
+      works_after = record {
+        queue = queue_after laws frame_laws codec w.ids low high made run.bag shows.holds w.frames shows.bus t listed is.works number some past event may in_range;
+        heard = heard_after laws w.frames t number event may is.works.heard;
+        called = called_after laws frame_laws codec w.ids low high made run.bag shows.holds w.frames shows.bus t listed is.works number some past event may in_range;
+        among = among_after laws frame_laws codec w.ids low high made run.bag shows.holds w.frames shows.bus t listed is.works number some past event may in_range
+            (more.named t number event);
+      }
+        where
+          some : 1 ≤ w.rows + 1
+          some = omega arith
+
+      -- a Discovery of the step lists members that it knows
+      module _ (told : (offer : Offer) → In offer going.offers → offer.what ≡ Disc → (message : Discovery) → discovery_of offer.payload ≡ Some message
+          → (peer : ℕ) → In peer message.known.items → In peer (members_of t)) where
+        holds_after : HoldsOfMade made_after w.ids (posted (messages number going) run.bag)
+        holds_after = record {
+          transfers = transfers_after laws frame_laws codec w.ids low high made run.bag shows.holds w.frames shows.bus t listed is.works number some past event may in_range;
+          said = said_after laws frame_laws codec w.ids low high made run.bag shows.holds w.frames shows.bus t listed is.works number some past event may in_range;
+          written = written_after;
+          answered = answered_after laws frame_laws codec w.ids low high made run.bag shows.holds w.frames shows.bus t listed is.works number some past event may in_range;
+          discoveries = λ x message peer i what reads known.
+              each_made number t.me w.ids made shows.holds.transfers past going.offers (laws.one t number event) in_range listed some
+              (λ y. (m : Discovery) (p : ℕ) → y.offer.what ≡ Disc → discovery_of y.offer.payload ≡ Some m → In p m.known.items → In p w.ids)
+              (λ y j m p e r k. shows.holds.discoveries y m p j e r k)
+              (λ offer j fits m p e r k. is.works.among p (told offer j e m r p k)) x i message peer what reads known;
+        }
+          where
+            some : 1 ≤ w.rows + 1
+            some = omega arith
+
+        pub finished_shown : Shows choice made_after (record w { member = at w.member t.me x_after; rows = number }) after_run
+        finished_shown = record {
+          members = shows.members;
+          steps = omega arith;
+          lives = with_one choice made made_after still_there w.ids w.frames w.frames (λ f i. i) run after_run w.member shows.lives t.me x_after
+              (λ i. record { runs = runs_after; works = works_after })
+              (λ m apart. at_other run.server t.me m (site_after run t.me number going.moves).plain apart);
+          bus = λ frame i. bus_more made made_after still_there w.ids frame (shows.bus frame i);
+          narrow = shows.narrow;
+          holds = holds_after;
+          past = each_made number t.me w.ids made shows.holds.transfers past going.offers (laws.one t number event) in_range listed some
+              (λ x. x.step ≤ w.rows + 1) (λ x i. omega (arith, shows.past x i)) (λ offer i fits. omega arith);
+        }
+          where
+            some : 1 ≤ w.rows + 1
+            some = omega arith
+
+      pub still_written : IsRunWritable after_run
+      still_written = record {
+        stores = λ m. elim (eqb_tells m t.me) [
+          | inl same ↦ subst (λ (p : Plain). IsStoreWritable p.store) (sym (at_here run.server t.me m (site_after run t.me number going.moves).plain same.1))
+              (subst (λ (ms : List ℕ). IsStoreWritable (all_moved ms t.me number site going.moves).plain.store) (sym shows.members) moved_well.store)
+          | inr apart ↦ subst (λ (p : Plain). IsStoreWritable p.store) (sym (at_other run.server t.me m (site_after run t.me number going.moves).plain apart.1)) (written.stores m)
+        ];
+        bag = written_after;
+      }
+
+-- ---- of a member by its node ID
+
+module _ (laws : StepLaws) (more : MoreLaws) (frame_laws : FrameLaws) (codec : CodecLaws) (choice : ℕ → Bool) (made : List Made) (w : Cluster)
+    (run : machine.World) (shows : Shows choice made w run) (members : AreMembers w.ids) (sound : Invariants run) (written : IsRunWritable run)
+    (t : Timed) (event : Event) (may : MayHappen w.frames t event) (narrow : IsOnTheBus event) where
+  abbrev its_going : Going
+  its_going = (step t (w.rows + 1) event).going
+
+  abbrev its_member : ℕ → Member
+  its_member n = record (w.member n) { life = Up its_going.timed; disk = puts_on (stored_puts its_going.puts (w.member n).disk.store) (w.member n).disk }
+
+  abbrev its_event : ℕ → machine.Event
+  its_event n = Steps n (w.rows + 1) its_going.moves (messages (w.rows + 1) its_going)
+
+  pub record IsFinished (n : ℕ) : Type 0 where
+    pub may_come : MayCome run (its_event n)
+    pub shown : Shows choice (made_of (w.rows + 1) n its_going.offers made) (record w { member = at w.member n (its_member n); rows = w.rows + 1 }) (after run (its_event n))
+    pub writable : IsRunWritable (after run (its_event n))
+
+  abbrev Finishes : ℕ → Type 0
+  Finishes n = In n w.ids → ShowsUp made w.ids w.frames run n t (w.member n).disk
+      → are_put (stored_puts its_going.puts (w.member n).disk.store) (w.member n).disk.calls ≡ true → IsFinished n
+
+  own : Finishes t.me
+  own listed is done = record {
+    may_come = may_finish laws more frame_laws codec choice made w run shows members sound written t listed is event may narrow;
+    shown = finished_shown laws more frame_laws codec choice made w run shows members sound written t listed is event may narrow
+        (more.records t (w.rows + 1) event is.runs.uids) done (more.tells t (w.rows + 1) event);
+    writable = still_written laws more frame_laws codec choice made w run shows members sound written t listed is event may narrow
+        (more.records t (w.rows + 1) event is.runs.uids) done;
+  }
+
+  pub finishes : (n : ℕ) → t.me ≡ n → Finishes n
+  finishes n e = subst Finishes e own

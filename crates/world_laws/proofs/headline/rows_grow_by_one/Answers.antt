@@ -1,0 +1,5 @@
+use Rattle.world_laws.proofs.Longer.{fits, grown, lawful, made_more, shown}
+use Rattle.world_laws.proofs.headline.rows_grow_by_one.Goals as goal
+
+pub returns : goal.returns
+returns c = record { world = grown; lawful = lawful; events = shown; fits = fits; made = made_more }

@@ -1,0 +1,93 @@
+-- What the transfers of members say, and which of them answer which.
+use Rattle.std.specs.Prelude.{◌≡◌, ℕ, ◌<◌, ◌≤◌, ◌^◌, Bool, true, false, List, length, None, Some, IfSome}
+use Rattle.can_frame.specs.declared.entry.Entry.{Entry}
+use Rattle.can_frame.specs.declared.step.What.{What}
+use Rattle.can_frame.specs.declared.step.What.TheVariants.{AppQ, App, Vote, VoteQ}
+use Rattle.dsdl_codec.specs.Entry.{IsEntry}
+use Rattle.raft_core.specs.Times.{Sending}
+use Rattle.raft_model.specs.Lists.{In}
+use Rattle.raft_model.specs.Messages.{Answer, Message, Request}
+use Rattle.raft_model.specs.Messages.Message.{Answers, Requests}
+use Rattle.raft_model.specs.Moves.{Move}
+use Rattle.raft_model.specs.Moves.Move.{ProposeEntry}
+use Rattle.raft_model.specs.Runs.{World}
+use Rattle.raft_model.specs.Server.{Store}
+use Rattle.server_laws.specs.Saying.{IsSaid}
+use Rattle.server_parts.specs.TimedServer.{Timed}
+use Rattle.server_parts.specs.Transfers.{Made, message_of}
+
+-- a request has bytes: its numbers fit, and a vote request has neither commit nor entry
+pub record IsWritable (request : Request) : Type 0 where
+  pub term : request.term < 2 ^ 32
+  pub previous_term : request.previous_term < 2 ^ 32
+  pub entry : IfSome request.entry IsEntry
+  pub vote : request.append ≡ false → (request.commit ≡ 0) × (request.entry ≡ None)
+
+-- all requests and answers of the bag have bytes, and requests are of nodes
+pub record AreWritable (bag : List Message) : Type 0 where
+  pub requests : (request : Request) → In (Requests request) bag → IsWritable request
+  pub senders : (request : Request) → In (Requests request) bag → 1 ≤ request.from
+  pub answers : (answer : Answer) → In (Answers answer) bag → answer.term < 2 ^ 32
+
+-- each transfer says what it should, and what it says is in the bag
+pub record AreSaid (made : List Made) (bag : List Message) : Type 0 where
+  pub carried : (x : Made) → In x made → IsSaid x.step x.by x.offer.what x.offer.to x.offer.re x.offer.payload x.offer.says
+  pub said : (x : Made) (message : Message) → In x made → message_of x.step x.by x.offer ≡ Some message → In message bag
+
+-- the request that a made response answers was made under the response's transfer ID
+pub record IsAnswered (made : List Made) (x : Made) (answer : Answer) (service : What) : Type 0 where
+  pub asked : Made
+  pub was_made : In asked made
+  pub step : asked.step ≡ x.offer.re
+  pub what : asked.offer.what ≡ service
+  pub maker : asked.by ≡ x.offer.to
+  pub receiver : asked.offer.to ≡ x.by
+  pub id : asked.offer.id ≡ x.offer.id
+  pub says : asked.offer.says ≡ Some (Requests answer.request)
+
+-- each response of this kind that was made answers a request of that kind
+abbrev pub AnswersEach : List Made → What → What → Type 0
+AnswersEach made response service = (x : Made) (answer : Answer) → In x made → x.offer.what ≡ response
+    → x.offer.says ≡ Some (Answers answer) → IsAnswered made x answer service
+
+pub record AreAnswered (made : List Made) : Type 0 where
+  pub votes : AnswersEach made Vote VoteQ
+  pub appends : AnswersEach made App AppQ
+
+-- a pending call was made, under the transfer ID that the server keeps beside it
+pub record IsCalled (made : List Made) (server : Timed) (peer : ℕ) (request : Request) (sending : Sending) (service : What) : Type 0 where
+  pub call : Made
+  pub was_made : In call made
+  pub what : call.offer.what ≡ service
+  pub step : call.step ≡ request.step
+  pub maker : call.by ≡ server.me
+  pub receiver : call.offer.to ≡ peer
+  pub id : call.offer.id ≡ sending.id
+  pub says : call.offer.says ≡ Some (Requests request)
+
+-- the kind of transfer by which a request goes
+abbrev pub carrier : Bool → What
+carrier true = AppQ
+carrier false = VoteQ
+
+-- each pending call was made
+abbrev pub AreCalled : List Made → Timed → Type 0
+AreCalled made server = (peer : ℕ) (request : Request) → server.plain.memory.pending peer ≡ Some request
+    → (sending : Sending) × (server.times.sending peer ≡ Some sending)
+    × IsCalled made server peer request sending (carrier request.append)
+
+-- ---- what is stored
+
+-- the term and each entry have bytes
+pub record IsStoreWritable (store : Store) : Type 0 where
+  pub term : store.term < 2 ^ 32
+  pub entries : (entry : Entry) → In entry store.log → IsEntry entry
+
+-- of a run: what each member has stored, and the bag
+pub record IsRunWritable (run : World) : Type 0 where
+  pub stores : (member : ℕ) → IsStoreWritable (run.server member).store
+  pub bag : AreWritable run.bag
+
+-- what is proposed has a unique ID of 16 bytes
+abbrev pub ProposesWell : List Move → Type 0
+ProposesWell moves = (entry : Entry) → In (ProposeEntry entry) moves → length entry.uid ≡ 16

@@ -1,0 +1,203 @@
+//! Laws of single rows: what a world shows of a run of the message machine, it shows after a row too. Each
+//! is the contract of a function that does nothing.
+
+ghost use Rattle.std.specs.Prelude.{◌≡◌, ◌==◌, ◌+◌, ◌∷◌, [], ℕ, Bool, List, None, false, true};
+ghost use Rattle.can_frame.specs.declared.frame.Frame.{Frame};
+ghost use Rattle.outside.specs.declared.pattern.Pattern.{Pattern};
+ghost use Rattle.raft_log.specs.Shelf.{are_put, is_open_on};
+ghost use Rattle.raft_model.specs.Invariants.{Invariants};
+ghost use Rattle.raft_model.specs.Lists.{In};
+ghost use Rattle.raft_model.specs.Runs.{MayCome, World, after, beginning};
+ghost use Rattle.raft_model.specs.Runs.{Event as RunEvent};
+ghost use Rattle.raft_model.specs.Runs.Event.{Opens, Steps, Stops};
+ghost use Rattle.replay_text.specs.declared.row.Row.TheVariants.{Crash, Ext, Fault, Open, Send};
+ghost use Rattle.server_laws.specs.Sound.{IsOnTheBus};
+ghost use Rattle.server_parts.specs.Going.{messages};
+ghost use Rattle.server_parts.specs.Step.{Event, step};
+ghost use Rattle.server_parts.specs.TimedServer.{Timed};
+ghost use Rattle.server_parts.specs.Transfers.{Made};
+ghost use Rattle.world_laws.specs.Events.{MayHappen};
+ghost use Rattle.world_laws.specs.Said.{IsRunWritable};
+ghost use Rattle.world_laws.specs.Shows.{Shows};
+ghost use Rattle.world_parts.specs.Cluster.{AreMembers, Cluster, cluster, next, steps};
+ghost use Rattle.world_parts.specs.Lawful.{cause};
+ghost use Rattle.world_parts.specs.Members.{Failure, puts_of};
+ghost use Rattle.world_parts.specs.Members.Life.{Down, Failed, Up};
+ghost use Rattle.world_parts.specs.Refinement.{FitsRow, cut_events, made_of};
+
+use can_frame::laws::{
+    frames_give_the_payload, frames_in_order, frames_read_as_their_pieces, identifiers_both_ways,
+    lengths_of_cuttings,
+};
+use cluster_discovery::laws::members_are_a_list;
+use dsdl_codec::laws::{
+    append_answers_both_ways, append_requests_both_ways, vote_answers_both_ways,
+    vote_requests_both_ways,
+};
+use raft_core::laws::{an_opening_keeps_the_store, puts_are_stored};
+use raft_log::laws::the_disk_by_states;
+use raft_model::laws::{law_handlers, law_joined};
+use server_laws::bus::{a_step_leaves_the_server_up, queue_of_a_step, sessions_of_a_step};
+use server_laws::laws::{
+    calls_of_a_step, members_of_a_step, moves_of_a_step, proposals_of_a_step,
+    responses_answer_what_was_delivered, steps_stay_in_range, transfers_of_a_step_are_apart,
+    what_transfers_say,
+};
+use transfer_rx::laws::{
+    a_frame_comes_to_the_session_of_its_key, deliveries_are_whole_transfers,
+    frames_are_kept_under_their_key,
+};
+use transfer_tx::laws::frames_by_place;
+
+/// Rows that show no event leave the run: a frame from outside, a frame that a member sends, and a stop or a
+/// failure that is armed for a later call of a disk.
+pub fn rows_without_events_are_shown()
+    ensures outside { (choice : ℕ → Bool) (made : List Made) (w : Cluster) (run : World) →
+        Shows choice made w run → (frame : Frame) → cause w (Ext frame) ≡ None →
+        Shows choice made (next w (Ext frame)) run }
+    ensures sent { (choice : ℕ → Bool) (made : List Made) (w : Cluster) (run : World) →
+        AreMembers w.ids → Shows choice made w run → (n : ℕ) → cause w (Send n) ≡ None →
+        Shows choice made (next w (Send n)) run }
+    ensures stop_armed { (choice : ℕ → Bool) (made : List Made) (w : Cluster) (run : World) →
+        Shows choice made w run → (n calls : ℕ) (pattern : Pattern) → (calls == 0) ≡ false →
+        Shows choice made (next w (Crash n calls pattern)) run }
+    ensures failure_armed { (choice : ℕ → Bool) (made : List Made) (w : Cluster) (run : World) →
+        Shows choice made w run → (n call : ℕ) → Shows choice made (next w (Fault n call)) run }
+{
+    a_frame_comes_to_the_session_of_its_key();
+    deliveries_are_whole_transfers();
+    frames_by_place();
+    frames_give_the_payload();
+    frames_in_order();
+    frames_read_as_their_pieces();
+    identifiers_both_ways();
+    lengths_of_cuttings();
+    moves_of_a_step();
+    steps_stay_in_range();
+}
+
+/// The world without rows shows the beginning of a run.
+pub fn the_beginning_is_shown()
+    ensures { (choice : ℕ → Bool) (ids : List ℕ) → Shows choice [] (cluster ids) (beginning ids) }
+{}
+
+/// A stop of a running member between two steps is one event of the run, which may come. A member that failed
+/// went down in the run with the step that failed: its stop is no event, where the choice fits what is found.
+pub fn stops_are_shown()
+    ensures running { (choice : ℕ → Bool) (made : List Made) (w : Cluster) (run : World) →
+        Shows choice made w run → (n : ℕ) (pattern : Pattern) → In n w.ids → (t : Timed) →
+        (w.member n).life ≡ Up t → let event = Stops n (w.rows + 1) [] in
+        MayCome run event × Shows choice made (next w (Crash n 0 pattern)) (after run event) }
+    ensures failed { (choice : ℕ → Bool) (made : List Made) (w : Cluster) (run : World) →
+        Shows choice made w run → (n : ℕ) (pattern : Pattern) → In n w.ids → (failure : Failure) →
+        (w.member n).life ≡ Failed failure → FitsRow choice w (Crash n 0 pattern) →
+        Shows choice made (next w (Crash n 0 pattern)) run }
+{}
+
+/// An opening that succeeds is one event of the run, which may come; what it puts changes nothing of what the
+/// machine's server has stored. An opening that fails, wherever its disk cuts it, is none.
+pub fn openings_are_shown()
+    ensures opened { (choice : ℕ → Bool) (made : List Made) (w : Cluster) (run : World) →
+        AreMembers w.ids → Shows choice made w run → (n ms word : ℕ) → In n w.ids →
+        (w.member n).life ≡ Down → is_open_on (w.member n).disk ≡ true →
+        MayCome run (Opens n) × Shows choice made (next w (Open n ms word)) (after run (Opens n)) }
+    ensures failed { (choice : ℕ → Bool) (made : List Made) (w : Cluster) (run : World) →
+        AreMembers w.ids → Shows choice made w run → (n ms word : ℕ) → In n w.ids →
+        (w.member n).life ≡ Down → is_open_on (w.member n).disk ≡ false →
+        Shows choice made (next w (Open n ms word)) run }
+{
+    an_opening_keeps_the_store();
+    moves_of_a_step();
+    steps_stay_in_range();
+    the_disk_by_states();
+}
+
+/// A step that finishes is one event of the run, which may come, and what is shown before it is shown after
+/// it. The run is safe and what it says has bytes; the step is that of a tick, or of a frame that the member
+/// may be given.
+pub fn finished_steps_are_shown()
+    ensures { (choice : ℕ → Bool) (made : List Made) (w : Cluster) (run : World) →
+        AreMembers w.ids → Shows choice made w run → Invariants run → IsRunWritable run →
+        (n : ℕ) (t : Timed) (event : Event) → In n w.ids → (w.member n).life ≡ Up t →
+        MayHappen w.frames t event → IsOnTheBus event →
+        let number = w.rows + 1 in let going = (step t number event).going in
+        are_put (puts_of (w.member n) going) (w.member n).disk.calls ≡ true →
+        let finished = Steps n number going.moves (messages number going) in
+        MayCome run finished × IsRunWritable (after run finished) ×
+        Shows choice (made_of number n going.offers made)
+        (record (steps w n event) { rows = number }) (after run finished) }
+{
+    a_frame_comes_to_the_session_of_its_key();
+    a_step_leaves_the_server_up();
+    append_answers_both_ways();
+    append_requests_both_ways();
+    calls_of_a_step();
+    deliveries_are_whole_transfers();
+    frames_are_kept_under_their_key();
+    frames_by_place();
+    frames_give_the_payload();
+    frames_in_order();
+    frames_read_as_their_pieces();
+    identifiers_both_ways();
+    law_handlers();
+    lengths_of_cuttings();
+    members_are_a_list();
+    members_of_a_step();
+    moves_of_a_step();
+    proposals_of_a_step();
+    puts_are_stored();
+    queue_of_a_step();
+    responses_answer_what_was_delivered();
+    sessions_of_a_step();
+    steps_stay_in_range();
+    the_disk_by_states();
+    transfers_of_a_step_are_apart();
+    vote_answers_both_ways();
+    vote_requests_both_ways();
+    what_transfers_say();
+}
+
+/// A step that its disk cuts off is one event of the run, which may come: a stop within the move in which the
+/// put stands that failed. Where the disk stopped, the member stops with it; where a call failed, it stays as
+/// one that failed, and what is stored is as the choice says.
+pub fn cut_steps_are_shown()
+    ensures { (choice : ℕ → Bool) (made : List Made) (w : Cluster) (run : World) →
+        AreMembers w.ids → Shows choice made w run → Invariants run → IsRunWritable run →
+        (n : ℕ) (t : Timed) (event : Event) → In n w.ids → (w.member n).life ≡ Up t →
+        MayHappen w.frames t event → IsOnTheBus event →
+        let number = w.rows + 1 in let going = (step t number event).going in
+        are_put (puts_of (w.member n) going) (w.member n).disk.calls ≡ false →
+        (stop : RunEvent) ×
+        (cut_events choice w.ids n number (w.member n) t going ≡ stop ∷ []) × MayCome run stop ×
+        Shows choice made (record (steps w n event) { rows = number }) (after run stop) }
+{
+    a_frame_comes_to_the_session_of_its_key();
+    a_step_leaves_the_server_up();
+    append_answers_both_ways();
+    append_requests_both_ways();
+    calls_of_a_step();
+    deliveries_are_whole_transfers();
+    frames_are_kept_under_their_key();
+    frames_by_place();
+    frames_give_the_payload();
+    frames_in_order();
+    frames_read_as_their_pieces();
+    identifiers_both_ways();
+    law_handlers();
+    law_joined();
+    lengths_of_cuttings();
+    members_are_a_list();
+    members_of_a_step();
+    moves_of_a_step();
+    proposals_of_a_step();
+    puts_are_stored();
+    queue_of_a_step();
+    responses_answer_what_was_delivered();
+    sessions_of_a_step();
+    steps_stay_in_range();
+    the_disk_by_states();
+    transfers_of_a_step_are_apart();
+    vote_answers_both_ways();
+    vote_requests_both_ways();
+    what_transfers_say();
+}
