@@ -1,0 +1,11 @@
+pub mod Advancing
+pub mod Alike
+pub mod Beginning
+pub mod Filled
+pub mod Finding
+pub mod Looking
+pub mod Opening
+pub mod Promising
+pub mod Setting
+pub mod Stepping
+pub mod Zeros

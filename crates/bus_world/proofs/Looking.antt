@@ -1,0 +1,74 @@
+-- What a server that runs, or has failed, answers without a step.
+use Rattle.std.proofs.Common.{rules, ◌≡◌, ◌≤◌, ℕ, refl, sym, ap, subst, ◌∙◌}
+use Rattle.std.specs.Prelude.{IsNone, IsSome, None, Option, Some, option_map}
+use Rattle.can_frame.specs.declared.step.Judged.{Judged}
+use Rattle.can_frame.specs.declared.step.Judged.TheVariants.{Fine}
+use Rattle.disk_model.specs.declared.disk.Disk.{Ghosts}
+use Rattle.disk_model.specs.declared.memory.MemoryDisk.{MemoryDisk}
+use Rattle.kv_store.specs.declared.fault.Fault.{Fault}
+use Rattle.kv_store.specs.Shelf.{Shelf}
+use Rattle.raft_log.specs.Stored.{Stored}
+use Rattle.transfer_rx.specs.Reassembly.{Arrival}
+use Rattle.transfer_tx.specs.declared.marked.Marked.{Marked}
+use Rattle.transfer_tx.specs.Queue.{next_out}
+use Rattle.transfer_tx.specs.Views.{queued_of}
+use Rattle.server_parts.specs.Judging.{judges}
+use Rattle.server_parts.specs.TimedServer.{Timed}
+use Rattle.alloc_server.specs.declared.server.Server.{Server}
+use Rattle.alloc_server.specs.Server.{StandsFor, fault_of, queued}
+use Rattle.world_parts.specs.Lawful.{judged, of_judged}
+use Rattle.world_parts.specs.Members.{Life, next_frame}
+use Rattle.world_parts.specs.Members.Life.{Down, Up, Failed}
+use Rattle.std.proofs.Props.{props}
+use Rattle.outside.specs.declared.pattern.Pattern.{Pattern}
+use Rattle.bus_world.specs.OnDisk.{RunsAs}
+use Rattle.bus_world.specs.Patterns.{IsFilled}
+use Rattle.bus_world.specs.Places.{Accepts, closure_of}
+use Rattle.bus_world.specs.declared.member.Member.{Member}
+use Rattle.bus_world.specs.declared.place.Place.{Place}
+
+pub is_some : (o : Option Fault) (why : Fault) → o ≡ Some why → IsSome o
+is_some o why e = subst (λ (f : Option Fault). IsSome f) (sym e) (search rules)
+
+-- the closure of a server that goes on is the one that it had
+pub accepted_on : {F : Type 0} (place : Place F) (before after accept other : F) → closure_of place ≡ Some before → after ≡ before
+    → Accepts place accept → Some after ≡ Some other → other ≡ accept
+accepted_on place before after accept other is same all e = let one : after ≡ other = cc (e) in sym one ∙ (same ∙ all before is)
+
+-- a member whose place is as it was is the same
+filled_prop : (pattern : Pattern) → IsProp (IsFilled pattern)
+filled_prop pattern = hlevel props
+
+at_least_prop : (m n : ℕ) → IsProp (m ≤ n)
+at_least_prop m n = hlevel props
+
+pub same_but_place : {F : Type 0} (member : Member F) (place : Place F) (filled : IsFilled member.pattern) (least : 1 ≤ member.id) (most : member.id ≤ 125)
+    → place ≡ member.place → record { id = member.id; place = place; pattern = member.pattern; filled = filled; least = least; most = most } ≡ member
+same_but_place member place filled least most e = λ i. record {
+  id = member.id;
+  place = e i;
+  pattern = member.pattern;
+  filled = filled_prop member.pattern filled member.filled i;
+  least = at_least_prop 1 member.id least member.least i;
+  most = at_least_prop member.id 125 most member.most i;
+}
+
+module _ {F : Type 0} {ghosts : Ghosts MemoryDisk} (server : Server MemoryDisk F ghosts) where
+  pub judged_as : (life : Life) (shelf : Shelf Stored) (arrival : Arrival) (result : Judged) → RunsAs server life shelf
+      → ((t : Timed) → StandsFor server t → result ≡ judges t arrival) → (IsSome (fault_of server) → result ≡ Fine)
+      → of_judged result ≡ judged life arrival
+  judged_as Down shelf arrival result is by_state by_fault = absurd is
+  judged_as (Up t) shelf arrival result is by_state by_fault = ap of_judged (by_state t is.stands)
+  judged_as (Failed failure) shelf arrival result is by_state by_fault =
+      ap of_judged (by_fault (is_some (fault_of server) is.cut.why is.cut.closed))
+
+  nothing_in : (o : Option Marked) → IsNone o → option_map queued_of o ≡ None
+  nothing_in None is = refl
+  nothing_in (Some marked) is = absurd (search (rules, is))
+
+  pub next_as : (life : Life) (shelf : Shelf Stored) (result : Option Marked) → RunsAs server life shelf
+      → option_map queued_of result ≡ next_out (queued server) → (IsSome (fault_of server) → IsNone result)
+      → option_map queued_of result ≡ next_frame life
+  next_as Down shelf result is next closed = absurd is
+  next_as (Up t) shelf result is next closed = next ∙ ap (λ outbox. next_out outbox.queue) is.stands.member.outbox
+  next_as (Failed failure) shelf result is next closed = nothing_in result (closed (is_some (fault_of server) is.cut.why is.cut.closed))

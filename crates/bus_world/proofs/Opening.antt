@@ -1,0 +1,90 @@
+-- A member after an opening.
+use Rattle.std.proofs.Common.{◌≡◌, ℕ, Bool, true, false, length, refl, sym, ap, subst, ◌∙◌}
+use Rattle.std.specs.Prelude.{if◌then◌else◌}
+use Rattle.disk_model.specs.declared.disk.Disk.{Ghosts}
+use Rattle.disk_model.specs.declared.memory.MemoryDisk.{MemoryDisk}
+use Rattle.kv_store.specs.declared.fault.Fault.{Fault}
+use Rattle.kv_store.specs.declared.fault.OpenFault.{OpenFault}
+use Rattle.kv_store.specs.declared.fault.OpenFault.TheVariants.{Fault as DiskFault, Damaged}
+use Rattle.kv_store.specs.Shelf.{Shelf, restarted_on}
+use Rattle.raft_core.specs.StoredPuts.{store_of}
+use Rattle.raft_log.specs.DurableViews.{durable_state}
+use Rattle.raft_log.specs.Shelf.{IsOnShelf, is_open_on, opening_on}
+use Rattle.raft_log.specs.Stored.{Stored}
+use Rattle.server_parts.specs.declared.event.View.{View}
+use Rattle.server_parts.specs.TimedServer.{opening}
+use Rattle.alloc_server.specs.declared.server.Server.{Server}
+use Rattle.alloc_server.specs.Server.{StandsFor, durable_of}
+use Rattle.world_parts.specs.Members.{Member as MemberState, opened, stopped_with, unopened}
+use Rattle.world_parts.specs.Members.Life.{Down}
+use Rattle.world_parts.specs.Report.{failure_told, opening_told, stored_told}
+use Rattle.world_parts.specs.Telling.{Telling}
+use Rattle.world_parts.specs.Telling.Telling.{HasOpened}
+use Rattle.bus_world.specs.OnDisk.{IsUpOn}
+use Rattle.bus_world.specs.Places.{IsDownOn, IsLife}
+use Rattle.bus_world.specs.declared.place.Place.{Place}
+use Rattle.bus_world.proofs.Stepping.{is_life_down}
+
+-- ---- an opening that succeeded
+
+module _ {F : Type 0} {ghosts : Ghosts MemoryDisk} (server : Server MemoryDisk F ghosts) (id size now word : ℕ) (shelf : Shelf Stored)
+    (open_on : is_open_on shelf ≡ true) (on : IsOnShelf (durable_of server) (opening_on shelf)) where
+  abbrev state : Stored
+  state = durable_state (durable_of server)
+
+  pub opened_told : (view : View) → view.term ≡ state.term → view.vote ≡ state.vote → view.last ≡ length state.log → view.commit ≡ state.commit
+      → HasOpened id view.term view.vote view.last view.commit ≡ opening_told id shelf
+  opened_told view term vote last commit =
+      ap (λ (t : ℕ). HasOpened id t view.vote view.last view.commit) term
+      ∙ (ap (λ (v : ℕ). HasOpened id state.term v view.last view.commit) vote
+      ∙ (ap (λ (l : ℕ). HasOpened id state.term state.vote l view.commit) last
+      ∙ (ap (λ (c : ℕ). HasOpened id state.term state.vote (length state.log) c) commit
+      ∙ (ap (stored_told id) on.state
+      ∙ sym (ap (λ (b : Bool). if b then stored_told id (opening_on shelf).store else failure_told id (opening_on shelf)) open_on)))))
+
+  pub is_up : StandsFor server (opening id size (store_of state) now word)
+      → IsUpOn server (opening id size (store_of (opening_on shelf).store) now word) (opening_on shelf)
+  is_up stands = record { stands = subst (λ (s : Stored). StandsFor server (opening id size (store_of s) now word)) on.state stands; keeps = on }
+
+-- ---- the place and the pattern of a member after an opening
+
+module _ {F : Type 0} (place : Place F) where
+  pub opened_by : (b : Bool) (a c : MemberState) → IsLife place a.life a.disk → b ≡ true → IsLife place (if b then a else c).life (if b then a else c).disk
+  opened_by true a c is e = is
+  opened_by false a c is e = absurd (cc (e))
+
+  unopened_by : (b : Bool) (a c : MemberState) → IsLife place c.life c.disk → b ≡ false → IsLife place (if b then a else c).life (if b then a else c).disk
+  unopened_by true a c is e = absurd (cc (e))
+  unopened_by false a c is e = is
+
+  module _ (x : MemberState) where
+    down_by : (disk : Shelf Stored) → (b : Bool) → IsDownOn place (if b then restarted_on x.pattern disk else disk) →
+        let after = if b then stopped_with x.pattern disk x else record x { life = Down; disk = disk } in IsLife place after.life after.disk
+    down_by disk true on = is_life_down place (restarted_on x.pattern disk) on
+    down_by disk false on = is_life_down place disk on
+
+    pub is_down : (id size now word : ℕ) → is_open_on x.disk ≡ false →
+        IsDownOn place (if (opening_on x.disk).calls.stopped then restarted_on x.pattern (opening_on x.disk) else opening_on x.disk) →
+        IsLife place (opened id size now word x).life (opened id size now word x).disk
+    is_down id size now word e on =
+        unopened_by (is_open_on x.disk) _ (unopened x (opening_on x.disk)) (down_by (opening_on x.disk) ((opening_on x.disk).calls.stopped) on) e
+
+pattern_by : (b c : Bool) (x a d e : MemberState) → a.pattern ≡ x.pattern → d.pattern ≡ x.pattern → e.pattern ≡ x.pattern
+    → (if b then a else (if c then d else e)).pattern ≡ x.pattern
+pattern_by true c x a d e p q r = p
+pattern_by false true x a d e p q r = q
+pattern_by false false x a d e p q r = r
+
+pub pattern_kept : (id size now word : ℕ) (x : MemberState) → (opened id size now word x).pattern ≡ x.pattern
+pattern_kept id size now word x = pattern_by (is_open_on x.disk) ((opening_on x.disk).calls.stopped) x _ _ _ refl refl refl
+
+-- ---- an opening that failed
+
+-- where nothing is damaged, a device call failed
+pub not_damaged : (Fails : Type 0) (why : OpenFault) → ((fault : Fault) → why ≡ DiskFault fault → Fails) → ((key : ℕ) → why ≡ Damaged key → ⊥) → Fails
+not_damaged Fails (DiskFault fault) fails sound = fails fault refl
+not_damaged Fails (Damaged key) fails sound = absurd (sound key refl)
+
+pub refused_told : (id : ℕ) (shelf : Shelf Stored) (told : Telling) → is_open_on shelf ≡ false → told ≡ failure_told id (opening_on shelf) → told ≡ opening_told id shelf
+refused_told id shelf told e f =
+    f ∙ sym (ap (λ (b : Bool). if b then stored_told id (opening_on shelf).store else failure_told id (opening_on shelf)) e)

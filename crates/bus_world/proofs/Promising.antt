@@ -1,0 +1,58 @@
+-- The logs of the members that a world stands for.
+use Rattle.std.proofs.Common.{◌≡◌, ℕ, suc, ◌<◌, List, [], ◌∷◌, length, arith, ap, inl, inr, subst, sym, ◌∙◌}
+use Rattle.std.specs.Prelude.{slice_index_or}
+use Rattle.can_frame.specs.declared.entry.Entry.{Entry}
+use Rattle.can_frame.specs.Log.{IsInjective}
+use Rattle.disk_model.specs.declared.disk.Disk.{Ghosts}
+use Rattle.disk_model.specs.declared.memory.MemoryDisk.{MemoryDisk}
+use Rattle.kv_store.specs.Shelf.{Shelf}
+use Rattle.raft_log.specs.Stored.{Stored}
+use Rattle.raft_model.specs.Lists.{In}
+use Rattle.raft_model.specs.Server.{Store}
+use Rattle.server_parts.specs.TimedServer.{Timed}
+use Rattle.alloc_server.specs.declared.server.Server.{Server}
+use Rattle.world_parts.specs.Cluster.{Cluster}
+use Rattle.world_parts.specs.Members.{Life}
+use Rattle.world_parts.specs.Members.Life.{Down, Up, Failed}
+use Rattle.world_parts.specs.Promise.{GivesOnce, log_on}
+use Rattle.bus_world.specs.OnDisk.{IsUpOn, RunsAs}
+use Rattle.bus_world.specs.Places.{IsLife}
+use Rattle.bus_world.specs.Stands.{StandsFor as StandsForMember}
+use Rattle.bus_world.specs.World.{StandsFor, ids_of}
+use Rattle.bus_world.specs.declared.member.Member.{Member}
+use Rattle.bus_world.specs.declared.place.Place.{Place}
+use Rattle.bus_world.specs.declared.place.Place.TheVariants.{Down as DownAt, Up as UpAt, Absent}
+use Rattle.bus_world.specs.declared.world.World.{World}
+
+-- what holds of each member holds of one with this node ID
+one_of : {F : Type 0} (xs : List (Member F)) (P : Member F → Type 0) → ((i : ℕ) (d : Member F) → i < length xs → P (slice_index_or xs i d))
+    → (n : ℕ) → In n (ids_of xs) → (m : Member F) × (m.id ≡ n) × P m
+one_of [] P all n there = absurd there
+one_of (x ∷ xs) P all n (inl e) = (x, sym e, all 0 x (omega arith))
+one_of (x ∷ xs) P all n (inr there) = one_of xs P (λ i d h. all (suc i) d (omega (arith, h))) n there
+
+-- a server that runs has in memory what its disk has stored
+pub same_log : {F : Type 0} {ghosts : Ghosts MemoryDisk} (server : Server MemoryDisk F ghosts) (t : Timed) (shelf : Shelf Stored) → IsUpOn server t shelf
+    → t.plain.store.log ≡ shelf.store.log
+same_log server t shelf is = ap (λ (s : Store). s.log) is.stands.member.raft.store ∙ ap (λ (s : Stored). s.log) is.keeps.state
+
+runs_once : {F : Type 0} {ghosts : Ghosts MemoryDisk} (server : Server MemoryDisk F ghosts) (life : Life) (shelf : Shelf Stored) → RunsAs server life shelf
+    → IsInjective (log_on life shelf)
+runs_once server Down shelf is = absurd is
+runs_once server (Up t) shelf is =
+    subst (λ (log : List Entry). IsInjective log) (sym (same_log server t shelf is)) is.keeps.disk.on.stores.storable.injective
+runs_once server (Failed failure) shelf is = is.cut.on.stores.storable.injective
+
+is_once : {F : Type 0} (place : Place F) (life : Life) (shelf : Shelf Stored) → IsLife place life shelf → IsInjective (log_on life shelf)
+is_once (DownAt disk) Down shelf is = is.stores.storable.injective
+is_once (DownAt disk) (Up t) shelf is = absurd is
+is_once (DownAt disk) (Failed failure) shelf is = absurd is
+is_once (UpAt server) life shelf is = runs_once server life shelf is
+is_once Absent life shelf is = absurd is
+
+pub gives_once : {F : Type 0} (world : World F) (c : Cluster) → StandsFor world c → GivesOnce c
+gives_once {F} world c stands n there =
+    let found = one_of world.members.items (λ (m : Member F). StandsForMember m (c.member m.id)) stands.holds.members n
+    (subst (λ (ids : List ℕ). In n ids) (sym stands.holds.ids) there) in
+    subst (λ (k : ℕ). IsInjective (log_on (c.member k).life (c.member k).disk)) found.1
+    (is_once found.0.place (c.member found.0.id).life (c.member found.0.id).disk found.2.life)

@@ -1,0 +1,338 @@
+ghost use Rattle.std.specs.Prelude.{◌≡◌, ◌≤◌, ◌<◌, ℕ, true, false, IsNone, option_map, if◌then◌else◌};
+ghost use Rattle.kv_store.specs.Shelf.{Shelf, restarted_on};
+ghost use Rattle.raft_log.specs.Shelf.{IsOn};
+ghost use Rattle.raft_log.specs.Stored.{Stored};
+ghost use Rattle.transfer_rx.specs.Acceptance.{AnswersByRows};
+ghost use Rattle.transfer_rx.specs.Memory.{ReceiverFitsInMemory};
+ghost use Rattle.transfer_rx.specs.Reassembly.{arrival_of};
+ghost use Rattle.transfer_tx.specs.Views.{queued_of};
+ghost use Rattle.server_parts.specs.Accepted as accepted;
+ghost use Rattle.alloc_server.specs.Server.{event_of};
+ghost use Rattle.world_parts.specs.Lawful.{judged, of_judged};
+ghost use Rattle.world_parts.specs.Members.{Member as MemberState, after_sending, armed, failing, fresh, is_running, next_frame, opened as opened_member, stepped as stepped_member, stopped_with};
+ghost use Rattle.world_parts.specs.Members.Life.{Down};
+ghost use Rattle.world_parts.specs.Report.{failure_told, life_entry, life_view, opening_told, step_told};
+ghost use Rattle.world_parts.specs.Telling.{is_stop, telling_of};
+ghost use Rattle.world_parts.specs.Telling.Telling.{HasOpened, HasStopped, IsArmed};
+ghost use Rattle.bus_world.specs.Patterns.{IsFilled};
+
+use crate::patterns::copy_of;
+use crate::place::Place;
+use crate::steps::advance;
+use alloc_server::{Event, Server, View};
+use arrayvec::ArrayVec;
+use can_frame::{Entry, Frame, Judged, Kind, Mark};
+use disk_model::{IMAGE, MemoryDisk};
+use outside::Pattern;
+use raft_log::laws::{
+    a_member_on_the_disk_by_states, an_image_stands_for_one_state, the_disk_by_states,
+    zeros_are_the_first_state,
+};
+use replay_text::Told;
+use std::mem;
+use transfer_rx::AcceptRow;
+use transfer_tx::Marked;
+
+/// A member of the cluster.
+#[derive(Drop)]
+pub(crate) struct Member<F> {
+    pub(crate) id: u8,
+    pub(crate) place: Place<F>,
+
+    /// Of the stop that was armed last.
+    pattern: Pattern,
+    ghost filled: { IsFilled pattern },
+    ghost least: { 1 ≤ id },
+    ghost most: { id ≤ 125 },
+}
+
+impl<F: Fn(Kind, u16) -> Option<u64> + Copy> Member<F> {
+    ghost use Rattle.bus_world.specs.Places.{Accepts, IsDownOn, IsRunningOn, Serves};
+    ghost use Rattle.bus_world.specs.Stands.{StandsFor};
+
+    /// A member that is stopped, on a disk of zeros.
+    pub fn new(id: u8) -> Member<F>
+        requires least { 1 ≤ id }
+        requires most { id ≤ 125 }
+        ensures stands { StandsFor result fresh }
+        ensures id { result.id ≡ id }
+        ensures accepts { (accept : F) → Accepts result.place accept }
+    {
+        the_disk_by_states();
+        zeros_are_the_first_state();
+        Member {
+            id,
+            place: Place::Down(MemoryDisk::new(&[0; IMAGE])),
+            pattern: Pattern::Old,
+        }
+    }
+
+    pub fn is_running(&self) -> bool
+        ensures { (x : MemberState) → StandsFor self.now x → result ≡ is_running x.life }
+    {
+        match &self.place {
+            Place::Up(_) => true,
+            Place::Down(_) | Place::Absent => false,
+        }
+    }
+
+    /// Opens a member that is stopped, in a cluster of this size.
+    pub fn open(
+        &mut self,
+        size: u8,
+        moment: u64,
+        word: u32,
+        rows: ArrayVec<AcceptRow, 16>,
+        accept: F,
+    ) -> Told
+        requires some { 1 ≤ size }
+        requires five { size ≤ 5 }
+        requires rows { rows.items ≡ accepted.rows }
+        requires memory { ReceiverFitsInMemory F.row 160 128 }
+        requires callable { F.IsAlwaysCallable accept }
+        requires answers { AnswersByRows (F.post accept) rows.items }
+        ensures told { (x : MemberState) → StandsFor self.old x → is_running x.life ≡ false →
+            telling_of result ≡ opening_told self.old.id x.disk }
+        ensures stands { (x : MemberState) → StandsFor self.old x → is_running x.life ≡ false →
+            StandsFor self.new (opened_member self.old.id size moment word x) }
+        ensures id { self.new.id ≡ self.old.id }
+        ensures accepts { Accepts self.old.place accept → Accepts self.new.place accept }
+    {
+        match mem::replace(&mut self.place, Place::Absent) {
+            Place::Down(disk) => self.open_disk(disk, size, moment, word, rows, accept),
+            other => {
+                self.place = other;
+                Told::Failed { n: self.id }
+            }
+        }
+    }
+
+    fn open_disk(
+        &mut self,
+        disk: MemoryDisk,
+        size: u8,
+        moment: u64,
+        word: u32,
+        rows: ArrayVec<AcceptRow, 16>,
+        accept: F,
+    ) -> Told
+        requires some { 1 ≤ size }
+        requires five { size ≤ 5 }
+        requires rows { rows.items ≡ accepted.rows }
+        requires memory { ReceiverFitsInMemory F.row 160 128 }
+        requires callable { F.IsAlwaysCallable accept }
+        requires answers { AnswersByRows (F.post accept) rows.items }
+        ensures told { (shelf : Shelf Stored) → IsOn disk shelf →
+            telling_of result ≡ opening_told self.old.id shelf }
+        ensures stands { (x : MemberState) → IsOn disk x.disk → self.old.pattern ≡ x.pattern →
+            x.life ≡ Down →
+            StandsFor self.new (opened_member self.old.id size moment word x) }
+        ensures id { self.new.id ≡ self.old.id }
+        ensures accepts { Accepts self.new.place accept }
+    {
+        a_member_on_the_disk_by_states();
+        the_disk_by_states();
+        an_image_stands_for_one_state();
+        let n = self.id;
+        match Server::open(n, size, disk, rows, accept, moment, word) {
+            Ok(server) => {
+                let told = opened(n, server.view());
+                self.place = Place::Up(server);
+                told
+            }
+            Err(refused) => self.stay_stopped(refused.disk),
+        }
+    }
+
+    /// An opening failed: the member stays stopped. Where its disk stopped, it is started again.
+    fn stay_stopped(&mut self, disk: MemoryDisk) -> Told
+        ensures told { (shelf : Shelf Stored) → IsOn disk shelf →
+            telling_of result ≡ failure_told self.old.id shelf }
+        ensures down { (shelf : Shelf Stored) → IsOn disk shelf → IsDownOn self.new.place
+            (if shelf.calls.stopped then restarted_on self.old.pattern shelf else shelf) }
+        ensures pattern { self.new.pattern ≡ self.old.pattern }
+        ensures id { self.new.id ≡ self.old.id }
+        ensures accepts { (accept : F) → Accepts self.new.place accept }
+    {
+        the_disk_by_states();
+        let mut disk = disk;
+        if disk.stopped() {
+            disk.restart(copy_of(&self.pattern));
+            self.place = Place::Down(disk);
+            return Told::Stopped { n: self.id };
+        }
+        self.place = Place::Down(disk);
+        Told::Failed { n: self.id }
+    }
+
+    /// A step with a number. It may end in a stop, and then the member is stopped, or in a failure.
+    pub fn step(&mut self, event: Event, number: u64) -> Told
+        requires memory { ReceiverFitsInMemory F.row 160 128 }
+        requires callable { Serves (λ accept. F.IsAlwaysCallable accept) self.old.place }
+        requires answers { Serves (λ accept. AnswersByRows (F.post accept) accepted.rows)
+            self.old.place }
+        ensures told { (x : MemberState) → StandsFor self.old x → is_running x.life ≡ true →
+            telling_of result ≡ step_told self.old.id number (event_of event) x.life x }
+        ensures stands { (x : MemberState) → StandsFor self.old x → is_running x.life ≡ true →
+            StandsFor self.new (stepped_member number (event_of event) x.life x) }
+        ensures id { self.new.id ≡ self.old.id }
+        ensures accepts { (accept : F) → Accepts self.old.place accept →
+            Accepts self.new.place accept }
+    {
+        let n = self.id;
+        let Place::Up(server) = &mut self.place else {
+            return Told::Failed { n };
+        };
+        let told = advance(server, n, event, number);
+        if has_stopped(&told) {
+            self.stop_now();
+        }
+        told
+    }
+
+    /// The next frame for the bus.
+    pub fn pop(&mut self) -> Option<Marked>
+        ensures next { (x : MemberState) → StandsFor self.old x →
+            option_map queued_of result ≡ next_frame x.life }
+        ensures stands { (x : MemberState) → StandsFor self.old x →
+            StandsFor self.new (record x { life = after_sending x.life }) }
+        ensures none { IsNone result → self.new ≡ self.old }
+        ensures id { self.new.id ≡ self.old.id }
+        ensures accepts { (accept : F) → Accepts self.old.place accept →
+            Accepts self.new.place accept }
+    {
+        match &mut self.place {
+            Place::Up(server) => server.pop(),
+            Place::Down(_) | Place::Absent => None,
+        }
+    }
+
+    /// What a frame would deliver. Nothing changes.
+    pub fn judge(&self, frame: &Frame, mark: Mark, moment: u64) -> Judged
+        requires memory { ReceiverFitsInMemory F.row 160 128 }
+        requires callable { Serves (λ accept. F.IsAlwaysCallable accept) self.now.place }
+        requires answers { Serves (λ accept. AnswersByRows (F.post accept) accepted.rows)
+            self.now.place }
+        ensures { (x : MemberState) → StandsFor self.now x →
+            of_judged result ≡ judged x.life (arrival_of frame.now mark moment) }
+    {
+        match &self.place {
+            Place::Up(server) => server.judge(frame, mark, moment),
+            Place::Down(_) | Place::Absent => Judged::Fine,
+        }
+    }
+
+    /// Stops a member that runs. Its disk keeps what the pattern says of the bytes that were not
+    /// synced.
+    pub fn stop(&mut self, pattern: &Pattern) -> Told
+        requires { IsFilled pattern.now }
+        ensures told { telling_of result ≡ HasStopped self.old.id }
+        ensures stands { (x : MemberState) → StandsFor self.old x → is_running x.life ≡ true →
+            StandsFor self.new (stopped_with pattern.now x.disk x) }
+        ensures id { self.new.id ≡ self.old.id }
+        ensures accepts { (accept : F) → Accepts self.old.place accept →
+            Accepts self.new.place accept }
+    {
+        self.pattern = copy_of(pattern);
+        self.stop_now();
+        Told::Stopped { n: self.id }
+    }
+
+    /// Its disk stops in place of that call of it.
+    pub fn stop_at(&mut self, call: u32, pattern: &Pattern) -> Told
+        requires { IsFilled pattern.now }
+        ensures told { telling_of result ≡ IsArmed self.old.id }
+        ensures stands { (x : MemberState) → StandsFor self.old x →
+            StandsFor self.new (armed call pattern.now x) }
+        ensures id { self.new.id ≡ self.old.id }
+        ensures accepts { (accept : F) → Accepts self.old.place accept →
+            Accepts self.new.place accept }
+    {
+        self.pattern = copy_of(pattern);
+        self.place.stop_at(u64::from(call));
+        Told::Armed { n: self.id }
+    }
+
+    /// That call of its disk fails.
+    pub fn fail_at(&mut self, call: u32) -> Told
+        ensures told { telling_of result ≡ IsArmed self.old.id }
+        ensures stands { (x : MemberState) → StandsFor self.old x →
+            StandsFor self.new (failing call x) }
+        ensures id { self.new.id ≡ self.old.id }
+        ensures accepts { (accept : F) → Accepts self.old.place accept →
+            Accepts self.new.place accept }
+    {
+        self.place.fail_at(u64::from(call));
+        Told::Armed { n: self.id }
+    }
+
+    /// The numbers of a member that runs and has not failed.
+    pub fn view(&self) -> Option<View>
+        ensures { (x : MemberState) → StandsFor self.now x → result ≡ life_view x.life }
+    {
+        match &self.place {
+            Place::Up(server) => {
+                if server.failed() {
+                    return None;
+                }
+                Some(server.view())
+            }
+            Place::Down(_) | Place::Absent => None,
+        }
+    }
+
+    /// The entry at a place of a member that runs and has not failed, up to its last.
+    pub fn entry(&self, place: u8) -> Option<Entry>
+        ensures { (x : MemberState) → StandsFor self.now x → result ≡ life_entry x.life place }
+    {
+        match &self.place {
+            Place::Up(server) => {
+                if server.failed() || place > server.view().last {
+                    return None;
+                }
+                Some(server.entry(place))
+            }
+            Place::Down(_) | Place::Absent => None,
+        }
+    }
+
+    /// A member that runs stops. Its disk keeps what the pattern says of the bytes that were not
+    /// synced.
+    fn stop_now(&mut self)
+        ensures stopped { (shelf : Shelf Stored) → IsRunningOn self.old.place shelf →
+            IsDownOn self.new.place (restarted_on self.old.pattern shelf) }
+        ensures pattern { self.new.pattern ≡ self.old.pattern }
+        ensures id { self.new.id ≡ self.old.id }
+        ensures accepts { (accept : F) → Accepts self.old.place accept →
+            Accepts self.new.place accept }
+    {
+        the_disk_by_states();
+        match mem::replace(&mut self.place, Place::Absent) {
+            Place::Up(server) => {
+                let mut disk = server.stop();
+                disk.restart(copy_of(&self.pattern));
+                self.place = Place::Down(disk);
+            }
+            other => self.place = other,
+        }
+    }
+}
+
+/// What an opening tells.
+fn opened(n: u8, view: View) -> Told
+    ensures { telling_of result ≡ HasOpened n view.term view.vote view.last view.commit }
+{
+    Told::Opened {
+        n,
+        term: view.term,
+        vote: view.vote,
+        last: view.last,
+        commit: view.commit,
+    }
+}
+
+fn has_stopped(told: &Told) -> bool
+    ensures { result ≡ is_stop (telling_of told.now) }
+{
+    matches!(told, Told::Stopped { n: _ })
+}

@@ -1,0 +1,107 @@
+//! The rows that are for one member.
+
+ghost use Rattle.std.specs.Prelude.{◌≡◌, ◌<◌, IfOk, IfErr, IsErr, OnOk};
+ghost use Rattle.replay_text.specs.declared.row.Row.TheVariants.{Open, Tick, Crash, Fault};
+ghost use Rattle.transfer_rx.specs.Acceptance.{AnswersByRows};
+ghost use Rattle.transfer_rx.specs.Memory.{ReceiverFitsInMemory};
+ghost use Rattle.server_parts.specs.Accepted as accepted;
+ghost use Rattle.bus_world.specs.Patterns.{IsFilled};
+
+use crate::world::World;
+use alloc_server::Event;
+use arrayvec::ArrayVec;
+use can_frame::Kind;
+use outside::Pattern;
+use replay_text::Told;
+use transfer_rx::AcceptRow;
+use world_parts::Unlawful;
+
+impl<F: Fn(Kind, u16) -> Option<u64> + Copy> World<F> {
+    ghost use Rattle.bus_world.specs.Rows.{Keeps, Leaves, Refuses, Tells};
+
+    /// A stopped member opens.
+    pub(crate) fn open(&mut self, n: u8, moment: u64, word: u32) -> Result<Told, Unlawful>
+        requires memory { ReceiverFitsInMemory F.row 160 128 }
+        requires callable { F.IsAlwaysCallable self.old.accept }
+        requires answers { AnswersByRows (F.post self.old.accept) accepted.rows }
+        ensures refused { IfErr result (Refuses self.old (Open n moment word)) }
+        ensures told { IfOk result (Tells self.old (Open n moment word)) }
+        ensures leaves { OnOk result (Leaves self.old self.new (Open n moment word)) }
+        ensures unchanged { IsErr result → self.new ≡ self.old }
+        ensures keeps { Keeps self.old self.new }
+    {
+        let size = self.members.as_slice().len() as u8;
+        let rows = self.copy_of_rows();
+        let accept = self.accept;
+        match self.stopped(n) {
+            Ok(place) => Ok(self.members[place].open(size, moment, word, rows, accept)),
+            Err(why) => Err(why),
+        }
+    }
+
+    /// The rows that a server is handed.
+    fn copy_of_rows(&self) -> ArrayVec<AcceptRow, 16>
+        ensures { result.items ≡ self.now.rows.items }
+    {
+        let _few = self.rows.remaining_capacity();
+        let mut copy = ArrayVec::new();
+        match copy.try_extend_from_slice(&self.rows) {
+            Ok(()) => copy,
+            Err(_) => unreachable!(),
+        }
+    }
+
+    /// A running member reads its clock.
+    pub(crate) fn tick(&mut self, n: u8, moment: u64, word: u32) -> Result<Told, Unlawful>
+        requires memory { ReceiverFitsInMemory F.row 160 128 }
+        requires callable { F.IsAlwaysCallable self.old.accept }
+        requires answers { AnswersByRows (F.post self.old.accept) accepted.rows }
+        requires room { self.old.taken < 18446744073709551615 }
+        ensures refused { IfErr result (Refuses self.old (Tick n moment word)) }
+        ensures told { IfOk result (Tells self.old (Tick n moment word)) }
+        ensures leaves { OnOk result (Leaves self.old self.new (Tick n moment word)) }
+        ensures unchanged { IsErr result → self.new ≡ self.old }
+        ensures keeps { Keeps self.old self.new }
+    {
+        let number = self.taken + 1;
+        match self.running(n) {
+            Ok(place) => Ok(self.members[place].step(Event::Tick { now: moment, word }, number)),
+            Err(why) => Err(why),
+        }
+    }
+
+    /// A running member stops now, or a stop is armed at a member.
+    pub(crate) fn crash(&mut self, n: u8, calls: u32, pattern: &Pattern) -> Result<Told, Unlawful>
+        requires filled { IsFilled pattern.now }
+        ensures refused { IfErr result (Refuses self.old (Crash n calls pattern.now)) }
+        ensures told { IfOk result (Tells self.old (Crash n calls pattern.now)) }
+        ensures leaves { OnOk result (Leaves self.old self.new (Crash n calls pattern.now)) }
+        ensures unchanged { IsErr result → self.new ≡ self.old }
+        ensures keeps { Keeps self.old self.new }
+    {
+        if calls == 0 {
+            return match self.running(n) {
+                Ok(place) => Ok(self.members[place].stop(pattern)),
+                Err(why) => Err(why),
+            };
+        }
+        match self.member(n) {
+            Ok(place) => Ok(self.members[place].stop_at(calls, pattern)),
+            Err(why) => Err(why),
+        }
+    }
+
+    /// A failure is armed at a member.
+    pub(crate) fn fault(&mut self, n: u8, call: u32) -> Result<Told, Unlawful>
+        ensures refused { IfErr result (Refuses self.old (Fault n call)) }
+        ensures told { IfOk result (Tells self.old (Fault n call)) }
+        ensures leaves { OnOk result (Leaves self.old self.new (Fault n call)) }
+        ensures unchanged { IsErr result → self.new ≡ self.old }
+        ensures keeps { Keeps self.old self.new }
+    {
+        match self.member(n) {
+            Ok(place) => Ok(self.members[place].fail_at(call)),
+            Err(why) => Err(why),
+        }
+    }
+}
