@@ -109,7 +109,7 @@ module _ (number : ℕ) (t : Timed) where
 
   calls_keeping : (event : Event) → Keeping number event (CallsAreMade number t) (λ d. ⊤)
   calls_keeping event = record {
-    takes_keep = after_takes;
+    takes_keep = λ given moves g quiet decided h. after_takes given moves g quiet h;
     proposes_keep = λ origin uid node g found h peer request e. carried g _ peer request refl refl refl (λ offer i. i) (h peer request e);
     sends_keep = λ what to payload says g sends h. same_for_all g _ refl refl refl (λ offer i. in_front offer g.offers _ i) h;
     calls_keep = after_call;
@@ -160,7 +160,7 @@ kept_call number what node move request payload g makes h peer =
 
 kept_keeping : (number : ℕ) (event : Event) → Keeping number event Kept (λ d. ⊤)
 kept_keeping number event = record {
-  takes_keep = kept_takes number;
+  takes_keep = λ given moves g quiet decided h. kept_takes number given moves g quiet h;
   proposes_keep = λ origin uid node g found h. h;
   sends_keep = λ what to payload says g sends h. h;
   calls_keep = λ what peer move request payload g makes fits h. kept_call number what peer move request payload g makes h;

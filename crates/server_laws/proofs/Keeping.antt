@@ -16,7 +16,7 @@ use Rattle.raft_core.specs.Times.{Given, Times, given_call, times_after}
 use Rattle.raft_model.specs.Lists.{at}
 use Rattle.raft_model.specs.Messages.{Message, Request}
 use Rattle.raft_model.specs.Messages.Message.{Requests}
-use Rattle.raft_model.specs.Moves.{Move, memory_after}
+use Rattle.raft_model.specs.Moves.{Move, memory_after, puts}
 use Rattle.raft_model.specs.Moves.Leading.{calling}
 use Rattle.raft_model.specs.Moves.Move.{ProposeEntry}
 use Rattle.transfer_rx.specs.Reassembly.{Delivery}
@@ -26,12 +26,14 @@ use Rattle.server_parts.specs.Step.{Event}
 use Rattle.server_parts.specs.Step.Event.{Rx, Tick}
 use Rattle.server_parts.specs.Tick.{discovery_of as own_discovery, proposes, with_discovery}
 use Rattle.server_parts.specs.TimedServer.{Timed, members_of, start_of}
-use Rattle.server_parts.specs.Transfers.{has_room, id_of, kind_of}
+use Rattle.server_parts.specs.Transfers.{Given as Pair, given_in, has_room, id_of, kind_of}
 use Rattle.server_laws.specs.Calls.{carrier}
 use Rattle.server_laws.specs.Responses.{AnswersAsked}
 use Rattle.server_laws.specs.Saying.{IsSaid}
 use Rattle.server_laws.specs.Sound.{IsDestination}
 use Rattle.server_laws.proofs.Calling.{AreQuiet}
+use Rattle.server_laws.proofs.Giving.{IsOfPlace}
+use Rattle.server_laws.proofs.Growing.{AreDecided}
 
 -- a server that differs from another in nothing of these
 pub record IsLike (a b : Timed) : Type 0 where
@@ -53,6 +55,7 @@ pub record MakesCall (number me : ℕ) (t : Timed) (what : What) (peer : ℕ) (m
   pub carried : what ≡ carrier request
   pub step : request.step ≡ number
   pub other : (entry : Entry) → move ≢ ProposeEntry entry
+  pub nothing : (members : List ℕ) → puts members me t.plain move ≡ []
   pub memory : (members : List ℕ) → memory_after members me number t.plain move ≡ calling t.plain.memory peer request
   pub sending : (members : List ℕ) (given : Given) (times : Times)
       → (times_after members me given t.plain move times).sending ≡ at times.sending peer (Some (record { id = given.id; moment = given.now }))
@@ -84,11 +87,12 @@ abbrev pub IsTick : Event → Type 0
 IsTick (Tick now word) = ⊤
 IsTick (Rx arrival) = ⊥
 
--- a message, or a request to a node; a Discovery comes at a tick, and tells the list of members
+-- a message, or a request to a node; a Discovery comes at a tick, and tells the list of members; a pair is committed
 pub record Sends (number : ℕ) (event : Event) (t : Timed) (what : What) (to : ℕ) (payload : List ℕ) (says : Option Message) : Type 0 where
   pub destination : IsSentTo (kind_of what) to
   pub said : IsSaid number t.me what to 0 payload says
   pub told : what ≡ Disc → IsTick event × (payload ≡ discovery_bytes (own_discovery t))
+  pub gives : (given : Pair) → given_in what payload ≡ Some given → IsOfPlace t.plain.store given
 
 -- whence a leader has a unique ID that it records: of the exchange it has 16 bytes, else a node told it; one of zeros is a reservation's
 abbrev pub IsFound : Timed → List ℕ → Type 0
@@ -102,7 +106,8 @@ HasUid (Taken uid moment) = length uid ≡ 16
 
 pub record Keeping (number : ℕ) (event : Event) (Keeps : Going → Type 0) (Comes : Delivery → Type 0) : Type 0 where
   -- moves that call nobody, and append nothing of a leader's own
-  pub takes_keep : (given : Given) (moves : List Move) (g : Going) → AreQuiet moves → Keeps g → Keeps (takes number given moves g)
+  pub takes_keep : (given : Given) (moves : List Move) (g : Going) → AreQuiet moves
+      → AreDecided (members_of g.timed) g.timed.me number g.timed.plain moves → Keeps g → Keeps (takes number given moves g)
   pub proposes_keep : (origin : ℕ) (uid : List ℕ) (node : ℕ) (g : Going) → IsFound g.timed uid → Keeps g → Keeps (proposes number origin uid node g)
   pub sends_keep : (what : What) (to : ℕ) (payload : List ℕ) (says : Option Message) (g : Going) → Sends number event g.timed what to payload says
       → Keeps g → Keeps (sends number what to payload says g)

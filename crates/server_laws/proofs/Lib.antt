@@ -8,10 +8,13 @@ pub mod Ticking
 pub mod Answering
 pub mod Ending
 pub mod Uids
+pub mod Growing
+pub mod Giving
 pub mod Keeping
 pub mod Walk
 pub mod Called
 pub mod Running
+pub mod Given
 pub mod Told
 pub mod Recorded
 pub mod Hearing

@@ -48,7 +48,7 @@ module _ (t : Timed) (number : ℕ) (event : Event) (Fact : Start → List Heari
       → HoldsOf (standing t) → HoldsOf (step t number event).going
   listed_so tells hears h =
       step_keeps number event HoldsOf (IsDelivered t number event) (record {
-        takes_keep = λ given moves g quiet h. h;
+        takes_keep = λ given moves g quiet decided h. h;
         proposes_keep = λ origin uid node g found h. h;
         sends_keep = λ what to payload says g sends h. h;
         calls_keep = λ what peer move request payload g makes fits h. h;

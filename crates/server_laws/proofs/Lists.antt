@@ -1,5 +1,6 @@
 -- What stands in a list.
-use Rattle.std.proofs.Common.{◌≡◌, ℕ, zero, suc, ◌+◌, ◌<◌, ◌≤◌, Bool, true, false, List, [], ◌∷◌, ◌++◌, ◌⊎◌, inl, inr, sym, ◌∙◌, ap, subst, arith, Some, find, drop}
+use Rattle.std.proofs.Common.{◌≡◌, ℕ, zero, suc, ◌+◌, ◌<◌, ◌≤◌, Bool, true, false, List, [], ◌∷◌, ◌++◌, ◌⊎◌, inl, inr, sym, ◌∙◌, ap, subst, arith, Some, find, drop, refl, Option, None}
+use Rattle.std.specs.Prelude.{filter_map}
 use Rattle.std.specs.List.{list_any, range_with_len}
 use Rattle.raft_model.specs.Lists.{In}
 use Rattle.raft_model.specs.Members.{HasNoneTwice}
@@ -52,3 +53,18 @@ none_passes test (y ∷ ys) h x i = elim (tell (test y)) [
 pub in_drop : {A : Type 0} (x : A) (xs : List A) → In x (drop 1 xs) → In x xs
 in_drop x [] i = i
 in_drop x (y ∷ ys) i = inr i
+
+-- what is left of a list came from it
+pub in_filter : {A B : Type 0} (f : A → Option B) (xs : List A) (y : B) → In y (filter_map f xs) → (x : A) × In x xs × (f x ≡ Some y)
+in_filter {A} {B} f [] y i = absurd i
+in_filter {A} {B} f (x ∷ xs) y i = elim (split (f x) refl) [
+  | inl none ↦ let r = in_filter f xs y (rw none at i) in (r.0, inr r.1, r.2)
+  | inr some ↦ elim (rw (some.1) at i) [
+    | inl e ↦ (x, inl refl, some.1 ∙ ap (λ (z : B). Some z) (sym e))
+    | inr j ↦ let r = in_filter f xs y j in (r.0, inr r.1, r.2)
+  ]
+]
+  where
+    split : (o : Option B) → f x ≡ o → (f x ≡ None) ⊎ ((z : B) × (f x ≡ Some z))
+    split None e = inl e
+    split (Some z) e = inr (z, e)

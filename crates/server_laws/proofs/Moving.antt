@@ -1,6 +1,6 @@
 -- The moves of each phase may come, and what it sends is what they offer.
-use Rattle.std.proofs.Common.{◌≡◌, ◌≢◌, ℕ, ◌+◌, ◌<◌, ◌≤◌, Bool, true, false, List, [], ◌∷◌, length, inl, inr, refl, sym, ◌∙◌, ap, subst, arith, Option, Some, None, drop}
-use Rattle.std.specs.Prelude.{⊤, ◌-◌, ◌/◌, ◌*◌, ◌&&◌, ◌||◌, ◌==◌, not, nat_le, nat_eq, nat_lt, is_some, slice_index_or}
+use Rattle.std.proofs.Common.{◌≡◌, ◌≢◌, ℕ, ◌<◌, ◌≤◌, Bool, true, false, List, [], ◌∷◌, length, inl, inr, refl, sym, ◌∙◌, ap, subst, arith, Option, Some, None, drop}
+use Rattle.std.specs.Prelude.{⊤, ◌-◌, ◌&&◌, ◌||◌, ◌==◌, not, nat_le, nat_eq, nat_lt, is_some, slice_index_or}
 use Rattle.alloc_exchange.specs.declared.heard.Heard.{Heard as Answered}
 use Rattle.alloc_exchange.specs.declared.heard.Heard.TheVariants.{Denied, FollowUp, Ignored, Whole}
 use Rattle.alloc_exchange.specs.Exchange.{answer}
@@ -61,7 +61,8 @@ use Rattle.server_parts.specs.Transfers.{Given as Pair, given_in, has_room, id_o
 use Rattle.server_laws.specs.Coming.{AnswersFrom, RequestsFrom, SaysFrom}
 use Rattle.server_laws.specs.LawsBelow.{Laws}
 use Rattle.server_laws.proofs.Calling.{commit_quiet, expire_quiet, quiet_calls, tick_quiet}
-use Rattle.server_laws.proofs.Choices.{and_left, and_right, either, eq_false, eq_true, le_true, lt_true, not_true, tell}
+use Rattle.server_laws.proofs.Choices.{and_left, and_right, either, eq_false, eq_true, lt_true, not_true, tell}
+use Rattle.server_laws.proofs.Giving.{allocation_gives}
 use Rattle.server_laws.proofs.Listed.{sent}
 use Rattle.server_laws.proofs.Lists.{in_drop, in_front}
 use Rattle.server_laws.proofs.Peers.{ArePeers, list_peers, members_list}
@@ -70,19 +71,6 @@ use Rattle.server_laws.proofs.Proposing.{IsNewEntry, candidate_is, chosen_new, l
 use Rattle.server_laws.proofs.Steady.{Steady, offers_steady, takes_steady}
 
 -- ---- what an Allocation says
-
-pub allocation_gives : (node : ℕ) (uid : List ℕ) (given : Pair) → given_in Alloc (allocation_payload node uid) ≡ Some given
-    → (1 ≤ node) × (given ≡ (uid, node))
-allocation_gives node uid given e = elim (tell (nat_le (length uid) 16)) [
-  | inr b ↦ absurd (cc (rw b at e))
-  | inl b ↦
-      let same : (node * 2 + 0) / 2 ≡ node = omega arith in
-      let f = rw (same) at (rw b at e) in
-      elim (tell (nat_le 1 node && nat_eq (length uid) 16)) [
-        | inr c ↦ absurd (cc (rw c at f))
-        | inl c ↦ let g : (uid, node) ≡ given = cc (rw c at f) in (le_true 1 node (and_left _ _ c), sym g)
-      ]
-]
 
 pub pair_says : (step me : ℕ) (given : Option Pair) (message : Message) → pair_message step me given ≡ Some message
     → (pair : Pair) × (given ≡ Some pair) × (message ≡ Pairs (record { step = step; from = me; uid = pair.0; node = pair.1 }))

@@ -47,7 +47,7 @@ up_all members me step (move ∷ moves) server =
 pub stays_up : (t : Timed) (number : ℕ) (event : Event) → (step t number event).going.timed.plain.memory.up ≡ t.plain.memory.up
 stays_up t number event =
     step_keeps number event (λ g. g.timed.plain.memory.up ≡ t.plain.memory.up) (λ d. ⊤) (record {
-      takes_keep = λ given moves g quiet h. up_all (members_of g.timed) g.timed.me number moves g.timed.plain ∙ h;
+      takes_keep = λ given moves g quiet decided h. up_all (members_of g.timed) g.timed.me number moves g.timed.plain ∙ h;
       proposes_keep = λ origin uid node g found h. h;
       sends_keep = λ what to payload says g sends h. h;
       calls_keep = λ what peer move request payload g makes fits h. up_after (members_of g.timed) g.timed.me number g.timed.plain move ∙ h;

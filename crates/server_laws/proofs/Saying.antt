@@ -29,7 +29,7 @@ one_says number me own offers new same h said offer i = elim (in_append offer of
 pub all_say : (t : Timed) (number : ℕ) (event : Event) (offer : Offer) → In offer (step t number event).going.offers → Says number t.me offer
 all_say t number event =
     (step_keeps number event (AllSay number t.me) (λ d. ⊤) (record {
-      takes_keep = λ given moves g quiet h. h;
+      takes_keep = λ given moves g quiet decided h. h;
       proposes_keep = λ origin uid node g found h. h;
       sends_keep = λ what to payload says g sends h. (h.0, one_says number t.me g.timed.me g.offers _ h.0 h.1 sends.said);
       calls_keep = λ what peer move request payload g makes fits h. h;

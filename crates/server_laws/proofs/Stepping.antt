@@ -1,6 +1,6 @@
 -- The moves of a whole step.
-use Rattle.std.proofs.Common.{◌≡◌, ℕ, true, List, [], ◌∷◌, ◌⊎◌, inl, inr, refl, sym, ◌∙◌, ap, subst, Option, Some, None}
-use Rattle.std.specs.Prelude.{⊤, filter_map}
+use Rattle.std.proofs.Common.{◌≡◌, ℕ, true, List, [], inl, inr, refl, sym, subst, Some}
+use Rattle.std.specs.Prelude.{⊤}
 use Rattle.can_frame.specs.declared.identifier.Kind.{Kind}
 use Rattle.can_frame.specs.declared.identifier.Kind.TheVariants.{Anonymous, Message as Broadcast, Request as RequestKind, Response}
 use Rattle.can_frame.specs.Log.{IsInjective}
@@ -23,6 +23,7 @@ use Rattle.server_parts.specs.Transfers.{Offer, message_of}
 use Rattle.server_laws.specs.Coming.{AnswerFrom, Begins, IsOfTheMachine, KeepsOrder, MayStep, SaysFrom}
 use Rattle.server_laws.specs.LawsBelow.{Laws}
 use Rattle.server_laws.proofs.Choices.{tell}
+use Rattle.server_laws.proofs.Lists.{in_filter}
 use Rattle.server_laws.proofs.Moving.{delivers_sure, ends_sure, expire_log, gives_up_sure, ticks_sure}
 use Rattle.server_laws.proofs.Ranges.{same_server}
 use Rattle.server_laws.proofs.Steady.{Goes, Steady, own_none}
@@ -38,20 +39,6 @@ says_with bag t d sessions Anonymous from = from
 says_with bag t d sessions Broadcast from = from
 says_with bag t d sessions RequestKind from = from
 says_with bag t d sessions Response from = from
-
-in_filter : {A B : Type 0} (f : A → Option B) (xs : List A) (y : B) → In y (filter_map f xs) → (x : A) × In x xs × (f x ≡ Some y)
-in_filter {A} {B} f [] y i = absurd i
-in_filter {A} {B} f (x ∷ xs) y i = elim (split (f x) refl) [
-  | inl none ↦ let r = in_filter f xs y (rw none at i) in (r.0, inr r.1, r.2)
-  | inr some ↦ elim (rw (some.1) at i) [
-    | inl e ↦ (x, inl refl, some.1 ∙ ap (λ (z : B). Some z) (sym e))
-    | inr j ↦ let r = in_filter f xs y j in (r.0, inr r.1, r.2)
-  ]
-]
-  where
-    split : (o : Option B) → f x ≡ o → (f x ≡ None) ⊎ ((z : B) × (f x ≡ Some z))
-    split None e = inl e
-    split (Some z) e = inr (z, e)
 
 made_is : (number me : ℕ) (offer : Offer) (message : Message) → message_made number me offer ≡ Some message
     → (offer.fitted ≡ true) × (message_of number me offer ≡ Some message)

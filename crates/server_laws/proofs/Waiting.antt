@@ -47,7 +47,7 @@ pub waits : (t : Timed) (number : ℕ) (event : Event)
     → (step t number event).going.timed.queue ≡ t.queue ++ all_frames_put number t.me (step t number event).going.offers
 waits t number event =
     (step_keeps number event (Waits number t.me t.queue) (λ d. ⊤) (record {
-      takes_keep = λ given moves g quiet h. h;
+      takes_keep = λ given moves g quiet decided h. h;
       proposes_keep = λ origin uid node g found h. h;
       sends_keep = λ what to payload says g sends h. (h.0, sent_waits number t.me t.queue what to _ payload 0 says g h);
       calls_keep = λ what peer move request payload g makes fits h. h;

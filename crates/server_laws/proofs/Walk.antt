@@ -1,5 +1,5 @@
 -- What all changes of a step keep, the whole step keeps.
-use Rattle.std.proofs.Common.{length, ◌≡◌, ℕ, ◌≤◌, Bool, true, false, List, [], ◌∷◌, inl, inr, refl, sym, subst, arith, Option, Some, None, drop}
+use Rattle.std.proofs.Common.{length, ◌≡◌, ℕ, ◌≤◌, Bool, true, false, List, [], ◌∷◌, inl, inr, refl, sym, subst, arith, Option, Some, None, drop, ap, ◌<◌}
 use Rattle.std.specs.Prelude.{◌-◌, ◌&&◌, not, nat_le, nat_eq, nat_lt, slice_index_or}
 use Rattle.alloc_exchange.specs.declared.heard.Heard.{Heard}
 use Rattle.alloc_exchange.specs.declared.heard.Heard.TheVariants.{Denied, FollowUp, Ignored, Whole}
@@ -53,10 +53,13 @@ use Rattle.server_parts.specs.Step.{Event, all_nodes, at_step, at_moment, begins
 use Rattle.server_parts.specs.Step.Event.{Rx, Tick}
 use Rattle.server_parts.specs.Tick.{asks, candidate, discovery_phase, election_moves, election_phase, new_uid, query_phase, record_phase, records_as, records_node, status_phase, tells_members, tells_status, ticks, with_query}
 use Rattle.server_parts.specs.TimedServer.{Timed, is_zero, known, knows_all, may_propose, members_of, recorded_at, start_of, taken}
-use Rattle.server_parts.specs.Transfers.{has_room, id_of, kind_of}
+use Rattle.raft_model.specs.Server.{Plain}
+use Rattle.server_parts.specs.Transfers.{Given as Pair, has_room, id_of, kind_of}
 use Rattle.server_laws.specs.Saying.{IsSaid}
 use Rattle.server_laws.proofs.Calling.{CallsPeer, IsQuiet, commit_quiet, expire_quiet, owes_peer, tick_quiet}
-use Rattle.server_laws.proofs.Choices.{either, eq_false, eq_true}
+use Rattle.server_laws.proofs.Choices.{and_right, either, eq_false, eq_true, lt_true}
+use Rattle.server_laws.proofs.Giving.{allocation_gives, follow_up_gives, request_gives}
+use Rattle.server_laws.proofs.Growing.{IsDecided, commit_decided, expire_decided, tick_decided}
 use Rattle.server_laws.proofs.Keeping.{IsSentTo, IsServed, IsTick, Keeping, MakesCall}
 use Rattle.server_laws.proofs.Lists.{found, in_range}
 use Rattle.server_laws.proofs.Peers.{list_peers, members_list}
@@ -73,12 +76,12 @@ module _ (number : ℕ) (event : Event) (Keeps : Going → Type 0) (Comes : Deli
   discovery_keeps : (g : Going) → IsTick event → Keeps g → Keeps (discovery_phase number g)
   discovery_keeps g tick h =
       either Keeps (is_due (start_of g.timed) g.timed.heard g.timed.now) (tells_members number g) g
-      (λ e. k.tells_keep _ (k.sends_keep Disc 0 _ None g (record { destination = refl; said = (refl, refl); told = λ e. (tick, refl) }) h)) (λ e. h)
+      (λ e. k.tells_keep _ (k.sends_keep Disc 0 _ None g (record { destination = refl; said = (refl, refl); told = λ e. (tick, refl); gives = λ given e. absurd (cc (e)) }) h)) (λ e. h)
 
   status_keeps : (g : Going) → Keeps g → Keeps (status_phase number g)
   status_keeps g h =
       either Keeps (nat_le 1000 (g.timed.now - g.timed.status_at)) (tells_status number g) g
-      (λ e. k.changes_keep _ _ (record { start = refl; plain = refl; times = refl; now = refl; queue = refl; ids = refl; heard = refl; watch = refl }) (k.sends_keep Stat 0 _ None g (record { destination = refl; said = (refl, refl); told = λ e. absurd (cc (e)) }) h)) (λ e. h)
+      (λ e. k.changes_keep _ _ (record { start = refl; plain = refl; times = refl; now = refl; queue = refl; ids = refl; heard = refl; watch = refl }) (k.sends_keep Stat 0 _ None g (record { destination = refl; said = (refl, refl); told = λ e. absurd (cc (e)); gives = λ given e. absurd (cc (e)) }) h)) (λ e. h)
 
   record_keeps : (g : Going) → Keeps g → Keeps (record_phase number g)
   record_keeps g h =
@@ -97,7 +100,7 @@ module _ (number : ℕ) (event : Event) (Keeps : Going → Type 0) (Comes : Deli
   asks_keeps_one (Some node) g device h =
       let d = device node refl in
       let s = k.sends_keep InfoQ node [] None g
-      (record { destination = (d.0, omega (arith, d.1)); said = (refl, refl); told = λ e. absurd (cc (e)) }) h in
+      (record { destination = (d.0, omega (arith, d.1)); said = (refl, refl); told = λ e. absurd (cc (e)); gives = λ given e. absurd (cc (e)) }) h in
       either Keeps (has_room g.timed.queue []) (with_query node (id_of g.timed.ids InfoQ node) (sends number InfoQ node [] None g))
       (sends number InfoQ node [] None g) (λ e. k.watches_keep node (Asked (id_of g.timed.ids InfoQ node) g.timed.now) (sends number InfoQ node [] None g) tt s) (λ e. s)
 
@@ -109,7 +112,8 @@ module _ (number : ℕ) (event : Event) (Keeps : Going → Type 0) (Comes : Deli
   election_keeps : (word : ℕ) (g : Going) → Keeps g → Keeps (election_phase number word g)
   election_keeps word g h =
       k.takes_keep (given_tick g.timed.now word) (election_moves g.timed) g
-      (tick_quiet (knows_all g.timed && has_waited g.timed.times g.timed.now) g.timed.plain) h
+      (tick_quiet (knows_all g.timed && has_waited g.timed.times g.timed.now) g.timed.plain)
+      (tick_decided (members_of g.timed) g.timed.me number (knows_all g.timed && has_waited g.timed.times g.timed.now) g.timed.plain) h
 
   ticks_keep : (word : ℕ) (g : Going) → IsTick event → Keeps g → Keeps (ticks number word g)
   ticks_keep word g tick h =
@@ -120,11 +124,24 @@ module _ (number : ℕ) (event : Event) (Keeps : Going → Type 0) (Comes : Deli
 
   -- ---- a delivered transfer
 
-  gives_keeps : (move : Move) (entry : Entry) (g : Going) → IsQuiet move → Keeps g → Keeps (gives_entry number move entry g)
-  gives_keeps move entry g quiet h =
+  -- a pair that is given, of a committed place
+  abbrev IsGiving : Move → Type 0
+  IsGiving move = IsQuiet move × ((members : List ℕ) (me : ℕ) (server : Plain) → IsDecided members me server move)
+
+  gives_keeps : (move : Move) (place : ℕ) (g : Going) → IsGiving move → place < g.timed.plain.store.commit → Keeps g
+      → Keeps (gives_entry number move (slice_index_or g.timed.plain.store.log place (blank 0)) g)
+  gives_keeps move place g giving low h =
+      let entry : Entry = slice_index_or g.timed.plain.store.log place (blank 0) in
       let s = k.sends_keep Alloc 0 (allocation_payload entry.node entry.uid) None g
-      (record { destination = refl; said = (refl, refl); told = λ e. absurd (cc (e)) }) h in
-      either Keeps (has_room g.timed.queue (allocation_payload entry.node entry.uid)) _ _ (λ e. k.takes_keep _ _ _ (quiet, tt) s) (λ e. s)
+      (record {
+        destination = refl;
+        said = (refl, refl);
+        told = λ e. absurd (cc (e));
+        gives = λ given e. let is = (allocation_gives entry.node entry.uid given e).1 in record
+            { place = place; below = low; uid = ap (λ (pair : Pair). pair.0) (sym is); node = ap (λ (pair : Pair). pair.1) (sym is) };
+      }) h in
+      either Keeps (has_room g.timed.queue (allocation_payload entry.node entry.uid)) _ _
+      (λ e. k.takes_keep _ _ _ (giving.0, tt) (giving.1 (members_of g.timed) g.timed.me g.timed.plain, tt) s) (λ e. s)
 
   records_keeps : (uid : List ℕ) (preference : ℕ) (g : Going) → length uid ≡ 16 → Keeps g → Keeps (records number uid preference g)
   records_keeps uid preference g whole h =
@@ -144,20 +161,21 @@ module _ (number : ℕ) (event : Event) (Keeps : Going → Type 0) (Comes : Deli
       go None = records_keeps uid preference g whole h
       go (Some place) =
           either Keeps (nat_lt place g.timed.plain.store.commit) (gives_pair number (AnswerAgain place) place g) g
-          (λ e. gives_keeps (AnswerAgain place) (slice_index_or g.timed.plain.store.log place (blank 0)) g tt h) (λ e. h)
+          (λ e. gives_keeps (AnswerAgain place) place g (tt, λ members me server. tt) (lt_true place g.timed.plain.store.commit e) h) (λ e. h)
 
   heard_keeps : (heard : Heard) (g : Going) → IsWholeOf heard → Keeps g → Keeps (answers_request number heard g)
   heard_keeps (FollowUp bytes) g whole h =
       k.sends_keep Alloc 0 (allocation_payload 0 bytes.items) None g
-      (record { destination = refl; said = (refl, refl); told = λ e. absurd (cc (e)) }) h
+      (record { destination = refl; said = (refl, refl); told = λ e. absurd (cc (e)); gives = λ given e. absurd (follow_up_gives bytes.items given e) }) h
   heard_keeps (Whole uid preference) g whole h = whole_keeps uid preference g whole h
   heard_keeps (Ignored why) g whole h = h
   heard_keeps Denied g whole h = h
 
-  call_keeps : (move : Request → Move) (call : Option Request) (g : Going) → ((request : Request) → IsQuiet (move request)) → Keeps g
+  call_keeps : (move : Request → Move) (call : Option Request) (g : Going) → ((request : Request) → IsGiving (move request)) → Keeps g
       → Keeps (answers_call number move call g)
-  call_keeps move None g quiet h = h
-  call_keeps move (Some request) g quiet h = k.takes_keep _ _ g (quiet request, tt) h
+  call_keeps move None g giving h = h
+  call_keeps move (Some request) g giving h =
+      k.takes_keep _ _ g ((giving request).0, tt) ((giving request).1 (members_of g.timed) g.timed.me g.timed.plain, tt) h
 
   reads_keeps : {A : Type 0} (does : A → Going → Going) (value : Option A) (g : Going) → Keeps g → ((found : A) → value ≡ Some found → Keeps (does found g))
       → Keeps (reads does value g).going
@@ -195,7 +213,7 @@ module _ (number : ℕ) (event : Event) (Keeps : Going → Type 0) (Comes : Deli
         said = record { answer = answer; is = refl; step = refl; from = refl; receiver = refl; answers = refl; asked = refl; service = refl; written = refl };
         asked = record { listed = listed; asked = asked; read = read; answer = answer; is = refl; request = refl };
       })
-      (k.takes_keep (given_at g.timed.now) (TakeVoteRequest request granted ∷ []) g (tt, tt) h)
+      (k.takes_keep (given_at g.timed.now) (TakeVoteRequest request granted ∷ []) g (tt, tt) (tt, tt) h)
 
   append_keeps : (d : Delivery) (asked : AppendRequest) (g : Going) → d.ident.kind ≡ RequestKind → IsServed App d.ident.number → Comes d
       → append_request_of d.payload ≡ Some asked → is_listed d g.timed ≡ true → Keeps g → Keeps (answers_append_request number d asked g)
@@ -213,7 +231,7 @@ module _ (number : ℕ) (event : Event) (Keeps : Going → Type 0) (Comes : Deli
         said = record { answer = answer; is = refl; step = refl; from = refl; receiver = refl; answers = refl; asked = refl; service = refl; written = refl };
         asked = record { listed = listed; asked = asked; read = read; answer = answer; is = refl; request = refl };
       })
-      (k.takes_keep (given_at g.timed.now) (TakeAppendRequest request verdict ∷ []) g (tt, tt) h)
+      (k.takes_keep (given_at g.timed.now) (TakeAppendRequest request verdict ∷ []) g (tt, tt) (refl, tt) h)
 
   request_keeps : (d : Delivery) (g : Going) → d.ident.kind ≡ RequestKind → Comes d → Keeps g → Keeps (request number d g).going
   request_keeps d g is comes h =
@@ -238,11 +256,11 @@ module _ (number : ℕ) (event : Event) (Keeps : Going → Type 0) (Comes : Deli
       (λ e. reads_keeps (takes_append_answer number d) (append_answer_of d.payload) g h (λ says read.
       either Keeps (is_listed d g.timed) (ends_append_call number d says g) g
       (λ e. either Keeps (is_awaited g.timed.plain g.timed.times d.ident.source true d.id) _ g
-      (λ e. call_keeps (append_answered d says) (g.timed.plain.memory.pending d.ident.source) g (λ request. tt) h) (λ e. h)) (λ e. h)))
+      (λ e. call_keeps (append_answered d says) (g.timed.plain.memory.pending d.ident.source) g (λ request. (tt, λ members me server. tt)) h) (λ e. h)) (λ e. h)))
       (λ e. reads_keeps (takes_vote_answer number d) (vote_answer_of d.payload) g h (λ says read.
       either Keeps (is_listed d g.timed) (ends_vote_call number d says g) g
       (λ e. either Keeps (is_awaited g.timed.plain g.timed.times d.ident.source false d.id) _ g
-      (λ e. call_keeps (vote_answered d says) (g.timed.plain.memory.pending d.ident.source) g (λ request. tt) h) (λ e. h)) (λ e. h))))
+      (λ e. call_keeps (vote_answered d says) (g.timed.plain.memory.pending d.ident.source) g (λ request. (tt, λ members me server. tt)) h) (λ e. h)) (λ e. h))))
 
   kind_keeps : (d : Delivery) (kind : Kind) (g : Going) → d.ident.kind ≡ kind → Comes d → Keeps g → Keeps (by_kind number d kind g).going
   kind_keeps d Anonymous g is comes h = reads_keeps (hears_allocation number) (allocation_of d.payload) g h
@@ -262,8 +280,10 @@ module _ (number : ℕ) (event : Event) (Keeps : Going → Type 0) (Comes : Deli
   pub tell_keeps : (g : Going) → Keeps g → Keeps (tell_phase number g)
   tell_keeps g h =
       either Keeps (has_to_tell g.timed.plain) (tells_next number g) g
-      (λ e. either Keeps (is_zero (next_entry g.timed.plain).uid) _ _ (λ z. k.takes_keep (given_at g.timed.now) (TellNothing ∷ []) g (tt, tt) h)
-      (λ z. gives_keeps TellPair (slice_index_or g.timed.plain.store.log g.timed.plain.memory.told (blank 0)) g tt h)) (λ e. h)
+      (λ e. either Keeps (is_zero (next_entry g.timed.plain).uid) _ _
+      (λ z. k.takes_keep (given_at g.timed.now) (TellNothing ∷ []) g (tt, tt) (tt, tt) h)
+      (λ z. gives_keeps TellPair g.timed.plain.memory.told g (tt, λ members me server. tt)
+      (lt_true g.timed.plain.memory.told g.timed.plain.store.commit (and_right (is_leader g.timed.plain.memory.role) _ e)) h)) (λ e. h)
 
   by_call_keeps : (what : What) (peer : ℕ) (move : Move) (request : Request) (payload : List ℕ) (g : Going) → kind_of what ≡ RequestKind
       → (1 ≤ peer) × (peer ≤ 125) → IsSaid number g.timed.me what peer 0 payload (Some (Requests request))
@@ -274,6 +294,7 @@ module _ (number : ℕ) (event : Event) (Keeps : Going → Type 0) (Comes : Deli
         destination = subst (λ (kind : Kind). IsSentTo kind peer) (sym is) (device.0, omega (arith, device.1));
         said = said;
         told = λ e. absurd (cc (is, e));
+        gives = λ given e. absurd (request_gives what payload given is e);
       }) h in
       either Keeps (has_room g.timed.queue payload) _ _ (λ fits. k.calls_keep what peer move request payload g makes fits s) (λ e. s)
 
@@ -284,13 +305,13 @@ module _ (number : ℕ) (event : Event) (Keeps : Going → Type 0) (Comes : Deli
       let request : Request = vote_request g.timed.me number g.timed.plain.store node in
       by_call_keeps VoteQ node (CallForVote node) request (vote_call_bytes request) g refl (subst (λ (n : ℕ). (1 ≤ n) × (n ≤ 125)) (sym is) device)
       (record { request = request; is = refl; step = refl; from = refl; receiver = refl; service = refl; written = refl }, refl)
-      (record { carried = refl; step = refl; other = λ entry e. cc (e); memory = λ members. refl; sending = λ members given times. refl }) h
+      (record { carried = refl; step = refl; other = λ entry e. cc (e); nothing = λ members. refl; memory = λ members. refl; sending = λ members given times. refl }) h
   owed_keeps peer (Some (CallToAppend node previous with_entry)) g is device h =
       let request : Request = append_request g.timed.me number g.timed.plain.store node previous with_entry in
       by_call_keeps AppQ node (CallToAppend node previous with_entry) request (append_call_bytes request) g refl
       (subst (λ (n : ℕ). (1 ≤ n) × (n ≤ 125)) (sym is) device)
       (record { request = request; is = refl; step = refl; from = refl; receiver = refl; service = refl; written = refl }, refl)
-      (record { carried = refl; step = refl; other = λ entry e. cc (e); memory = λ members. refl; sending = λ members given times. refl }) h
+      (record { carried = refl; step = refl; other = λ entry e. cc (e); nothing = λ members. refl; memory = λ members. refl; sending = λ members given times. refl }) h
   owed_keeps peer (Some move) g is device h = h
 
   calls_keep : (peers : List ℕ) (g : Going) → ((peer : ℕ) → In peer peers → (1 ≤ peer) × (peer ≤ 125)) → Keeps g
@@ -306,14 +327,15 @@ module _ (number : ℕ) (event : Event) (Keeps : Going → Type 0) (Comes : Deli
 
   ends_keep : (g : Going) → Keeps g → Keeps (ends number g)
   ends_keep g h = call_phase_keeps (tell_phase number (commit_phase number g)) (tell_keeps (commit_phase number g)
-      (k.takes_keep _ _ g (commit_quiet (members_of g.timed) g.timed.me g.timed.plain) h))
+      (k.takes_keep _ _ g (commit_quiet (members_of g.timed) g.timed.me g.timed.plain) (commit_decided (members_of g.timed) g.timed.me number g.timed.plain) h))
 
   -- ---- the number
 
   pub gives_up_keeps : (g : Going) → Keeps g → Keeps (gives_up number g)
   gives_up_keeps g h =
       k.takes_keep (given_at g.timed.now) (handled.moves_of_expire (overdue g.timed.times g.timed.now all_nodes)) g
-      (expire_quiet (overdue g.timed.times g.timed.now all_nodes)) h
+      (expire_quiet (overdue g.timed.times g.timed.now all_nodes))
+      (expire_decided (members_of g.timed) g.timed.me number (overdue g.timed.times g.timed.now all_nodes) g.timed.plain) h
 
   answer_keeps : (answer : Received) (g : Going) → ((d : Delivery) → answer ≡ Gives d → Comes d) → Keeps g
       → Keeps (with_answer number answer g).going

@@ -9,12 +9,13 @@ ghost use Rattle.raft_model.specs.Duty.{CommitDuty, TickDuty};
 ghost use Rattle.raft_model.specs.Lists.{In};
 ghost use Rattle.raft_model.specs.Messages.{Message};
 ghost use Rattle.raft_model.specs.Moves.Elections.{term_limit};
-ghost use Rattle.raft_model.specs.Server.{Store};
+ghost use Rattle.raft_model.specs.Server.{Store, committed};
 ghost use Rattle.raft_model.specs.Server.Role.{Leader};
 ghost use Rattle.raft_model.specs.Stops.{Site};
 ghost use Rattle.server_laws.specs.Apart.{AreAllApart, OneByName};
 ghost use Rattle.server_laws.specs.Calls.{CallsAreMade, KeepsCalls};
 ghost use Rattle.server_laws.specs.Coming.{Begins, IsOfTheMachine, KeepsOrder, WhereItMayStep};
+ghost use Rattle.server_laws.specs.Giving.{IsGivenIn};
 ghost use Rattle.server_laws.specs.LawsBelow.{Laws};
 ghost use Rattle.server_laws.specs.Listing.{IsNamed};
 ghost use Rattle.server_laws.specs.Phases.{InEveryStep, TellsDuly, when_committed, when_seen, when_told};
@@ -23,11 +24,12 @@ ghost use Rattle.server_laws.specs.Responses.{ResponsesAnswer};
 ghost use Rattle.server_laws.specs.Saying.{IsSaid};
 ghost use Rattle.server_laws.specs.Sound.{FromSound, IsInRange, IsSound};
 ghost use Rattle.server_parts.specs.Ending.{call_phase};
+ghost use Rattle.server_parts.specs.Going.{pairs};
 ghost use Rattle.server_parts.specs.Step.{Event, popped, step};
 ghost use Rattle.server_parts.specs.Step.Event.{Tick};
 ghost use Rattle.server_parts.specs.Tick.{discovery_of as own_discovery};
 ghost use Rattle.server_parts.specs.TimedServer.{Timed, knows_all, members_of, opening};
-ghost use Rattle.server_parts.specs.Transfers.{Offer};
+ghost use Rattle.server_parts.specs.Transfers.{Given, Offer};
 
 use can_frame::laws::{identifiers_both_ways, logs_stay_injective};
 use cluster_discovery::laws::{a_complete_list_stays, members_stay, new_members_were_named};
@@ -151,6 +153,22 @@ pub fn proposals_of_a_step()
         HasUids (opening me size store now word).watch }
     ensures popped { (t : Timed) → HasUids t.watch → HasUids (popped t).watch }
 {}
+
+/// Where the commit index lies within the log, it does so after each step; and each pair that the
+/// step gives to a device, in an Allocation that fitted, is then that of an entry that is committed
+/// when the step is over.
+pub fn pairs_of_a_step()
+    ensures committed { (t : Timed) (number : ℕ) (event : Event) →
+        t.plain.store.commit ≤ length t.plain.store.log →
+        (given : Given) → In given (pairs (step t number event).going) →
+        IsGivenIn (committed (step t number event).going.timed.plain.store) given }
+    ensures inside { (t : Timed) (number : ℕ) (event : Event) →
+        t.plain.store.commit ≤ length t.plain.store.log →
+        let store = (step t number event).going.timed.plain.store in
+        store.commit ≤ length store.log }
+{
+    law_decisions();
+}
 
 /// What a step owes that ends. A leader has committed as far as the members let it, counted over
 /// all of them, and tells one place of its log at most, where there is room for its frames. Whoever

@@ -1,0 +1,8 @@
+use Rattle.server_laws.proofs.Given.{commit_stays_inside, pairs_are_committed}
+use Rattle.server_laws.proofs.laws.pairs_of_a_step.Goals as goal
+
+pub returns : goal.returns
+returns c = record {
+  committed = pairs_are_committed c.law_decisions.ensures.judged;
+  inside = commit_stays_inside c.law_decisions.ensures.judged;
+}
