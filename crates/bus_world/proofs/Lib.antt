@@ -3,6 +3,7 @@ pub mod Alike
 pub mod Beginning
 pub mod Filled
 pub mod Finding
+pub mod Giving
 pub mod Looking
 pub mod Opening
 pub mod Promising

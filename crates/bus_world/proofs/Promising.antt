@@ -25,7 +25,7 @@ use Rattle.bus_world.specs.declared.place.Place.TheVariants.{Down as DownAt, Up 
 use Rattle.bus_world.specs.declared.world.World.{World}
 
 -- what holds of each member holds of one with this node ID
-one_of : {F : Type 0} (xs : List (Member F)) (P : Member F → Type 0) → ((i : ℕ) (d : Member F) → i < length xs → P (slice_index_or xs i d))
+pub one_of : {F : Type 0} (xs : List (Member F)) (P : Member F → Type 0) → ((i : ℕ) (d : Member F) → i < length xs → P (slice_index_or xs i d))
     → (n : ℕ) → In n (ids_of xs) → (m : Member F) × (m.id ≡ n) × P m
 one_of [] P all n there = absurd there
 one_of (x ∷ xs) P all n (inl e) = (x, sym e, all 0 x (omega arith))

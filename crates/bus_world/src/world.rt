@@ -7,6 +7,7 @@ ghost use Rattle.transfer_rx.specs.Memory.{ReceiverFitsInMemory};
 ghost use Rattle.server_parts.specs.Accepted as accepted;
 ghost use Rattle.world_parts.specs.Cluster.{AreMembers, AreNodes, Cluster, cluster, next};
 ghost use Rattle.world_parts.specs.Lawful.{cause};
+ghost use Rattle.world_parts.specs.Promise.{OffersItsOwn};
 ghost use Rattle.world_parts.specs.Report.{entry_of, told as told_by, view_at};
 ghost use Rattle.world_parts.specs.Telling.{telling_of};
 ghost use Rattle.world_parts.specs.declared.unlawful.WorldFault.TheVariants.{BadIds};
@@ -19,6 +20,7 @@ use alloc_server::View;
 use arrayvec::ArrayVec;
 use can_frame::{Entry, Kind};
 use replay_text::{Row, Told};
+use server_laws::laws::pairs_of_a_step;
 use std::alloc::Global;
 use transfer_rx::AcceptRow;
 use transfer_tx::Marked;
@@ -94,7 +96,8 @@ impl<F: Fn(Kind, u16) -> Option<u64> + Copy> World<F> {
         })
     }
 
-    /// Takes a row and tells what it did. A row that is refused changes nothing.
+    /// Takes a row and tells what it did. A row that is refused changes nothing. Whatever pair a step
+    /// offers to a device is one of its member's committed log when the row is done.
     pub fn row(&mut self, row: &Row) -> Result<Told, Unlawful>
         requires memory { ReceiverFitsInMemory F.row 160 128 }
         requires callable { F.IsAlwaysCallable (accepts self.old) }
@@ -109,12 +112,15 @@ impl<F: Fn(Kind, u16) -> Option<u64> + Copy> World<F> {
             (cause c row.now ≡ None) × (telling_of told ≡ told_by c row.now)) }
         ensures accepted { OnOk result ((c : Cluster) → StandsFor self.old c →
             StandsFor self.new (next c row.now)) }
+        ensures kept { OnOk result ((c : Cluster) → StandsFor self.old c →
+            OffersItsOwn c row.now) }
         ensures unchanged { IsErr result → self.new ≡ self.old }
         ensures taken { OnOk result (rows_taken self.new ≡ rows_taken self.old + 1) }
         ensures left { OnOk result (frames_left self.old ≤ frames_left self.new + 1) }
         ensures room { frame_room self.new ≡ frame_room self.old }
         ensures accepts { accepts self.new ≡ accepts self.old }
     {
+        pairs_of_a_step();
         match self.change(row) {
             Ok(told) => {
                 self.taken += 1;
