@@ -38,8 +38,8 @@ returns-in-Ok-end_report-clause-write g c = λ is. absurd ((is_no_fault c.in-Ok-
 
 -- an object of the outside fails
 
-pub returns-in-Err-clause-ends : goal.returns-in-Err-clause-ends
-returns-in-Err-clause-ends g c = λ bytes told.
+pub returns-in-Ok-read_rows-clause-ends : goal.returns-in-Ok-read_rows-clause-ends
+returns-in-Ok-read_rows-clause-ends g c = λ bytes told.
     let first = cluster c.args.ids.now in
     let rows = c.in-Ok-read_rows.rows in
     let far = c.in-Ok-read_rows.ensures.rows bytes told first c.in-Ok.ensures.stands in
@@ -54,7 +54,7 @@ returns-in-Err-Source-clause-ends g c = λ bytes told.
     let cut = rw c.in-Err-Source.field-0-is at (c.in-Err-Source.ensures.cut bytes told) in
     cut (cluster c.args.ids.now) c.in-Ok.ensures.stands
 
-pub returns-in-Err-Sink-clause-ends : goal.returns-in-Err-Sink-clause-ends
-returns-in-Err-Sink-clause-ends g c = λ bytes told.
+pub returns-clause-ends : goal.returns-clause-ends
+returns-clause-ends g c = λ bytes told.
     let cut = rw c.in-Err-Sink.field-0-is at (c.in-Err-Sink.ensures.cut bytes told) in
     cut (cluster c.args.ids.now) c.in-Ok.ensures.stands
