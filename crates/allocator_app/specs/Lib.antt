@@ -1,9 +1,13 @@
+pub mod Allocator
+pub mod Bytes
 pub mod Codes
 pub mod InPart
 pub mod Input
-pub mod Logs
+pub mod Member
 pub mod Output
-pub mod Reaching
+pub mod Promise
 pub mod Report
 pub mod Rows
+pub mod Stands
 pub mod Words
+pub mod World
