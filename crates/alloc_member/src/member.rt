@@ -59,6 +59,7 @@ impl<D: Disk> Member<D> {
     ghost use Rattle.alloc_member.specs.Stands.{GoesOn, IsFresh, IsGoing, IsReady, ListsGiven, ListsUpTo, StandsFor};
 
     /// A member that opens now, with what it has stored.
+    #[inline(never)]
     pub fn open(me: u8, size: u8, durable: Durable<D>, now: u64, word: u32) -> Member<D>
         requires least { 1 ≤ me }
         requires most { me ≤ 125 }

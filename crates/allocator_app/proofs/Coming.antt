@@ -1,95 +1,120 @@
 -- Rows that are taken one after the other.
-use Rattle.std.proofs.Common.{◌≡◌, ◌<◌, ℕ, ◌+◌, List, [], ◌∷◌, ◌++◌, refl, sym, ap, ◌∙◌, subst, arith, append_assoc, append-nil}
+use Rattle.std.proofs.Common.{◌≡◌, ◌<◌, ℕ, ◌+◌, List, [], ◌∷◌, ◌++◌, refl, sym, ap, ◌∙◌, subst, append_assoc, append-nil, None, Some}
 use Rattle.replay_text.specs.declared.row.Row.{Row}
-use Rattle.replay_text.specs.declared.row.Row.TheVariants.{Open, Tick, Rx, Send, Ext, Crash, Fault}
 use Rattle.replay_text.specs.declared.told.Told.{Told}
+use Rattle.replay_text.specs.declared.told.Told.TheVariants.{Opened, Stepped, Failed, Stopped, Armed, Popped, Outside}
 use Rattle.replay_text.specs.Report.{told_line}
 use Rattle.replay_text.specs.Lines.{BeginsWith, BeginsWithNoRow, ReadsRows}
+use Rattle.world_parts.specs.Cluster.{Cluster, after_rows, next}
+use Rattle.world_parts.specs.Lawful.{Lawful, cause}
+use Rattle.world_parts.specs.Promise.{GivesOnce, KeepsItsWord, OffersItsOwn}
+use Rattle.world_parts.specs.Report.{row_lines, told}
+use Rattle.world_parts.specs.Telling.{telling_line, telling_of}
+use Rattle.world_parts.specs.declared.unlawful.Unlawful.{Unlawful}
 use Rattle.allocator_app.specs.Input.{FindsRow}
-use Rattle.allocator_app.specs.World.{WorldState, Takes, Tells, after}
-use Rattle.allocator_app.specs.Report.{Comes, GoesOn, IsRefused}
-use Rattle.allocator_app.specs.Promise.{AreTaken}
-use Rattle.allocator_app.proofs.Lines.{some_left}
+use Rattle.allocator_app.specs.Report.{Comes, Goes, IsBadRow, IsBeyond, IsRefused}
 
-pub rows-after : (w : WorldState) (row : Row) → Takes w row → (after w row).rows ≡ w.rows + 1
-rows-after w (Open n ms word) h = refl
-rows-after w (Tick n ms word) h = refl
-rows-after w (Send n) h = refl
-rows-after w (Rx n k ms) h = refl
-rows-after w (Ext frame) h = refl
-rows-after w (Crash n calls pattern) h = absurd h
-rows-after w (Fault n call) h = absurd h
+-- the line of what a row did is that of what the code tells
+pub line_of_told : (number : ℕ) (t : Told) → told_line number t ≡ telling_line number (telling_of t)
+line_of_told number (Opened n term vote last commit) = refl
+line_of_told number (Stepped n role term last commit queued seen sent) = refl
+line_of_told number (Failed n) = refl
+line_of_told number (Stopped n) = refl
+line_of_told number (Armed n) = refl
+line_of_told number (Popped n k frame) = refl
+line_of_told number (Outside k) = refl
+
+-- ---- lists of rows, one behind the other
 
 ReadsRows-append : (a b : List Row) (x y z : List ℕ) → ReadsRows a x y → ReadsRows b y z → ReadsRows (a ++ b) x z
 ReadsRows-append [] b x y z p q = subst (λ v. ReadsRows b v z) (sym p) q
 ReadsRows-append (row ∷ a) b x y z p q = (p.0, p.1, ReadsRows-append a b p.0 y z p.2 q)
 
-GoesOn-append : (a b : List Row) (u v w : WorldState) (l m : List ℕ) → GoesOn u a l v → GoesOn v b m w → GoesOn u (a ++ b) (l ++ m) w
-GoesOn-append [] b u v w l m p q = subst (λ k. GoesOn u b k w) (sym (ap (λ k. k ++ m) p.0)) (subst (λ s. GoesOn s b m w) p.1 q)
-GoesOn-append (row ∷ a) b u v w l m p q = (
-  p.0,
-  p.1 ++ m,
-  p.2,
-  ap (λ k. k ++ m) p.3 ∙ append_assoc p.0 p.1 m,
-  GoesOn-append a b (after u row) v w p.1 m p.4 q,
-)
+Lawful-append : (w : Cluster) (a b : List Row) → Lawful w a → Lawful (after_rows w a) b → Lawful w (a ++ b)
+Lawful-append w [] b p q = q
+Lawful-append w (row ∷ a) b p q = (p.0, Lawful-append (next w row) a b p.1 q)
 
-pub comes-nil : (w : WorldState) (bytes : List ℕ) → Comes w bytes [] w bytes
-comes-nil w bytes = record { rows = []; reads = refl; goes = (refl, refl) }
+lines-append : (w : Cluster) (a b : List Row) → row_lines w (a ++ b) ≡ row_lines w a ++ row_lines (after_rows w a) b
+lines-append w [] b = refl
+lines-append w (row ∷ a) b =
+    let line = telling_line (w.rows + 1) (told w row) in
+    ap (λ l. line ++ l) (lines-append (next w row) a b) ∙ sym (append_assoc line (row_lines (next w row) a) (row_lines (after_rows (next w row) a) b))
 
-pub comes-one : (w : WorldState) (row : Row) (told : Told) (bytes rest : List ℕ) → BeginsWith row bytes rest → Takes w row → Tells w row told →
-    Comes w bytes (told_line (w.rows + 1) told) (after w row) rest
-comes-one w row told bytes rest begins takes tells = record {
+after-append : (w : Cluster) (a b : List Row) → after_rows w (a ++ b) ≡ after_rows (after_rows w a) b
+after-append w [] b = refl
+after-append w (row ∷ a) b = after-append (next w row) a b
+
+pub comes-nil : (w : Cluster) (bytes : List ℕ) → Comes w bytes [] w bytes
+comes-nil w bytes = record { rows = []; reads = refl; lawful = tt; told = refl; leaves = refl }
+
+pub comes-one : (w : Cluster) (row : Row) (bytes rest : List ℕ) → BeginsWith row bytes rest → cause w row ≡ None →
+    Comes w bytes (telling_line (w.rows + 1) (told w row)) (next w row) rest
+comes-one w row bytes rest begins lawful = record {
   rows = row ∷ [];
   reads = (rest, begins, refl);
-  goes = (
-    told_line (w.rows + 1) told,
-    [],
-    record { takes = takes; told = told; tells = tells; written = refl },
-    sym (append-nil (told_line (w.rows + 1) told)),
-    (refl, refl),
-  );
+  lawful = (lawful, tt);
+  told = sym (append-nil (telling_line (w.rows + 1) (told w row)));
+  leaves = refl;
 }
 
-pub comes-join : (u v w : WorldState) (x y z l m : List ℕ) → Comes u x l v y → Comes v y m w z → Comes u x (l ++ m) w z
+pub comes-join : (u v w : Cluster) (x y z l m : List ℕ) → Comes u x l v y → Comes v y m w z → Comes u x (l ++ m) w z
 comes-join u v w x y z l m p q = record {
   rows = p.rows ++ q.rows;
   reads = ReadsRows-append p.rows q.rows x y z p.reads q.reads;
-  goes = GoesOn-append p.rows q.rows u v w l m p.goes q.goes;
+  lawful = Lawful-append u p.rows q.rows p.lawful (subst (λ s. Lawful s q.rows) p.leaves q.lawful);
+  told = ap (λ k. l ++ k) q.told ∙ ap (λ k. k ++ row_lines v q.rows) p.told ∙ ap (λ s. row_lines u p.rows ++ row_lines s q.rows) p.leaves
+      ∙ sym (lines-append u p.rows q.rows);
+  leaves = q.leaves ∙ ap (λ s. after_rows s q.rows) p.leaves ∙ sym (after-append u p.rows q.rows);
+}
+
+-- ---- and each allocator keeps its word along them
+
+Kept-append : (w : Cluster) (a b : List Row) → KeepsItsWord w a → KeepsItsWord (after_rows w a) b → KeepsItsWord w (a ++ b)
+Kept-append w [] b p q = q
+Kept-append w (row ∷ a) b p q = (p.0, p.1, Kept-append (next w row) a b p.2 q)
+
+pub goes-nil : (w : Cluster) (bytes : List ℕ) → GivesOnce w → Goes w bytes [] w bytes
+unfolding comes-nil
+goes-nil w bytes once = record { comes = comes-nil w bytes; kept = once }
+
+pub goes-one : (w : Cluster) (row : Row) (bytes rest : List ℕ) → BeginsWith row bytes rest → cause w row ≡ None → GivesOnce w → OffersItsOwn w row →
+    GivesOnce (next w row) → Goes w bytes (telling_line (w.rows + 1) (told w row)) (next w row) rest
+unfolding comes-one
+goes-one w row bytes rest begins lawful once own then = record { comes = comes-one w row bytes rest begins lawful; kept = (once, own, then) }
+
+pub goes-join : (u v w : Cluster) (x y z l m : List ℕ) → Goes u x l v y → Goes v y m w z → Goes u x (l ++ m) w z
+unfolding comes-join
+goes-join u v w x y z l m p q = record {
+  comes = comes-join u v w x y z l m p.comes q.comes;
+  kept = Kept-append u p.comes.rows q.comes.rows p.kept (subst (λ s. KeepsItsWord s q.comes.rows) p.comes.leaves q.kept);
 }
 
 -- one row more is taken
-pub comes-more : (first w : WorldState) (row : Row) (told : Told) (waiting before behind lines line : List ℕ) (n : ℕ) →
-    ((more : List ℕ) → Comes first (waiting ++ more) lines w (before ++ more)) → FindsRow row before behind →
-    Takes w row → Tells w row told → n ≡ (after w row).rows → line ≡ told_line n told →
-    (more : List ℕ) → Comes first (waiting ++ more) (lines ++ line) (after w row) (behind ++ more)
-comes-more first w row told waiting before behind lines line n came found takes tells count is_line more =
-    let number : n ≡ w.rows + 1 = count ∙ rows-after w row takes in
-    let one = comes-one w row told (before ++ more) (behind ++ more) (found.begins more) takes tells in
-    let told_so = is_line ∙ ap (λ k. told_line k told) number in
-    comes-join first w (after w row) (waiting ++ more) (before ++ more) (behind ++ more) lines line (came more)
-    (subst (λ l. Comes w (before ++ more) l (after w row) (behind ++ more)) (sym told_so) one)
+pub goes-more : (first w : Cluster) (row : Row) (t : Told) (waiting before behind lines line : List ℕ) (n : ℕ) →
+    ((more : List ℕ) → Goes first (waiting ++ more) lines w (before ++ more)) → FindsRow row before behind →
+    cause w row ≡ None → telling_of t ≡ told w row → GivesOnce w → OffersItsOwn w row → GivesOnce (next w row) → n ≡ w.rows + 1 → line ≡ told_line n t →
+    (more : List ℕ) → Goes first (waiting ++ more) (lines ++ line) (next w row) (behind ++ more)
+goes-more first w row t waiting before behind lines line n came found lawful tells once own then count is_line more =
+    let one = goes-one w row (before ++ more) (behind ++ more) (found.begins more) lawful once own then in
+    let told_so = is_line ∙ line_of_told n t ∙ ap (telling_line n) tells ∙ ap (λ k. telling_line k (told w row)) count in
+    goes-join first w (next w row) (waiting ++ more) (before ++ more) (behind ++ more) lines line (came more)
+    (subst (λ l. Goes w (before ++ more) l (next w row) (behind ++ more)) (sym told_so) one)
 
--- ---- rows that are refused
+-- ---- the row that is not taken
 
-pub refused-no_row : (limit : ℕ) (w : WorldState) (bytes : List ℕ) → BeginsWithNoRow bytes → IsRefused limit w bytes
-refused-no_row limit w bytes none = record { left = none.left; refused = λ row rest begins within takes. none.bad row rest begins }
-
-pub refused-row : (limit : ℕ) (w : WorldState) (row : Row) (before behind more : List ℕ) → FindsRow row before behind → (Takes w row → ⊥) →
-    IsRefused limit w (before ++ more)
-refused-row limit w row before behind more found refused = record {
-  left = let low = found.shorter in some_left before more (omega arith);
-  refused = λ other rest begins within takes. refused (subst (Takes w) (sym (found.only more rest other begins)) takes);
+pub refused-row : (limit : ℕ) (w : Cluster) (row : Row) (why : Unlawful) (before behind more : List ℕ) → FindsRow row before behind → w.rows < limit →
+    cause w row ≡ Some why → IsRefused limit w (before ++ more) why
+refused-row limit w row why before behind more found within refused = record {
+  within = within;
+  row = row;
+  behind = behind ++ more;
+  begins = found.begins more;
+  refused = refused;
 }
 
-pub refused-full : (limit : ℕ) (w : WorldState) (row : Row) (before behind more : List ℕ) → FindsRow row before behind → (w.rows < limit → ⊥) →
-    IsRefused limit w (before ++ more)
-refused-full limit w row before behind more found full = record {
-  left = let low = found.shorter in some_left before more (omega arith);
-  refused = λ other rest begins within takes. full within;
-}
+pub bad-row : (limit : ℕ) (w : Cluster) (bytes : List ℕ) → w.rows < limit → BeginsWithNoRow bytes → IsBadRow limit w bytes
+bad-row limit w bytes within bad = record { within = within; bad = bad }
 
--- rows that go on are taken
-pub taken-rows : (w end : WorldState) (rows : List Row) (lines : List ℕ) → GoesOn w rows lines end → AreTaken w rows
-taken-rows w end [] lines goes = tt
-taken-rows w end (row ∷ rows) lines goes = (goes.2.takes, taken-rows (after w row) end rows goes.1 goes.4)
+pub beyond : (limit : ℕ) (w : Cluster) (bytes more : List ℕ) → w.rows ≡ limit → (bytes ≡ [] → ⊥) → IsBeyond limit w (bytes ++ more)
+beyond limit w [] more full some = absurd (some refl)
+beyond limit w (byte ∷ bytes) more full some = record { full = full; more = λ e. cc }

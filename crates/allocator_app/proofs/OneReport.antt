@@ -1,182 +1,177 @@
 -- A schedule has one report.
-use Rattle.std.proofs.Common.{◌≡◌, ◌≤◌, ◌<◌, ℕ, ◌+◌, List, [], ◌∷◌, ◌++◌, Some, None, refl, sym, ap, ◌∙◌, subst, arith, append_assoc, append-nil, codes, decimal}
+use Rattle.std.proofs.Common.{◌≡◌, ◌≤◌, ◌<◌, ℕ, ◌+◌, List, [], ◌∷◌, ◌++◌, length, Some, None, refl, sym, ap, ◌∙◌, subst, arith, append_assoc, append-nil}
 use Rattle.std.specs.declared.option.Option.{Option}
-use Rattle.hex.specs.Hex.{encode_lower}
 use Rattle.replay_text.specs.declared.row.Row.{Row}
-use Rattle.replay_text.specs.declared.row.Row.TheVariants.{Open, Tick, Rx, Send, Ext, Crash, Fault}
-use Rattle.replay_text.specs.declared.told.Told.{Told}
-use Rattle.replay_text.specs.declared.told.Told.TheVariants.{Opened, Stepped, Failed, Stopped, Armed, Popped, Outside}
 use Rattle.replay_text.specs.Lines.{BeginsWith, ReadsRows, after_line, first_line}
-use Rattle.replay_text.specs.Report.{line_head, told_line}
 use Rattle.replay_text.specs.Schedule.{Reads}
-use Rattle.replay_text.specs.Words.{identifier_bytes}
-use Rattle.transfer_tx.specs.Queue.{Queued, next_out}
+use Rattle.world_parts.specs.Cluster.{Cluster, after_rows, next}
+use Rattle.world_parts.specs.Lawful.{Lawful, cause, number_of}
+use Rattle.world_parts.specs.Report.{row_lines, told}
+use Rattle.world_parts.specs.Telling.{telling_line}
+use Rattle.world_parts.specs.declared.unlawful.Unlawful.{Unlawful}
 use Rattle.allocator_app.specs.InPart.{IsWrittenInPart}
 use Rattle.allocator_app.specs.InPart.IsWrittenInPart.{InRows, AtTheEnd}
-use Rattle.allocator_app.specs.Member.{BusFrame, MemberState}
 use Rattle.allocator_app.specs.Output.{WritesFront}
-use Rattle.allocator_app.specs.Report.{Goes, GoesOn, IsReport, Says}
-use Rattle.allocator_app.specs.World.{WorldState, Takes, Tells, TellsFrame, TellsRx, TellsSend, TellsTick, after, frame_at}
+use Rattle.allocator_app.specs.Report.{IsBadRow, IsBeyond, IsRefused, IsReport, Says, bad_row_line, limit_line, unlawful_line}
 use Rattle.allocator_app.specs.declared.status.Status.{Status}
-use Rattle.allocator_app.specs.declared.status.Status.TheVariants.{Done, Usage, ReadFault, WriteFault, Memory, NotBuilt}
-use Rattle.allocator_app.proofs.Coming.{rows-after}
+use Rattle.allocator_app.specs.declared.status.Status.TheVariants.{Done, Usage, BadRow, Unlawful as IsUnlawful, ReadFault, WriteFault, Memory, Limit}
 use Rattle.allocator_app.proofs.Written.{front-of_more}
-
--- ---- a row that is taken has one line
-
-abbrev sent_line : ℕ → ℕ → ℕ → ℕ → List ℕ → List ℕ
-sent_line row n k id bytes =
-    line_head row n ++ codes " send " ++ decimal k ++ codes " " ++ encode_lower (identifier_bytes id) ++ codes " " ++ encode_lower bytes ++ codes "\n"
-
-line_sent : (row n k : ℕ) (next : Queued) (told : Told) → TellsFrame n k (Some next) told → told_line row told ≡ sent_line row n k next.id next.bytes
-line_sent row n k next (Popped m j frame) h =
-    let a = h.0 in
-    let b = h.1 in
-    let c = h.2 in
-    let d = h.3 in
-    cc
-line_sent row n k next (Opened m term vote last commit) h = absurd h
-line_sent row n k next (Stepped m role term last commit queued seen sent) h = absurd h
-line_sent row n k next (Failed m) h = absurd h
-line_sent row n k next (Stopped m) h = absurd h
-line_sent row n k next (Armed m) h = absurd h
-line_sent row n k next (Outside m) h = absurd h
-
-one_frame : (row n k : ℕ) (next : Option Queued) (a b : Told) → TellsFrame n k next a → TellsFrame n k next b → told_line row a ≡ told_line row b
-one_frame row n k None a b p q = absurd p
-one_frame row n k (Some next) a b p q = line_sent row n k next a p ∙ sym (line_sent row n k next b q)
-
-one_send : (row n k : ℕ) (member : Option MemberState) (a b : Told) → TellsSend n k member a → TellsSend n k member b → told_line row a ≡ told_line row b
-one_send row n k None a b p q = absurd p
-one_send row n k (Some m) a b p q = one_frame row n k (next_out m.allocator.queue) a b p q
-
-one_tick : (n : ℕ) (member : Option MemberState) (moment step : ℕ) (a b : Told) → TellsTick n member moment step a → TellsTick n member moment step b → a ≡ b
-one_tick n None moment step a b p q = absurd p
-one_tick n (Some m) moment step a b p q = p ∙ sym q
-
-one_rx : (n : ℕ) (member : Option MemberState) (frame : BusFrame) (moment step : ℕ) (a b : Told) →
-    TellsRx n member frame moment step a → TellsRx n member frame moment step b → a ≡ b
-one_rx n None frame moment step a b p q = absurd p
-one_rx n (Some m) frame moment step a b p q = p ∙ sym q
-
-one_line : (w : WorldState) (row : Row) (number : ℕ) (a b : Told) → Tells w row a → Tells w row b → told_line number a ≡ told_line number b
-one_line w (Open n ms word) number a b p q = ap (told_line number) (p ∙ sym q)
-one_line w (Tick n ms word) number a b p q = ap (told_line number) (one_tick n w.member ms (w.rows + 1) a b p q)
-one_line w (Rx n k ms) number a b p q = ap (told_line number) (one_rx n w.member (frame_at w.frames k) ms (w.rows + 1) a b p q)
-one_line w (Send n) number a b p q = one_send number n _ w.member a b p q
-one_line w (Ext frame) number a b p q = ap (told_line number) (p ∙ sym q)
-one_line w (Crash n calls pattern) number a b p q = absurd p
-one_line w (Fault n call) number a b p q = absurd p
-
-one_goes : (w : WorldState) (row : Row) (a b : List ℕ) → Goes w row a → Goes w row b → a ≡ b
-one_goes w row a b p q = p.written ∙ one_line w row (w.rows + 1) p.told q.told p.tells q.tells ∙ sym q.written
 
 -- ---- rows are taken up to where none can be
 
 -- no row of those that may still come is taken from the front of the bytes
-abbrev IsStuck : ℕ → WorldState → List ℕ → Type 0
-IsStuck limit w bytes = (row : Row) (rest : List ℕ) → BeginsWith row bytes rest → w.rows < limit → Takes w row → ⊥
+abbrev IsStuck : ℕ → Cluster → List ℕ → Type 0
+IsStuck limit w bytes = (row : Row) (rest : List ℕ) → BeginsWith row bytes rest → w.rows < limit → cause w row ≡ None → ⊥
 
-rows-grow : (w end : WorldState) (rows : List Row) (lines : List ℕ) → GoesOn w rows lines end → w.rows ≤ end.rows
-rows-grow w end [] lines h = let same = ap (λ s. s.rows) h.1 in omega (arith, same)
-rows-grow w end (row ∷ rows) lines h =
-    let more = rows-grow (after w row) end rows h.1 h.4 in
-    let one = rows-after w row h.2.takes in
-    omega (arith, more, one)
+pub rows-grow : (w : Cluster) (rows : List Row) → w.rows + length rows ≡ (after_rows w rows).rows
+rows-grow w [] = omega arith
+rows-grow w (row ∷ rows) = let more = rows-grow (next w row) rows in omega (arith, more)
 
 some-same : {a b : List ℕ} → Some a ≡ Some b → a ≡ b
 some-same e = cc
 
 module _ (one_row : (a b : Row) (line : List ℕ) → Reads a line → Reads b line → a ≡ b) (limit : ℕ) where
   -- rows that were taken are the first of those that are taken up to where none can be
-  along : (w end last : WorldState) (rows others : List Row) (bytes rest left lines all : List ℕ) → ReadsRows rows bytes rest → GoesOn w rows lines end →
-      end.rows ≤ limit → ReadsRows others bytes left → GoesOn w others all last → IsStuck limit last left →
-      (more : List Row) × (behind : List ℕ) × ReadsRows more rest left × GoesOn end more behind last × (all ≡ lines ++ behind)
-  along w end last [] others bytes rest left lines all reads goes within reads_all goes_all stuck = (
-    others,
-    all,
-    subst (λ b. ReadsRows others b left) reads reads_all,
-    subst (λ s. GoesOn s others all last) (sym goes.1) goes_all,
-    sym (ap (λ l. l ++ all) goes.0),
-  )
-  along w end last (row ∷ rows) [] bytes rest left lines all reads goes within reads_all goes_all stuck =
-      let more = rows-grow (after w row) end rows goes.1 goes.4 in
-      let next = rows-after w row goes.2.takes in
-      absurd (subst (λ s. IsStuck limit s bytes) goes_all.1 (subst (IsStuck limit last) (sym reads_all) stuck) row reads.0 reads.1
-      (omega (arith, more, next, within)) goes.2.takes)
-  along w end last (row ∷ rows) (other ∷ others) bytes rest left lines all reads goes within reads_all goes_all stuck =
+  along : (w : Cluster) (rows others : List Row) (bytes rest left : List ℕ) → ReadsRows rows bytes rest → Lawful w rows →
+      (after_rows w rows).rows ≤ limit → ReadsRows others bytes left → Lawful w others → IsStuck limit (after_rows w others) left →
+      (more : List Row) × ReadsRows more rest left × Lawful (after_rows w rows) more × (after_rows w others ≡ after_rows (after_rows w rows) more)
+      × (row_lines w others ≡ row_lines w rows ++ row_lines (after_rows w rows) more)
+  along w [] others bytes rest left reads lawful within reads_all lawful_all stuck =
+      (others, subst (λ b. ReadsRows others b left) reads reads_all, lawful_all, refl, refl)
+  along w (row ∷ rows) [] bytes rest left reads lawful within reads_all lawful_all stuck =
+      let more = rows-grow (next w row) rows in
+      absurd (stuck row reads.0 (subst (λ b. BeginsWith row b reads.0) reads_all reads.1) (omega (arith, more, within)) lawful.0)
+  along w (row ∷ rows) (other ∷ others) bytes rest left reads lawful within reads_all lawful_all stuck =
       let same : other ≡ row = one_row other row (first_line bytes) reads_all.1.reads reads.1.reads in
-      let next : reads_all.0 ≡ reads.0 = some-same (sym reads_all.1.ended ∙ reads.1.ended) in
-      let line = one_goes w row goes_all.0 goes.0 (subst (λ r. Goes w r goes_all.0) same goes_all.2) goes.2 in
-      let far = along (after w row) end last rows others reads.0 rest left goes.1 goes_all.1 reads.2 goes.4 within
-      (subst (λ b. ReadsRows others b left) next reads_all.2) (subst (λ r. GoesOn (after w r) others goes_all.1 last) same goes_all.4) stuck in (
+      let here : reads_all.0 ≡ reads.0 = some-same (sym reads_all.1.ended ∙ reads.1.ended) in
+      let far = along (next w row) rows others reads.0 rest left reads.2 lawful.1 within
+      (subst (λ b. ReadsRows others b left) here reads_all.2) (subst (λ r. Lawful (next w r) others) same lawful_all.1)
+      (subst (λ r. IsStuck limit (after_rows (next w r) others) left) same stuck) in
+      let line = telling_line (w.rows + 1) (told w row) in (
         far.0,
         far.1,
         far.2,
-        far.3,
-        goes_all.3 ∙ ap (λ l. l ++ goes_all.1) line ∙ ap (λ l. goes.0 ++ l) far.4 ∙ sym (append_assoc goes.0 goes.1 far.1) ∙ sym (ap (λ l. l ++ far.1) goes.3),
+        ap (λ r. after_rows (next w r) others) same ∙ far.3,
+        ap (λ r. telling_line (w.rows + 1) (told w r) ++ row_lines (next w r) others) same ∙ ap (λ l. line ++ l) far.4
+            ∙ sym (append_assoc line (row_lines (next w row) rows) (row_lines (after_rows (next w row) rows) far.0)),
       )
 
   -- ---- the end of a report
 
-  stuck-at_end : (end : WorldState) (rest last : List ℕ) (status : Status) → Says limit end rest last status → IsStuck limit end rest
-  stuck-at_end end rest last Done says row next begins low takes =
-      let none : after_line [] ≡ Some next = sym (ap after_line says.0) ∙ begins.ended in
+  stuck-at_end : (end : Cluster) (rest last : List ℕ) (status : Status) → Says limit end rest last status → IsStuck limit end rest
+  stuck-at_end end rest last Done says row behind begins low takes =
+      let none : after_line [] ≡ Some behind = sym (ap after_line says.0) ∙ begins.ended in
       cc
-  stuck-at_end end rest last (NotBuilt number) says row next begins low takes = says.0.refused row next begins low takes
-  stuck-at_end end rest last Usage says row next begins low takes = absurd says
-  stuck-at_end end rest last ReadFault says row next begins low takes = absurd says
-  stuck-at_end end rest last WriteFault says row next begins low takes = absurd says
-  stuck-at_end end rest last Memory says row next begins low takes = absurd says
+  stuck-at_end end rest last (BadRow number) says row behind begins low takes = says.0.bad.bad row behind begins
+  stuck-at_end end rest last (IsUnlawful number cause_number) says row behind begins low takes =
+      let refused = says.1 in
+      let same : refused.row ≡ row = one_row refused.row row (first_line rest) refused.begins.reads begins.reads in
+      let none : Some says.0 ≡ None = sym refused.refused ∙ ap (cause end) same ∙ takes in
+      cc
+  stuck-at_end end rest last (Limit number) says row behind begins low takes = let full = says.0.full in omega (arith, full, low)
+  stuck-at_end end rest last Usage says row behind begins low takes = absurd says
+  stuck-at_end end rest last ReadFault says row behind begins low takes = absurd says
+  stuck-at_end end rest last WriteFault says row behind begins low takes = absurd says
+  stuck-at_end end rest last Memory says row behind begins low takes = absurd says
 
-  one_end : (end : WorldState) (rest last other : List ℕ) (status ending : Status) → Says limit end rest last status → Says limit end rest other ending →
+  -- ---- a schedule ends in one way
+
+  done-bad : (w : Cluster) (rest : List ℕ) → rest ≡ [] → IsBadRow limit w rest → ⊥
+  done-bad w rest e h = h.bad.left e
+
+  done-refused : (w : Cluster) (rest : List ℕ) (why : Unlawful) → rest ≡ [] → IsRefused limit w rest why → ⊥
+  done-refused w rest why e h =
+      let none : after_line [] ≡ Some h.behind = sym (ap after_line e) ∙ h.begins.ended in
+      cc
+
+  bad-refused : (w : Cluster) (rest : List ℕ) (why : Unlawful) → IsBadRow limit w rest → IsRefused limit w rest why → ⊥
+  bad-refused w rest why a b = a.bad.bad b.row b.behind b.begins
+
+  full-low : (w : Cluster) (rest : List ℕ) → IsBeyond limit w rest → w.rows < limit → ⊥
+  full-low w rest a low = let full = a.full in omega (arith, full, low)
+
+  one_cause : (w : Cluster) (rest : List ℕ) (a b : Unlawful) → IsRefused limit w rest a → IsRefused limit w rest b → a ≡ b
+  one_cause w rest a b p q =
+      let same : p.row ≡ q.row = one_row p.row q.row (first_line rest) p.begins.reads q.begins.reads in
+      let causes : Some a ≡ Some b = sym p.refused ∙ ap (cause w) same ∙ q.refused in
+      cc
+
+  one_end : (end : Cluster) (rest last other : List ℕ) (status ending : Status) → Says limit end rest last status → Says limit end rest other ending →
       (last ≡ other) × (status ≡ ending)
   one_end end rest last other Done Done p q = (p.1 ∙ sym q.1, refl)
-  one_end end rest last other Done (NotBuilt number) p q = absurd (q.0.left p.0)
-  one_end end rest last other (NotBuilt number) Done p q = absurd (p.0.left q.0)
-  one_end end rest last other (NotBuilt a) (NotBuilt b) p q = (p.2 ∙ sym q.2, ap NotBuilt (p.1 ∙ sym q.1))
-  one_end end rest last other Done Usage p q = absurd q
-  one_end end rest last other Done ReadFault p q = absurd q
-  one_end end rest last other Done WriteFault p q = absurd q
-  one_end end rest last other Done Memory p q = absurd q
-  one_end end rest last other (NotBuilt a) Usage p q = absurd q
-  one_end end rest last other (NotBuilt a) ReadFault p q = absurd q
-  one_end end rest last other (NotBuilt a) WriteFault p q = absurd q
-  one_end end rest last other (NotBuilt a) Memory p q = absurd q
+  one_end end rest last other Done (BadRow b) p q = absurd (done-bad end rest p.0 q.0)
+  one_end end rest last other Done (IsUnlawful b n) p q = absurd (done-refused end rest q.0 p.0 q.1)
+  one_end end rest last other Done (Limit b) p q = absurd (q.0.more p.0)
+  one_end end rest last other (BadRow a) Done p q = absurd (done-bad end rest q.0 p.0)
+  one_end end rest last other (BadRow a) (BadRow b) p q =
+      let same : a ≡ b = p.1 ∙ sym q.1 in
+      (p.2 ∙ ap bad_row_line same ∙ sym q.2, ap BadRow same)
+  one_end end rest last other (BadRow a) (IsUnlawful b n) p q = absurd (bad-refused end rest q.0 p.0 q.1)
+  one_end end rest last other (BadRow a) (Limit b) p q = absurd (full-low end rest q.0 p.0.within)
+  one_end end rest last other (IsUnlawful a m) Done p q = absurd (done-refused end rest p.0 q.0 p.1)
+  one_end end rest last other (IsUnlawful a m) (BadRow b) p q = absurd (bad-refused end rest p.0 q.0 p.1)
+  one_end end rest last other (IsUnlawful a m) (IsUnlawful b n) p q =
+      let same : a ≡ b = p.2 ∙ sym q.2 in
+      let cause_same : m ≡ n = p.3 ∙ ap number_of (one_cause end rest p.0 q.0 p.1 q.1) ∙ sym q.3 in
+      (p.4 ∙ ap (λ r. unlawful_line r m) same ∙ ap (unlawful_line b) cause_same ∙ sym q.4, ap (λ r. IsUnlawful r m) same ∙ ap (IsUnlawful b) cause_same)
+  one_end end rest last other (IsUnlawful a m) (Limit b) p q = absurd (full-low end rest q.0 p.1.within)
+  one_end end rest last other (Limit a) Done p q = absurd (p.0.more q.0)
+  one_end end rest last other (Limit a) (BadRow b) p q = absurd (full-low end rest p.0 q.0.within)
+  one_end end rest last other (Limit a) (IsUnlawful b n) p q = absurd (full-low end rest p.0 q.1.within)
+  one_end end rest last other (Limit a) (Limit b) p q =
+      let same : a ≡ b = p.1 ∙ sym q.1 in
+      (p.2 ∙ ap limit_line same ∙ sym q.2, ap Limit same)
+  one_end end rest last other status Usage p q = absurd q
+  one_end end rest last other status ReadFault p q = absurd q
+  one_end end rest last other status WriteFault p q = absurd q
+  one_end end rest last other status Memory p q = absurd q
   one_end end rest last other Usage ending p q = absurd p
   one_end end rest last other ReadFault ending p q = absurd p
   one_end end rest last other WriteFault ending p q = absurd p
   one_end end rest last other Memory ending p q = absurd p
 
   -- where none can be taken, none more is
-  none_more : (w last : WorldState) (rows : List Row) (bytes rest lines : List ℕ) → IsStuck limit w bytes → ReadsRows rows bytes rest →
-      GoesOn w rows lines last → last.rows ≤ limit → (bytes ≡ rest) × (last ≡ w) × (lines ≡ [])
-  none_more w last [] bytes rest lines stuck reads goes within = (reads, goes.1, goes.0)
-  none_more w last (row ∷ rows) bytes rest lines stuck reads goes within =
-      let more = rows-grow (after w row) last rows goes.1 goes.4 in
-      let next = rows-after w row goes.2.takes in
-      absurd (stuck row reads.0 reads.1 (omega (arith, more, next, within)) goes.2.takes)
+  none_more : (w : Cluster) (rows : List Row) (bytes rest : List ℕ) → IsStuck limit w bytes → ReadsRows rows bytes rest → Lawful w rows →
+      (after_rows w rows).rows ≤ limit → (bytes ≡ rest) × (rows ≡ [])
+  none_more w [] bytes rest stuck reads lawful within = (reads, refl)
+  none_more w (row ∷ rows) bytes rest stuck reads lawful within =
+      let more = rows-grow (next w row) rows in
+      absurd (stuck row reads.0 reads.1 (omega (arith, more, within)) lawful.0)
 
-  pub one_report : (first : WorldState) (bytes report other : List ℕ) (status ending : Status) → IsReport limit first bytes report status →
+  pub one_report : (first : Cluster) (bytes report other : List ℕ) (status ending : Status) → IsReport limit first bytes report status →
       IsReport limit first bytes other ending → (report ≡ other) × (status ≡ ending)
   one_report first bytes report other status ending p q =
-      let far = along first p.end q.end p.comes.rows q.comes.rows bytes p.rest q.rest p.lines q.lines p.comes.reads p.comes.goes p.within q.comes.reads q.comes.goes
-      (stuck-at_end q.end q.rest q.last ending q.says) in
-      let none = none_more p.end q.end far.0 p.rest q.rest far.1 (stuck-at_end p.end p.rest p.last status p.says) far.2 far.3 q.within in
-      let says : Says limit p.end p.rest q.last ending =
-      subst (λ b. Says limit p.end b q.last ending) (sym none.0) (subst (λ s. Says limit s q.rest q.last ending) none.1 q.says) in
-      let same = one_end p.end p.rest p.last q.last status ending p.says says in
-      let lines : q.lines ≡ p.lines = far.4 ∙ ap (λ l. p.lines ++ l) none.2 ∙ append-nil p.lines in (
+      let p_end : p.end ≡ after_rows first p.comes.rows = p.comes.leaves in
+      let q_end : q.end ≡ after_rows first q.comes.rows = q.comes.leaves in
+      let p_says = subst (λ w. Says limit w p.rest p.last status) p_end p.says in
+      let q_says = subst (λ w. Says limit w q.rest q.last ending) q_end q.says in
+      let p_within = subst (λ (w : Cluster). w.rows ≤ limit) p_end p.within in
+      let q_within = subst (λ (w : Cluster). w.rows ≤ limit) q_end q.within in
+      let far = along first p.comes.rows q.comes.rows bytes p.rest q.rest p.comes.reads p.comes.lawful p_within q.comes.reads q.comes.lawful
+      (stuck-at_end (after_rows first q.comes.rows) q.rest q.last ending q_says) in
+      let here = after_rows first p.comes.rows in
+      let none = none_more here far.0 p.rest q.rest (stuck-at_end here p.rest p.last status p_says) far.1 far.2
+      (subst (λ (w : Cluster). w.rows ≤ limit) far.3 q_within) in
+      let there : after_rows first q.comes.rows ≡ here = far.3 ∙ ap (after_rows here) none.1 in
+      let says : Says limit here p.rest q.last ending =
+      subst (λ b. Says limit here b q.last ending) (sym none.0) (subst (λ s. Says limit s q.rest q.last ending) there q_says) in
+      let same = one_end here p.rest p.last q.last status ending p_says says in
+      let lines : q.lines ≡ p.lines =
+      q.comes.told ∙ far.4 ∙ ap (λ r. row_lines first p.comes.rows ++ row_lines here r) none.1 ∙ append-nil (row_lines first p.comes.rows) ∙ sym p.comes.told in (
         p.written ∙ ap (λ l. p.lines ++ l) same.0 ∙ sym (ap (λ l. l ++ q.last) lines) ∙ sym q.written,
         same.1,
       )
 
-  pub begins_report : (first : WorldState) (bytes report : List ℕ) (status : Status) (sink_before sink_now : Option (List ℕ)) →
+  pub begins_report : (first : Cluster) (bytes report : List ℕ) (status : Status) (sink_before sink_now : Option (List ℕ)) →
       IsWrittenInPart limit first bytes sink_before sink_now → IsReport limit first bytes report status → WritesFront sink_before sink_now report
   begins_report first bytes report status sink_before sink_now (InRows now lines rest comes within front) q =
-      let far = along first now q.end comes.rows q.comes.rows bytes rest q.rest lines q.lines comes.reads comes.goes within q.comes.reads q.comes.goes
-      (stuck-at_end q.end q.rest q.last status q.says) in
-      subst (WritesFront sink_before sink_now) (sym (q.written ∙ ap (λ l. l ++ q.last) far.4 ∙ append_assoc lines far.1 q.last))
-      (front-of_more sink_before sink_now lines (far.1 ++ q.last) front)
+      let q_end : q.end ≡ after_rows first q.comes.rows = q.comes.leaves in
+      let q_says = subst (λ w. Says limit w q.rest q.last status) q_end q.says in
+      let far = along first comes.rows q.comes.rows bytes rest q.rest comes.reads comes.lawful (subst (λ (w : Cluster). w.rows ≤ limit) comes.leaves within)
+      q.comes.reads q.comes.lawful (stuck-at_end (after_rows first q.comes.rows) q.rest q.last status q_says) in
+      let behind = row_lines (after_rows first comes.rows) far.0 in
+      let all : q.lines ≡ lines ++ behind = q.comes.told ∙ far.4 ∙ ap (λ l. l ++ behind) (sym comes.told) in
+      subst (WritesFront sink_before sink_now) (sym (q.written ∙ ap (λ l. l ++ q.last) all ∙ append_assoc lines behind q.last))
+      (front-of_more sink_before sink_now lines (behind ++ q.last) front)
   begins_report first bytes report status sink_before sink_now (AtTheEnd other ending told front) q =
       subst (WritesFront sink_before sink_now) (one_report first bytes other report ending status told q).0 front

@@ -7,12 +7,14 @@ use Rattle.allocator_app.specs.InPart.{HasRead, IsReadInPart, IsWrittenInPart}
 use Rattle.allocator_app.specs.InPart.IsWrittenInPart.{InRows}
 use Rattle.allocator_app.specs.Input.{ReadsMore}
 use Rattle.allocator_app.specs.Output.{Grows, WritesFront}
-use Rattle.allocator_app.specs.World.{WorldState}
-use Rattle.allocator_app.specs.Report.{Comes, IsRefused, IsReport, end_lines, not_built_line}
-use Rattle.allocator_app.specs.Rows.{BreaksOff, ReadsRows, TakesRows}
-use Rattle.allocator_app.specs.declared.rows.Rows.TheVariants.{Taken, Refused}
-use Rattle.allocator_app.specs.declared.status.Status.TheVariants.{Done, NotBuilt}
-use Rattle.allocator_app.proofs.Coming.{comes-join, comes-nil}
+use Rattle.world_parts.specs.Cluster.{Cluster}
+use Rattle.world_parts.specs.Promise.{GivesOnce}
+use Rattle.allocator_app.specs.Report.{Goes, IsBegun, IsReport, Says}
+use Rattle.allocator_app.specs.Rows.{BreaksOff, Ends, EndsAt, IsTold, ReadsRows, StopsAt, TakesRows, Waits, WaitsOn, last_of, status_of}
+use Rattle.allocator_app.specs.declared.status.Status.TheVariants.{Memory, ReadFault, WriteFault}
+use Rattle.allocator_app.specs.declared.rows.Rows.{Rows}
+use Rattle.allocator_app.specs.declared.rows.Rows.TheVariants.{Taken, NoRow, Refused, Full}
+use Rattle.allocator_app.proofs.Coming.{goes-join, goes-nil}
 use Rattle.allocator_app.proofs.Written.{flushed, front-behind}
 
 consumed : (ahead came : List ℕ) (left : Option (List ℕ)) → Consumes (Some ahead) left came →
@@ -34,21 +36,21 @@ appends_waiting None b waiting l none p = tt
 appends_waiting (Some x) None waiting l none p = absurd p
 appends_waiting (Some x) (Some y) waiting l none p = ap (λ w. y ++ w) none ∙ append-nil y ∙ p
 
-pub start : (w : WorldState) (bytes : List ℕ) (left sink : Option (List ℕ)) → left ≡ Some bytes → (waiting : List ℕ) → waiting ≡ [] →
+pub start : (w : Cluster) → GivesOnce w → (bytes : List ℕ) (left sink : Option (List ℕ)) → left ≡ Some bytes → (waiting : List ℕ) → waiting ≡ [] →
     Appends sink sink [] → HasRead w w bytes waiting left sink sink
-start w bytes left sink known waiting none same = record {
+start w once bytes left sink known waiting none same = record {
   ahead = bytes;
   left_is = known;
   lines = [];
-  comes = subst (Comes w bytes [] w) (sym (ap (λ v. v ++ bytes) none)) (comes-nil w bytes);
+  goes = subst (Goes w bytes [] w) (sym (ap (λ v. v ++ bytes) none)) (goes-nil w bytes once);
   written = same;
 }
 
 -- a read and the rows that it brought
-module _ (first w now : WorldState) (bytes waiting filled : List ℕ) (left left_now sink sink_before : Option (List ℕ))
+module _ (first w now : Cluster) (bytes waiting filled : List ℕ) (left left_now sink sink_before : Option (List ℕ))
     (read : HasRead first w bytes waiting left sink sink_before) (more : ReadsMore left left_now waiting filled true) where
-  on : (lines rest : List ℕ) → ((more : List ℕ) → Comes w (filled ++ more) lines now (rest ++ more)) →
-      (ahead : List ℕ) × (left_now ≡ Some ahead) × Comes first bytes (read.lines ++ lines) now (rest ++ ahead)
+  on : (lines rest : List ℕ) → ((more : List ℕ) → Goes w (filled ++ more) lines now (rest ++ more)) →
+      (ahead : List ℕ) × (left_now ≡ Some ahead) × Goes first bytes (read.lines ++ lines) now (rest ++ ahead)
   on lines rest comes =
       let front = consumed read.ahead more.came left_now (subst (λ l. Consumes l left_now more.came) read.left_is more.taken) in
       let ahead = front.0 in
@@ -56,63 +58,83 @@ module _ (first w now : WorldState) (bytes waiting filled : List ℕ) (left left
       ap (λ v. waiting ++ v) front.2 ∙ sym (append_assoc waiting more.came ahead) ∙ ap (λ v. v ++ ahead) (sym more.behind) in (
         ahead,
         front.1,
-        comes-join first w now bytes (filled ++ ahead) (rest ++ ahead) read.lines lines (subst (Comes first bytes read.lines w) here read.comes) (comes ahead),
+        goes-join first w now bytes (filled ++ ahead) (rest ++ ahead) read.lines lines (subst (Goes first bytes read.lines w) here read.goes) (comes ahead),
       )
 
 -- all the rows of the read were taken, and what waited was written
-pub read_on : (limit : ℕ) (first w now : WorldState) (bytes waiting filled behind : List ℕ) (left left_now sink sink_before sink_now sink_then : Option (List ℕ))
+pub read_on : (limit : ℕ) (first w now : Cluster) (bytes waiting filled behind : List ℕ) (left left_now sink sink_before sink_now sink_then : Option (List ℕ))
     (output output_now : List ℕ) → HasRead first w bytes waiting left sink sink_before → ReadsMore left left_now waiting filled true → output ≡ [] →
     TakesRows limit w now filled behind sink_before output sink_now output_now Taken → Appends sink_now sink_then output_now →
     HasRead first now bytes behind left_now sink sink_then
 unfolding on
 read_on limit first w now bytes waiting filled behind left left_now sink sink_before sink_now sink_then output output_now read more none took wrote =
-    let went = on first w now bytes waiting filled left left_now sink sink_before read more took.lines took.rest took.comes in
+    let went = on first w now bytes waiting filled left left_now sink sink_before read more took.lines took.rest took.goes in
     let lines = read.lines ++ took.lines in
     record {
       ahead = went.0;
       left_is = went.1;
       lines = lines;
-      comes = subst (λ rest. Comes first bytes lines now (rest ++ went.0)) took.stops went.2;
+      goes = subst (λ rest. Goes first bytes lines now (rest ++ went.0)) took.stops went.2;
       written = flushed sink sink_now sink_then output_now lines
           (written_on sink sink_before sink_now output read.lines took.lines none read.written output_now took.written) wrote;
     }
 
--- a row of the read is refused
-pub read_refused : (limit asked : ℕ) → limit ≡ asked → (first w now : WorldState) (bytes waiting filled behind : List ℕ) (left left_now sink sink_before sink_now : Option (List ℕ))
-    (output output_now : List ℕ) → HasRead first w bytes waiting left sink sink_before → ReadsMore left left_now waiting filled true → output ≡ [] →
-    TakesRows limit w now filled behind sink_before output sink_now output_now Refused → ReadsRows asked first now bytes sink sink_now output_now Refused
+-- where the rows that wait end, and not for want of bytes, the schedule ends, whatever is left
+ends_there : (limit : ℕ) (w : Cluster) (rest behind more : List ℕ) (rows : Rows) → (rows ≡ Taken → ⊥) → StopsAt limit w rest behind rows →
+    EndsAt limit w (rest ++ more) rows
+ends_there limit w rest behind more Taken not stops = absurd (not refl)
+ends_there limit w rest behind more NoRow not stops = stops more
+ends_there limit w rest behind more (Refused why) not stops = stops more
+ends_there limit w rest behind more Full not stops = stops more
+
+-- all of them were taken
+pub took_all : (limit : ℕ) (before now : Cluster) (waiting left : List ℕ) (sink_before : Option (List ℕ)) (output_before : List ℕ) (sink_now : Option (List ℕ))
+    (output_now : List ℕ) (rows : Rows) → rows ≡ Taken → TakesRows limit before now waiting left sink_before output_before sink_now output_now rows →
+    TakesRows limit before now waiting left sink_before output_before sink_now output_now Taken
+took_all limit before now waiting left sink_before output_before sink_now output_now rows all took =
+    subst (TakesRows limit before now waiting left sink_before output_before sink_now output_now) all took
+
+pub waited_on : (limit rows_before rows_now : ℕ) (before now : List ℕ) (rows : Rows) → rows ≡ Taken → Waits limit rows_before rows_now before now rows →
+    WaitsOn limit rows_before rows_now before now
+waited_on limit rows_before rows_now before now rows all waits = subst (Waits limit rows_before rows_now before now) all waits
+
+-- a row of the read is not taken
+pub read_stopped : (limit : ℕ) → (first w now : Cluster) (bytes waiting filled behind : List ℕ) (left left_now sink sink_before sink_now : Option (List ℕ))
+    (output output_now : List ℕ) (rows : Rows) → (rows ≡ Taken → ⊥) → HasRead first w bytes waiting left sink sink_before →
+    ReadsMore left left_now waiting filled true → output ≡ [] →
+    TakesRows limit w now filled behind sink_before output sink_now output_now rows → ReadsRows limit first now bytes sink sink_now output_now rows
 unfolding on
-read_refused limit asked same first w now bytes waiting filled behind left left_now sink sink_before sink_now output output_now read more none took =
-    let went = on first w now bytes waiting filled left left_now sink sink_before read more took.lines took.rest took.comes in
+read_stopped limit first w now bytes waiting filled behind left left_now sink sink_before sink_now output output_now rows not read more none took =
+    let went = on first w now bytes waiting filled left left_now sink sink_before read more took.lines took.rest took.goes in
     record {
       lines = read.lines ++ took.lines;
       rest = took.rest ++ went.0;
-      comes = went.2;
-      ends = subst (λ n. IsRefused n now (took.rest ++ went.0)) same (took.stops went.0);
+      goes = went.2;
+      ends = ends_there limit now took.rest behind went.0 rows not took.stops;
       written = written_on sink sink_before sink_now output read.lines took.lines none read.written output_now took.written;
     }
 
 -- the sink fails while the rows of the read are taken
-pub rows_in_part : (limit asked : ℕ) → limit ≡ asked → (first w now : WorldState) (bytes waiting filled : List ℕ) (left left_now sink sink_before sink_now : Option (List ℕ))
+pub rows_in_part : (limit : ℕ) → (first w now : Cluster) (bytes waiting filled : List ℕ) (left left_now sink sink_before sink_now : Option (List ℕ))
     (output : List ℕ) → HasRead first w bytes waiting left sink sink_before → ReadsMore left left_now waiting filled true → output ≡ [] →
-    Grows sink sink_before → now.rows ≤ limit → BreaksOff w now filled sink_before output sink_now → IsWrittenInPart asked first bytes sink sink_now
+    Grows sink sink_before → now.rows ≤ limit → BreaksOff w now filled sink_before output sink_now → IsWrittenInPart limit first bytes sink sink_now
 unfolding on
-rows_in_part limit asked same first w now bytes waiting filled left left_now sink sink_before sink_now output read more none grew within broke =
-    let went = on first w now bytes waiting filled left left_now sink sink_before read more broke.lines broke.rest broke.comes in
-    InRows now (read.lines ++ broke.lines) (broke.rest ++ went.0) went.2 (omega (arith, within, same))
+rows_in_part limit first w now bytes waiting filled left left_now sink sink_before sink_now output read more none grew within broke =
+    let went = on first w now bytes waiting filled left left_now sink sink_before read more broke.lines broke.rest broke.goes in
+    InRows now (read.lines ++ broke.lines) (broke.rest ++ went.0) went.2.comes within
     (front-behind sink sink_before sink_now [] read.lines broke.lines grew (appends_waiting sink sink_before [] read.lines refl read.written)
     (subst (λ o. WritesFront sink_before sink_now (o ++ broke.lines)) none broke.written))
 
 -- the sink fails when what the rows of the read tell is handed to it
-pub flush_in_part : (limit asked : ℕ) → limit ≡ asked → (first w now : WorldState) (bytes waiting filled behind : List ℕ) (left left_now sink sink_before sink_now sink_then : Option (List ℕ))
+pub flush_in_part : (limit : ℕ) → (first w now : Cluster) (bytes waiting filled behind : List ℕ) (left left_now sink sink_before sink_now sink_then : Option (List ℕ))
     (output output_now : List ℕ) → HasRead first w bytes waiting left sink sink_before → ReadsMore left left_now waiting filled true → output ≡ [] →
     Grows sink sink_now → now.rows ≤ limit → TakesRows limit w now filled behind sink_before output sink_now output_now Taken →
-    WritesFront sink_now sink_then output_now → IsWrittenInPart asked first bytes sink sink_then
+    WritesFront sink_now sink_then output_now → IsWrittenInPart limit first bytes sink sink_then
 unfolding on
-flush_in_part limit asked same first w now bytes waiting filled behind left left_now sink sink_before sink_now sink_then output output_now read more none grew within took front =
-    let went = on first w now bytes waiting filled left left_now sink sink_before read more took.lines took.rest took.comes in
+flush_in_part limit first w now bytes waiting filled behind left left_now sink sink_before sink_now sink_then output output_now read more none grew within took front =
+    let went = on first w now bytes waiting filled left left_now sink sink_before read more took.lines took.rest took.goes in
     let lines = read.lines ++ took.lines in
-    InRows now lines (took.rest ++ went.0) went.2 (omega (arith, within, same))
+    InRows now lines (took.rest ++ went.0) went.2.comes within
     (subst (WritesFront sink sink_then) (append-nil lines) (front-behind sink sink_now sink_then output_now lines [] grew
     (written_on sink sink_before sink_now output read.lines took.lines none read.written output_now took.written)
     (subst (WritesFront sink_now sink_then) (sym (append-nil output_now)) front)))
@@ -123,15 +145,15 @@ kept None left_now ahead e h = cc
 kept (Some x) None ahead e h = absurd h
 kept (Some x) (Some y) ahead e h = ap Some h ∙ e
 
-pub read_in_part : (limit asked : ℕ) → limit ≡ asked → (first w : WorldState) (bytes waiting : List ℕ) (left left_now sink sink_now : Option (List ℕ)) →
+pub read_in_part : (limit : ℕ) → (first w : Cluster) (bytes waiting : List ℕ) (left left_now sink sink_now : Option (List ℕ)) →
     HasRead first w bytes waiting left sink sink_now → Keeps left left_now → after_line waiting ≡ None → w.rows ≤ limit →
-    IsReadInPart asked first bytes left_now sink sink_now
-read_in_part limit asked same first w bytes waiting left left_now sink sink_now read keeps unended within = record {
+    IsReadInPart limit first bytes left_now sink sink_now
+read_in_part limit first w bytes waiting left left_now sink sink_now read keeps unended within = record {
   now = w;
   waiting = waiting;
-  read = record { ahead = read.ahead; left_is = kept left left_now read.ahead read.left_is keeps; lines = read.lines; comes = read.comes; written = read.written };
+  read = record { ahead = read.ahead; left_is = kept left left_now read.ahead read.left_is keeps; lines = read.lines; goes = read.goes; written = read.written };
   unended = unended;
-  within = omega (arith, within, same);
+  within = within;
 }
 
 -- ---- the end of the input
@@ -150,7 +172,7 @@ waits_only left left_now ahead waiting filled known more =
       more.behind ∙ ap (λ v. waiting ++ v) nothing ∙ append-nil waiting,
     )
 
-pub ended_taken : (limit : ℕ) (first w : WorldState) (bytes waiting filled : List ℕ) (left left_now sink sink_now : Option (List ℕ)) (output : List ℕ) →
+pub ended_taken : (limit : ℕ) (first w : Cluster) (bytes waiting filled : List ℕ) (left left_now sink sink_now : Option (List ℕ)) (output : List ℕ) →
     HasRead first w bytes waiting left sink sink_now → ReadsMore left left_now waiting filled false → output ≡ [] → filled ≡ [] →
     ReadsRows limit first w bytes sink sink_now output Taken
 ended_taken limit first w bytes waiting filled left left_now sink sink_now output read more none empty =
@@ -159,24 +181,27 @@ ended_taken limit first w bytes waiting filled left left_now sink sink_now outpu
     record {
       lines = read.lines;
       rest = [];
-      comes = subst (Comes first bytes read.lines w) nothing read.comes;
+      goes = subst (Goes first bytes read.lines w) nothing read.goes;
       ends = refl;
       written = appends_waiting sink sink_now output read.lines none read.written;
     }
 
-pub ended_refused : (limit : ℕ) (first w : WorldState) (bytes waiting filled : List ℕ) (left left_now sink sink_now : Option (List ℕ)) (output : List ℕ) →
+pub ended_unended : (limit : ℕ) (first w : Cluster) (bytes waiting filled : List ℕ) (left left_now sink sink_now : Option (List ℕ)) (output : List ℕ) →
     HasRead first w bytes waiting left sink sink_now → ReadsMore left left_now waiting filled false → output ≡ [] → (filled ≡ [] → ⊥) →
-    after_line waiting ≡ None → ReadsRows limit first w bytes sink sink_now output Refused
-ended_refused limit first w bytes waiting filled left left_now sink sink_now output read more none some unended =
+    after_line waiting ≡ None → (waiting ≡ []) ⊎ (w.rows < limit) → ReadsRows limit first w bytes sink sink_now output NoRow
+ended_unended limit first w bytes waiting filled left left_now sink sink_now output read more none some unended another =
     let only = waits_only left left_now read.ahead waiting filled read.left_is more in
     let rest : waiting ++ read.ahead ≡ waiting = ap (λ v. waiting ++ v) only.0 ∙ append-nil waiting in
     record {
       lines = read.lines;
       rest = waiting;
-      comes = subst (Comes first bytes read.lines w) rest read.comes;
+      goes = subst (Goes first bytes read.lines w) rest read.goes;
       ends = record {
-        left = λ e. some (only.1 ∙ e);
-        refused = λ row next begins within takes. let e : Some next ≡ None = sym begins.ended ∙ unended in cc;
+        within = elim another [ inl empty ↦ absurd (some (only.1 ∙ empty)) | inr low ↦ low ];
+        bad = record {
+          left = λ e. some (only.1 ∙ e);
+          bad = λ row next begins. let e : Some next ≡ None = sym begins.ended ∙ unended in cc;
+        };
       };
       written = appends_waiting sink sink_now output read.lines none read.written;
     }
@@ -194,29 +219,56 @@ some_length (x ∷ xs) h = omega arith
 
 -- ---- the end of the report
 
-pub report_done : (limit asked : ℕ) → limit ≡ asked → (first end : WorldState) (bytes output : List ℕ) (sink sink_now : Option (List ℕ)) → end.rows ≤ limit →
-    (read : ReadsRows limit first end bytes sink sink_now output Taken) → IsReport asked first bytes (read.lines ++ end_lines end) Done
-report_done limit asked same first end bytes output sink sink_now within read = record {
+-- what is said of the end, by how the rows ended
+says : (limit : ℕ) (end : Cluster) (rest : List ℕ) (rows : Rows) → EndsAt limit end rest rows → Says limit end rest (last_of rows end) (status_of rows end.rows)
+says limit end rest Taken ends = (ends, refl)
+says limit end rest NoRow ends = (ends, refl, refl)
+says limit end rest (Refused why) ends = (why, ends, refl, refl, refl)
+says limit end rest Full ends = (ends, refl, refl)
+
+pub report_of : (limit : ℕ) (first end : Cluster) (bytes output : List ℕ) (sink sink_now : Option (List ℕ)) (rows : Rows) → end.rows ≤ limit →
+    (read : ReadsRows limit first end bytes sink sink_now output rows) → IsReport limit first bytes (read.lines ++ last_of rows end) (status_of rows end.rows)
+report_of limit first end bytes output sink sink_now rows within read = record {
   end = end;
   rest = read.rest;
   lines = read.lines;
-  last = end_lines end;
-  comes = read.comes;
-  within = omega (arith, within, same);
-  says = (read.ends, refl);
+  last = last_of rows end;
+  comes = read.goes.comes;
+  within = within;
+  says = says limit end read.rest rows read.ends;
   written = refl;
 }
 
-pub report_not_built : (limit asked : ℕ) → limit ≡ asked → (first end : WorldState) (bytes output : List ℕ) (sink sink_now : Option (List ℕ)) (row : ℕ) →
-    end.rows ≤ limit → row ≡ end.rows + 1 → (read : ReadsRows limit first end bytes sink sink_now output Refused) →
-    IsReport asked first bytes (read.lines ++ not_built_line end) (NotBuilt row)
-report_not_built limit asked same first end bytes output sink sink_now row within number read = record {
-  end = end;
-  rest = read.rest;
-  lines = read.lines;
-  last = not_built_line end;
-  comes = read.comes;
-  within = omega (arith, within, same);
-  says = (subst (λ n. IsRefused n end read.rest) same read.ends, number, refl);
-  written = refl;
+-- the report was written, and along its rows each allocator kept its word
+pub told_of : (limit : ℕ) (first end : Cluster) (bytes output : List ℕ) (sink sink_now sink_then : Option (List ℕ)) (rows : Rows) → end.rows ≤ limit →
+    (read : ReadsRows limit first end bytes sink sink_now output rows) → Appends sink sink_then (read.lines ++ last_of rows end) →
+    IsTold (status_of rows end.rows) limit first bytes sink sink_then
+unfolding report_of
+told_of limit first end bytes output sink sink_now sink_then rows within read wrote = record {
+  report = read.lines ++ last_of rows end;
+  is = report_of limit first end bytes output sink sink_now rows within read;
+  kept = read.goes.kept;
+  written = wrote;
 }
+
+-- ---- the statuses of reports
+
+pub ends_told : (limit : ℕ) (first : Cluster) (bytes : List ℕ) (left sink sink_now : Option (List ℕ)) (rows : Rows) (count : ℕ) →
+    IsTold (status_of rows count) limit first bytes sink sink_now → Ends (status_of rows count) limit first bytes left sink sink_now
+ends_told limit first bytes left sink sink_now Taken count told = told
+ends_told limit first bytes left sink sink_now NoRow count told = told
+ends_told limit first bytes left sink sink_now (Refused why) count told = told
+ends_told limit first bytes left sink sink_now Full count told = told
+
+pub is_begun : (rows : Rows) (count : ℕ) → IsBegun (status_of rows count)
+is_begun Taken count = tt
+is_begun NoRow count = tt
+is_begun (Refused why) count = tt
+is_begun Full count = tt
+
+-- none of them tells of a fault, nor of want of memory
+pub is_no_fault : (rows : Rows) (count : ℕ) → (status_of rows count ≡ Memory → ⊥) × (status_of rows count ≡ ReadFault → ⊥) × (status_of rows count ≡ WriteFault → ⊥)
+is_no_fault Taken count = (λ e. cc, λ e. cc, λ e. cc)
+is_no_fault NoRow count = (λ e. cc, λ e. cc, λ e. cc)
+is_no_fault (Refused why) count = (λ e. cc, λ e. cc, λ e. cc)
+is_no_fault Full count = (λ e. cc, λ e. cc, λ e. cc)

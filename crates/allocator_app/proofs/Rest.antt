@@ -1,27 +1,49 @@
 -- What the loop over the rows that wait comes to.
-use Rattle.std.proofs.Common.{◌≡◌, ◌++◌, ℕ, List, sym, subst}
+use Rattle.std.proofs.Common.{◌≡◌, ◌++◌, ℕ, List, [], sym, subst, arith}
 use Rattle.std.specs.declared.option.Option.{Option}
 use Rattle.std.specs.Io.KnownBytes.{Appends, append_known}
-use Rattle.allocator_app.specs.World.{WorldState}
-use Rattle.allocator_app.specs.Stands.{Reaches, StandsFor, WorldView}
-use Rattle.allocator_app.specs.Report.{Comes}
+use Rattle.outside.specs.declared.pattern.Pattern.{Pattern}
+use Rattle.outside.specs.declared.pattern.Pattern.TheVariants.{Old, New, Bytes}
+use Rattle.disk_model.specs.Pattern.{IsUsable}
+use Rattle.replay_text.specs.declared.row.Row.{Row}
+use Rattle.replay_text.specs.declared.row.Row.TheVariants.{Crash}
+use Rattle.replay_text.specs.Schedule.{IsPattern, IsRow}
+use Rattle.bus_world.specs.declared.world.World.{World}
+use Rattle.bus_world.specs.World.{StandsFor}
+use Rattle.world_parts.specs.Cluster.{Cluster}
+use Rattle.allocator_app.specs.Input.{FindsRow}
+use Rattle.allocator_app.specs.Reaching.{Reaches}
+use Rattle.allocator_app.specs.Report.{Goes}
 use Rattle.allocator_app.specs.Rows.{StopsAt, TakesRows}
 use Rattle.allocator_app.specs.declared.rows.Rows.{Rows}
 
 -- rows were taken so far, and what they tell was written or waits to be
-abbrev pub TakesSome : WorldState → WorldState → List ℕ → List ℕ → Option (List ℕ) → List ℕ → Option (List ℕ) → List ℕ → Type 0
+abbrev pub TakesSome : Cluster → Cluster → List ℕ → List ℕ → Option (List ℕ) → List ℕ → Option (List ℕ) → List ℕ → Type 0
 TakesSome first now waiting rest sink output sink_now output_now =
-    (lines : List ℕ) × ((more : List ℕ) → Comes first (waiting ++ more) lines now (rest ++ more))
+    (lines : List ℕ) × ((more : List ℕ) → Goes first (waiting ++ more) lines now (rest ++ more))
     × Appends (append_known sink output) (append_known sink_now output_now) lines
 
 -- where they stop, the world being as it is
-pub rows_taken : (old here new : WorldView) (waiting rest left : List ℕ) (sink : Option (List ℕ)) (output : List ℕ) (sink_now : Option (List ℕ))
+pub rows_taken : {F : Type 0} (limit : ℕ) (old here new : World F) (waiting rest left : List ℕ) (sink : Option (List ℕ)) (output : List ℕ) (sink_now : Option (List ℕ))
     (output_now : List ℕ) (rows : Rows) → new ≡ here → Reaches old here (λ first now. TakesSome first now waiting rest sink output sink_now output_now) →
-    ((w : WorldState) → StandsFor here w → StopsAt old.limit w rest left rows) →
-    Reaches old new (λ first now. TakesRows old.limit first now waiting left sink output sink_now output_now rows)
-rows_taken old here new waiting rest left sink output sink_now output_now rows same came stops = λ first is.
+    ((w : Cluster) → StandsFor here w → StopsAt limit w rest left rows) →
+    Reaches old new (λ first now. TakesRows limit first now waiting left sink output sink_now output_now rows)
+rows_taken {F} limit old here new waiting rest left sink output sink_now output_now rows same came stops = λ first is.
     let so_far = came first is in (
       so_far.0,
-      subst (λ view. StandsFor view so_far.0) (sym same) so_far.1,
-      record { lines = so_far.2.0; rest = rest; comes = so_far.2.1; stops = stops so_far.0 so_far.1; written = so_far.2.2 },
+      subst (λ world. StandsFor world so_far.0) (sym same) so_far.1,
+      record { lines = so_far.2.0; rest = rest; goes = so_far.2.1; stops = stops so_far.0 so_far.1; written = so_far.2.2 },
     )
+
+-- ---- patterns of rows that are read have a byte at least
+
+usable : (pattern : Pattern) → IsPattern pattern → IsUsable pattern
+usable Old is = tt
+usable New is = tt
+usable (Bytes bytes) is = let some = is.filled in omega (arith, some)
+
+in_row : (row : Row) (n calls : ℕ) (pattern : Pattern) → row ≡ Crash n calls pattern → IsRow row → IsUsable pattern
+in_row row n calls pattern is fields = usable pattern (subst IsRow is fields).2
+
+pub read_usable : (row : Row) (before behind : List ℕ) → FindsRow row before behind → (n calls : ℕ) (pattern : Pattern) → row ≡ Crash n calls pattern → IsUsable pattern
+read_usable row before behind found n calls pattern is = in_row row n calls pattern is (found.begins []).reads.fields

@@ -5,6 +5,7 @@ use Rattle.std.specs.declared.option.Option.{Option}
 use Rattle.std.specs.Io.KnownBytes.{Appends, append_known}
 use Rattle.std.proofs.KnownBytes.{Appends-nil, Appends-trans}
 use Rattle.std.specs.Prelude.{IsOk, IsErr, OnOk, OnErr}
+use Rattle.outside.specs.declared.failed.Failed.{Failed}
 use Rattle.allocator_app.specs.Output.{Grows, Writes, WritesFront, WritesLast}
 
 pub grows-refl : (a : Option (List ℕ)) → Grows a a
@@ -112,3 +113,12 @@ module _ {T E : Type 0} where
     err = subst (λ l. WritesFront a c (waited ++ l)) (append-nil piece)
         (front-on a b c waited mid piece [] grew wrote (front-of_more b c mid [] failed));
   }
+
+-- all that was to be written so far was
+pub writes-so_far : (a b : Option (List ℕ)) (waited waits piece all : List ℕ) → piece ≡ all → Grows a b →
+    Appends (append_known a waited) (append_known b waits) piece → Writes {T = Unit {0}} {E = Failed} a waited b waits all (Ok (tt {0}))
+writes-so_far a b waited waits piece all same grew wrote = record {
+  ok = subst (Appends (append_known a waited) (append_known b waits)) same wrote;
+  grew = grew;
+  err = tt;
+}

@@ -3,30 +3,30 @@ use Rattle.std.specs.Prelude.{◌≡◌, ◌≤◌, ℕ, List, ◌++◌, Option,
 use Rattle.std.specs.Io.KnownBytes.{Appends}
 use Rattle.replay_text.specs.Lines.{after_line}
 use Rattle.allocator_app.specs.Output.{WritesFront}
-use Rattle.allocator_app.specs.Report.{Comes, IsReport}
-use Rattle.allocator_app.specs.World.{WorldState}
+use Rattle.allocator_app.specs.Report.{Comes, Goes, IsReport}
+use Rattle.world_parts.specs.Cluster.{Cluster}
 use Rattle.allocator_app.specs.declared.status.Status.{Status}
 
 -- so far: some of the schedule's bytes were read, and all that their rows tell was written; some bytes
 -- behind these rows were read too and wait, and the others are left in the source
-pub record HasRead (first now : WorldState) (bytes waiting : List ℕ) (left sink_before sink_now : Option (List ℕ)) : Type 0 where
+pub record HasRead (first now : Cluster) (bytes waiting : List ℕ) (left sink_before sink_now : Option (List ℕ)) : Type 0 where
   pub ahead : List ℕ
   pub left_is : left ≡ Some ahead
   pub lines : List ℕ
-  pub comes : Comes first bytes lines now (waiting ++ ahead)
+  pub goes : Goes first bytes lines now (waiting ++ ahead)
   pub written : Appends sink_before sink_now lines
 
 -- the source failed: the lines of exactly the rows whose line feeds were read are written
-pub record IsReadInPart (limit : ℕ) (first : WorldState) (bytes : List ℕ) (left sink_before sink_now : Option (List ℕ)) : Type 0 where
-  pub now : WorldState
+pub record IsReadInPart (limit : ℕ) (first : Cluster) (bytes : List ℕ) (left sink_before sink_now : Option (List ℕ)) : Type 0 where
+  pub now : Cluster
   pub waiting : List ℕ
   pub read : HasRead first now bytes waiting left sink_before sink_now
   pub unended : after_line waiting ≡ None
   pub within : now.rows ≤ limit
 
 -- the sink failed: it has a front of the lines of some rows that were taken, or of the whole report
-pub data IsWrittenInPart (limit : ℕ) (first : WorldState) (bytes : List ℕ) (sink_before sink_now : Option (List ℕ)) : Type 0 where
-  InRows : (now : WorldState) (lines rest : List ℕ) → Comes first bytes lines now rest → now.rows ≤ limit →
+pub data IsWrittenInPart (limit : ℕ) (first : Cluster) (bytes : List ℕ) (sink_before sink_now : Option (List ℕ)) : Type 0 where
+  InRows : (now : Cluster) (lines rest : List ℕ) → Comes first bytes lines now rest → now.rows ≤ limit →
       WritesFront sink_before sink_now lines → IsWrittenInPart limit first bytes sink_before sink_now
   AtTheEnd : (report : List ℕ) (status : Status) → IsReport limit first bytes report status →
       WritesFront sink_before sink_now report → IsWrittenInPart limit first bytes sink_before sink_now

@@ -1,13 +1,9 @@
-pub mod Allocator
-pub mod Bytes
 pub mod Codes
 pub mod InPart
 pub mod Input
-pub mod Member
+pub mod Logs
 pub mod Output
-pub mod Promise
+pub mod Reaching
 pub mod Report
 pub mod Rows
-pub mod Stands
 pub mod Words
-pub mod World

@@ -1,75 +1,69 @@
 -- The report of a schedule.
-use Rattle.std.specs.Prelude.{◌≡◌, ◌≢◌, ◌≤◌, ◌<◌, ℕ, ◌+◌, List, [], ◌∷◌, ◌++◌, take, codes, decimal, Option, Some, None}
+use Rattle.std.specs.Prelude.{◌≡◌, ◌≢◌, ◌≤◌, ◌<◌, ℕ, ◌+◌, List, [], ◌++◌, codes, decimal, Some}
 use Rattle.replay_text.specs.declared.row.Row.{Row}
-use Rattle.replay_text.specs.declared.told.Told.{Told}
-use Rattle.replay_text.specs.Report.{told_line}
-use Rattle.replay_text.specs.Lines.{BeginsWith, ReadsRows}
-use Rattle.can_frame.specs.declared.entry.Entry.{Entry}
-use Rattle.hex.specs.Hex.{encode_lower}
-use Rattle.allocator_app.specs.Member.{MemberState}
+use Rattle.replay_text.specs.Lines.{BeginsWith, BeginsWithNoRow, ReadsRows}
+use Rattle.world_parts.specs.Cluster.{Cluster, after_rows, cluster}
+use Rattle.world_parts.specs.Lawful.{Lawful, cause, number_of}
+use Rattle.world_parts.specs.Promise.{KeepsItsWord}
+use Rattle.world_parts.specs.Report.{end_lines, row_lines}
+use Rattle.world_parts.specs.declared.unlawful.Unlawful.{Unlawful}
 use Rattle.allocator_app.specs.Words.{IsReplay}
 use Rattle.allocator_app.specs.declared.status.Status.{Status}
-use Rattle.allocator_app.specs.declared.status.Status.TheVariants.{Done, Usage, NotBuilt}
-use Rattle.allocator_app.specs.World.{WorldState, Takes, Tells, after, empty_world}
+use Rattle.allocator_app.specs.declared.status.Status.TheVariants.{Done, Usage, BadRow, Unlawful as IsUnlawful, Limit}
 
--- the world takes the row and tells this line of it
-pub record Goes (w : WorldState) (row : Row) (line : List ℕ) : Type 0 where
-  pub takes : Takes w row
-  pub told : Told
-  pub tells : Tells w row told
-  pub written : line ≡ told_line (w.rows + 1) told
-
--- the world takes the rows, one after the other, and these lines tell of them
-abbrev pub GoesOn : WorldState → List Row → List ℕ → WorldState → Type 0
-GoesOn w [] lines end = (lines ≡ []) × (end ≡ w)
-GoesOn w (row ∷ rows) lines end = (line rest : List ℕ) × Goes w row line × (lines ≡ line ++ rest) × GoesOn (after w row) rows rest end
-
--- rows were taken from the front of the bytes, up to a world and the rest of the bytes, and these lines tell of them
-pub record Comes (first : WorldState) (bytes lines : List ℕ) (now : WorldState) (rest : List ℕ) : Type 0 where
+-- lawful rows were taken from the front of the bytes, up to a world and the rest of the bytes, and these lines tell of them
+pub record Comes (first : Cluster) (bytes lines : List ℕ) (now : Cluster) (rest : List ℕ) : Type 0 where
   pub rows : List Row
   pub reads : ReadsRows rows bytes rest
-  pub goes : GoesOn first rows lines now
+  pub lawful : Lawful first rows
+  pub told : lines ≡ row_lines first rows
+  pub leaves : now ≡ after_rows first rows
 
--- some bytes are left, and no row that may still come and that the world takes is read from them
-pub record IsRefused (limit : ℕ) (w : WorldState) (bytes : List ℕ) : Type 0 where
-  pub left : bytes ≢ []
-  pub refused : (row : Row) (rest : List ℕ) → BeginsWith row bytes rest → w.rows < limit → Takes w row → ⊥
+-- and along them each allocator keeps its word
+pub record Goes (first : Cluster) (bytes lines : List ℕ) (now : Cluster) (rest : List ℕ) : Type 0 where
+  pub comes : Comes first bytes lines now rest
+  pub kept : KeepsItsWord first comes.rows
 
--- an entry at its place, counted from 1
-abbrev pub entry_line : ℕ → Entry → List ℕ
-entry_line place entry = decimal place ++ codes " " ++ decimal entry.node ++ codes " " ++ encode_lower entry.uid ++ codes "\n"
+-- ---- how a schedule ends behind the rows that were taken
 
--- entries from a place on
-abbrev pub entry_lines : ℕ → List Entry → List ℕ
-entry_lines place [] = []
-entry_lines place (entry ∷ log) = entry_line place entry ++ entry_lines (place + 1) log
+-- the next row may still come, and the bytes are none: no line feed ends them, their line is too long, or no row has this line
+pub record IsBadRow (limit : ℕ) (w : Cluster) (rest : List ℕ) : Type 0 where
+  pub within : w.rows < limit
+  pub bad : BeginsWithNoRow rest
 
--- the commit index of a running member
-abbrev pub log_line : ℕ → ℕ → List ℕ
-log_line id commit = codes "log " ++ decimal id ++ codes " " ++ decimal commit ++ codes "\n"
+-- the next row may still come, and the world refuses it for this cause
+pub record IsRefused (limit : ℕ) (w : Cluster) (rest : List ℕ) (why : Unlawful) : Type 0 where
+  pub within : w.rows < limit
+  pub row : Row
+  pub behind : List ℕ
+  pub begins : BeginsWith row rest behind
+  pub refused : cause w row ≡ Some why
 
--- a running member tells of its commit index and of each committed entry
-abbrev pub log_lines : ℕ → Option MemberState → List ℕ
-log_lines id None = []
-log_lines id (Some m) = log_line id m.allocator.commit ++ entry_lines 1 (take m.allocator.commit m.allocator.log)
+-- all rows that may come were taken, and more bytes come
+pub record IsBeyond (limit : ℕ) (w : Cluster) (rest : List ℕ) : Type 0 where
+  pub full : w.rows ≡ limit
+  pub more : rest ≢ []
 
--- the number of rows that were taken
-abbrev pub end_line : ℕ → List ℕ
-end_line rows = codes "end " ++ decimal rows ++ codes "\n"
+-- ---- the last line
 
--- the last lines of a report
-abbrev pub end_lines : WorldState → List ℕ
-end_lines w = log_lines w.id w.member ++ end_line w.rows
+abbrev pub bad_row_line : ℕ → List ℕ
+bad_row_line row = codes "bad row " ++ decimal row ++ codes "\n"
 
--- the last line where the next row is not built
-abbrev pub not_built_line : WorldState → List ℕ
-not_built_line w = codes "not built " ++ decimal (w.rows + 1) ++ codes "\n"
+abbrev pub unlawful_line : ℕ → ℕ → List ℕ
+unlawful_line row number = codes "unlawful " ++ decimal row ++ codes " " ++ decimal number ++ codes "\n"
 
--- what a run says of a schedule: all its bytes are rows that are taken, and the report ends with the end lines; or the
--- rows before the next one are, and the report ends with the number of that row
-abbrev pub Says : ℕ → WorldState → List ℕ → List ℕ → Status → Type 0
+abbrev pub limit_line : ℕ → List ℕ
+limit_line row = codes "limit " ++ decimal row ++ codes "\n"
+
+-- ---- what a run says of a schedule
+
+-- all its bytes are rows that were taken; or the rows before the next one were, and the last line tells its number, and why
+abbrev pub Says : ℕ → Cluster → List ℕ → List ℕ → Status → Type 0
 Says limit w rest last Done = (rest ≡ []) × (last ≡ end_lines w)
-Says limit w rest last (NotBuilt row) = IsRefused limit w rest × (row ≡ w.rows + 1) × (last ≡ not_built_line w)
+Says limit w rest last (BadRow row) = IsBadRow limit w rest × (row ≡ w.rows + 1) × (last ≡ bad_row_line row)
+Says limit w rest last (IsUnlawful row number) = (why : Unlawful) × IsRefused limit w rest why × (row ≡ w.rows + 1) × (number ≡ number_of why)
+    × (last ≡ unlawful_line row number)
+Says limit w rest last (Limit row) = IsBeyond limit w rest × (row ≡ w.rows + 1) × (last ≡ limit_line row)
 Says limit w rest last _ = ⊥
 
 -- the status of a run whose words were read
@@ -80,12 +74,14 @@ IsBegun _ = Unit {0}
 -- the status of a run that no fault ended, and that had words to begin with
 abbrev pub IsToTheEnd : Status → Type 0
 IsToTheEnd Done = Unit {0}
-IsToTheEnd (NotBuilt row) = Unit {0}
+IsToTheEnd (BadRow row) = Unit {0}
+IsToTheEnd (IsUnlawful row number) = Unit {0}
+IsToTheEnd (Limit row) = Unit {0}
 IsToTheEnd _ = ⊥
 
 -- the report of a schedule of at most so many rows, from a world on, and the status that it comes with
-pub record IsReport (limit : ℕ) (first : WorldState) (bytes report : List ℕ) (status : Status) : Type 0 where
-  pub end : WorldState
+pub record IsReport (limit : ℕ) (first : Cluster) (bytes report : List ℕ) (status : Status) : Type 0 where
+  pub end : Cluster
   pub rest : List ℕ
   pub lines : List ℕ
   pub last : List ℕ
@@ -97,6 +93,6 @@ pub record IsReport (limit : ℕ) (first : WorldState) (bytes report : List ℕ)
 -- the report that the words ask for
 pub record IsReplayed (words : List (List ℕ)) (bytes report : List ℕ) (status : Status) : Type 0 where
   pub limit : ℕ
-  pub id : ℕ
-  pub words_read : IsReplay limit id words
-  pub told : IsReport limit (empty_world id) bytes report status
+  pub ids : List ℕ
+  pub words_read : IsReplay limit ids words
+  pub told : IsReport limit (cluster ids) bytes report status

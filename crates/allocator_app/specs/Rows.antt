@@ -1,58 +1,95 @@
 -- What the loops of a run come to, and how a run ends.
-use Rattle.std.specs.Prelude.{◌≡◌, ◌≤◌, ◌<◌, ◌⊎◌, ℕ, List, [], ◌∷◌, ◌++◌, length, Option, None}
+use Rattle.std.specs.Prelude.{◌≡◌, ◌≤◌, ◌<◌, ◌⊎◌, ℕ, ◌+◌, List, [], ◌++◌, length, Option, None}
 use Rattle.std.specs.Io.KnownBytes.{Appends, append_known}
 use Rattle.outside.specs.Faults.{Rose}
 use Rattle.replay_text.specs.Lines.{after_line}
-use Rattle.allocator_app.specs.World.{WorldState, empty_world}
+use Rattle.world_parts.specs.Cluster.{Cluster, cluster}
+use Rattle.world_parts.specs.Lawful.{number_of}
+use Rattle.world_parts.specs.Promise.{KeepsItsWord}
+use Rattle.world_parts.specs.Report.{all_logs, end_line}
 use Rattle.allocator_app.specs.declared.plans.Plan.{Plan}
 use Rattle.allocator_app.specs.declared.plans.Plan.TheVariants.{Replay}
 use Rattle.allocator_app.specs.InPart.{IsReadInPart, IsWrittenInPart}
 use Rattle.allocator_app.specs.Output.{WritesFront}
-use Rattle.allocator_app.specs.Report.{Comes, IsRefused, IsReport}
+use Rattle.allocator_app.specs.Report.{Goes, IsBadRow, IsBeyond, IsRefused, IsReport, bad_row_line, limit_line, unlawful_line}
 use Rattle.allocator_app.specs.declared.rows.Rows.{Rows}
-use Rattle.allocator_app.specs.declared.rows.Rows.TheVariants.{Taken, Refused}
+use Rattle.allocator_app.specs.declared.rows.Rows.TheVariants.{Taken, NoRow, Refused, Full}
 use Rattle.allocator_app.specs.declared.rows.Fault.{Fault}
 use Rattle.allocator_app.specs.declared.rows.Fault.TheVariants.{Source, Sink}
 use Rattle.allocator_app.specs.declared.status.Status.{Status}
-use Rattle.allocator_app.specs.declared.status.Status.TheVariants.{Done, Usage, ReadFault, WriteFault, Memory, NotBuilt}
+use Rattle.allocator_app.specs.declared.status.Status.TheVariants.{Done, Usage, BadRow, Unlawful, ReadFault, WriteFault, Memory, Limit}
 
--- where the rows that wait end: all were taken but the beginning of a line; or one is refused, whatever comes behind
-abbrev pub StopsAt : ℕ → WorldState → List ℕ → List ℕ → Rows → Type 0
+-- where the rows that wait end: all were taken but the beginning of a line; or the next one is not taken, whatever comes behind
+abbrev pub StopsAt : ℕ → Cluster → List ℕ → List ℕ → Rows → Type 0
 StopsAt limit w rest waiting Taken = rest ≡ waiting
-StopsAt limit w rest waiting Refused = (more : List ℕ) → IsRefused limit w (rest ++ more)
+StopsAt limit w rest waiting NoRow = (more : List ℕ) → IsBadRow limit w (rest ++ more)
+StopsAt limit w rest waiting (Refused why) = (more : List ℕ) → IsRefused limit w (rest ++ more) why
+StopsAt limit w rest waiting Full = (more : List ℕ) → IsBeyond limit w (rest ++ more)
 
 -- rows were taken of those that wait, and what they tell was written or waits to be
-pub record TakesRows (limit : ℕ) (before now : WorldState) (waiting left : List ℕ) (sink_before : Option (List ℕ)) (output_before : List ℕ)
+pub record TakesRows (limit : ℕ) (before now : Cluster) (waiting left : List ℕ) (sink_before : Option (List ℕ)) (output_before : List ℕ)
     (sink_now : Option (List ℕ)) (output_now : List ℕ) (rows : Rows) : Type 0 where
   pub lines : List ℕ
   pub rest : List ℕ
-  pub comes : (more : List ℕ) → Comes before (waiting ++ more) lines now (rest ++ more)
+  pub goes : (more : List ℕ) → Goes before (waiting ++ more) lines now (rest ++ more)
   pub stops : StopsAt limit now rest left rows
   pub written : Appends (append_known sink_before output_before) (append_known sink_now output_now) lines
 
 -- rows were taken of those that wait, and the sink failed: it has a front of what waited and of what they tell
-pub record BreaksOff (before now : WorldState) (waiting : List ℕ) (sink_before : Option (List ℕ)) (output_before : List ℕ)
+pub record BreaksOff (before now : Cluster) (waiting : List ℕ) (sink_before : Option (List ℕ)) (output_before : List ℕ)
     (sink_now : Option (List ℕ)) : Type 0 where
   pub lines : List ℕ
   pub rest : List ℕ
-  pub comes : (more : List ℕ) → Comes before (waiting ++ more) lines now (rest ++ more)
+  pub goes : (more : List ℕ) → Goes before (waiting ++ more) lines now (rest ++ more)
   pub written : WritesFront sink_before sink_now (output_before ++ lines)
 
--- where all rows were taken, less than a line waits; there was a row, or the same waits as before
-abbrev pub Waits : ℕ → ℕ → List ℕ → List ℕ → Rows → Type 0
-Waits rows_before rows_now before now Taken = (length now ≤ 120) × (after_line now ≡ None) × ((rows_before < rows_now) ⊎ (now ≡ before))
-Waits rows_before rows_now before now Refused = Unit {0}
+-- where all rows were taken, less than a line waits, and only where another row may come; there was a row, or the same waits
+-- as before
+pub record WaitsOn (limit rows_before rows_now : ℕ) (before now : List ℕ) : Type 0 where
+  pub short : length now ≤ 120
+  pub unended : after_line now ≡ None
+  pub another : (now ≡ []) ⊎ (rows_now < limit)
+  pub nearer : (rows_before < rows_now) ⊎ (now ≡ before)
+
+abbrev pub Waits : ℕ → ℕ → ℕ → List ℕ → List ℕ → Rows → Type 0
+Waits limit rows_before rows_now before now Taken = WaitsOn limit rows_before rows_now before now
+Waits limit rows_before rows_now before now _ = Unit {0}
 
 -- where a schedule ends
-abbrev pub EndsAt : ℕ → WorldState → List ℕ → Rows → Type 0
+abbrev pub EndsAt : ℕ → Cluster → List ℕ → Rows → Type 0
 EndsAt limit w rest Taken = rest ≡ []
-EndsAt limit w rest Refused = IsRefused limit w rest
+EndsAt limit w rest NoRow = IsBadRow limit w rest
+EndsAt limit w rest (Refused why) = IsRefused limit w rest why
+EndsAt limit w rest Full = IsBeyond limit w rest
+
+-- the last line of the report, after so many rows, and the status of the run
+abbrev pub last_line_of : Rows → ℕ → List ℕ
+last_line_of Taken rows = end_line rows
+last_line_of NoRow rows = bad_row_line (rows + 1)
+last_line_of (Refused why) rows = unlawful_line (rows + 1) (number_of why)
+last_line_of Full rows = limit_line (rows + 1)
+
+abbrev pub status_of : Rows → ℕ → Status
+status_of Taken rows = Done
+status_of NoRow rows = BadRow (rows + 1)
+status_of (Refused why) rows = Unlawful (rows + 1) (number_of why)
+status_of Full rows = Limit (rows + 1)
+
+-- where all rows were taken the logs stand before it
+abbrev pub logs_before : Rows → Cluster → List ℕ
+logs_before Taken w = all_logs w
+logs_before NoRow w = []
+logs_before (Refused why) w = []
+logs_before Full w = []
+
+abbrev pub last_of : Rows → Cluster → List ℕ
+last_of rows w = logs_before rows w ++ last_line_of rows w.rows
 
 -- the rows of a schedule were taken, and what they tell was written or waits to be
-pub record ReadsRows (limit : ℕ) (before now : WorldState) (bytes : List ℕ) (sink_before sink_now : Option (List ℕ)) (output : List ℕ) (rows : Rows) : Type 0 where
+pub record ReadsRows (limit : ℕ) (before now : Cluster) (bytes : List ℕ) (sink_before sink_now : Option (List ℕ)) (output : List ℕ) (rows : Rows) : Type 0 where
   pub lines : List ℕ
   pub rest : List ℕ
-  pub comes : Comes before bytes lines now rest
+  pub goes : Goes before bytes lines now rest
   pub ends : EndsAt limit now rest rows
   pub written : Appends sink_before (append_known sink_now output) lines
 
@@ -62,15 +99,23 @@ IsCausedBy source_before source_now sink_before sink_now Source = Rose source_be
 IsCausedBy source_before source_now sink_before sink_now Sink = Rose sink_before sink_now
 
 -- what it leaves
-abbrev pub IsInPart : Fault → ℕ → WorldState → List ℕ → Option (List ℕ) → Option (List ℕ) → Option (List ℕ) → Type 0
+abbrev pub IsInPart : Fault → ℕ → Cluster → List ℕ → Option (List ℕ) → Option (List ℕ) → Option (List ℕ) → Type 0
 IsInPart Source limit first bytes left sink_before sink_now = IsReadInPart limit first bytes left sink_before sink_now
 IsInPart Sink limit first bytes left sink_before sink_now = IsWrittenInPart limit first bytes sink_before sink_now
 
+-- the whole report was written, and along its rows each allocator kept its word
+pub record IsTold (status : Status) (limit : ℕ) (first : Cluster) (bytes : List ℕ) (sink_before sink_now : Option (List ℕ)) : Type 0 where
+  pub report : List ℕ
+  pub is : IsReport limit first bytes report status
+  pub kept : KeepsItsWord first is.comes.rows
+  pub written : Appends sink_before sink_now report
+
 -- how a run over a schedule of at most so many rows ends, from a world on
-abbrev pub Ends : Status → ℕ → WorldState → List ℕ → Option (List ℕ) → Option (List ℕ) → Option (List ℕ) → Type 0
-Ends Done limit first bytes left sink_before sink_now = (report : List ℕ) × IsReport limit first bytes report Done × Appends sink_before sink_now report
-Ends (NotBuilt row) limit first bytes left sink_before sink_now =
-    (report : List ℕ) × IsReport limit first bytes report (NotBuilt row) × Appends sink_before sink_now report
+abbrev pub Ends : Status → ℕ → Cluster → List ℕ → Option (List ℕ) → Option (List ℕ) → Option (List ℕ) → Type 0
+Ends Done limit first bytes left sink_before sink_now = IsTold Done limit first bytes sink_before sink_now
+Ends (BadRow row) limit first bytes left sink_before sink_now = IsTold (BadRow row) limit first bytes sink_before sink_now
+Ends (Unlawful row number) limit first bytes left sink_before sink_now = IsTold (Unlawful row number) limit first bytes sink_before sink_now
+Ends (Limit row) limit first bytes left sink_before sink_now = IsTold (Limit row) limit first bytes sink_before sink_now
 Ends ReadFault limit first bytes left sink_before sink_now = IsReadInPart limit first bytes left sink_before sink_now
 Ends WriteFault limit first bytes left sink_before sink_now = IsWrittenInPart limit first bytes sink_before sink_now
 Ends Memory limit first bytes left sink_before sink_now = Unit {0}
@@ -78,5 +123,4 @@ Ends Usage limit first bytes left sink_before sink_now = ⊥
 
 -- what the plan asks for was done
 abbrev pub IsFollowed : Plan → List ℕ → Option (List ℕ) → Option (List ℕ) → Option (List ℕ) → Status → Type 0
-IsFollowed (Replay rows ids) bytes left sink_before sink_now status =
-    (id : ℕ) × (ids.items ≡ id ∷ []) × Ends status rows (empty_world id) bytes left sink_before sink_now
+IsFollowed (Replay rows ids) bytes left sink_before sink_now status = Ends status rows (cluster ids.items) bytes left sink_before sink_now

@@ -1,37 +1,29 @@
 //! What holds of every run, each the contract of a function that does nothing.
 
 ghost use Rattle.std.specs.Prelude.{◌≡◌, ℕ, List, Option};
-ghost use Rattle.replay_text.specs.declared.row.Row.{Row};
+ghost use Rattle.world_parts.specs.Cluster.{Cluster};
 ghost use Rattle.allocator_app.specs.InPart.{IsWrittenInPart};
 ghost use Rattle.allocator_app.specs.Output.{WritesFront};
-ghost use Rattle.allocator_app.specs.Promise.{AreTaken, KeepsItsWord};
 ghost use Rattle.allocator_app.specs.Report.{IsReport};
-ghost use Rattle.allocator_app.specs.World.{WorldState, empty_world};
 ghost use Rattle.allocator_app.specs.declared.status.Status.{Status};
 
-use id_selector::laws::chosen_is_the_choice;
 use replay_text::laws::a_line_has_one_row;
-
-/// Along every list of rows that a world takes from its beginning: the log gives no ID twice, and the
-/// allocator's own to nobody; what is committed stays, and every pair that is offered is committed by then.
-pub fn every_allocation_is_kept()
-    ensures { (id : ℕ) (rows : List Row) → AreTaken (empty_world id) rows → KeepsItsWord (empty_world id) rows }
-{
-    chosen_is_the_choice();
-}
 
 /// A schedule has one report, with one status.
 pub fn a_schedule_has_one_report()
-    ensures { (limit : ℕ) (first : WorldState) (bytes report other : List ℕ) (status ending : Status) →
-        IsReport limit first bytes report status → IsReport limit first bytes other ending → (report ≡ other) × (status ≡ ending) }
+    ensures { (limit : ℕ) (first : Cluster) (bytes report other : List ℕ) (status ending : Status) →
+        IsReport limit first bytes report status → IsReport limit first bytes other ending →
+        (report ≡ other) × (status ≡ ending) }
 {
     a_line_has_one_row();
 }
 
 /// What a sink has that failed is a front of the schedule's report.
 pub fn what_was_written_begins_the_report()
-    ensures { (limit : ℕ) (first : WorldState) (bytes report : List ℕ) (status : Status) (sink_before sink_now : Option (List ℕ)) →
-        IsWrittenInPart limit first bytes sink_before sink_now → IsReport limit first bytes report status → WritesFront sink_before sink_now report }
+    ensures { (limit : ℕ) (first : Cluster) (bytes report : List ℕ) (status : Status)
+        (sink_before sink_now : Option (List ℕ)) →
+        IsWrittenInPart limit first bytes sink_before sink_now →
+        IsReport limit first bytes report status → WritesFront sink_before sink_now report }
 {
     a_line_has_one_row();
 }

@@ -1,48 +1,54 @@
-ghost use Rattle.std.specs.Prelude.{◌≡◌, ◌≤◌, ◌<◌, ◌+◌, ℕ, List, [], Some, length, IfOk, IfErr, OnErr};
+ghost use Rattle.std.specs.Prelude.{◌≡◌, ◌≤◌, ◌<◌, ◌+◌, ℕ, List, [], Some, IfOk, IfErr, OnErr, OnOk};
 ghost use Rattle.outside.specs.Faults.{HasCause, Rose};
-ghost use Rattle.allocator_app.specs.World.{WorldState, empty_world};
-ghost use Rattle.allocator_app.specs.Stands.{Reaches, StandsFor};
-ghost use Rattle.allocator_app.specs.Output.{Grows, Writes, WritesLast};
-ghost use Rattle.allocator_app.specs.Report.{IsBegun, end_line, end_lines, entry_line, entry_lines, log_line, log_lines, not_built_line};
+ghost use Rattle.bus_world.specs.World.{StandsFor, accepts, rows_taken};
+ghost use Rattle.server_parts.specs.Accepted as accepted;
+ghost use Rattle.transfer_rx.specs.Acceptance.{AnswersByRows, first_signature};
+ghost use Rattle.transfer_rx.specs.Memory.{ReceiverFitsInMemory};
+ghost use Rattle.world_parts.specs.Cluster.{AreMembers, Cluster, cluster};
+ghost use Rattle.allocator_app.specs.Output.{Grows};
+ghost use Rattle.allocator_app.specs.Reaching.{HasRoom, Reaches};
+ghost use Rattle.allocator_app.specs.Report.{IsBegun};
 ghost use Rattle.allocator_app.specs.Rows.{BreaksOff, Ends, IsCausedBy, IsInPart, ReadsRows, TakesRows, Waits};
 
 use crate::input::{Input, Next};
 use crate::output::Output;
+use crate::report::end_report;
 use crate::rows::{Fault, Rows};
 use crate::status::Status;
-use crate::world::World;
-use can_frame::{Entry, NodeId};
+use alloc_server::accept_rows;
+use bus_world::World;
+use bus_world::laws::logs_give_once;
+use can_frame::Kind;
 use outside::{Failed, Sink, Source};
-use replay_text::{Line, write_told};
+use replay_text::write_told;
 use std::alloc::Global;
 
-/// Runs a cluster of one member over the schedule of the source, of at most `limit` rows.
+/// Runs a cluster of these members over the schedule of the source, of at most `limit` rows.
 pub(crate) fn replay<S: Source, K: Sink>(
     alloc: Global,
     limit: u64,
-    id: NodeId,
+    ids: &[u8],
     source: &mut S,
     sink: &mut K,
 ) -> Status
-    requires { limit ≤ 1000000 }
+    requires limit { limit ≤ 1000000 }
+    requires members { AreMembers ids.now }
     ensures ends { (bytes : List ℕ) → S.left source.old ≡ Some bytes →
-        Ends result limit (empty_world id) bytes (S.left source.new) (K.written sink.old) (K.written sink.new) }
-    ensures untouched { result ≡ Status.Memory → (source.new ≡ source.old) × (sink.new ≡ sink.old) }
+        Ends result limit (cluster ids.now) bytes (S.left source.new)
+        (K.written sink.old) (K.written sink.new) }
+    ensures untouched { result ≡ Status.Memory →
+        (source.new ≡ source.old) × (sink.new ≡ sink.old) }
     ensures read { result ≡ Status.ReadFault → Rose (S.faults source.old) (S.faults source.new) }
     ensures write { result ≡ Status.WriteFault → Rose (K.faults sink.old) (K.faults sink.new) }
     ensures begun { IsBegun result }
 {
-    let Ok(mut world) = World::new(alloc, id, limit) else {
+    let Ok(mut world) = World::new(alloc, ids, limit as usize, accept_rows(), accept) else {
         return Status::Memory;
     };
     let mut output = Output::new();
-    match read_rows(&mut world, &mut output, source, sink) {
-        Ok(Rows::Taken) => match finish(&world, &mut output, sink) {
-            Ok(()) => Status::Done,
-            Err(Failed) => Status::WriteFault,
-        },
-        Ok(Rows::Refused) => match refuse(&world, &mut output, sink) {
-            Ok(()) => Status::NotBuilt(world.rows() + 1),
+    match read_rows(&mut world, limit, &mut output, source, sink) {
+        Ok(rows) => match end_report(rows, &world, &mut output, sink) {
+            Ok(status) => status,
             Err(Failed) => Status::WriteFault,
         },
         Err(Fault::Source) => Status::ReadFault,
@@ -50,26 +56,48 @@ pub(crate) fn replay<S: Source, K: Sink>(
     }
 }
 
-/// Takes the rows of the source, up to its end or to one that is refused. All that the complete lines
-/// that were read tell is handed to the sink before the source is read again.
-fn read_rows<S: Source, K: Sink>(
-    world: &mut World,
+/// What an allocator receives: `alloc_server::accept`, under a name of this crate.
+fn accept(kind: Kind, number: u16) -> Option<u64>
+    ensures { result ≡ first_signature accepted.rows kind number }
+{
+    alloc_server::accept(kind, number)
+}
+
+/// How many rows the world has taken.
+pub(crate) fn taken<F: Fn(Kind, u16) -> Option<u64> + Copy>(world: &World<F>) -> u64
+    ensures { result ≡ rows_taken world.now }
+{
+    u64::MAX - world.rows_left()
+}
+
+/// Takes the rows of the source, up to its end or to one that is not taken. All that the complete
+/// lines that were read tell is handed to the sink before the source is read again.
+fn read_rows<F: Fn(Kind, u16) -> Option<u64> + Copy, S: Source, K: Sink>(
+    world: &mut World<F>,
+    limit: u64,
     output: &mut Output,
     source: &mut S,
     sink: &mut K,
 ) -> Result<Rows, Fault>
-    requires within { world.old.rows ≤ world.old.limit }
+    requires memory { ReceiverFitsInMemory F.row 160 128 }
+    requires callable { F.IsAlwaysCallable (accepts world.old) }
+    requires answers { AnswersByRows (F.post (accepts world.old)) accepted.rows }
+    requires limit { limit ≤ 1000000 }
+    requires room { HasRoom limit world.old }
     requires flushed { output.old ≡ [] }
-    ensures rows { IfOk result (λ rows. (bytes : List ℕ) → S.left source.old ≡ Some bytes → Reaches world.old world.new (λ first now.
-        ReadsRows world.old.limit first now bytes (K.written sink.old) (K.written sink.new) output.new rows)) }
-    ensures within { world.new.rows ≤ world.new.limit }
-    ensures limit { world.new.limit ≡ world.old.limit }
-    ensures cut { IfErr result (λ fault. (bytes : List ℕ) → S.left source.old ≡ Some bytes → (first : WorldState) → StandsFor world.old first →
-        IsInPart fault world.old.limit first bytes (S.left source.new) (K.written sink.old) (K.written sink.new)) }
+    ensures rows { IfOk result (λ rows. (bytes : List ℕ) → S.left source.old ≡ Some bytes →
+        Reaches world.old world.new (λ first now. ReadsRows limit first now bytes
+        (K.written sink.old) (K.written sink.new) output.new rows)) }
+    ensures within { rows_taken world.new ≤ limit }
+    ensures cut { IfErr result (λ fault. (bytes : List ℕ) → S.left source.old ≡ Some bytes →
+        (first : Cluster) → StandsFor world.old first → IsInPart fault limit first bytes
+        (S.left source.new) (K.written sink.old) (K.written sink.new)) }
     ensures grew { Grows (K.written sink.old) (K.written sink.new) }
-    ensures cause { IfErr result (IsCausedBy (S.faults source.old) (S.faults source.new) (K.faults sink.old) (K.faults sink.new)) }
+    ensures cause { IfErr result (IsCausedBy (S.faults source.old) (S.faults source.new)
+        (K.faults sink.old) (K.faults sink.new)) }
     ensures later { K.faults sink.old ≤ K.faults sink.new }
 {
+    logs_give_once::<F>();
     let mut input = Input::new();
     'reading: loop {
         match input.fill(source) {
@@ -77,10 +105,12 @@ fn read_rows<S: Source, K: Sink>(
             Ok(false) => break 'reading,
             Err(Failed) => return Err(Fault::Source),
         }
-        match take_rows(world, &mut input, output, sink) {
-            Ok(Rows::Taken) => {}
-            Ok(Rows::Refused) => return Ok(Rows::Refused),
+        let rows = match take_rows(world, limit, &mut input, output, sink) {
+            Ok(rows) => rows,
             Err(Failed) => return Err(Fault::Sink),
+        };
+        if !rows.are_taken() {
+            return Ok(rows);
         }
         match output.flush(sink) {
             Ok(()) => {}
@@ -90,142 +120,53 @@ fn read_rows<S: Source, K: Sink>(
     if input.is_empty() {
         Ok(Rows::Taken)
     } else {
-        Ok(Rows::Refused)
+        Ok(Rows::NoRow)
     }
 }
 
 /// Takes the rows that wait, and writes what they tell.
-fn take_rows<K: Sink>(
-    world: &mut World,
+fn take_rows<F: Fn(Kind, u16) -> Option<u64> + Copy, K: Sink>(
+    world: &mut World<F>,
+    limit: u64,
     input: &mut Input,
     output: &mut Output,
     sink: &mut K,
 ) -> Result<Rows, Failed>
-    requires { world.old.rows ≤ world.old.limit }
+    requires memory { ReceiverFitsInMemory F.row 160 128 }
+    requires callable { F.IsAlwaysCallable (accepts world.old) }
+    requires answers { AnswersByRows (F.post (accepts world.old)) accepted.rows }
+    requires limit { limit ≤ 1000000 }
+    requires room { HasRoom limit world.old }
     ensures rows { IfOk result (λ rows. Reaches world.old world.new (λ first now.
-        TakesRows world.old.limit first now input.old input.new (K.written sink.old) output.old (K.written sink.new) output.new rows)) }
+        TakesRows limit first now input.old input.new (K.written sink.old) output.old
+        (K.written sink.new) output.new rows)) }
     ensures cut { OnErr result (Reaches world.old world.new (λ first now.
         BreaksOff first now input.old (K.written sink.old) output.old (K.written sink.new))) }
     ensures grew { Grows (K.written sink.old) (K.written sink.new) }
-    ensures waits { IfOk result (Waits world.old.rows world.new.rows input.old input.new) }
-    ensures grows { world.old.rows ≤ world.new.rows }
-    ensures within { world.new.rows ≤ world.new.limit }
-    ensures limit { world.new.limit ≡ world.old.limit }
+    ensures waits { IfOk result (Waits limit (rows_taken world.old) (rows_taken world.new)
+        input.old input.new) }
+    ensures grows { rows_taken world.old ≤ rows_taken world.new }
+    ensures room { HasRoom limit world.new }
+    ensures accepts { accepts world.new ≡ accepts world.old }
     ensures cause { HasCause (K.faults sink.old) (K.faults sink.new) result }
 {
+    logs_give_once::<F>();
     'rows: loop {
+        if input.is_empty() {
+            return Ok(Rows::Taken);
+        }
+        if taken(world) == limit {
+            return Ok(Rows::Full);
+        }
         let row = match input.next_row() {
             Next::Row(row) => row,
-            Next::NoRow => return Ok(Rows::Refused),
+            Next::NoRow => return Ok(Rows::NoRow),
             Next::Incomplete => return Ok(Rows::Taken),
         };
-        if world.is_full() {
-            return Ok(Rows::Refused);
-        }
         let told = match world.row(&row) {
-            Some(told) => told,
-            None => return Ok(Rows::Refused),
+            Ok(told) => told,
+            Err(why) => return Ok(Rows::Refused(why)),
         };
-        output.line(sink, &write_told(world.rows(), &told))?;
+        output.line(sink, &write_told(taken(world), &told))?;
     }
-}
-
-/// Ends the report: the log of a running member, and the number of rows.
-fn finish<K: Sink>(world: &World, output: &mut Output, sink: &mut K) -> Result<(), Failed>
-    ensures told { (w : WorldState) → StandsFor world.now w → WritesLast (K.written sink.old) output.old (K.written sink.new) (end_lines w) result }
-    ensures cause { HasCause (K.faults sink.old) (K.faults sink.new) result }
-{
-    write_log(world, output, sink)?;
-    write_last(&end_line(world.rows()), output, sink)
-}
-
-fn end_line(rows: u64) -> Line
-    ensures short { length result ≤ 400 }
-    ensures text { result ≡ end_line rows }
-{
-    let mut line = Line::new();
-    line.text(b"end ");
-    line.number(rows);
-    line.text(b"\n");
-    line
-}
-
-/// The log of a running member: its commit index, and a line for each committed entry.
-fn write_log<K: Sink>(world: &World, output: &mut Output, sink: &mut K) -> Result<(), Failed>
-    ensures told { (w : WorldState) → StandsFor world.now w → Writes (K.written sink.old) output.old (K.written sink.new) output.new (log_lines w.id w.member) result }
-    ensures cause { HasCause (K.faults sink.old) (K.faults sink.new) result }
-{
-    let Some(allocator) = world.running() else {
-        return Ok(());
-    };
-    let line = log_line(world.id(), allocator.commit());
-    output.line(sink, line.as_bytes())?;
-    write_entries(allocator.committed(), output, sink)
-}
-
-fn log_line(id: u8, commit: u8) -> Line
-    ensures short { length result ≤ 400 }
-    ensures text { result ≡ log_line id commit }
-{
-    let mut line = Line::new();
-    line.text(b"log ");
-    line.number(u64::from(id));
-    line.text(b" ");
-    line.number(u64::from(commit));
-    line.text(b"\n");
-    line
-}
-
-fn write_entries<K: Sink>(
-    entries: &[Entry],
-    output: &mut Output,
-    sink: &mut K,
-) -> Result<(), Failed>
-    ensures told { Writes (K.written sink.old) output.old (K.written sink.new) output.new (entry_lines 1 entries.now) result }
-    ensures cause { HasCause (K.faults sink.old) (K.faults sink.new) result }
-{
-    let mut place = 0;
-    'entries: while place < entries.len() {
-        let line = entry_line(place as u64 + 1, &entries[place]);
-        output.line(sink, line.as_bytes())?;
-        place += 1;
-    }
-    Ok(())
-}
-
-/// An entry at its place, counted from 1.
-fn entry_line(place: u64, entry: &Entry) -> Line
-    ensures short { length result ≤ 400 }
-    ensures text { result ≡ entry_line place entry.now }
-{
-    let mut line = Line::new();
-    line.number(place);
-    line.text(b" ");
-    line.number(u64::from(entry.node));
-    line.text(b" ");
-    line.hex(&entry.uid);
-    line.text(b"\n");
-    line
-}
-
-/// Ends the report with the number of the row that is not of a form that is built.
-fn refuse<K: Sink>(world: &World, output: &mut Output, sink: &mut K) -> Result<(), Failed>
-    ensures told { (w : WorldState) → StandsFor world.now w → WritesLast (K.written sink.old) output.old (K.written sink.new) (not_built_line w) result }
-    ensures cause { HasCause (K.faults sink.old) (K.faults sink.new) result }
-{
-    let mut line = Line::new();
-    line.text(b"not built ");
-    line.number(world.rows() + 1);
-    line.text(b"\n");
-    write_last(&line, output, sink)
-}
-
-/// Writes the last line, and all that waits before it.
-fn write_last<K: Sink>(line: &Line, output: &mut Output, sink: &mut K) -> Result<(), Failed>
-    requires { length line.now ≤ 400 }
-    ensures told { WritesLast (K.written sink.old) output.old (K.written sink.new) line.now result }
-    ensures cause { HasCause (K.faults sink.old) (K.faults sink.new) result }
-{
-    output.line(sink, line.as_bytes())?;
-    output.flush(sink)
 }

@@ -7,8 +7,15 @@ pub enum Status {
     /// The input was used up.
     Done,
 
-    /// The words are none that the program reads.
+    /// The words are none that the program reads, or objects were handed in that they do not ask for.
     Usage,
+
+    /// The row with this number, within the limit, is the first that reads as none: also a last line
+    /// without its line feed, and a line of more than 120 bytes.
+    BadRow(u64),
+
+    /// The row with this number is refused, for the cause with that number (`bus_world::Unlawful`).
+    Unlawful(u64, u8),
 
     /// The source failed.
     ReadFault,
@@ -19,8 +26,8 @@ pub enum Status {
     /// There is not enough memory. It comes from the start of a run alone.
     Memory,
 
-    /// The row with this number is not of a form that is built.
-    NotBuilt(u64),
+    /// The row with this number begins, and is one more than the schedule may have.
+    Limit(u64),
 }
 
 impl Status {
@@ -31,10 +38,12 @@ impl Status {
         match self {
             Status::Done => 0,
             Status::Usage => 2,
+            Status::BadRow(_) => 3,
+            Status::Unlawful(..) => 4,
             Status::ReadFault => 5,
             Status::WriteFault => 6,
             Status::Memory => 7,
-            Status::NotBuilt(_) => 13,
+            Status::Limit(_) => 8,
         }
     }
 }

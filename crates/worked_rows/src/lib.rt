@@ -1,7 +1,8 @@
 //! Worked cases of the whole program, which cross the crates: it runs over sources and sinks in memory.
 //!
-//! A schedule that works to its end has a folder under `examples/` instead. Here stand the cases that a
-//! shell cannot make: an object of the outside that fails at a chosen call, or does a byte at a time.
+//! Here stand the cases that a shell cannot make: an object of the outside that fails at a chosen call,
+//! does a byte at a time, or is not asked for; and the short schedules of a lone allocator. The others
+//! that work to an end, clusters among them, have a folder each under `examples/`.
 #![tactic(auto)]
 
 #[cfg(test)]
@@ -9,6 +10,10 @@ mod bytes;
 #[cfg(test)]
 mod faults;
 #[cfg(test)]
+mod ordinary_path;
+#[cfg(test)]
 mod refusals;
 #[cfg(test)]
 mod run;
+#[cfg(test)]
+mod schedules;

@@ -1,31 +1,86 @@
-use crate::run::run_words;
+use crate::run::{run_over, run_words};
 use allocator_app::Status;
-use outside::{MemorySink, MemorySource};
+use disk_model::{IMAGE, MemoryDisk};
+use outside::{MemoryLink, MemorySink, MemorySource};
 use std::test::Fail;
 
+/// A line of 121 bytes.
 const LONG: &[u8] =
     b"xxxxxxxxxxxxxxxxxxxxxxxxxxxxxxxxxxxxxxxxxxxxxxxxxxxxxxxxxxxxxxxxxxxxxxxxxxxxxxxxxxxxxxxxxxxxxxxxxxxxxxxxxxxxxxxxxxxxxxxxx\n";
 
+/// What ends a report early: the words, the schedule, the status and the report.
+const REFUSALS: [(&str, &[u8], Status, &[u8]); 11] = [
+    (
+        "replay 10 1",
+        b"open 1 0 0",
+        Status::BadRow(1),
+        b"bad row 1\n",
+    ),
+    ("replay 10 1", LONG, Status::BadRow(1), b"bad row 1\n"),
+    (
+        "replay 10 1",
+        b"tick 2 0 0\n",
+        Status::Unlawful(1, 1),
+        b"unlawful 1 1\n",
+    ),
+    (
+        "replay 10 1",
+        b"tick 1 0 0\n",
+        Status::Unlawful(1, 2),
+        b"unlawful 1 2\n",
+    ),
+    (
+        "replay 10 1",
+        b"open 1 0 0\nopen 1 0 0\n",
+        Status::Unlawful(2, 3),
+        b"1 1 open 0 0 0 0\nunlawful 2 3\n",
+    ),
+    (
+        "replay 10 1",
+        b"open 1 0 0\nrx 1 1 0\n",
+        Status::Unlawful(2, 4),
+        b"1 1 open 0 0 0 0\nunlawful 2 4\n",
+    ),
+    (
+        "replay 10 1",
+        b"open 1 0 0\nsend 1\n",
+        Status::Unlawful(2, 5),
+        b"1 1 open 0 0 0 0\nunlawful 2 5\n",
+    ),
+    (
+        "replay 10 1",
+        b"ext 1e000101 00c0\n",
+        Status::Unlawful(1, 6),
+        b"unlawful 1 6\n",
+    ),
+    (
+        "replay 1 1",
+        b"open 1 0 0\ntick 1 5 0\n",
+        Status::Limit(2),
+        b"1 1 open 0 0 0 0\nlimit 2\n",
+    ),
+    (
+        "replay 1 1",
+        b"open 1 0 0\nx",
+        Status::Limit(2),
+        b"1 1 open 0 0 0 0\nlimit 2\n",
+    ),
+    (
+        "replay 1 1",
+        b"tick 2 0 0\ntick 2 0 0\n",
+        Status::Unlawful(1, 1),
+        b"unlawful 1 1\n",
+    ),
+];
+
 #[test]
-fn a_row_that_is_not_of_the_form_ends_the_report(rt: HostRuntime) -> Result<(), Fail> {
-    const OPENED: &[u8] = b"1 1 open 0 0 0 0\nnot built 2\n";
-    const CASES: [(&str, &[u8], u64, &[u8]); 9] = [
-        ("replay 10 1", b"open 1 0 0", 1, b"not built 1\n"),
-        ("replay 10 1", LONG, 1, b"not built 1\n"),
-        ("replay 10 1", b"tick 2 0 0\n", 1, b"not built 1\n"),
-        ("replay 10 1", b"tick 1 0 0\n", 1, b"not built 1\n"),
-        ("replay 10 1", b"open 1 0 0\nopen 1 0 0\n", 2, OPENED),
-        ("replay 10 1", b"open 1 0 0\nrx 1 1 0\n", 2, OPENED),
-        ("replay 10 1", b"open 1 0 0\nsend 1\n", 2, OPENED),
-        ("replay 10 1", b"ext 1e000101 00c0\n", 1, b"not built 1\n"),
-        ("replay 1 1", b"open 1 0 0\ntick 1 5 0\n", 2, OPENED),
-    ];
-    for (words, schedule, row, report) in CASES {
+fn a_row_that_is_not_taken_ends_the_report(rt: HostRuntime) -> Result<(), Fail> {
+    for (words, schedule, status, report) in REFUSALS {
         let mut source = MemorySource::new(schedule, None);
         let mut sink = MemorySink::new(rt.alloc(), 100, None, None)?;
         assert_eq!(rt;
             run_words(rt.alloc(), words, &mut source, &mut sink)?,
-            Status::NotBuilt(row)
+            status
         );
         assert_eq!(rt; sink.written(), report);
     }
@@ -34,13 +89,16 @@ fn a_row_that_is_not_of_the_form_ends_the_report(rt: HostRuntime) -> Result<(), 
 
 #[test]
 fn other_words_do_nothing(rt: HostRuntime) -> Result<(), Fail> {
-    const CASES: [&str; 8] = [
+    const CASES: [&str; 11] = [
         "replay 0 1",
+        "replay 1000001 1",
         "replay 10 1 1",
+        "replay 10 0",
         "replay 10 126",
         "replay 010 1",
+        "replay 10",
+        "replay 10 1 2 3 4 5 6",
         "",
-        "replay 10 1 2",
         "node 1 5000 3 1",
         "soak 1 0 3",
     ];
@@ -52,6 +110,44 @@ fn other_words_do_nothing(rt: HostRuntime) -> Result<(), Fail> {
             Status::Usage
         );
         assert_eq!(rt; sink.written(), b"".as_slice());
+    }
+    Ok(())
+}
+
+/// The words of a schedule ask for neither a link nor a disk; a place without a disk is none.
+#[test]
+fn a_link_or_a_disk_is_refused(rt: HostRuntime) -> Result<(), Fail> {
+    const CASES: [(bool, bool, Status); 4] = [
+        (false, false, Status::Done),
+        (true, false, Status::Usage),
+        (false, true, Status::Usage),
+        (true, true, Status::Usage),
+    ];
+    for (has_link, has_disk, status) in CASES {
+        let mut links = [MemoryLink::new(&[], None)];
+        let links = if has_link {
+            &mut links[..]
+        } else {
+            &mut links[..0]
+        };
+        let mut disks = [if has_disk {
+            Some(MemoryDisk::new(&[0; IMAGE]))
+        } else {
+            None
+        }];
+        let mut source = MemorySource::new(b"", None);
+        let mut sink = MemorySink::new(rt.alloc(), 100, None, None)?;
+        assert_eq!(rt;
+            run_over(
+                rt.alloc(),
+                "replay 10 1",
+                &mut source,
+                &mut sink,
+                links,
+                &mut disks
+            )?,
+            status
+        );
     }
     Ok(())
 }

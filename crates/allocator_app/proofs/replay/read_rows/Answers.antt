@@ -1,56 +1,28 @@
 use Rattle.std.proofs.Common.{length, ap, ◌∙◌, sym, refl, arith, inl, inr, length-append}
 use Rattle.std.proofs.lemmas.Bool.{true≢false}
-use Rattle.allocator_app.proofs.Reading.{ended_refused, ended_taken, flush_in_part, nearer, read_in_part, read_on, read_refused, rows_in_part, some_length}
-use Rattle.allocator_app.proofs.Written.{grows-appended, grows-front, grows-trans}
+use Rattle.std.proofs.KnownBytes.{Appends-nil}
+use Rattle.replay_text.specs.Lines.{after_line}
+use Rattle.allocator_app.proofs.Reading.{ended_taken, ended_unended, flush_in_part, nearer, read_in_part, read_on, read_stopped, rows_in_part, some_length, start, took_all, waited_on}
+use Rattle.allocator_app.proofs.Written.{grows-appended, grows-front, grows-refl, grows-trans}
 use Rattle.allocator_app.proofs.replay.read_rows.Goals as goal
 
-pub returns-in-Ok-Refused-clause-rows : goal.returns-in-Ok-Refused-clause-rows
-returns-in-Ok-Refused-clause-rows g c = λ bytes told first is.
-    let so_far = c.reading.invariant in
-    let more = rw c.in-Ok-true.field-0-test at c.in-Ok-true.ensures.more in
-    let took = rw c.in-Ok-Refused.field-0-is at c.in-Ok-Refused.ensures.rows in
-    let far = so_far.told bytes told first is in
-    let end = took far.0 far.1 in (
-      end.0,
-      end.1,
-      read_refused c.reading.world.limit c.args.world.now.limit so_far.limit first far.0 end.0 bytes _ _ _ _ _ _ _ _ _ _ far.2 more so_far.flushed end.2,
-    )
-
-pub reading-smaller : goal.reading-smaller
-reading-smaller g c =
-    let so_far = c.reading.invariant in
-    let more = rw c.in-Ok-true.field-0-test at c.in-Ok-true.ensures.more in
-    let waits = rw c.in-Ok-Taken.field-0-is at c.in-Ok-Taken.ensures.waits in
-    let within = c.in-Ok-Taken.ensures.within in
-    let same = c.in-Ok-Taken.ensures.limit in
-    let limit = so_far.limit in
-    nearer c.args.world.now.limit c.reading.world.rows _ (length c.reading.input) _ _ (length more.came) c.in-Ok-Taken.ensures.grows
-    (omega (arith, within, same, limit)) so_far.short waits.0 (ap length more.behind ∙ length-append c.reading.input more.came)
-    (some_length more.came (more.some refl)) (elim waits.2 [ inl h ↦ inl h | inr h ↦ inr (ap length h) ])
-
-pub reading-preserved : goal.reading-preserved
-reading-preserved g c =
-    let so_far = c.reading.invariant in
-    let more = rw c.in-Ok-true.field-0-test at c.in-Ok-true.ensures.more in
-    let waits = rw c.in-Ok-Taken.field-0-is at c.in-Ok-Taken.ensures.waits in
-    let took = rw c.in-Ok-Taken.field-0-is at c.in-Ok-Taken.ensures.rows in
-    record {
-      within = c.in-Ok-Taken.ensures.within;
-      limit = c.in-Ok-Taken.ensures.limit ∙ so_far.limit;
-      flushed = c.in-Ok.ensures.none_waits;
-      short = waits.0;
-      unended = waits.1;
-      source_later = omega (arith, so_far.source_later, c.in-Ok-true.ensures.cause.later);
-      sink_later = omega (arith, so_far.sink_later, c.in-Ok-Taken.ensures.cause.later, c.in-Ok.ensures.cause.later);
-      grew = grows-trans _ _ _ (grows-trans _ _ _ so_far.grew c.in-Ok-Taken.ensures.grew) (grows-appended _ _ _ c.in-Ok.ensures.ok);
-      told = λ bytes told first is.
-          let far = so_far.told bytes told first is in
-          let now = took far.0 far.1 in (
-            now.0,
-            now.1,
-            read_on c.reading.world.limit first far.0 now.0 bytes _ _ _ _ _ _ _ _ _ _ _ far.2 more so_far.flushed now.2 c.in-Ok.ensures.ok,
-          );
-    }
+pub reading-init : goal.reading-init
+reading-init g c = record {
+  room = c.requires.room;
+  accepts = refl;
+  flushed = c.requires.flushed;
+  short = let empty = ap length c.new-input.ensures in omega (arith, empty);
+  unended = ap after_line c.new-input.ensures;
+  another = inl c.new-input.ensures;
+  source_later = omega arith;
+  sink_later = omega arith;
+  grew = grows-refl _;
+  told = λ bytes told first is. (
+    first,
+    is,
+    start first (c.logs_give_once.ensures c.args.world.now first is) bytes _ _ told c.new-input.result c.new-input.ensures (Appends-nil _),
+  );
+}
 
 pub returns-then-is_empty-clause-rows : goal.returns-then-is_empty-clause-rows
 returns-then-is_empty-clause-rows g c = λ bytes told first is.
@@ -66,22 +38,19 @@ returns-else-is_empty-clause-rows g c = λ bytes told first is.
     let far = so_far.told bytes told first is in (
       far.0,
       far.1,
-      ended_refused _ first far.0 bytes _ _ _ _ _ _ _ far.2 more so_far.flushed (λ empty. true≢false (sym (c.is_empty.ensures.1 empty) ∙ c.if-is_empty.false))
-          so_far.unended,
+      ended_unended _ first far.0 bytes _ _ _ _ _ _ _ far.2 more so_far.flushed (λ empty. true≢false (sym (c.is_empty.ensures.1 empty) ∙ c.if-is_empty.false))
+          so_far.unended (elim so_far.another [ inl h ↦ inl h | inr h ↦ let rows = far.1.rows in inr (omega (arith, h, rows)) ]),
     )
 
 -- what was written by then, and what a fault leaves
-
-pub returns-in-Ok-Refused-clause-grew : goal.returns-in-Ok-Refused-clause-grew
-returns-in-Ok-Refused-clause-grew g c = grows-trans _ _ _ c.reading.invariant.grew c.in-Ok-Refused.ensures.grew
 
 pub returns-in-Err-clause-cut : goal.returns-in-Err-clause-cut
 returns-in-Err-clause-cut g c = λ bytes told first is.
     let so_far = c.reading.invariant in
     let far = so_far.told bytes told first is in
-    let within = so_far.within in
+    let within = so_far.room.within in
     let rows = far.1.rows in
-    read_in_part c.reading.world.limit c.args.world.now.limit so_far.limit first far.0 bytes c.reading.input _ _ _ _ far.2 c.in-Err.ensures.err so_far.unended
+    read_in_part c.args.limit first far.0 bytes c.reading.input _ _ _ _ far.2 c.in-Err.ensures.err so_far.unended
     (omega (arith, within, rows))
 
 pub returns-in-Err-take_rows-clause-grew : goal.returns-in-Err-take_rows-clause-grew
@@ -93,25 +62,79 @@ returns-in-Err-take_rows-clause-cut g c = λ bytes told first is.
     let more = rw c.in-Ok-true.field-0-test at c.in-Ok-true.ensures.more in
     let far = so_far.told bytes told first is in
     let end = c.in-Err-take_rows.ensures.cut far.0 far.1 in
-    let within = c.take_rows.ensures.within in
-    let same = c.take_rows.ensures.limit in
+    let within = c.take_rows.ensures.room.within in
     let rows = end.1.rows in
-    rows_in_part c.reading.world.limit c.args.world.now.limit so_far.limit first far.0 end.0 bytes c.reading.input _ _ _ _ _ _ _ far.2 more so_far.flushed so_far.grew
-    (omega (arith, within, same, rows)) end.2
+    rows_in_part c.args.limit first far.0 end.0 bytes c.reading.input _ _ _ _ _ _ _ far.2 more so_far.flushed so_far.grew
+    (omega (arith, within, rows)) end.2
+
+-- a row of the read is not taken
+
+pub returns-then-not-are_taken-clause-rows : goal.returns-then-not-are_taken-clause-rows
+returns-then-not-are_taken-clause-rows g c = λ bytes told first is.
+    let so_far = c.reading.invariant in
+    let more = rw c.in-Ok-true.field-0-test at c.in-Ok-true.ensures.more in
+    let far = so_far.told bytes told first is in
+    let end = c.in-Ok.ensures.rows far.0 far.1 in (
+      end.0,
+      end.1,
+      read_stopped c.args.limit first far.0 end.0 bytes _ _ _ _ _ _ _ _ _ _ c.in-Ok.rows
+          (λ all. true≢false (sym (c.are_taken.ensures.1 all) ∙ c.if-not-are_taken.true)) far.2 more so_far.flushed end.2,
+    )
+
+pub returns-then-not-are_taken-clause-grew : goal.returns-then-not-are_taken-clause-grew
+returns-then-not-are_taken-clause-grew g c = grows-trans _ _ _ c.reading.invariant.grew c.in-Ok.ensures.grew
+
+-- all rows of the read are taken
+
+pub reading-preserved : goal.reading-preserved
+reading-preserved g c =
+    let so_far = c.reading.invariant in
+    let more = rw c.in-Ok-true.field-0-test at c.in-Ok-true.ensures.more in
+    let all = c.are_taken.ensures.0 c.if-not-are_taken.false in
+    let waits = waited_on _ _ _ _ _ c.in-Ok.rows all c.in-Ok.ensures.waits in
+    record {
+      room = c.in-Ok.ensures.room;
+      accepts = c.in-Ok.ensures.accepts ∙ so_far.accepts;
+      flushed = c.in-Ok-flush.ensures.none_waits;
+      short = waits.short;
+      unended = waits.unended;
+      another = waits.another;
+      source_later = omega (arith, so_far.source_later, c.in-Ok-true.ensures.cause.later);
+      sink_later = omega (arith, so_far.sink_later, c.in-Ok.ensures.cause.later, c.in-Ok-flush.ensures.cause.later);
+      grew = grows-trans _ _ _ (grows-trans _ _ _ so_far.grew c.in-Ok.ensures.grew) (grows-appended _ _ _ c.in-Ok-flush.ensures.ok);
+      told = λ bytes told first is.
+          let far = so_far.told bytes told first is in
+          let now = c.in-Ok.ensures.rows far.0 far.1 in (
+            now.0,
+            now.1,
+            read_on c.args.limit first far.0 now.0 bytes _ _ _ _ _ _ _ _ _ _ _ far.2 more so_far.flushed
+                (took_all c.args.limit far.0 now.0 _ _ _ _ _ _ c.in-Ok.rows all now.2) c.in-Ok-flush.ensures.ok,
+          );
+    }
+
+pub reading-smaller : goal.reading-smaller
+reading-smaller g c =
+    let so_far = c.reading.invariant in
+    let more = rw c.in-Ok-true.field-0-test at c.in-Ok-true.ensures.more in
+    let all = c.are_taken.ensures.0 c.if-not-are_taken.false in
+    let waits = waited_on _ _ _ _ _ c.in-Ok.rows all c.in-Ok.ensures.waits in
+    nearer c.args.limit _ _ (length c.reading.input) _ _ (length more.came) c.in-Ok.ensures.grows
+    c.in-Ok.ensures.room.within so_far.short waits.short (ap length more.behind ∙ length-append c.reading.input more.came)
+    (some_length more.came (more.some refl)) (elim waits.nearer [ inl h ↦ inl h | inr h ↦ inr (ap length h) ])
 
 pub returns-in-Err-flush-clause-grew : goal.returns-in-Err-flush-clause-grew
 returns-in-Err-flush-clause-grew g c =
-    grows-trans _ _ _ (grows-trans _ _ _ c.reading.invariant.grew c.in-Ok-Taken.ensures.grew) (grows-front _ _ _ c.in-Err-flush.ensures.err)
+    grows-trans _ _ _ (grows-trans _ _ _ c.reading.invariant.grew c.in-Ok.ensures.grew) (grows-front _ _ _ c.in-Err-flush.ensures.err)
 
 pub returns-in-Err-flush-clause-cut : goal.returns-in-Err-flush-clause-cut
 returns-in-Err-flush-clause-cut g c = λ bytes told first is.
     let so_far = c.reading.invariant in
     let more = rw c.in-Ok-true.field-0-test at c.in-Ok-true.ensures.more in
-    let took = rw c.in-Ok-Taken.field-0-is at c.in-Ok-Taken.ensures.rows in
+    let all = c.are_taken.ensures.0 c.if-not-are_taken.false in
     let far = so_far.told bytes told first is in
-    let end = took far.0 far.1 in
-    let within = c.in-Ok-Taken.ensures.within in
-    let same = c.in-Ok-Taken.ensures.limit in
+    let end = c.in-Ok.ensures.rows far.0 far.1 in
+    let within = c.in-Ok.ensures.room.within in
     let rows = end.1.rows in
-    flush_in_part c.reading.world.limit c.args.world.now.limit so_far.limit first far.0 end.0 bytes c.reading.input _ _ _ _ _ _ _ _ _ _ far.2 more so_far.flushed
-    (grows-trans _ _ _ so_far.grew c.in-Ok-Taken.ensures.grew) (omega (arith, within, same, rows)) end.2 c.in-Err-flush.ensures.err
+    flush_in_part c.args.limit first far.0 end.0 bytes c.reading.input _ _ _ _ _ _ _ _ _ _ far.2 more so_far.flushed
+    (grows-trans _ _ _ so_far.grew c.in-Ok.ensures.grew) (omega (arith, within, rows))
+    (took_all c.args.limit far.0 end.0 _ _ _ _ _ _ c.in-Ok.rows all end.2) c.in-Err-flush.ensures.err

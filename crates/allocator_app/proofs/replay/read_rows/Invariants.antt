@@ -1,21 +1,23 @@
-use Rattle.std.proofs.Common.{◌≡◌, ◌≤◌, ◌+◌, ◌-◌, ◌*◌, List, ℕ, [], Some, None, length}
+use Rattle.std.proofs.Common.{◌≡◌, ◌≤◌, ◌<◌, ◌+◌, ◌-◌, ◌*◌, ◌⊎◌, List, ℕ, [], Some, None, length}
+use Rattle.bus_world.specs.World.{accepts, rows_taken}
 use Rattle.replay_text.specs.Lines.{after_line}
 use Rattle.allocator_app.specs.InPart.{HasRead}
 use Rattle.allocator_app.specs.Output.{Grows}
-use Rattle.allocator_app.specs.Stands.{Reaches}
+use Rattle.allocator_app.specs.Reaching.{HasRoom, Reaches}
 use Rattle.allocator_app.proofs.replay.read_rows.Given as goal
 
--- all that the rows so far tell was written, and the beginning of a line waits
+-- all that the rows so far tell was written, and the beginning of a line waits, where another row may come
 abbrev pub invariant-reading : goal.invariant-reading
 invariant-reading g l =
     let left = g.S.Source.left in
     let written = g.K.Sink.written in
     record {
-      within : l.world.rows ≤ l.world.limit;
-      limit : l.world.limit ≡ l.fn.world.limit;
+      room : HasRoom l.fn.limit l.world;
+      accepts : accepts l.world ≡ accepts l.fn.world;
       flushed : l.output ≡ [];
       short : length l.input ≤ 120;
       unended : after_line l.input ≡ None;
+      another : (l.input ≡ []) ⊎ (rows_taken l.world < l.fn.limit);
       source_later : g.S.Source.faults l.fn.source ≤ g.S.Source.faults l.source;
       sink_later : g.K.Sink.faults l.fn.sink ≤ g.K.Sink.faults l.sink;
       grew : Grows (written l.fn.sink) (written l.sink);
@@ -25,4 +27,4 @@ invariant-reading g l =
 
 -- each row has at most 121 bytes with its line feed, and each read brings one byte at least
 abbrev pub decreases-reading : goal.decreases-reading
-decreases-reading g l = (l.fn.world.limit - l.world.rows) * 122 + (121 - length l.input)
+decreases-reading g l = (l.fn.limit - rows_taken l.world) * 122 + (121 - length l.input)

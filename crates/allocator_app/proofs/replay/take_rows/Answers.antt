@@ -1,76 +1,100 @@
-use Rattle.std.proofs.Common.{◌++◌, sym, ◌∙◌, refl, arith, inl}
-use Rattle.std.proofs.KnownBytes.{Appends-trans}
-use Rattle.allocator_app.specs.World.{after}
-use Rattle.allocator_app.proofs.Coming.{comes-more, refused-full, refused-no_row, refused-row}
-use Rattle.allocator_app.proofs.Rest.{rows_taken}
-use Rattle.allocator_app.proofs.Written.{front-on, grows-trans, on_err}
+use Rattle.std.proofs.Common.{◌+◌, ◌++◌, sym, ap, ◌∙◌, refl, arith, inl, inr, []}
+use Rattle.std.proofs.KnownBytes.{Appends-nil, Appends-trans}
+use Rattle.std.proofs.lemmas.Bool.{true≢false}
+use Rattle.std.proofs.lemmas.Bool.Decides.{nat_tests}
+use Rattle.world_parts.specs.Cluster.{next}
+use Rattle.allocator_app.proofs.Coming.{bad-row, beyond, goes-more, goes-nil, refused-row}
+use Rattle.allocator_app.proofs.Rest.{read_usable, rows_taken}
+use Rattle.allocator_app.proofs.Written.{front-on, grows-refl, grows-trans, on_err}
 use Rattle.allocator_app.proofs.replay.take_rows.Goals as goal
+
+pub row-requires-clause-filled : goal.row-requires-clause-filled
+row-requires-clause-filled g c = read_usable c.in-Row.row c.rows.input c.next_row.new.self c.in-Row.ensures.found
+
+pub rows-init : goal.rows-init
+rows-init g c = record {
+  room = c.requires.room;
+  accepts = refl;
+  later = omega arith;
+  grows = omega arith;
+  some = inr refl;
+  grew = grows-refl _;
+  came = λ first is. (
+    first,
+    is,
+    ([], λ more. goes-nil first _ (c.logs_give_once.ensures c.args.world.now first is), Appends-nil _),
+  );
+}
+
+-- where the rows stop
+
+pub returns-then-is_empty-clause-rows : goal.returns-then-is_empty-clause-rows
+returns-then-is_empty-clause-rows g c =
+    rows_taken c.args.limit c.args.world.now c.rows.world c.rows.world c.args.input.now c.rows.input _ _ _ _ _ _ refl c.rows.invariant.came (λ w is. refl)
+
+pub returns-then-taken-limit-clause-rows : goal.returns-then-taken-limit-clause-rows
+returns-then-taken-limit-clause-rows g c =
+    rows_taken c.args.limit c.args.world.now c.rows.world c.rows.world c.args.input.now c.rows.input _ _ _ _ _ _ refl c.rows.invariant.came
+    (λ w is more. beyond c.args.limit w c.rows.input more
+    (let rows = is.rows in let count = c.taken.ensures in let full = c.if-taken-limit.true in grind (arith, nat_tests, rows, count, full))
+    (λ empty. true≢false (sym (c.is_empty.ensures.1 empty) ∙ c.if-is_empty.false)))
 
 pub returns-in-NoRow-clause-rows : goal.returns-in-NoRow-clause-rows
 returns-in-NoRow-clause-rows g c =
-    rows_taken c.args.world.now c.rows.world c.rows.world c.args.input.now c.rows.input _ _ _ _ _ _ refl c.rows.invariant.came
-    (λ w is more. refused-no_row c.args.world.now.limit w _ (c.in-NoRow.ensures.found.1 more))
+    rows_taken c.args.limit c.args.world.now c.rows.world c.rows.world c.args.input.now c.rows.input _ _ _ _ _ _ refl c.rows.invariant.came
+    (λ w is more. bad-row c.args.limit w _
+    (let rows = is.rows in let count = c.taken.ensures in let low = c.if-taken-limit.false in let within = c.rows.invariant.room.within in
+    grind (arith, nat_tests, rows, count, low, within))
+    (c.in-NoRow.ensures.found.1 more))
 
 pub returns-in-Incomplete-clause-rows : goal.returns-in-Incomplete-clause-rows
 returns-in-Incomplete-clause-rows g c =
-    rows_taken c.args.world.now c.rows.world c.rows.world c.args.input.now c.rows.input _ _ _ _ _ _ refl c.rows.invariant.came
+    rows_taken c.args.limit c.args.world.now c.rows.world c.rows.world c.args.input.now c.rows.input _ _ _ _ _ _ refl c.rows.invariant.came
     (λ w is. sym c.in-Incomplete.ensures.found.0)
 
-pub returns-then-is_full-clause-rows : goal.returns-then-is_full-clause-rows
-returns-then-is_full-clause-rows g c =
-    let full = c.is_full.ensures.full c.if-is_full.true in
-    let limit = c.rows.invariant.limit in
-    rows_taken c.args.world.now c.rows.world c.rows.world c.args.input.now c.rows.input _ _ _ _ _ _ refl c.rows.invariant.came
-    (λ w is more. refused-full c.args.world.now.limit w c.in-Row.row c.rows.input _ more c.in-Row.ensures.found
-    (λ low. let rows = is.rows in omega (arith, low, rows, full, limit)))
-
-pub returns-in-None-clause-rows : goal.returns-in-None-clause-rows
-returns-in-None-clause-rows g c =
-    rows_taken c.args.world.now c.rows.world c.row.new.self c.args.input.now c.rows.input _ _ _ _ _ _ (c.in-None.ensures.unchanged refl)
+pub returns-in-Err-clause-rows : goal.returns-in-Err-clause-rows
+returns-in-Err-clause-rows g c =
+    rows_taken c.args.limit c.args.world.now c.rows.world c.row.new.self c.args.input.now c.rows.input _ _ _ _ _ _ (c.in-Err.ensures.unchanged refl)
     c.rows.invariant.came
-    (λ w is more. refused-row c.args.world.now.limit w c.in-Row.row c.rows.input _ more c.in-Row.ensures.found (c.in-None.ensures.refused w is refl))
+    (λ w is more. refused-row c.args.limit w c.in-Row.row c.in-Err.why c.rows.input _ more c.in-Row.ensures.found
+    (let rows = is.rows in let count = c.taken.ensures in let low = c.if-taken-limit.false in let within = c.rows.invariant.room.within in
+    grind (arith, nat_tests, rows, count, low, within))
+    (c.in-Err.ensures.refused w is))
 
 pub rows-preserved : goal.rows-preserved
 rows-preserved g c =
     let so_far = c.rows.invariant in
-    let count = c.in-Some.ensures.count refl in
-    let same = c.in-Some.ensures.limit in
-    let room = c.is_full.ensures.room c.if-is_full.false in
+    let room = so_far.room.within in
+    let frames = so_far.room.frames in
+    let taken = c.in-Ok.ensures.taken in
+    let left = c.in-Ok.ensures.left in
+    let count = c.taken.ensures in
+    let low = c.if-taken-limit.false in
     let line = c.deref.ensures.0 ∙ c.write_told.ensures.line in
     record {
-      within = omega (arith, room, count, same);
-      limit = same ∙ so_far.limit;
+      room = record { within = grind (arith, nat_tests, room, taken, count, low); frames = omega (arith, frames, taken, left) };
+      accepts = c.in-Ok.ensures.accepts ∙ so_far.accepts;
       later = omega (arith, so_far.later, c.in_ok-line.ensures.cause.later);
-      grows = omega (arith, so_far.grows, count);
+      grows = omega (arith, so_far.grows, taken);
+      some = inl (omega (arith, so_far.grows, taken));
       grew = grows-trans _ _ _ so_far.grew c.in_ok-line.ensures.told.grew;
-      some = inl (omega (arith, so_far.grows, count));
       came = λ first is.
           let far = so_far.came first is in
-          let taken = c.in-Some.ensures.taken far.0 far.1 in (
-            after far.0 c.in-Row.row,
-            taken.2,
+          let told = c.in-Ok.ensures.told far.0 far.1 in
+          let now = c.in-Ok.ensures.accepted far.0 far.1 in
+          let rows = far.1.rows in (
+            next far.0 c.in-Row.row,
+            now,
             (
               far.2.0 ++ c.deref.result.now,
-              comes-more first far.0 c.in-Row.row c.in-Some.told c.args.input.now c.rows.input _ far.2.0 c.deref.result.now _
-                  far.2.1 c.in-Row.ensures.found taken.0 taken.1 (c.rows-in-rows.ensures.rows ∙ taken.2.rows) line,
+              goes-more first far.0 c.in-Row.row c.in-Ok.told c.args.input.now c.rows.input _ far.2.0 c.deref.result.now _
+                  far.2.1 c.in-Row.ensures.found told.0 told.1 (c.logs_give_once.ensures c.rows.world far.0 far.1) (c.in-Ok.ensures.kept far.0 far.1) (c.logs_give_once.ensures c.row.new.self (next far.0 c.in-Row.row) now) (c.taken-in-rows.ensures ∙ taken ∙ ap (λ n. n + 1) rows) line,
               Appends-trans _ _ _ far.2.0 c.deref.result.now far.2.2 c.in_ok-line.ensures.told.ok,
             ),
           );
     }
 
 -- what was written by then
-
-pub returns-in-NoRow-clause-grew : goal.returns-in-NoRow-clause-grew
-returns-in-NoRow-clause-grew g c = c.rows.invariant.grew
-
-pub returns-in-Incomplete-clause-grew : goal.returns-in-Incomplete-clause-grew
-returns-in-Incomplete-clause-grew g c = c.rows.invariant.grew
-
-pub returns-then-is_full-clause-grew : goal.returns-then-is_full-clause-grew
-returns-then-is_full-clause-grew g c = c.rows.invariant.grew
-
-pub returns-in-None-clause-grew : goal.returns-in-None-clause-grew
-returns-in-None-clause-grew g c = c.rows.invariant.grew
 
 pub returns-in_err-line-clause-grew : goal.returns-in_err-line-clause-grew
 returns-in_err-line-clause-grew g c = grows-trans _ _ _ c.rows.invariant.grew c.in_err-line.ensures.told.grew
@@ -82,14 +106,16 @@ returns-in_err-line-clause-cut g c =
     let written = g.K.Sink.written in
     on_err c.from_residual.result (λ first is.
     let far = so_far.came first is in
-    let taken = c.in-Some.ensures.taken far.0 far.1 in (
-      after far.0 c.in-Row.row,
-      taken.2,
+    let told = c.in-Ok.ensures.told far.0 far.1 in
+    let now = c.in-Ok.ensures.accepted far.0 far.1 in
+    let rows = far.1.rows in (
+      next far.0 c.in-Row.row,
+      now,
       record {
         lines = far.2.0 ++ c.deref.result.now;
         rest = c.next_row.new.self;
-        comes = comes-more first far.0 c.in-Row.row c.in-Some.told c.args.input.now c.rows.input c.next_row.new.self far.2.0 c.deref.result.now _
-            far.2.1 c.in-Row.ensures.found taken.0 taken.1 (c.rows-in-rows.ensures.rows ∙ taken.2.rows) line;
+        goes = goes-more first far.0 c.in-Row.row c.in-Ok.told c.args.input.now c.rows.input c.next_row.new.self far.2.0 c.deref.result.now _
+            far.2.1 c.in-Row.ensures.found told.0 told.1 (c.logs_give_once.ensures c.rows.world far.0 far.1) (c.in-Ok.ensures.kept far.0 far.1) (c.logs_give_once.ensures c.row.new.self (next far.0 c.in-Row.row) now) (c.taken-in-rows.ensures ∙ c.in-Ok.ensures.taken ∙ ap (λ n. n + 1) rows) line;
         written = front-on (written c.args.sink.now) (written c.rows.sink) (written c.line.new.sink) c.args.output.now c.rows.output far.2.0 c.deref.result.now
             so_far.grew far.2.2 c.in_err-line.ensures.told.err;
       },

@@ -1,6 +1,7 @@
 use Rattle.std.proofs.Common.{◌≡◌, ◌≤◌, ◌<◌, ◌⊎◌, length}
+use Rattle.bus_world.specs.World.{accepts, rows_taken}
 use Rattle.allocator_app.specs.Output.{Grows}
-use Rattle.allocator_app.specs.Stands.{Reaches}
+use Rattle.allocator_app.specs.Reaching.{HasRoom, Reaches}
 use Rattle.allocator_app.proofs.Rest.{TakesSome}
 use Rattle.allocator_app.proofs.replay.take_rows.Given as goal
 
@@ -10,11 +11,11 @@ invariant-rows g l =
     let written = g.K.Sink.written in
     let faults = g.K.Sink.faults in
     record {
-      within : l.world.rows ≤ l.world.limit;
-      limit : l.world.limit ≡ l.fn.world.limit;
+      room : HasRoom l.fn.limit l.world;
+      accepts : accepts l.world ≡ accepts l.fn.world;
       later : faults l.fn.sink ≤ faults l.sink;
-      grows : l.fn.world.rows ≤ l.world.rows;
-      some : (l.fn.world.rows < l.world.rows) ⊎ (l.input ≡ l.fn.input);
+      grows : rows_taken l.fn.world ≤ rows_taken l.world;
+      some : (rows_taken l.fn.world < rows_taken l.world) ⊎ (l.input ≡ l.fn.input);
       grew : Grows (written l.fn.sink) (written l.sink);
       came : Reaches l.fn.world l.world (λ first now.
           TakesSome first now l.fn.input l.input (written l.fn.sink) l.fn.output (written l.sink) l.output);

@@ -1,0 +1,8 @@
+use Rattle.std.proofs.Common.{subst}
+use Rattle.replay_text.specs.declared.row.Row.{Row}
+use Rattle.world_rows.specs.Rows.{HasPattern}
+use Rattle.world_rows.proofs.cluster.give.Goals as goal
+
+pub row-requires-clause-filled : goal.row-requires-clause-filled
+row-requires-clause-filled g c = λ n calls pattern e.
+    subst (λ (row : Row). HasPattern row) e (c.is_filled.ensures c.if-not-is_filled.false)
