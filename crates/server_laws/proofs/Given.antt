@@ -3,9 +3,6 @@ use Rattle.std.proofs.Common.{◌≡◌, ℕ, ◌≤◌, List, [], ◌∷◌, �
 use Rattle.std.specs.Prelude.{⊤}
 use Rattle.std.proofs.lemmas.List.{get_or-take}
 use Rattle.can_frame.specs.declared.entry.Entry.{Entry}
-use Rattle.can_frame.specs.declared.step.What.{What}
-use Rattle.can_frame.specs.declared.step.What.TheVariants.{Alloc, Disc, Stat, InfoQ, Info, VoteQ, Vote, AppQ, App}
-use Rattle.can_frame.specs.declared.identifier.Kind.TheVariants.{Response}
 use Rattle.can_frame.specs.Log.{blank}
 use Rattle.raft_core.specs.Taken.{proposal}
 use Rattle.raft_model.specs.Decisions.{judges}
@@ -17,29 +14,23 @@ use Rattle.raft_model.specs.Server.{Plain, Put, Store, committed, put_all}
 use Rattle.server_parts.specs.Going.{Going, given_by_offer, pairs}
 use Rattle.server_parts.specs.Step.{Event, step}
 use Rattle.server_parts.specs.TimedServer.{Timed, members_of}
-use Rattle.server_parts.specs.Transfers.{Given as Pair, Offer, given_in, kind_of}
-use Rattle.server_laws.specs.Giving.{IsGivenIn}
+use Rattle.server_parts.specs.Transfers.{Given as Pair, Offer, given_in}
+use Rattle.server_laws.specs.Giving.{Gives, IsGivenIn}
 use Rattle.server_laws.proofs.Choices.{tell}
-use Rattle.server_laws.proofs.Giving.{IsOfPlace}
+use Rattle.server_laws.proofs.Giving.{IsOfPlace, gives_it, message_gives}
 use Rattle.server_laws.proofs.Growing.{Grows, IsSane, moves_grow}
 use Rattle.server_laws.proofs.Keeping.{Keeping}
 use Rattle.server_laws.proofs.Lists.{in_append, in_filter}
 use Rattle.server_laws.proofs.Walk.{step_keeps}
 
-response_gives : (what : What) (payload : List ℕ) (given : Pair) → kind_of what ≡ Response → given_in what payload ≡ Some given → ⊥
-response_gives Alloc payload given is e = absurd (cc (is))
-response_gives Disc payload given is e = absurd (cc (e))
-response_gives Stat payload given is e = absurd (cc (e))
-response_gives InfoQ payload given is e = absurd (cc (e))
-response_gives Info payload given is e = absurd (cc (e))
-response_gives VoteQ payload given is e = absurd (cc (e))
-response_gives Vote payload given is e = absurd (cc (e))
-response_gives AppQ payload given is e = absurd (cc (e))
-response_gives App payload given is e = absurd (cc (e))
+-- all that is offered gives pairs of committed places
+abbrev AreOfPlaces : Store → List Offer → Type 0
+AreOfPlaces store offers =
+    (offer : Offer) → In offer offers → (given : Pair) → Gives offer.what offer.payload given → IsOfPlace store given
 
-pub record Gives (g : Going) : Type 0 where
+pub record GivesPlaces (g : Going) : Type 0 where
   pub sane : IsSane g.timed.plain.store
-  pub each : (offer : Offer) → In offer g.offers → (given : Pair) → given_in offer.what offer.payload ≡ Some given → IsOfPlace g.timed.plain.store given
+  pub each : AreOfPlaces g.timed.plain.store g.offers
 
 -- a committed place is committed later
 place_stays : (a b : Store) (given : Pair) → Grows a b → IsOfPlace a given → IsOfPlace b given
@@ -50,32 +41,29 @@ place_stays a b given grows is = record {
   node = ap (λ (e : Entry). e.node) (grows.same is.place is.below) ∙ is.node;
 }
 
-one_more : (store : Store) (offers : List Offer) (new : Offer)
-    → ((offer : Offer) → In offer offers → (given : Pair) → given_in offer.what offer.payload ≡ Some given → IsOfPlace store given)
-    → ((given : Pair) → given_in new.what new.payload ≡ Some given → IsOfPlace store given)
-    → (offer : Offer) → In offer (offers ++ new ∷ []) → (given : Pair) → given_in offer.what offer.payload ≡ Some given → IsOfPlace store given
+one_more : (store : Store) (offers : List Offer) (new : Offer) → AreOfPlaces store offers
+    → ((given : Pair) → Gives new.what new.payload given → IsOfPlace store given) → AreOfPlaces store (offers ++ new ∷ [])
 one_more store offers new h is offer i = elim (in_append offer offers (new ∷ []) i) [
   | inl j ↦ h offer j
-  | inr (inl e) ↦ subst (λ (o : Offer). (given : Pair) → given_in o.what o.payload ≡ Some given → IsOfPlace store given) (sym e) is
+  | inr (inl e) ↦ subst (λ (o : Offer). (given : Pair) → Gives o.what o.payload given → IsOfPlace store given) (sym e) is
   | inr (inr j) ↦ absurd j
 ]
 
-same_store : (g later : Going) → later.timed.plain ≡ g.timed.plain → later.offers ≡ g.offers → Gives g → Gives later
+same_store : (g later : Going) → later.timed.plain ≡ g.timed.plain → later.offers ≡ g.offers → GivesPlaces g → GivesPlaces later
 same_store g later p o h = record {
   sane = subst (λ (plain : Plain). IsSane plain.store) (sym p) h.sane;
-  each = subst (λ (plain : Plain). (offer : Offer) → In offer later.offers → (given : Pair) → given_in offer.what offer.payload ≡ Some given → IsOfPlace plain.store given)
-      (sym p) (subst (λ (offers : List Offer). (offer : Offer) → In offer offers → (given : Pair) → given_in offer.what offer.payload ≡ Some given → IsOfPlace g.timed.plain.store given) (sym o) h.each);
+  each = subst (λ (plain : Plain). AreOfPlaces plain.store later.offers) (sym p) (subst (λ (l : List Offer). AreOfPlaces g.timed.plain.store l) (sym o) h.each);
 }
 
-moved_on : (g later : Going) → Grows g.timed.plain.store later.timed.plain.store → later.offers ≡ g.offers → Gives g → Gives later
+moved_on : (g later : Going) → Grows g.timed.plain.store later.timed.plain.store → later.offers ≡ g.offers → GivesPlaces g → GivesPlaces later
 moved_on g later grows o h = record {
   sane = grows.sane;
-  each = subst (λ (offers : List Offer). (offer : Offer) → In offer offers → (given : Pair) → given_in offer.what offer.payload ≡ Some given → IsOfPlace later.timed.plain.store given)
-      (sym o) (λ offer i given e. place_stays g.timed.plain.store later.timed.plain.store given grows (h.each offer i given e));
+  each = subst (λ (l : List Offer). AreOfPlaces later.timed.plain.store l) (sym o)
+      (λ offer i given e. place_stays g.timed.plain.store later.timed.plain.store given grows (h.each offer i given e));
 }
 
 module _ (judged : (server : Plain) (request : Request) → IsJudged server request (judges server request)) (number : ℕ) (event : Event) where
-  gives_keeping : Keeping number event Gives (λ d. ⊤)
+  gives_keeping : Keeping number event GivesPlaces (λ d. ⊤)
   gives_keeping = record {
     takes_keep = λ given moves g quiet decided h.
         moved_on g _ (moves_grow judged (members_of g.timed) g.timed.me number moves g.timed.plain decided h.sane) refl h;
@@ -90,7 +78,7 @@ module _ (judged : (server : Plain) (request : Request) → IsJudged server requ
         };
     responds_keep = λ what d payload says g comes responds h. record {
       sane = h.sane;
-      each = one_more g.timed.plain.store g.offers _ h.each (λ given e. absurd (response_gives what payload given responds.is e));
+      each = one_more g.timed.plain.store g.offers _ h.each (λ given e. absurd (cc (responds.is, message_gives what payload given e)));
     };
     changes_keep = λ u g like h. same_store g _ like.plain refl h;
     watches_keep = λ node happens g has h. record { sane = h.sane; each = h.each };
@@ -98,9 +86,9 @@ module _ (judged : (server : Plain) (request : Request) → IsJudged server requ
     hears_keep = λ d message g comes kind other read h. record { sane = h.sane; each = h.each };
   }
 
-  step_gives : (t : Timed) → IsSane t.plain.store → Gives (step t number event).going
+  step_gives : (t : Timed) → IsSane t.plain.store → GivesPlaces (step t number event).going
   step_gives t sane =
-      step_keeps number event Gives (λ d. ⊤) gives_keeping t (λ arrival is d e. tt) (record { sane = sane; each = λ offer i. absurd i })
+      step_keeps number event GivesPlaces (λ d. ⊤) gives_keeping t (λ arrival is d e. tt) (record { sane = sane; each = λ offer i. absurd i })
 
 -- what is given is read of the payload
 offered_pair : (offer : Offer) (given : Pair) → given_by_offer offer ≡ Some given → given_in offer.what offer.payload ≡ Some given
@@ -114,14 +102,23 @@ in_committed store given sane is = record {
   node = ap (λ (e : Entry). e.node) (get_or-take store.commit store.log is.place (blank 0) is.below) ∙ is.node;
 }
 
-pub pairs_are_committed : ((server : Plain) (request : Request) → IsJudged server request (judges server request)) → (t : Timed) (number : ℕ) (event : Event)
-    → t.plain.store.commit ≤ length t.plain.store.log → (given : Pair) → In given (pairs (step t number event).going)
+abbrev Judged : Type 0
+Judged = (server : Plain) (request : Request) → IsJudged server request (judges server request)
+
+pub offers_are_committed : Judged → (t : Timed) (number : ℕ) (event : Event) → t.plain.store.commit ≤ length t.plain.store.log
+    → (offer : Offer) (given : Pair) → In offer (step t number event).going.offers → Gives offer.what offer.payload given
+    → IsGivenIn (committed (step t number event).going.timed.plain.store) given
+offers_are_committed judged t number event sane offer given i gives =
+    let all = step_gives judged number event t sane in
+    in_committed (step t number event).going.timed.plain.store given all.sane (all.each offer i given gives)
+
+pub pairs_are_committed : Judged → (t : Timed) (number : ℕ) (event : Event) → t.plain.store.commit ≤ length t.plain.store.log
+    → (given : Pair) → In given (pairs (step t number event).going)
     → IsGivenIn (committed (step t number event).going.timed.plain.store) given
 pairs_are_committed judged t number event sane given i =
-    let all = step_gives judged number event t sane in
     let from = in_filter given_by_offer (step t number event).going.offers given i in
-    in_committed (step t number event).going.timed.plain.store given all.sane (all.each from.0 from.1 given (offered_pair from.0 given from.2))
+    offers_are_committed judged t number event sane from.0 given from.1 (gives_it from.0.what from.0.payload given (offered_pair from.0 given from.2))
 
-pub commit_stays_inside : ((server : Plain) (request : Request) → IsJudged server request (judges server request)) → (t : Timed) (number : ℕ) (event : Event)
+pub commit_stays_inside : Judged → (t : Timed) (number : ℕ) (event : Event)
     → t.plain.store.commit ≤ length t.plain.store.log → (step t number event).going.timed.plain.store.commit ≤ length (step t number event).going.timed.plain.store.log
 commit_stays_inside judged t number event sane = (step_gives judged number event t sane).sane

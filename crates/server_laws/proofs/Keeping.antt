@@ -26,8 +26,9 @@ use Rattle.server_parts.specs.Step.{Event}
 use Rattle.server_parts.specs.Step.Event.{Rx, Tick}
 use Rattle.server_parts.specs.Tick.{discovery_of as own_discovery, proposes, with_discovery}
 use Rattle.server_parts.specs.TimedServer.{Timed, members_of, start_of}
-use Rattle.server_parts.specs.Transfers.{Given as Pair, given_in, has_room, id_of, kind_of}
+use Rattle.server_parts.specs.Transfers.{Given as Pair, has_room, id_of, kind_of}
 use Rattle.server_laws.specs.Calls.{carrier}
+use Rattle.server_laws.specs.Giving.{Gives}
 use Rattle.server_laws.specs.Responses.{AnswersAsked}
 use Rattle.server_laws.specs.Saying.{IsSaid}
 use Rattle.server_laws.specs.Sound.{IsDestination}
@@ -92,7 +93,7 @@ pub record Sends (number : ℕ) (event : Event) (t : Timed) (what : What) (to : 
   pub destination : IsSentTo (kind_of what) to
   pub said : IsSaid number t.me what to 0 payload says
   pub told : what ≡ Disc → IsTick event × (payload ≡ discovery_bytes (own_discovery t))
-  pub gives : (given : Pair) → given_in what payload ≡ Some given → IsOfPlace t.plain.store given
+  pub gives : (given : Pair) → Gives what payload given → IsOfPlace t.plain.store given
 
 -- whence a leader has a unique ID that it records: of the exchange it has 16 bytes, else a node told it; one of zeros is a reservation's
 abbrev pub IsFound : Timed → List ℕ → Type 0

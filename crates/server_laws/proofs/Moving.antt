@@ -62,7 +62,7 @@ use Rattle.server_laws.specs.Coming.{AnswersFrom, RequestsFrom, SaysFrom}
 use Rattle.server_laws.specs.LawsBelow.{Laws}
 use Rattle.server_laws.proofs.Calling.{commit_quiet, expire_quiet, quiet_calls, tick_quiet}
 use Rattle.server_laws.proofs.Choices.{and_left, and_right, either, eq_false, eq_true, lt_true, not_true, tell}
-use Rattle.server_laws.proofs.Giving.{allocation_gives}
+use Rattle.server_laws.proofs.Giving.{allocation_gives, gives_it}
 use Rattle.server_laws.proofs.Listed.{sent}
 use Rattle.server_laws.proofs.Lists.{in_drop, in_front}
 use Rattle.server_laws.proofs.Peers.{ArePeers, list_peers, members_list}
@@ -83,7 +83,7 @@ entry_says : (step me node : ℕ) (uid : List ℕ) (message : Message) → pair_
     → (1 ≤ node) × (message ≡ Pairs (record { step = step; from = me; uid = uid; node = node }))
 entry_says step me node uid message e =
     let p = pair_says step me (given_in Alloc (allocation_payload node uid)) message e in
-    let g = allocation_gives node uid p.0 p.1 in
+    let g = allocation_gives node uid p.0 (gives_it Alloc (allocation_payload node uid) p.0 p.1) in
     (g.0, p.2 ∙ ap (λ (q : Pair). Pairs (record { step = step; from = me; uid = q.0; node = q.1 })) g.1)
 
 -- ---- calls that are given up

@@ -58,7 +58,7 @@ use Rattle.server_parts.specs.Transfers.{Given as Pair, has_room, id_of, kind_of
 use Rattle.server_laws.specs.Saying.{IsSaid}
 use Rattle.server_laws.proofs.Calling.{CallsPeer, IsQuiet, commit_quiet, expire_quiet, owes_peer, tick_quiet}
 use Rattle.server_laws.proofs.Choices.{and_right, either, eq_false, eq_true, lt_true}
-use Rattle.server_laws.proofs.Giving.{allocation_gives, follow_up_gives, request_gives}
+use Rattle.server_laws.proofs.Giving.{allocation_gives, follow_up_gives, message_gives}
 use Rattle.server_laws.proofs.Growing.{IsDecided, commit_decided, expire_decided, tick_decided}
 use Rattle.server_laws.proofs.Keeping.{IsSentTo, IsServed, IsTick, Keeping, MakesCall}
 use Rattle.server_laws.proofs.Lists.{found, in_range}
@@ -76,12 +76,12 @@ module _ (number : ℕ) (event : Event) (Keeps : Going → Type 0) (Comes : Deli
   discovery_keeps : (g : Going) → IsTick event → Keeps g → Keeps (discovery_phase number g)
   discovery_keeps g tick h =
       either Keeps (is_due (start_of g.timed) g.timed.heard g.timed.now) (tells_members number g) g
-      (λ e. k.tells_keep _ (k.sends_keep Disc 0 _ None g (record { destination = refl; said = (refl, refl); told = λ e. (tick, refl); gives = λ given e. absurd (cc (e)) }) h)) (λ e. h)
+      (λ e. k.tells_keep _ (k.sends_keep Disc 0 _ None g (record { destination = refl; said = (refl, refl); told = λ e. (tick, refl); gives = λ given e. absurd (cc (e.kind)) }) h)) (λ e. h)
 
   status_keeps : (g : Going) → Keeps g → Keeps (status_phase number g)
   status_keeps g h =
       either Keeps (nat_le 1000 (g.timed.now - g.timed.status_at)) (tells_status number g) g
-      (λ e. k.changes_keep _ _ (record { start = refl; plain = refl; times = refl; now = refl; queue = refl; ids = refl; heard = refl; watch = refl }) (k.sends_keep Stat 0 _ None g (record { destination = refl; said = (refl, refl); told = λ e. absurd (cc (e)); gives = λ given e. absurd (cc (e)) }) h)) (λ e. h)
+      (λ e. k.changes_keep _ _ (record { start = refl; plain = refl; times = refl; now = refl; queue = refl; ids = refl; heard = refl; watch = refl }) (k.sends_keep Stat 0 _ None g (record { destination = refl; said = (refl, refl); told = λ e. absurd (cc (e)); gives = λ given e. absurd (cc (e.kind)) }) h)) (λ e. h)
 
   record_keeps : (g : Going) → Keeps g → Keeps (record_phase number g)
   record_keeps g h =
@@ -100,7 +100,7 @@ module _ (number : ℕ) (event : Event) (Keeps : Going → Type 0) (Comes : Deli
   asks_keeps_one (Some node) g device h =
       let d = device node refl in
       let s = k.sends_keep InfoQ node [] None g
-      (record { destination = (d.0, omega (arith, d.1)); said = (refl, refl); told = λ e. absurd (cc (e)); gives = λ given e. absurd (cc (e)) }) h in
+      (record { destination = (d.0, omega (arith, d.1)); said = (refl, refl); told = λ e. absurd (cc (e)); gives = λ given e. absurd (cc (e.kind)) }) h in
       either Keeps (has_room g.timed.queue []) (with_query node (id_of g.timed.ids InfoQ node) (sends number InfoQ node [] None g))
       (sends number InfoQ node [] None g) (λ e. k.watches_keep node (Asked (id_of g.timed.ids InfoQ node) g.timed.now) (sends number InfoQ node [] None g) tt s) (λ e. s)
 
@@ -294,7 +294,7 @@ module _ (number : ℕ) (event : Event) (Keeps : Going → Type 0) (Comes : Deli
         destination = subst (λ (kind : Kind). IsSentTo kind peer) (sym is) (device.0, omega (arith, device.1));
         said = said;
         told = λ e. absurd (cc (is, e));
-        gives = λ given e. absurd (request_gives what payload given is e);
+        gives = λ given e. absurd (cc (is, message_gives what payload given e));
       }) h in
       either Keeps (has_room g.timed.queue payload) _ _ (λ fits. k.calls_keep what peer move request payload g makes fits s) (λ e. s)
 

@@ -15,7 +15,7 @@ ghost use Rattle.raft_model.specs.Stops.{Site};
 ghost use Rattle.server_laws.specs.Apart.{AreAllApart, OneByName};
 ghost use Rattle.server_laws.specs.Calls.{CallsAreMade, KeepsCalls};
 ghost use Rattle.server_laws.specs.Coming.{Begins, IsOfTheMachine, KeepsOrder, WhereItMayStep};
-ghost use Rattle.server_laws.specs.Giving.{IsGivenIn};
+ghost use Rattle.server_laws.specs.Giving.{Gives, IsGivenIn};
 ghost use Rattle.server_laws.specs.LawsBelow.{Laws};
 ghost use Rattle.server_laws.specs.Listing.{IsNamed};
 ghost use Rattle.server_laws.specs.Phases.{InEveryStep, TellsDuly, when_committed, when_seen, when_told};
@@ -154,10 +154,17 @@ pub fn proposals_of_a_step()
     ensures popped { (t : Timed) → HasUids t.watch → HasUids (popped t).watch }
 {}
 
-/// Where the commit index lies within the log, it does so after each step; and each pair that the
-/// step gives to a device, in an Allocation that fitted, is then that of an entry that is committed
-/// when the step is over.
+/// Where the commit index lies within the log, it does so after each step; and what the step gives to
+/// a device is then that of an entry that is committed when the step is over: each Allocation with a
+/// node ID that the step offers, whatever it says of the unique ID, and so each pair of those that
+/// fitted.
 pub fn pairs_of_a_step()
+    ensures offered { (t : Timed) (number : ℕ) (event : Event) →
+        t.plain.store.commit ≤ length t.plain.store.log →
+        (offer : Offer) (given : Given) → In offer (step t number event).going.offers →
+        Gives offer.what offer.payload given →
+        let store = (step t number event).going.timed.plain.store in
+        IsGivenIn (committed store) given }
     ensures committed { (t : Timed) (number : ℕ) (event : Event) →
         t.plain.store.commit ≤ length t.plain.store.log →
         (given : Given) → In given (pairs (step t number event).going) →

@@ -17,9 +17,10 @@
 //! What a reader must believe: `specs/Apart` (two transfers of one step), `specs/Sound` (ranges),
 //! `specs/Saying` (what a transfer says), `specs/Responses` (what a response answers),
 //! `specs/Calls` (who made the pending calls), `specs/Coming` (when the moves of a step may come,
-//! and what it means that they do), `specs/Giving` (a pair as an entry), `specs/Listing` (who is
-//! new on the list), `specs/Proposals` (whole unique IDs), `specs/Phases` (the step as far as it
-//! has come, and a leader's duty to tell), `specs/Waiting` (the frames of transfers that fitted).
+//! and what it means that they do), `specs/Giving` (what an Allocation gives, and a pair as an
+//! entry), `specs/Listing` (who is new on the list), `specs/Proposals` (whole unique IDs),
+//! `specs/Phases` (the step as far as it has come, and a leader's duty to tell), `specs/Waiting`
+//! (the frames of transfers that fitted).
 #![tactic(auto)]
 
 pub mod bus;
