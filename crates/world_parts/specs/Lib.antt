@@ -1,3 +1,4 @@
+pub mod Choices
 pub mod Cluster
 pub mod Lawful
 pub mod Logs

@@ -16,7 +16,7 @@ use Rattle.server_parts.specs.Transfers.{outgoing}
 use Rattle.world_parts.specs.Cluster.{Cluster}
 use Rattle.world_parts.specs.Members.{Life}
 use Rattle.world_parts.specs.Members.Life.{Down, Up, Failed}
-use Rattle.world_parts.specs.Refinement.{chosen_store}
+use Rattle.world_parts.specs.Choices.{chosen_store}
 
 -- What a member has stored, running or stopped: what its disk stands for. Of a failed step so many puts are done for sure;
 -- whether the next one is, only a stop finds, and till then the choice says.

@@ -1,27 +1,26 @@
--- The run of the message machine that a world shows: the events of each row, in order.
+-- The run of the message machine that a world shows: the events of each row, in order; and the transfers that were made.
 --
 -- A step that its disk cut off ends within the move whose put failed. Where the member stopped with it, the disk tells
--- whether that put was done. Where it did not, a choice says so, by the number of the row; it fits where the member's disk
--- agrees once the member stops.
-use Rattle.std.specs.Prelude.{◌≡◌, ⊤, ℕ, ◌+◌, ◌-◌, ◌==◌, nat_lt, Bool, true, false, List, [], ◌∷◌, ◌++◌, length, if◌then◌else◌}
-use Rattle.kv_store.specs.Shelf.{Shelf, restarted_on}
+-- whether that put was done. Where it did not, a choice says so (`Choices`).
+use Rattle.std.specs.Prelude.{ℕ, ◌+◌, ◌-◌, ◌==◌, nat_lt, Bool, List, [], ◌∷◌, ◌++◌, length, if◌then◌else◌}
+use Rattle.kv_store.specs.Shelf.{Shelf}
 use Rattle.outside.specs.declared.pattern.Pattern.{Pattern}
-use Rattle.raft_core.specs.StoredPuts.{store_of}
 use Rattle.raft_log.specs.Shelf.{are_put, done_on, found_by, is_open_on, puts_on}
 use Rattle.raft_log.specs.Stored.{Stored}
 use Rattle.raft_model.specs.Handlers.{plain_after}
 use Rattle.raft_model.specs.Moves.{Move, puts}
 use Rattle.raft_model.specs.Runs.{Event as RunEvent}
 use Rattle.raft_model.specs.Runs.Event.{Opens, Steps, Stops, StopsWithin}
-use Rattle.raft_model.specs.Server.{Plain, Store}
+use Rattle.raft_model.specs.Server.{Plain}
 use Rattle.replay_text.specs.declared.row.Row.{Row}
 use Rattle.replay_text.specs.declared.row.Row.TheVariants.{Open, Tick, Rx, Send, Ext, Crash, Fault}
 use Rattle.server_parts.specs.Going.{Going, messages}
 use Rattle.server_parts.specs.Step.{Event, step}
 use Rattle.server_parts.specs.TimedServer.{Timed}
 use Rattle.server_parts.specs.Transfers.{Made, Offer}
+use Rattle.world_parts.specs.Choices.{one_if}
 use Rattle.world_parts.specs.Cluster.{Cluster, next, receipt_of, tick_of}
-use Rattle.world_parts.specs.Members.{Failure, Life, Member, puts_of, stored_after}
+use Rattle.world_parts.specs.Members.{Life, Member, puts_of}
 use Rattle.world_parts.specs.Members.Life.{Down, Up, Failed}
 
 -- ---- a step that was cut off
@@ -35,10 +34,6 @@ cut members m number plain before (move ∷ moves) done more =
     if nat_lt done (length (puts members m plain move))
     then StopsWithin m number before move (done + more) ∷ []
     else cut members m number (plain_after members m number plain move) (before ++ (move ∷ [])) moves (done - length (puts members m plain move)) more
-
-abbrev pub one_if : Bool → ℕ
-one_if true = 1
-one_if false = 0
 
 -- how many more puts are done than are for sure, 0 or 1: a stopped disk tells, by what its restart finds; for a failed step
 -- the choice does
@@ -83,32 +78,6 @@ row_events choice w (Fault n call) = []
 abbrev pub events : (ℕ → Bool) → Cluster → List Row → List RunEvent
 events choice w [] = []
 events choice w (row ∷ rows) = row_events choice w row ++ events choice (next w row) rows
-
--- ---- choices that fit
-
--- what is stored after a failed step, as the choice says
-abbrev pub chosen_store : (ℕ → Bool) → Failure → Store
-chosen_store choice failure = stored_after failure (one_if (choice failure.row))
-
--- what the choice says of a failed step is what is found once its member stops
-abbrev pub FitsStop : (ℕ → Bool) → Life → Stored → Type 0
-FitsStop choice Down found = ⊤
-FitsStop choice (Up server) found = ⊤
-FitsStop choice (Failed failure) found = chosen_store choice failure ≡ store_of found
-
--- only a stop at once finds anything
-abbrev pub FitsCrash : Bool → (ℕ → Bool) → Life → Stored → Type 0
-FitsCrash true choice life found = FitsStop choice life found
-FitsCrash false choice life found = ⊤
-
-abbrev pub FitsRow : (ℕ → Bool) → Cluster → Row → Type 0
-FitsRow choice w (Crash n calls pattern) =
-    FitsCrash (calls == 0) choice (w.member n).life (restarted_on pattern (w.member n).disk).store
-FitsRow choice w row = ⊤
-
-abbrev pub Fits : (ℕ → Bool) → Cluster → List Row → Type 0
-Fits choice w [] = ⊤
-Fits choice w (row ∷ rows) = FitsRow choice w row × Fits choice (next w row) rows
 
 -- ---- the transfers that were made
 
