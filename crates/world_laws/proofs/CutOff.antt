@@ -1,7 +1,6 @@
 -- A step that its disk cut off is one stop of the run.
-use Rattle.std.proofs.Common.{◌≡◌, ◌≢◌, ℕ, zero, suc, ◌+◌, ◌<◌, ◌≤◌, Bool, true, false, List, [], ◌∷◌, ◌++◌, length, take, refl, sym, ap, subst, ◌∙◌, arith, ◌⊎◌, inl, inr, Option, Some, None}
+use Rattle.std.proofs.Common.{◌≡◌, ℕ, suc, ◌+◌, ◌<◌, ◌≤◌, Bool, true, false, List, [], ◌∷◌, ◌++◌, length, take, refl, sym, ap, subst, ◌∙◌, arith, Option, Some, None}
 use Rattle.std.specs.Prelude.{if◌then◌else◌}
-use Rattle.std.proofs.lemmas.Bool.Decides.{eqb_tells}
 use Rattle.kv_store.specs.Shelf.{Loose, Shelf, keeps, restarted_on}
 use Rattle.outside.specs.declared.pattern.Pattern.{Pattern}
 use Rattle.raft_core.specs.StoredPuts.{Noted, VoteForNodes, plain_puts, store_of, stored_put, stored_puts}
@@ -25,18 +24,21 @@ use Rattle.server_parts.specs.Step.{Event, step}
 use Rattle.server_parts.specs.TimedServer.{Timed}
 use Rattle.server_parts.specs.Transfers.{Made}
 use Rattle.world_parts.specs.Cluster.{AreMembers, Cluster}
-use Rattle.world_parts.specs.Members.{Failure, Life, Member, cut_off, puts_of, stopped_with}
-use Rattle.world_parts.specs.Members.Life.{Down, Failed, Up}
-use Rattle.world_parts.specs.Refinement.{chosen_store, cut, more_done, one_if}
+use Rattle.world_parts.specs.Members.{Failure, Member, cut_off, stopped_with}
+use Rattle.world_parts.specs.Members.Life.{Failed}
+use Rattle.world_parts.specs.Choices.{one_if}
+use Rattle.world_parts.specs.Refinement.{cut, more_done}
 use Rattle.world_laws.specs.Cuts.{IsOneStop}
 use Rattle.world_laws.specs.Events.{MayHappen}
-use Rattle.world_laws.specs.Said.{IsRunWritable}
+use Rattle.world_laws.specs.Said.{IsRunWritable, IsStoreWritable}
 use Rattle.world_laws.specs.Shows.{Shows, ShowsLife, ShowsUp}
 use Rattle.world_laws.proofs.Ending.{one_stop}
 use Rattle.world_laws.proofs.Finished.{MoreLaws, of_machine, puts_vote}
 use Rattle.world_laws.proofs.Kept.{with_one}
 use Rattle.world_laws.proofs.LawsBelow.{FrameLaws}
+use Rattle.world_laws.proofs.Ranging.{ArePutsWritable, after_all, all_puts_fit, front}
 use Rattle.world_laws.proofs.Starting.{restarted_down}
+use Rattle.world_laws.proofs.StillWritable.{stores_with}
 use Rattle.world_laws.proofs.Stepping.{StepLaws}
 use Rattle.world_laws.proofs.Taking.{CodecLaws}
 
@@ -59,7 +61,7 @@ if_few : (b : Bool) → (if b then 1 else 0) ≤ 1
 if_few true = omega arith
 if_few false = omega arith
 
-found_few : (pattern : Pattern) (loose : Option (Loose Stored)) (disk : Shelf Stored) → kept_by pattern loose disk ≤ 1
+pub found_few : (pattern : Pattern) (loose : Option (Loose Stored)) (disk : Shelf Stored) → kept_by pattern loose disk ≤ 1
 found_few pattern None disk = omega arith
 found_few pattern (Some loose) disk = if_few (keeps pattern (disk.copies loose.key))
 
@@ -104,6 +106,11 @@ module _ (laws : StepLaws) (more : MoreLaws) (cuts : CutLaws) (frame_laws : Fram
 
   inside : count < length (puts_of_all w.ids t.me number t.plain going.moves)
   inside = omega (arith, cuts.counted its_puts disk.calls failed, as_many going.puts disk.store, ap (λ (l : List Put). length l) same_puts)
+
+  puts_fit : ArePutsWritable (plain_puts going.puts)
+  puts_fit = subst ArePutsWritable (sym machine_step.puts)
+      (all_puts_fit w.ids t.me (members.nodes t.me listed).0 number run.bag shows.holds.written going.moves site machine_step.come
+      (more.records t number event is.runs.uids) (written.stores t.me))
 
   -- what a restart finds: so many of the puts as are done for sure, or one more
   found : (pattern : Pattern) → store_of (restarted_on pattern disk_after).store
@@ -154,6 +161,14 @@ module _ (laws : StepLaws) (more : MoreLaws) (cuts : CutLaws) (frame_laws : Fram
         ∙ (sym stop.stored
         ∙ ap (λ (l : List Put). put_all t.plain.store (take (count + extra) l)) (sym same_puts))))
 
+    still_written : IsRunWritable run_then
+    still_written = record {
+      stores = stores_with run.server t.me (stopped_site run.members).plain written.stores (subst IsStoreWritable (sym its_store ∙ ap (λ (p : Plain). p.store) its_server)
+          (after_all t.plain.store (take (count + extra) (plain_puts going.puts)) (subst (λ (p : Plain). IsStoreWritable p.store) is.runs.plain (written.stores t.me))
+          (front (count + extra) (plain_puts going.puts) puts_fit)));
+      bag = written.bag;
+    }
+
     is_down : (run_then.server t.me).memory ≡ lost
     is_down = ap (λ (p : Plain). p.memory) its_server
 
@@ -175,13 +190,14 @@ module _ (laws : StepLaws) (more : MoreLaws) (cuts : CutLaws) (frame_laws : Fram
     pub stopping : machine.Event
     pub one_event : cut w.ids t.me number t.plain [] going.moves count (more_done choice number (w.member t.me).pattern disk_after) ≡ stopping ∷ []
     pub comes_now : MayCome run stopping
+    pub written_then : IsRunWritable (after run stopping)
     pub shows_then : Shows choice made (record w { member = at w.member t.me (cut_off (w.member t.me) number t going disk_after); rows = number }) (after run stopping)
 
   abbrev By : Bool → Type 0
   By b = let extra = if b then found_by (w.member t.me).pattern disk_after else one_if (choice number) in
       let x = if b then stopped_with (w.member t.me).pattern disk_after (w.member t.me) else record (w.member t.me) { life = Failed failure; disk = disk_after } in
       (e : machine.Event) × (cut w.ids t.me number t.plain [] going.moves count extra ≡ e ∷ []) × MayCome run e
-      × Shows choice made (record w { member = at w.member t.me x; rows = number }) (after run e)
+      × IsRunWritable (after run e) × Shows choice made (record w { member = at w.member t.me x; rows = number }) (after run e)
 
   by : (b : Bool) → By b
   by true =
@@ -191,6 +207,7 @@ module _ (laws : StepLaws) (more : MoreLaws) (cuts : CutLaws) (frame_laws : Fram
         event_of extra few,
         (stop extra few).one,
         may_stop extra few,
+        still_written extra few,
         shown_with extra few x
             (restarted_down (run_then extra few) t.me disk_after (w.member t.me).pattern (is_down extra few) (found (w.member t.me).pattern ∙ sym (its_store extra few))),
       )
@@ -201,12 +218,13 @@ module _ (laws : StepLaws) (more : MoreLaws) (cuts : CutLaws) (frame_laws : Fram
         event_of extra few,
         (stop extra few).one,
         may_stop extra few,
+        still_written extra few,
         shown_with extra few x
             (record { down = is_down extra few; stored = its_store extra few; found = found }),
       )
 
   pub cut_shown : IsCutOff
-  cut_shown = let r = by disk_after.calls.stopped in record { stopping = r.0; one_event = r.1; comes_now = r.2; shows_then = r.3 }
+  cut_shown = let r = by disk_after.calls.stopped in record { stopping = r.0; one_event = r.1; comes_now = r.2; written_then = r.3; shows_then = r.4 }
 
 -- ---- of a member by its node ID
 
@@ -224,6 +242,7 @@ module _ (laws : StepLaws) (more : MoreLaws) (cuts : CutLaws) (frame_laws : Fram
     pub is_one : cut w.ids n (w.rows + 1) t.plain [] step_of.moves (done_on (stored_puts step_of.puts (w.member n).disk.store) (w.member n).disk.calls)
         (more_done choice (w.rows + 1) (w.member n).pattern (disk_then n)) ≡ stop_event ∷ []
     pub may_be : MayCome run stop_event
+    pub stays_written : IsRunWritable (after run stop_event)
     pub shown_then : Shows choice made (record w { member = at w.member n (cut_off (w.member n) (w.rows + 1) t step_of (disk_then n)); rows = w.rows + 1 }) (after run stop_event)
 
   abbrev CutAt : ℕ → Type 0
@@ -232,7 +251,7 @@ module _ (laws : StepLaws) (more : MoreLaws) (cuts : CutLaws) (frame_laws : Fram
 
   own : CutAt t.me
   own listed is failed = let r = cut_shown laws more cuts frame_laws codec choice made w run shows members sound written t listed is event may narrow failed in
-      record { stop_event = r.stopping; is_one = r.one_event; may_be = r.comes_now; shown_then = r.shows_then }
+      record { stop_event = r.stopping; is_one = r.one_event; may_be = r.comes_now; stays_written = r.written_then; shown_then = r.shows_then }
 
   pub cut_at : (n : ℕ) → t.me ≡ n → CutAt n
   cut_at n e = subst CutAt e own

@@ -1,6 +1,6 @@
 -- A delivered transfer with a member's source is the one that this member made.
 use Rattle.std.proofs.Common.{◌≡◌, ℕ, ◌≤◌, Bool, true, false, List, [], ◌∷◌, ◌++◌, refl, sym, ap, subst, ◌∙◌, arith, ◌⊎◌, inl, inr}
-use Rattle.std.specs.Prelude.{Some, Result, Ok, Err, ◌||◌, ◌==◌, cond, filter, if◌then◌else◌, map}
+use Rattle.std.specs.Prelude.{Some, Result, Ok, Err, ◌||◌, ◌==◌, cond, filter, map}
 use Rattle.can_frame.specs.declared.identifier.Ident.{Ident}
 use Rattle.can_frame.specs.declared.identifier.Kind.{Kind}
 use Rattle.can_frame.specs.declared.identifier.Kind.TheVariants.{Message, Anonymous, Request, Response}

@@ -1,30 +1,33 @@
 -- A step that finished is one event of the run, and what is shown is shown after it.
-use Rattle.std.proofs.Common.{◌≡◌, ◌≢◌, ℕ, suc, ◌+◌, ◌<◌, ◌≤◌, Bool, true, List, [], ◌∷◌, length, refl, sym, ap, subst, ◌∙◌, arith, ◌⊎◌, inl, inr, Some}
+use Rattle.std.proofs.Common.{◌≡◌, ◌≢◌, ℕ, ◌+◌, ◌<◌, ◌≤◌, Bool, true, List, length, refl, sym, ap, subst, ◌∙◌, arith, ◌⊎◌, inl, inr, Some}
 use Rattle.std.specs.Prelude.{slice_index_or}
-use Rattle.std.proofs.lemmas.Bool.Decides.{eqb_tells}
-use Rattle.can_frame.specs.declared.step.What.TheVariants.{Disc}
+use Rattle.can_frame.specs.declared.entry.Entry.{Entry}
+use Rattle.can_frame.specs.declared.step.What.TheVariants.{Alloc, Disc}
+use Rattle.can_frame.specs.Log.{IsInjective, blank}
 use Rattle.cluster_discovery.specs.Members.{IsMemberList, IsStart, Start}
 use Rattle.cluster_discovery.specs.Members as discovery
+use Rattle.dsdl_codec.specs.declared.allocation.Allocation.{Allocation}
 use Rattle.dsdl_codec.specs.declared.discovery.Discovery.{Discovery}
+use Rattle.dsdl_codec.specs.Allocation.{allocation_of}
 use Rattle.dsdl_codec.specs.Discovery.{discovery_of}
+use Rattle.dsdl_codec.specs.Entry.{IsEntry}
 use Rattle.kv_store.specs.Shelf.{Shelf}
-use Rattle.raft_core.specs.StoredPuts.{AreOfNodes, IsOfNode, Noted, VoteForNodes, plain_puts, store_of, stored_puts}
+use Rattle.raft_core.specs.StoredPuts.{AreOfNodes, Noted, VoteForNodes, plain_puts, store_of, stored_puts}
 use Rattle.raft_log.specs.Shelf.{are_put, puts_on}
 use Rattle.raft_log.specs.Stored.{Put as StoredPut, Stored, after_puts}
 use Rattle.raft_model.specs.Handlers.{plain_after_all, puts_of_all}
 use Rattle.raft_model.specs.Invariants.{Invariants}
 use Rattle.raft_model.specs.Lists.{In, at, at_here, at_other}
-use Rattle.raft_model.specs.Members.{HasNoneTwice}
-use Rattle.raft_model.specs.Messages.{Message, Request}
+use Rattle.raft_model.specs.Messages.{Message}
 use Rattle.raft_model.specs.Messages.Message.{Answers, Requests}
-use Rattle.raft_model.specs.Moves.{Comes, Move}
-use Rattle.raft_model.specs.Moves.Move.{AnswerAgain, CallForVote, CallToAppend, CommitTo, GiveUp, ProposeEntry, TakeAppendAnswer, TakeAppendRequest, TakeVoteAnswer, TakeVoteRequest, TellNothing, TellPair, TimeOut}
+use Rattle.raft_model.specs.Moves.{Move}
 use Rattle.raft_model.specs.Runs as machine
 use Rattle.raft_model.specs.Runs.{MayCome, after, posted, site_after, site_of}
 use Rattle.raft_model.specs.Runs.Event.{Steps}
-use Rattle.raft_model.specs.Server.{Plain, Put, Store, put_all}
-use Rattle.raft_model.specs.Stops.{AllCome, Site, all_moved, moved}
+use Rattle.raft_model.specs.Server.{Plain, Put, Store, committed, put_all}
+use Rattle.raft_model.specs.Stops.{AllCome, Site, all_moved}
 use Rattle.server_laws.specs.Coming.{Begins, IsOfTheMachine, KeepsOrder, KnowsMembers, MayStep, TakesFrom}
+use Rattle.server_laws.specs.Giving.{Gives, IsGivenIn}
 use Rattle.server_laws.specs.Listing.{IsNamed}
 use Rattle.server_laws.specs.Proposals.{HasUids}
 use Rattle.server_laws.specs.Sound.{IsInRange, IsOnTheBus, IsSound}
@@ -32,21 +35,21 @@ use Rattle.server_parts.specs.Going.{Going, messages}
 use Rattle.server_parts.specs.Step.{Event, step}
 use Rattle.server_parts.specs.Step.Event.{Rx, Tick}
 use Rattle.server_parts.specs.TimedServer.{Timed, members_of, start_of}
-use Rattle.server_parts.specs.Transfers.{Made, Offer}
+use Rattle.server_parts.specs.Transfers.{Given, Made, Offer}
 use Rattle.world_parts.specs.Cluster.{AreMembers, Cluster}
 use Rattle.world_parts.specs.Members.{Member}
 use Rattle.world_parts.specs.Members.Life.{Up}
 use Rattle.world_parts.specs.Refinement.{made_of}
 use Rattle.world_laws.specs.Said.{AreWritable, IsRunWritable, IsStoreWritable, ProposesWell}
 use Rattle.world_laws.specs.Shows.{HoldsOfMade, IsAtWork, IsInRun, Shows, ShowsUp}
-use Rattle.can_frame.specs.Log.{IsInjective}
 use Rattle.world_laws.proofs.Hearing.{takes_from}
-use Rattle.world_laws.proofs.Lists.{equal}
+use Rattle.world_laws.proofs.Lists.{equal, in_at, in_taken, none_twice}
 use Rattle.world_laws.proofs.Kept.{bus_more, with_one}
 use Rattle.world_laws.proofs.LawsBelow.{FrameLaws}
-use Rattle.world_laws.proofs.Making.{each_made, still_made}
-use Rattle.world_laws.proofs.Ranging.{IsMessageWritable, Moved, moved_fits}
+use Rattle.world_laws.proofs.Making.{each_made, posted_when, still_made}
+use Rattle.world_laws.proofs.Ranging.{IsMessageWritable, Moved, moved_fits, of_nodes}
 use Rattle.world_laws.proofs.Starting.{firm_after}
+use Rattle.world_laws.proofs.StillWritable.{stores_with}
 use Rattle.world_laws.specs.Events.{MayHappen, TellsMembers}
 use Rattle.world_laws.proofs.Stepping.{StepLaws, among_after, answered_after, called_after, heard_after, queue_after, said_after, transfers_after}
 use Rattle.world_laws.proofs.Taking.{CodecLaws}
@@ -68,6 +71,9 @@ pub record MoreLaws : Type 0 where
   pub uids : (t : Timed) (number : ℕ) (event : Event) → HasUids t.watch → HasUids (step t number event).going.timed.watch
   pub records : (t : Timed) (number : ℕ) (event : Event) → HasUids t.watch → ProposesWell (step t number event).going.moves
   pub tells : (t : Timed) (number : ℕ) (event : Event) → TellsMembers t (step t number event).going.offers
+  pub given : (t : Timed) (number : ℕ) (event : Event) → t.plain.store.commit ≤ length t.plain.store.log
+      → (offer : Offer) (given : Given) → In offer (step t number event).going.offers → Gives offer.what offer.payload given
+      → IsGivenIn (committed (step t number event).going.timed.plain.store) given
   pub list : (start : Start) (events : List discovery.Event) → IsStart start → IsMemberList start.me start.size (discovery.members start events)
   pub done : (shelf : Shelf Stored) (puts : List StoredPut) → are_put puts shelf.calls ≡ true → ((puts_on puts shelf).store ≡ after_puts puts shelf.store)
   pub votes : (members : List ℕ) (member number : ℕ) (server : Plain) (moves : List Move) → 1 ≤ member → AreOfNodes moves
@@ -78,50 +84,6 @@ pub record MoreLaws : Type 0 where
       → (all_moved members member number site moves).plain ≡ plain_after_all members member number site.plain moves
   pub store : (members : List ℕ) (member number : ℕ) (moves : List Move) (server : Plain)
       → (plain_after_all members member number server moves).store ≡ put_all server.store (puts_of_all members member number server moves)
-
--- ---- small facts
-
-none_twice : (xs : List ℕ) → ((i j : ℕ) → i < j → j < length xs → slice_index_or xs i 0 ≢ slice_index_or xs j 0) → HasNoneTwice xs
-none_twice [] apart = tt
-none_twice (x ∷ xs) apart = (
-  λ i. not_behind xs (λ j h. apart 0 (suc j) (omega arith) (omega (arith, h))) i,
-  none_twice xs (λ i j h k. apart (suc i) (suc j) (omega (arith, h)) (omega (arith, k))),
-)
-  where
-    not_behind : (ys : List ℕ) → ((j : ℕ) → j < length ys → x ≢ slice_index_or ys j 0) → In x ys → ⊥
-    not_behind [] each i = i
-    not_behind (y ∷ ys) each (inl e) = each 0 (omega arith) e
-    not_behind (y ∷ ys) each (inr i) = not_behind ys (λ j h. each (suc j) (omega (arith, h))) i
-
-pub posted_when : (messages bag : List Message) (message : Message) → In message (posted messages bag) → In message messages ⊎ In message bag
-posted_when [] bag message i = inr i
-posted_when (first ∷ rest) bag message i = elim (posted_when rest (first ∷ bag) message i) [
-  | inl j ↦ inl (inr j)
-  | inr (inl e) ↦ inl (inl e)
-  | inr (inr j) ↦ inr j
-]
-
-of_node : (members : List ℕ) (me : ℕ) (bag : List Message) → ((request : Request) → In (Requests request) bag → 1 ≤ request.from)
-    → (called : List ℕ) (plain : Plain) (move : Move) → Comes members me bag called plain move → IsOfNode move
-of_node members me bag senders called plain TimeOut c = tt
-of_node members me bag senders called plain (TakeVoteRequest request granted) c = senders request c.0
-of_node members me bag senders called plain (TakeVoteAnswer answer) c = tt
-of_node members me bag senders called plain (TakeAppendRequest request verdict) c = tt
-of_node members me bag senders called plain (TakeAppendAnswer answer) c = tt
-of_node members me bag senders called plain (ProposeEntry entry) c = tt
-of_node members me bag senders called plain (CommitTo index) c = tt
-of_node members me bag senders called plain TellPair c = tt
-of_node members me bag senders called plain TellNothing c = tt
-of_node members me bag senders called plain (CallForVote peer) c = tt
-of_node members me bag senders called plain (CallToAppend peer previous with_entry) c = tt
-of_node members me bag senders called plain (AnswerAgain place) c = tt
-of_node members me bag senders called plain (GiveUp peer) c = tt
-
-pub of_nodes : (members : List ℕ) (me number : ℕ) (bag : List Message) → ((request : Request) → In (Requests request) bag → 1 ≤ request.from)
-    → (moves : List Move) (site : Site) → AllCome members me number bag site moves → AreOfNodes moves
-of_nodes members me number bag senders [] site come = tt
-of_nodes members me number bag senders (move ∷ moves) site come =
-    (of_node members me bag senders site.called site.plain move come.0, of_nodes members me number bag senders moves (moved members me number site move) come.1)
 
 -- ---- a step that may come
 
@@ -224,6 +186,23 @@ module _ (laws : StepLaws) (more : MoreLaws) (frame_laws : FrameLaws) (codec : C
       ];
     }
 
+    abbrev store : Store
+    store = going.timed.plain.store
+
+    -- an Allocation of the step that gives a node ID has the unique ID of an entry, of 16 bytes
+    whole_uids : (offer : Offer) (answer : Allocation) → In offer going.offers → offer.what ≡ Alloc
+        → allocation_of offer.payload ≡ Some answer → answer.node ≢ 0 → length answer.uid.items ≡ 16
+    whole_uids offer answer i what reads some =
+        let is = more.given t number event inside offer (answer.uid.items, answer.node) i
+        (record { kind = what; answer = answer; reads = reads; some = omega (arith, some); is = refl }) in
+        let entry : Entry = slice_index_or (committed store) is.place (blank 0) in
+        let there : In entry store.log = in_taken store.commit store.log entry (in_at (committed store) is.place (blank 0) is.inside) in
+        let fits : IsEntry entry = (subst (λ (p : Plain). IsStoreWritable p.store) of_machine.leave moved_well.store).entries entry there in
+        ap length (sym is.uid) ∙ fits.uid
+      where
+        inside : t.plain.store.commit ≤ length t.plain.store.log
+        inside = subst (λ (p : Plain). p.store.commit ≤ length p.store.log) is.runs.plain (sound.stores t.me).commit
+
     -- ---- what its server is in the run
 
     abbrev after_run : machine.World
@@ -310,6 +289,11 @@ module _ (laws : StepLaws) (more : MoreLaws) (frame_laws : FrameLaws) (codec : C
               (λ y. (m : Discovery) (p : ℕ) → y.offer.what ≡ Disc → discovery_of y.offer.payload ≡ Some m → In p m.known.items → In p w.ids)
               (λ y j m p e r k. shows.holds.discoveries y m p j e r k)
               (λ offer j fits m p e r k. is.works.among p (told offer j e m r p k)) x i message peer what reads known;
+          allocations = λ x answer i what reads gives.
+              each_made number t.me w.ids made shows.holds.transfers past going.offers (laws.one t number event) in_range listed some
+              (λ y. (a : Allocation) → y.offer.what ≡ Alloc → allocation_of y.offer.payload ≡ Some a → a.node ≢ 0 → length a.uid.items ≡ 16)
+              (λ y j a e r g. shows.holds.allocations y a j e r g)
+              (λ offer j fits a e r g. whole_uids offer a j e r g) x i answer what reads gives;
         }
           where
             some : 1 ≤ w.rows + 1
@@ -334,11 +318,8 @@ module _ (laws : StepLaws) (more : MoreLaws) (frame_laws : FrameLaws) (codec : C
 
       pub still_written : IsRunWritable after_run
       still_written = record {
-        stores = λ m. elim (eqb_tells m t.me) [
-          | inl same ↦ subst (λ (p : Plain). IsStoreWritable p.store) (sym (at_here run.server t.me m (site_after run t.me number going.moves).plain same.1))
-              (subst (λ (ms : List ℕ). IsStoreWritable (all_moved ms t.me number site going.moves).plain.store) (sym shows.members) moved_well.store)
-          | inr apart ↦ subst (λ (p : Plain). IsStoreWritable p.store) (sym (at_other run.server t.me m (site_after run t.me number going.moves).plain apart.1)) (written.stores m)
-        ];
+        stores = stores_with run.server t.me (site_after run t.me number going.moves).plain written.stores
+            (subst (λ (ms : List ℕ). IsStoreWritable (all_moved ms t.me number site going.moves).plain.store) (sym shows.members) moved_well.store);
         bag = written_after;
       }
 

@@ -7,7 +7,8 @@ use Rattle.replay_text.specs.declared.row.Row.{Row}
 use Rattle.replay_text.specs.declared.row.Row.TheVariants.{Open, Tick, Rx, Send, Ext, Crash, Fault}
 use Rattle.world_parts.specs.Cluster.{Cluster, after_rows, next}
 use Rattle.world_parts.specs.Lawful.{Lawful}
-use Rattle.world_parts.specs.Refinement.{Fits, events, row_events}
+use Rattle.world_parts.specs.Choices.{Fits}
+use Rattle.world_parts.specs.Refinement.{events, row_events}
 
 pub run_joined : (w : machine.World) (first rest : List Event) → run w (first ++ rest) ≡ run (run w first) rest
 run_joined w [] rest = refl
@@ -38,7 +39,7 @@ events_joined choice w [] more = refl
 events_joined choice w (row ∷ rows) more = ap (λ (l : List Event). row_events choice w row ++ l) (events_joined choice (next w row) rows more)
     ∙ sym (append_assoc (row_events choice w row) (events choice (next w row) rows) (events choice (after_rows (next w row) rows) more))
 
-same_ids : (w : Cluster) (row : Row) → (next w row).ids ≡ w.ids
+pub same_ids : (w : Cluster) (row : Row) → (next w row).ids ≡ w.ids
 same_ids w (Open n ms word) = refl
 same_ids w (Tick n ms word) = refl
 same_ids w (Rx n k ms) = refl

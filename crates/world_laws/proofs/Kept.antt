@@ -1,6 +1,5 @@
 -- What is shown of a member stays as the bus and what was made grow, and as other members change.
 use Rattle.std.proofs.Common.{◌≡◌, ◌≢◌, ℕ, Bool, List, sym, ap, subst, ◌∙◌, inl, inr}
-use Rattle.std.specs.Prelude.{if◌then◌else◌}
 use Rattle.std.proofs.lemmas.Bool.Decides.{eqb_tells}
 use Rattle.kv_store.specs.Shelf.{Shelf}
 use Rattle.raft_core.specs.Times.{Sending}

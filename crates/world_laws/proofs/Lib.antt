@@ -1,8 +1,9 @@
 pub mod Lists
 pub mod LawsBelow
-pub mod Cuttings
 pub mod Idents
 pub mod Pieces
+pub mod Cuttings
+pub mod Namesakes
 pub mod Whole
 pub mod Delivering
 pub mod Waiting
@@ -18,6 +19,13 @@ pub mod Starting
 pub mod Making
 pub mod Stepping
 pub mod Ranging
+pub mod StillWritable
 pub mod Finished
 pub mod Ending
 pub mod CutOff
+pub mod OneRow
+pub mod AllRows
+pub mod Failures
+pub mod Choosing
+pub mod Mirroring
+pub mod Offering

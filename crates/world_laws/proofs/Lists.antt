@@ -1,8 +1,9 @@
 -- What stands in lists.
-use Rattle.std.proofs.Common.{◌≡◌, ℕ, zero, suc, ◌+◌, ◌<◌, Bool, true, false, List, [], ◌∷◌, ◌++◌, ◌⊎◌, inl, inr, refl, sym, ◌∙◌, subst, arith, length}
+use Rattle.std.proofs.Common.{◌≡◌, ◌≢◌, ℕ, zero, suc, ◌<◌, Bool, true, false, List, [], ◌∷◌, ◌++◌, ◌⊎◌, inl, inr, refl, sym, ◌∙◌, subst, arith, length, take}
 use Rattle.std.specs.Prelude.{All, ◌==◌, ◌&&◌, nat_eq, slice_index_or, if◌then◌else◌}
 use Rattle.std.proofs.lemmas.Bool.Decides.{eqb_tells}
 use Rattle.raft_model.specs.Lists.{In, any}
+use Rattle.raft_model.specs.Members.{HasNoneTwice}
 
 pub never : {X : Type 0} → false ≡ true → X
 never e = absurd (cc (e))
@@ -38,11 +39,23 @@ in_at [] i d h = absurd (omega (arith, h))
 in_at (x ∷ xs) zero d h = inl refl
 in_at (x ∷ xs) (suc i) d h = inr (in_at xs i d (omega (arith, h)))
 
--- past the end what is read does not matter
-pub any_default : {A : Type 0} (xs : List A) (i : ℕ) (d e : A) → i < length xs → slice_index_or xs i d ≡ slice_index_or xs i e
-any_default [] i d e h = absurd (omega (arith, h))
-any_default (x ∷ xs) zero d e h = refl
-any_default (x ∷ xs) (suc i) d e h = any_default xs i d e (omega (arith, h))
+pub in_taken : {A : Type 0} (count : ℕ) (xs : List A) (x : A) → In x (take count xs) → In x xs
+in_taken zero xs x i = absurd i
+in_taken (suc count) [] x i = i
+in_taken (suc count) (y ∷ xs) x (inl e) = inl e
+in_taken (suc count) (y ∷ xs) x (inr i) = inr (in_taken count xs x i)
+
+pub none_twice : (xs : List ℕ) → ((i j : ℕ) → i < j → j < length xs → slice_index_or xs i 0 ≢ slice_index_or xs j 0) → HasNoneTwice xs
+none_twice [] apart = tt
+none_twice (x ∷ xs) apart = (
+  λ i. not_behind xs (λ j h. apart 0 (suc j) (omega arith) (omega (arith, h))) i,
+  none_twice xs (λ i j h k. apart (suc i) (suc j) (omega (arith, h)) (omega (arith, k))),
+)
+  where
+    not_behind : (ys : List ℕ) → ((j : ℕ) → j < length ys → x ≢ slice_index_or ys j 0) → In x ys → ⊥
+    not_behind [] each i = i
+    not_behind (y ∷ ys) each (inl e) = each 0 (omega arith) e
+    not_behind (y ∷ ys) each (inr i) = not_behind ys (λ j h. each (suc j) (omega (arith, h))) i
 
 -- a fact of all items is one of each that stands in the list, and the other way
 pub of_each : {A : Type 0} (P : A → Type 0) (xs : List A) → All P xs → (x : A) → In x xs → P x

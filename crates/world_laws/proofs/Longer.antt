@@ -1,5 +1,5 @@
 -- One row more.
-use Rattle.std.proofs.Common.{◌≡◌, ℕ, ◌+◌, Bool, List, [], ◌∷◌, ◌++◌, refl, sym, ap, ◌∙◌}
+use Rattle.std.proofs.Common.{◌≡◌, ℕ, Bool, List, [], ◌∷◌, ◌++◌, refl, sym, ap, ◌∙◌}
 use Rattle.std.specs.Prelude.{None}
 use Rattle.std.proofs.lemmas.List.{append_assoc, append-nil}
 use Rattle.raft_model.specs.Runs.{Event}
@@ -7,7 +7,8 @@ use Rattle.replay_text.specs.declared.row.Row.{Row}
 use Rattle.world_parts.specs.Cluster.{Cluster, after_rows, next}
 use Rattle.world_parts.specs.Lawful.{Lawful, cause}
 use Rattle.server_parts.specs.Transfers.{Made}
-use Rattle.world_parts.specs.Refinement.{Fits, FitsRow, events, made, made_in, row_events}
+use Rattle.world_parts.specs.Choices.{Fits, FitsRow}
+use Rattle.world_parts.specs.Refinement.{events, made, made_in, row_events}
 
 pub grown : (w : Cluster) (rows : List Row) (row : Row) → after_rows w (rows ++ row ∷ []) ≡ next (after_rows w rows) row
 grown w [] row = refl

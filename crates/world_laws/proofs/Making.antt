@@ -9,7 +9,7 @@ use Rattle.transfer_tx.specs.Queue.{Queued}
 use Rattle.server_laws.specs.Apart.{OneByName}
 use Rattle.server_laws.specs.Sound.{IsInRange}
 use Rattle.server_laws.specs.Waiting.{all_frames_put, frames_put}
-use Rattle.server_parts.specs.Going.{message_made, messages}
+use Rattle.server_parts.specs.Going.{message_made}
 use Rattle.server_parts.specs.Transfers.{Made, Offer, frames_of, message_of}
 use Rattle.world_parts.specs.Refinement.{made_of}
 use Rattle.world_laws.specs.Frames.{AreTransfers}
@@ -67,6 +67,14 @@ pub newly_posted : (messages bag : List Message) (message : Message) → In mess
 newly_posted [] bag message i = absurd i
 newly_posted (first ∷ rest) bag message (inl e) = still_posted rest (first ∷ bag) message (inl e)
 newly_posted (first ∷ rest) bag message (inr i) = newly_posted rest (first ∷ bag) message i
+
+pub posted_when : (messages bag : List Message) (message : Message) → In message (posted messages bag) → In message messages ⊎ In message bag
+posted_when [] bag message i = inr i
+posted_when (first ∷ rest) bag message i = elim (posted_when rest (first ∷ bag) message i) [
+  | inl j ↦ inl (inr j)
+  | inr (inl e) ↦ inl (inl e)
+  | inr (inr j) ↦ inr j
+]
 
 -- a transfer that fitted says its message
 pub says_it : (number me : ℕ) (offers : List Offer) (offer : Offer) (message : Message) → In offer offers → offer.fitted ≡ true

@@ -1,12 +1,12 @@
 -- Frames that came to a server, as pieces of the transfers that were made.
 use Rattle.std.proofs.Common.{◌≡◌, ℕ, zero, suc, ◌+◌, ◌<◌, true, List, [], ◌∷◌, length, refl, sym, ap, subst, ◌∙◌, arith, inl, inr}
-use Rattle.std.specs.Prelude.{◌&&◌, if◌then◌else◌, nat_eq, slice_index_or}
+use Rattle.std.specs.Prelude.{◌&&◌, nat_eq, slice_index_or}
 use Rattle.can_frame.specs.declared.mark.Mark.{Mark}
 use Rattle.can_frame.specs.Cutting.{Piece, bytes_cut, cut, frame_bytes, frame_count, frames_before_last, frames_of as pieces_of, piece_from}
 use Rattle.can_frame.specs.Identifier.{identifier_number}
 use Rattle.raft_model.specs.Lists.{In}
 use Rattle.transfer_rx.specs.Marks.{is_run, is_whole}
-use Rattle.transfer_rx.specs.Reassembly.{Arrival}
+use Rattle.transfer_rx.specs.Reassembly.{Arrival, piece_in}
 use Rattle.transfer_tx.specs.Queue.{Queued}
 use Rattle.server_parts.specs.Transfers.{Made, frames_of, ident_of, outgoing, signature_of}
 use Rattle.world_parts.specs.Cluster.{no_frame}
@@ -99,6 +99,12 @@ module _ (laws : FrameLaws) where
   pub piece_of : (made : List Made) (by : ℕ) (frame : Queued) (piece : IsPiece made by frame) (arrival : Arrival)
       → arrival.id ≡ frame.id → arrival.bytes ≡ frame.bytes → arrival.mark ≡ frame.mark → IsPieceOf piece.whose arrival
   piece_of made by frame piece arrival id bytes mark = of_made piece.whose frame arrival piece.place piece.same id bytes mark
+
+  -- what is read of its bytes is that piece
+  pub piece_read : (x : Made) (arrival : Arrival) → IsPieceOf x arrival → x.offer.id < 32
+      → piece_in arrival ≡ slice_index_or (theirs x) arrival.mark.place no_piece
+  piece_read x arrival is small = ap piece_from is.bytes ∙ laws.piece_read (slice_index_or (theirs x) arrival.mark.place no_piece)
+      (subst (λ (n : ℕ). n < 32) (sym (piece_id (signature_of x.offer.what) x.offer.id x.offer.payload arrival.mark.place is.place)) small)
 
   -- each frame of a transfer is a piece of it
   pub marked_frame : (made : List Made) (x : Made) → In x made → (frame : Queued) → In frame (frames_of x) → IsPiece made x.by frame

@@ -52,7 +52,7 @@ not_false : (b : Bool) → not b ≡ false → b ≡ true
 not_false true e = refl
 not_false false e = absurd (cc (e))
 
-eqb_is : (a b : ℕ) → (a == b) ≡ true → a ≡ b
+pub eqb_is : (a b : ℕ) → (a == b) ≡ true → a ≡ b
 eqb_is a b e = elim (eqb_tells a b) [ inl same ↦ same.1 | inr apart ↦ never (sym apart.0 ∙ e) ]
 
 member_in : (ids : List ℕ) (n : ℕ) → any (λ id. id == n) ids ≡ true → In n ids
@@ -151,7 +151,7 @@ module _ (choice : ℕ → Bool) (made : List Made) (ids : List ℕ) (frames : L
 
 -- the world with another member, whose life and disk show what they showed
 module _ (choice : ℕ → Bool) (made : List Made) (w : Cluster) (run : machine.World) (shows : Shows choice made w run) (n : ℕ) where
-  changed_shown : (x : Member) → (In n w.ids → ShowsLife choice made w.ids w.frames run n x.life x.disk)
+  pub changed_shown : (x : Member) → (In n w.ids → ShowsLife choice made w.ids w.frames run n x.life x.disk)
       → Shows choice made (record w { member = at w.member n x; rows = w.rows + 1 }) run
   changed_shown x here = record {
     members = shows.members;

@@ -4,6 +4,8 @@ use Rattle.std.specs.Prelude.{⊤, min, nat_lt, if◌then◌else◌, slice_index
 use Rattle.can_frame.specs.declared.entry.Entry.{Entry}
 use Rattle.can_frame.specs.Log.{blank}
 use Rattle.dsdl_codec.specs.Entry.{IsEntry}
+use Rattle.raft_model.specs.Handlers.{puts_of_all}
+use Rattle.raft_core.specs.StoredPuts.{AreOfNodes, IsOfNode}
 use Rattle.raft_model.specs.Lists.{In}
 use Rattle.raft_model.specs.Log.{term_at}
 use Rattle.raft_model.specs.Messages.{Message, Request, reach}
@@ -18,7 +20,7 @@ use Rattle.raft_model.specs.Server.{Plain, Put, Store, put, put_all}
 use Rattle.raft_model.specs.Server.Put.{PutCommit, PutEntry, PutLonger, PutShorter, PutTerm, PutVote}
 use Rattle.raft_model.specs.Stops.{AllCome, Site, all_moved, moved}
 use Rattle.world_laws.specs.Said.{AreWritable, IsStoreWritable, IsWritable, ProposesWell}
-use Rattle.world_laws.proofs.Lists.{in_append, in_at, tell}
+use Rattle.world_laws.proofs.Lists.{in_append, in_at, in_taken, tell}
 use Rattle.std.proofs.lemmas.Bool.{ltb-true}
 
 -- ---- puts
@@ -34,12 +36,6 @@ IsPutWritable (PutCommit place) = ⊤
 abbrev pub ArePutsWritable : List Put → Type 0
 ArePutsWritable [] = ⊤
 ArePutsWritable (first ∷ rest) = IsPutWritable first × ArePutsWritable rest
-
-in_taken : (count : ℕ) (log : List Entry) (entry : Entry) → In entry (take count log) → In entry log
-in_taken zero log entry i = elim i [ ]
-in_taken (suc count) [] entry i = i
-in_taken (suc count) (first ∷ rest) entry (inl e) = inl e
-in_taken (suc count) (first ∷ rest) entry (inr i) = inr (in_taken count rest entry i)
 
 after_one : (store : Store) (first : Put) → IsStoreWritable store → IsPutWritable first → IsStoreWritable (put store first)
 after_one store (PutTerm term) is low = record { term = low; entries = is.entries }
@@ -230,3 +226,36 @@ module _ (members : List ℕ) (me : ℕ) (some : 1 ≤ me) (number : ℕ) (bag :
           | inr j ↦ is.offered message j
         ];
       })
+
+  -- all their puts, one after another
+  pub all_puts_fit : (moves : List Move) (site : Site) → AllCome members me number bag site moves → ProposesWell moves → IsStoreWritable site.plain.store
+      → ArePutsWritable (puts_of_all members me number site.plain moves)
+  all_puts_fit [] site come well is = tt
+  all_puts_fit (move ∷ moves) site come well is =
+      let own = puts_fit site.called site.plain move is come.0 (λ entry e. well entry (inl (sym e))) in
+      joined (puts members me site.plain move) _ own
+      (all_puts_fit moves (moved members me number site move) come.1 (λ entry i. well entry (inr i)) (after_all site.plain.store (puts members me site.plain move) is own))
+
+-- ---- the moves of a step are of nodes
+
+of_node : (members : List ℕ) (me : ℕ) (bag : List Message) → ((request : Request) → In (Requests request) bag → 1 ≤ request.from)
+    → (called : List ℕ) (plain : Plain) (move : Move) → Comes members me bag called plain move → IsOfNode move
+of_node members me bag senders called plain TimeOut c = tt
+of_node members me bag senders called plain (TakeVoteRequest request granted) c = senders request c.0
+of_node members me bag senders called plain (TakeVoteAnswer answer) c = tt
+of_node members me bag senders called plain (TakeAppendRequest request verdict) c = tt
+of_node members me bag senders called plain (TakeAppendAnswer answer) c = tt
+of_node members me bag senders called plain (ProposeEntry entry) c = tt
+of_node members me bag senders called plain (CommitTo index) c = tt
+of_node members me bag senders called plain TellPair c = tt
+of_node members me bag senders called plain TellNothing c = tt
+of_node members me bag senders called plain (CallForVote peer) c = tt
+of_node members me bag senders called plain (CallToAppend peer previous with_entry) c = tt
+of_node members me bag senders called plain (AnswerAgain place) c = tt
+of_node members me bag senders called plain (GiveUp peer) c = tt
+
+pub of_nodes : (members : List ℕ) (me number : ℕ) (bag : List Message) → ((request : Request) → In (Requests request) bag → 1 ≤ request.from)
+    → (moves : List Move) (site : Site) → AllCome members me number bag site moves → AreOfNodes moves
+of_nodes members me number bag senders [] site come = tt
+of_nodes members me number bag senders (move ∷ moves) site come =
+    (of_node members me bag senders site.called site.plain move come.0, of_nodes members me number bag senders moves (moved members me number site move) come.1)

@@ -23,7 +23,7 @@ use Rattle.server_parts.specs.Transfers.{Made}
 use Rattle.world_parts.specs.Cluster.{Cluster, cluster, next}
 use Rattle.world_parts.specs.Members.{Failure, Life, Member, opened, stopped_with, unopened}
 use Rattle.world_parts.specs.Members.Life.{Down, Up, Failed}
-use Rattle.world_parts.specs.Refinement.{FitsCrash, chosen_store}
+use Rattle.world_parts.specs.Choices.{FitsCrash, chosen_store}
 use Rattle.world_laws.specs.Shows.{Shows, ShowsDown, ShowsFailed, ShowsLife, ShowsUp}
 use Rattle.world_laws.proofs.Kept.{with_one}
 use Rattle.world_laws.proofs.Lists.{both, tell}
@@ -330,6 +330,7 @@ beginning_shown choice ids = record {
     written = record { requests = λ request i. absurd i; senders = λ request i. absurd i; answers = λ answer i. absurd i };
     answered = record { votes = λ x answer i. absurd i; appends = λ x answer i. absurd i };
     discoveries = λ x message peer i. absurd i;
+    allocations = λ x answer i. absurd i;
   };
   past = λ x i. absurd i;
 }

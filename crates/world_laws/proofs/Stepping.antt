@@ -1,5 +1,5 @@
 -- A step that finished: what was made and said after it, and what its server is.
-use Rattle.std.proofs.Common.{◌≡◌, ℕ, ◌+◌, ◌<◌, ◌≤◌, Bool, true, false, List, [], ◌∷◌, ◌++◌, refl, sym, ap, subst, ◌∙◌, arith, ◌⊎◌, inl, inr, Some}
+use Rattle.std.proofs.Common.{◌≡◌, ℕ, ◌<◌, ◌≤◌, Bool, true, false, List, [], ◌∷◌, ◌++◌, refl, sym, ap, subst, ◌∙◌, arith, ◌⊎◌, inl, inr, Some}
 use Rattle.std.specs.Prelude.{max, All, Contains, ◌==◌, ◌||◌, if◌then◌else◌}
 use Rattle.std.proofs.lemmas.Bool.Decides.{eqb_tells}
 use Rattle.can_frame.specs.declared.identifier.Ident.{Ident}
@@ -70,7 +70,7 @@ pub record StepLaws : Type 0 where
   pub kept : (setting : Setting) (before arrivals : List Arrival) (sessions : List Session) → All (CameWithKey setting before) sessions
       → All (CameWithKey setting (before ++ arrivals)) (rx_run.run setting sessions arrivals)
 
-one_arrival : (a b : Arrival) → Rx a ≡ Rx b → a ≡ b
+pub one_arrival : (a b : Arrival) → Rx a ≡ Rx b → a ≡ b
 one_arrival a b e = cc (e)
 
 -- a Discovery from outside is forged

@@ -6,7 +6,7 @@ use Rattle.can_frame.specs.declared.identifier.Ident.{Ident}
 use Rattle.can_frame.specs.declared.identifier.Kind.{Kind}
 use Rattle.can_frame.specs.declared.identifier.Kind.TheVariants.{Message, Anonymous, Request, Response}
 use Rattle.can_frame.specs.declared.mark.Mark.{Mark}
-use Rattle.can_frame.specs.Cutting.{Piece, frames_of as pieces_of, piece_from}
+use Rattle.can_frame.specs.Cutting.{Piece, frames_of as pieces_of}
 use Rattle.can_frame.specs.Identifier.{identifier_number, identifier_of}
 use Rattle.raft_model.specs.Lists.{In}
 use Rattle.transfer_rx.specs.declared.key.Key.{Key}
@@ -19,11 +19,12 @@ use Rattle.server_parts.specs.Transfers.{Made, ident_of, kind_of, number_of, sig
 use Rattle.world_parts.specs.Cluster.{is_member}
 use Rattle.world_parts.specs.Lawful.{is_forged, is_forged_by}
 use Rattle.world_laws.specs.Frames.{AreTransfers, CameFrom, IsOnBus, IsPiece}
-use Rattle.world_laws.proofs.Cuttings.{same_payload}
 use Rattle.world_laws.proofs.Idents.{IsWanted, dest_is, ident_ok, one_what, to_for}
 use Rattle.world_laws.proofs.LawsBelow.{FrameLaws}
-use Rattle.world_laws.proofs.Lists.{any_default, in_at, is_any, never}
-use Rattle.world_laws.proofs.Pieces.{IsPieceOf, no_piece, piece_id, piece_of, theirs, whole_at}
+use Rattle.world_laws.proofs.Lists.{in_at, is_any, never}
+use Rattle.world_laws.proofs.Namesakes as namesakes
+use Rattle.world_laws.proofs.Namesakes.{IsOfNamesake}
+use Rattle.world_laws.proofs.Pieces.{IsPieceOf, no_piece, piece_id, piece_of, piece_read, theirs, whole_at}
 
 -- ---- where a frame came from
 
@@ -51,16 +52,19 @@ members_own ids ident there known = by ident.kind known (is_member ids ident.sou
   by Request known member e = or_true (is_member ids ident.source) ((ident.number == 30) || (ident.number == 31)) e
   by Response known member e = or_true (is_member ids ident.source) ((ident.number == 30) || (ident.number == 31)) e
 
-some_is : (x y : Ident) → Some x ≡ Some y → x ≡ y
+pub some_is : (x y : Ident) → Some x ≡ Some y → x ≡ y
 some_is x y e = cc (e)
+
+-- the identifier of a transfer that was made reads back
+pub read_back : (laws : FrameLaws) (ids : List ℕ) (low : (n : ℕ) → In n ids → 1 ≤ n) (high : (n : ℕ) → In n ids → n ≤ 125)
+    (made : List Made) (are : AreTransfers ids made) (x : Made) → In x made
+    → identifier_of (identifier_number (ident_of x.by x.offer.what x.offer.to)) ≡ Some (ident_of x.by x.offer.what x.offer.to)
+read_back laws ids low high made are x there =
+    let n = are.makers x there in
+    laws.ident_read (ident_of x.by x.offer.what x.offer.to) (ident_ok x.by x.offer.what x.offer.to (low x.by n) (high x.by n) (are.ranges x there).to)
 
 module _ (laws : FrameLaws) (ids : List ℕ) (low : (n : ℕ) → In n ids → 1 ≤ n) (high : (n : ℕ) → In n ids → n ≤ 125)
     (made : List Made) (are : AreTransfers ids made) (me : ℕ) (some : 1 ≤ me) where
-  read_back : (x : Made) → In x made → identifier_of (identifier_number (ident_of x.by x.offer.what x.offer.to)) ≡ Some (ident_of x.by x.offer.what x.offer.to)
-  read_back x there =
-      let n = are.makers x there in
-      laws.ident_read (ident_of x.by x.offer.what x.offer.to) (ident_ok x.by x.offer.what x.offer.to (low x.by n) (high x.by n) (are.ranges x there).to)
-
   from_piece : (by : ℕ) (frame : Queued) (piece : IsPiece made by frame) (arrival : Arrival)
       → arrival.id ≡ frame.id → arrival.bytes ≡ frame.bytes → arrival.mark ≡ frame.mark → (ident : Ident) → IsWanted me arrival.id ident
       → (key : Key) → ident.kind ≡ key.kind → ident.number ≡ key.number → ident.source ≡ key.source → IsFrom made me key arrival
@@ -81,7 +85,7 @@ module _ (laws : FrameLaws) (ids : List ℕ) (low : (n : ℕ) → In n ids → 1
       is = piece_of laws made by frame piece arrival id bytes mark
 
       read : identifier_of arrival.id ≡ Some (ident_of piece.whose.by piece.whose.offer.what piece.whose.offer.to)
-      read = ap (λ (n : ℕ). identifier_of n) is.id ∙ read_back piece.whose piece.was_made
+      read = ap (λ (n : ℕ). identifier_of n) is.id ∙ read_back laws ids low high made are piece.whose piece.was_made
 
       own : ident_of piece.whose.by piece.whose.offer.what piece.whose.offer.to ≡ ident
       own = some_is (ident_of piece.whose.by piece.whose.offer.what piece.whose.offer.to) ident (sym read ∙ wants.read)
@@ -141,16 +145,8 @@ module _ (laws : FrameLaws) (ids : List ℕ) (made : List Made) (are : AreTransf
   last_place = ap (λ (a : Arrival). a.mark.place) (sym last_is) ∙ (mark_at (length front) (omega (arith, count))).1
 
   -- a piece that came is one of its transfer
-  module _ (arrival : Arrival) (is : IsFrom made me key arrival) where
-    small : (k : ℕ) → k < length (theirs is.whose) → (slice_index_or (theirs is.whose) k no_piece).tail.id < 32
-    small k h = subst (λ (n : ℕ). n < 32) (sym (piece_id (signature_of is.whose.offer.what) is.whose.offer.id is.whose.offer.payload k h)) (are.ranges is.whose is.was_made).id
-
-    piece_is : piece_in arrival ≡ slice_index_or (theirs is.whose) arrival.mark.place no_piece
-    piece_is = ap piece_from is.piece.bytes ∙ laws.piece_read (slice_index_or (theirs is.whose) arrival.mark.place no_piece) (small arrival.mark.place is.piece.place)
-
-    its_id : (piece_in arrival).tail.id ≡ is.whose.offer.id
-    its_id = ap (λ (p : Piece). p.tail.id) piece_is
-        ∙ piece_id (signature_of is.whose.offer.what) is.whose.offer.id is.whose.offer.payload arrival.mark.place is.piece.place
+  piece_is : (arrival : Arrival) (is : IsFrom made me key arrival) → piece_in arrival ≡ slice_index_or (theirs is.whose) arrival.mark.place no_piece
+  piece_is arrival is = piece_read laws is.whose arrival is.piece (are.ranges is.whose is.was_made).id
 
   piece_at : (i : ℕ) → i < length all → slice_index_or (pieces_of signature id payload) i no_piece ≡ piece_in (get i)
   piece_at i h = ap (λ (l : List Piece). slice_index_or l i no_piece) (sym pieces_are) ∙ get_or-map piece_in all i last no_piece h
@@ -158,39 +154,26 @@ module _ (laws : FrameLaws) (ids : List ℕ) (made : List Made) (are : AreTransf
   same_length : length all ≡ length (pieces_of signature id payload)
   same_length = sym (length-map all piece_in) ∙ ap length pieces_are
 
-  id_is : (i : ℕ) (h : i < length all) → (from i h).whose.offer.id ≡ id
-  id_is i h = sym (its_id (get i) (from i h)) ∙ (ap (λ (p : Piece). p.tail.id) (sym (piece_at i h)) ∙ piece_id signature id payload i (omega (arith, h, same_length)))
-
   pub final_id : final.whose.offer.id ≡ id
   final_id =
       let h : length front < length all = omega (arith, count) in
-      sym (its_id last final) ∙ (ap (λ (a : Arrival). (piece_in a).tail.id) (sym last_is)
-      ∙ (ap (λ (p : Piece). p.tail.id) (sym (piece_at (length front) h)) ∙ piece_id signature id payload (length front) (omega (arith, h, same_length))))
+      let x : Made = final.whose in
+      sym (piece_id (signature_of x.offer.what) x.offer.id x.offer.payload last.mark.place final.piece.place)
+      ∙ (ap (λ (p : Piece). p.tail.id) (sym (piece_is last final))
+      ∙ (ap (λ (a : Arrival). (piece_in a).tail.id) (sym last_is)
+      ∙ (ap (λ (p : Piece). p.tail.id) (sym (piece_at (length front) h)) ∙ piece_id signature id payload (length front) (omega (arith, h, same_length)))))
 
-  one : (i : ℕ) (h : i < length all) → (from i h).whose ≡ final.whose
-  one i h =
-      let f = from i h in
-      are.once f.whose final.whose f.was_made final.was_made
-      (sym f.piece.step ∙ ((mark_at i h).0 ∙ (sym last_step ∙ final.piece.step)))
-      (one_what f.whose.offer.what final.whose.offer.what key.kind key.number f.kind final.kind f.number final.number)
-      (f.to ∙ sym final.to) (id_is i h ∙ sym final_id)
-
-  same_at : (i : ℕ) → i < length all → slice_index_or (pieces_of signature id payload) i no_piece ≡ slice_index_or (theirs final.whose) i no_piece
-  same_at i h = piece_at i h ∙ (piece_is (get i) (from i h)
-      ∙ (ap (λ (k : ℕ). slice_index_or (theirs (from i h).whose) k no_piece) (mark_at i h).1
-      ∙ ap (λ (x : Made). slice_index_or (theirs x) i no_piece) (one i h)))
-
-  inside_at : (i : ℕ) → i < length all → i < length (theirs final.whose)
-  inside_at i h = subst (λ (x : Made). i < length (theirs x)) (one i h)
-      (subst (λ (k : ℕ). k < length (theirs (from i h).whose)) (mark_at i h).1 (from i h).piece.place)
+  namesake : (i : ℕ) → i < length all → IsOfNamesake made final.whose i (slice_index_or (pieces_of signature id payload) i no_piece)
+  namesake i h = let f = from i h in let at = mark_at i h in record {
+    whose = f.whose;
+    was_made = f.was_made;
+    step = sym f.piece.step ∙ (at.0 ∙ (sym last_step ∙ final.piece.step));
+    what = one_what f.whose.offer.what final.whose.offer.what key.kind key.number f.kind final.kind f.number final.number;
+    to = f.to ∙ sym final.to;
+    inside = subst (λ (k : ℕ). k < length (theirs f.whose)) at.1 f.piece.place;
+    same = piece_at i h ∙ (piece_is (get i) f ∙ ap (λ (k : ℕ). slice_index_or (theirs f.whose) k no_piece) at.1);
+  }
 
   pub payload_is : payload ≡ final.whose.offer.payload
-  payload_is =
-      let taken : length (map piece_in front) ≡ length front = length-map front piece_in in
-      let below : length (map piece_in front) < length (theirs final.whose) = omega (arith, taken, inside_at (length front) (omega (arith, count))) in
-      same_payload laws.count laws.before_last laws.last laws.payload signature id (signature_of final.whose.offer.what) final.whose.offer.id payload
-      final.whose.offer.payload (map piece_in front) (piece_in last) cutting below
-      (λ i d h. let inside : i < length all = omega (arith, h, taken, count) in
-      ap (λ (l : List Piece). slice_index_or l i d) cutting
-      ∙ (any_default (pieces_of signature id payload) i d no_piece (omega (arith, inside, same_length))
-      ∙ (same_at i inside ∙ any_default (theirs final.whose) i no_piece d (inside_at i inside))))
+  payload_is = namesakes.payload_is laws ids made are final.whose final.was_made signature id payload final_id
+      (λ i h. namesake i (omega (arith, h, same_length)))

@@ -1,7 +1,9 @@
 pub mod Frames
 pub mod Headline
 pub mod Mirrors
+pub mod Safe
 pub mod Said
 pub mod Shows
 pub mod Events
 pub mod Cuts
+pub mod Continues

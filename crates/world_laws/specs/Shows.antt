@@ -1,8 +1,10 @@
 -- What holds between the world of a list of rows, the transfers that its members made, and the run of the message machine that it
 -- shows.
-use Rattle.std.specs.Prelude.{◌≡◌, ℕ, ◌<◌, ◌≤◌, ◌^◌, Bool, true, List, length, Some, None}
-use Rattle.can_frame.specs.declared.step.What.TheVariants.{Disc}
+use Rattle.std.specs.Prelude.{◌≡◌, ◌≢◌, ℕ, ◌<◌, ◌≤◌, ◌^◌, Bool, true, List, length, Some, None}
+use Rattle.can_frame.specs.declared.step.What.TheVariants.{Alloc, Disc}
+use Rattle.dsdl_codec.specs.declared.allocation.Allocation.{Allocation}
 use Rattle.dsdl_codec.specs.declared.discovery.Discovery.{Discovery}
+use Rattle.dsdl_codec.specs.Allocation.{allocation_of}
 use Rattle.dsdl_codec.specs.Discovery.{discovery_of}
 use Rattle.kv_store.specs.Shelf.{Loose, Shelf, restarted_on}
 use Rattle.outside.specs.declared.pattern.Pattern.{Pattern}
@@ -22,7 +24,7 @@ use Rattle.server_parts.specs.Transfers.{Made}
 use Rattle.world_parts.specs.Cluster.{Cluster}
 use Rattle.world_parts.specs.Members.{Failure, Life, stored_after}
 use Rattle.world_parts.specs.Members.Life.{Down, Up, Failed}
-use Rattle.world_parts.specs.Refinement.{chosen_store}
+use Rattle.world_parts.specs.Choices.{chosen_store}
 use Rattle.world_laws.specs.Frames.{AreHeard, AreTransfers, IsOnBus, IsPiece}
 use Rattle.world_laws.specs.Said.{AreAnswered, AreCalled, AreSaid, AreWritable}
 
@@ -83,6 +85,9 @@ pub record HoldsOfMade (made : List Made) (ids : List ℕ) (bag : List Message) 
   -- a Discovery names members alone
   pub discoveries : (x : Made) (message : Discovery) (peer : ℕ) → In x made → x.offer.what ≡ Disc
       → discovery_of x.offer.payload ≡ Some message → In peer message.known.items → In peer ids
+  -- an Allocation with a node ID has a whole unique ID
+  pub allocations : (x : Made) (answer : Allocation) → In x made → x.offer.what ≡ Alloc
+      → allocation_of x.offer.payload ≡ Some answer → answer.node ≢ 0 → length answer.uid.items ≡ 16
 
 -- ---- the whole
 

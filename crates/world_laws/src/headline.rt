@@ -1,21 +1,34 @@
 //! Laws toward the headline, each the contract of a function that does nothing.
 
 ghost use Rattle.std.specs.Prelude.{◌≡◌, ◌++◌, ◌∷◌, [], ℕ, Bool, List, None};
-ghost use Rattle.raft_model.specs.Runs.{Event, beginning, run};
+ghost use Rattle.raft_model.specs.Runs.{Event, World, beginning, run};
 ghost use Rattle.raft_model.specs.Runs.{Lawful as RunsLawfully};
 ghost use Rattle.replay_text.specs.declared.row.Row.{Row};
-ghost use Rattle.world_laws.specs.Headline.{Headline};
-ghost use Rattle.world_laws.specs.Mirrors.{Mirrors};
-ghost use Rattle.world_parts.specs.Cluster.{Cluster, after_rows, next};
+ghost use Rattle.world_laws.specs.Continues.{Continues};
+ghost use Rattle.world_laws.specs.Headline.{HasHeadline, Headline};
+ghost use Rattle.world_laws.specs.Mirrors.{Mirrors, OffersAreMade};
+ghost use Rattle.world_laws.specs.Safe.{AreSafe};
+ghost use Rattle.world_laws.specs.Shows.{Shows};
+ghost use Rattle.world_parts.specs.Cluster.{AreMembers, Cluster, cluster};
+ghost use Rattle.world_parts.specs.Cluster.{after_rows, next, world_of};
 ghost use Rattle.world_parts.specs.Lawful.{Lawful, cause};
-ghost use Rattle.world_parts.specs.Refinement.{Fits, FitsRow, events, made, made_in, row_events};
+ghost use Rattle.world_parts.specs.Choices.{Fits, FitsRow};
+ghost use Rattle.world_parts.specs.Refinement.{events, made, made_in, row_events};
 ghost use Rattle.server_parts.specs.Transfers.{Made};
 
+use crate::rows::{a_row_is_shown, the_beginning_is_shown};
+use can_frame::laws::{
+    frames_give_the_payload, frames_in_order, frames_read_as_their_pieces, identifiers_both_ways,
+    lengths_of_cuttings,
+};
 use raft_model::laws::{law_commit, law_every_run};
+use transfer_rx::laws::{a_frame_comes_to_the_session_of_its_key, deliveries_are_whole_transfers};
+use transfer_tx::laws::frames_by_place;
 
 /// A list of rows grows by one at its end: the world, which rows are lawful, the events that the rows show,
-/// the choices that fit, and what was made.
+/// the choices that fit, and what was made. The members stay.
 pub fn rows_grow_by_one()
+    ensures members { (w : Cluster) (rows : List Row) → (after_rows w rows).ids ≡ w.ids }
     ensures world { (w : Cluster) (rows : List Row) (row : Row) →
         after_rows w (rows ++ row ∷ []) ≡ next (after_rows w rows) row }
     ensures lawful { (w : Cluster) (rows : List Row) (row : Row) → Lawful w rows →
@@ -30,6 +43,22 @@ pub fn rows_grow_by_one()
         made w (rows ++ row ∷ []) earlier ≡ made_in (after_rows w rows) row (made w rows earlier) }
 {}
 
+/// An Allocation with a node ID that waits in a running member's queue, its frames one after another, is a
+/// transfer that this member made, and so a pair from it in the bag of the run.
+pub fn offers_are_pairs()
+    ensures { (choice : ℕ → Bool) (made : List Made) (w : Cluster) (run : World) →
+        AreMembers w.ids → Shows choice made w run → OffersAreMade w run }
+{
+    a_frame_comes_to_the_session_of_its_key();
+    deliveries_are_whole_transfers();
+    frames_by_place();
+    frames_give_the_payload();
+    frames_in_order();
+    frames_read_as_their_pieces();
+    identifiers_both_ways();
+    lengths_of_cuttings();
+}
+
 /// The headline follows of two worlds, now and later, that mirror a run of the message machine and its
 /// continuation.
 pub fn what_is_mirrored_has_the_headline()
@@ -43,4 +72,47 @@ pub fn what_is_mirrored_has_the_headline()
 {
     law_commit();
     law_every_run();
+}
+
+/// What a list of lawful rows shows is a lawful run of the message machine, from its beginning, whatever choice
+/// fits what the stops find.
+pub fn rows_are_shown()
+    ensures { (choice : ℕ → Bool) (ids : List ℕ) (rows : List Row) → AreMembers ids →
+        Lawful (cluster ids) rows → Fits choice (cluster ids) rows →
+        Continues choice (made (cluster ids) rows []) (world_of ids rows) (beginning ids)
+        (events choice (cluster ids) rows) }
+{
+    a_row_is_shown();
+    law_every_run();
+    the_beginning_is_shown();
+}
+
+/// The run that a list of lawful rows shows is lawful and safe, whatever choice fits.
+pub fn rows_are_safe()
+    ensures { (ids : List ℕ) (rows : List Row) → AreMembers ids → Lawful (cluster ids) rows →
+        AreSafe ids rows }
+{
+    law_every_run();
+    rows_are_shown();
+}
+
+/// For every list of rows that are lawful there is a choice that fits: what a choice says of a failed step is
+/// what the disk of its member gives once the member stops.
+pub fn a_choice_fits()
+    ensures { (ids : List ℕ) (rows : List Row) → AreMembers ids → Lawful (cluster ids) rows →
+        (choice : ℕ → Bool) × Fits choice (cluster ids) rows }
+{
+    rows_are_shown();
+}
+
+/// The headline, for every cluster and every list of rows that are lawful: it holds from each moment of the
+/// list to each later one, for every choice that fits by then; and a choice that fits exists.
+pub fn the_headline()
+    ensures { (ids : List ℕ) (rows : List Row) → AreMembers ids → Lawful (cluster ids) rows →
+        HasHeadline ids rows }
+{
+    a_choice_fits();
+    offers_are_pairs();
+    rows_are_shown();
+    what_is_mirrored_has_the_headline();
 }

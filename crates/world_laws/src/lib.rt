@@ -1,9 +1,14 @@
-//! Laws over the definitions of the world (`world_parts`), toward the headline. There is no code in it that
-//! runs.
+//! The headline, as a law over the definitions of the world (`world_parts`), and the laws that it stands on.
+//! There is no code here that runs.
 //!
-//! A list of rows makes a world, and shows a run of the message machine (`raft_model`). `specs/Shows` says
-//! what holds between the two: each member that runs is its server in the run, stores what that server
-//! stores, and made, heard and called what its transfers say. What is proved of it:
+//! The headline ([`headline::the_headline`]): for every cluster and every list of lawful rows each committed
+//! log is a prefix of one injective list, at every moment; the list only grows; every allocation that waits
+//! to go out is a pair of it by then; and every later leader, but one of an older term, has what was
+//! committed. `specs/Headline` says it.
+//!
+//! Why it holds: a list of rows makes a world, and shows a run of the message machine (`raft_model`), whose
+//! laws have the rest. `specs/Shows` says what holds between the two: each member that runs is its server in
+//! the run, stores what that server stores, and made, heard and called what its transfers say. So it is
 //!
 //! - the world without rows shows the beginning ([`rows::the_beginning_is_shown`]);
 //! - rows without events leave the run: frames from outside, frames that are sent, armed disks
@@ -14,11 +19,13 @@
 //!   was made ([`transfers::what_is_delivered_was_made`]), and that requests and answers that a member takes
 //!   were said, an answer to the very call that takes it ([`transfers::what_a_member_takes_was_said`]);
 //! - steps that a disk cuts off, with the member or without it ([`rows::cut_steps_are_shown`]);
-//! - lists of rows grow by one ([`headline::rows_grow_by_one`]), and the headline follows of two worlds that
-//!   mirror a run and its continuation ([`headline::what_is_mirrored_has_the_headline`]).
+//! - so for any row without a cause against it ([`rows::a_row_is_shown`]), and for all rows, one after
+//!   another ([`headline::rows_are_shown`]).
 //!
-//! Not here yet: the induction over rows that joins these laws, and that a choice that fits exists. So the
-//! headline itself is not proved.
+//! From a run to the headline: an Allocation with a node ID that waits in a queue is a pair in the bag of the
+//! run ([`headline::offers_are_pairs`]), and two worlds that mirror a run and its continuation have the
+//! headline ([`headline::what_is_mirrored_has_the_headline`]). What a failed step stored, only the next stop
+//! finds: till then a choice says it, and one that fits every stop exists ([`headline::a_choice_fits`]).
 //!
 //! What a reader must believe: `specs/Headline`, and of the definitions of the world what it cites. The
 //! other files of `specs/` are means of the proof.

@@ -10,12 +10,14 @@ ghost use Rattle.raft_model.specs.Lists.{In};
 ghost use Rattle.raft_model.specs.Runs.{MayCome, World, after, beginning};
 ghost use Rattle.raft_model.specs.Runs.{Event as RunEvent};
 ghost use Rattle.raft_model.specs.Runs.Event.{Opens, Steps, Stops};
+ghost use Rattle.replay_text.specs.declared.row.Row.{Row};
 ghost use Rattle.replay_text.specs.declared.row.Row.TheVariants.{Crash, Ext, Fault, Open, Send};
 ghost use Rattle.server_laws.specs.Sound.{IsOnTheBus};
 ghost use Rattle.server_parts.specs.Going.{messages};
 ghost use Rattle.server_parts.specs.Step.{Event, step};
 ghost use Rattle.server_parts.specs.TimedServer.{Timed};
 ghost use Rattle.server_parts.specs.Transfers.{Made};
+ghost use Rattle.world_laws.specs.Continues.{Continues};
 ghost use Rattle.world_laws.specs.Events.{MayHappen};
 ghost use Rattle.world_laws.specs.Said.{IsRunWritable};
 ghost use Rattle.world_laws.specs.Shows.{Shows};
@@ -23,7 +25,8 @@ ghost use Rattle.world_parts.specs.Cluster.{AreMembers, Cluster, cluster, next, 
 ghost use Rattle.world_parts.specs.Lawful.{cause};
 ghost use Rattle.world_parts.specs.Members.{Failure, puts_of};
 ghost use Rattle.world_parts.specs.Members.Life.{Down, Failed, Up};
-ghost use Rattle.world_parts.specs.Refinement.{FitsRow, cut_events, made_of};
+ghost use Rattle.world_parts.specs.Choices.{FitsRow};
+ghost use Rattle.world_parts.specs.Refinement.{cut_events, made_in, made_of, row_events};
 
 use can_frame::laws::{
     frames_give_the_payload, frames_in_order, frames_read_as_their_pieces, identifiers_both_ways,
@@ -39,7 +42,7 @@ use raft_log::laws::the_disk_by_states;
 use raft_model::laws::{law_handlers, law_joined};
 use server_laws::bus::{a_step_leaves_the_server_up, queue_of_a_step, sessions_of_a_step};
 use server_laws::laws::{
-    calls_of_a_step, members_of_a_step, moves_of_a_step, proposals_of_a_step,
+    calls_of_a_step, members_of_a_step, moves_of_a_step, pairs_of_a_step, proposals_of_a_step,
     responses_answer_what_was_delivered, steps_stay_in_range, transfers_of_a_step_are_apart,
     what_transfers_say,
 };
@@ -81,13 +84,15 @@ pub fn the_beginning_is_shown()
     ensures { (choice : ℕ → Bool) (ids : List ℕ) → Shows choice [] (cluster ids) (beginning ids) }
 {}
 
-/// A stop of a running member between two steps is one event of the run, which may come. A member that failed
-/// went down in the run with the step that failed: its stop is no event, where the choice fits what is found.
+/// A stop of a running member between two steps is one event of the run, which may come; what the run says
+/// still has bytes. A member that failed went down in the run with the step that failed: its stop is no
+/// event, where the choice fits what is found.
 pub fn stops_are_shown()
     ensures running { (choice : ℕ → Bool) (made : List Made) (w : Cluster) (run : World) →
-        Shows choice made w run → (n : ℕ) (pattern : Pattern) → In n w.ids → (t : Timed) →
-        (w.member n).life ≡ Up t → let event = Stops n (w.rows + 1) [] in
-        MayCome run event × Shows choice made (next w (Crash n 0 pattern)) (after run event) }
+        Shows choice made w run → IsRunWritable run → (n : ℕ) (pattern : Pattern) →
+        In n w.ids → (t : Timed) → (w.member n).life ≡ Up t → let event = Stops n (w.rows + 1) [] in
+        MayCome run event × IsRunWritable (after run event) ×
+        Shows choice made (next w (Crash n 0 pattern)) (after run event) }
     ensures failed { (choice : ℕ → Bool) (made : List Made) (w : Cluster) (run : World) →
         Shows choice made w run → (n : ℕ) (pattern : Pattern) → In n w.ids → (failure : Failure) →
         (w.member n).life ≡ Failed failure → FitsRow choice w (Crash n 0 pattern) →
@@ -95,12 +100,14 @@ pub fn stops_are_shown()
 {}
 
 /// An opening that succeeds is one event of the run, which may come; what it puts changes nothing of what the
-/// machine's server has stored. An opening that fails, wherever its disk cuts it, is none.
+/// machine's server has stored, and what the run says still has bytes. An opening that fails, wherever its
+/// disk cuts it, is none.
 pub fn openings_are_shown()
     ensures opened { (choice : ℕ → Bool) (made : List Made) (w : Cluster) (run : World) →
-        AreMembers w.ids → Shows choice made w run → (n ms word : ℕ) → In n w.ids →
-        (w.member n).life ≡ Down → is_open_on (w.member n).disk ≡ true →
-        MayCome run (Opens n) × Shows choice made (next w (Open n ms word)) (after run (Opens n)) }
+        AreMembers w.ids → Shows choice made w run → IsRunWritable run → (n ms word : ℕ) →
+        In n w.ids → (w.member n).life ≡ Down → is_open_on (w.member n).disk ≡ true →
+        MayCome run (Opens n) × IsRunWritable (after run (Opens n)) ×
+        Shows choice made (next w (Open n ms word)) (after run (Opens n)) }
     ensures failed { (choice : ℕ → Bool) (made : List Made) (w : Cluster) (run : World) →
         AreMembers w.ids → Shows choice made w run → (n ms word : ℕ) → In n w.ids →
         (w.member n).life ≡ Down → is_open_on (w.member n).disk ≡ false →
@@ -144,6 +151,7 @@ pub fn finished_steps_are_shown()
     members_are_a_list();
     members_of_a_step();
     moves_of_a_step();
+    pairs_of_a_step();
     proposals_of_a_step();
     puts_are_stored();
     queue_of_a_step();
@@ -158,8 +166,8 @@ pub fn finished_steps_are_shown()
 }
 
 /// A step that its disk cuts off is one event of the run, which may come: a stop within the move in which the
-/// put stands that failed. Where the disk stopped, the member stops with it; where a call failed, it stays as
-/// one that failed, and what is stored is as the choice says.
+/// put stands that failed. What the run says still has bytes. Where the disk stopped, the member stops with
+/// it; where a call failed, it stays as one that failed, and what is stored is as the choice says.
 pub fn cut_steps_are_shown()
     ensures { (choice : ℕ → Bool) (made : List Made) (w : Cluster) (run : World) →
         AreMembers w.ids → Shows choice made w run → Invariants run → IsRunWritable run →
@@ -169,6 +177,7 @@ pub fn cut_steps_are_shown()
         are_put (puts_of (w.member n) going) (w.member n).disk.calls ≡ false →
         (stop : RunEvent) ×
         (cut_events choice w.ids n number (w.member n) t going ≡ stop ∷ []) × MayCome run stop ×
+        IsRunWritable (after run stop) ×
         Shows choice made (record (steps w n event) { rows = number }) (after run stop) }
 {
     a_frame_comes_to_the_session_of_its_key();
@@ -189,6 +198,7 @@ pub fn cut_steps_are_shown()
     members_are_a_list();
     members_of_a_step();
     moves_of_a_step();
+    pairs_of_a_step();
     proposals_of_a_step();
     puts_are_stored();
     queue_of_a_step();
@@ -200,4 +210,20 @@ pub fn cut_steps_are_shown()
     vote_answers_both_ways();
     vote_requests_both_ways();
     what_transfers_say();
+}
+
+/// Any row without a cause against it: its events, of which there is at most one, continue the run, lawfully,
+/// to one that shows the world after the row. The run is safe and what it says has bytes, and still has them
+/// after the row; the choice fits what the row finds, where it stops a member that failed.
+pub fn a_row_is_shown()
+    ensures { (choice : ℕ → Bool) (made : List Made) (w : Cluster) (run : World) →
+        AreMembers w.ids → Shows choice made w run → Invariants run → IsRunWritable run →
+        (row : Row) → cause w row ≡ None → FitsRow choice w row →
+        Continues choice (made_in w row made) (next w row) run (row_events choice w row) }
+{
+    cut_steps_are_shown();
+    finished_steps_are_shown();
+    openings_are_shown();
+    rows_without_events_are_shown();
+    stops_are_shown();
 }

@@ -1,12 +1,8 @@
-use Rattle.std.proofs.Common.{Bool, List, sym, ap, subst}
+use Rattle.std.proofs.Common.{Bool, sym, ap, subst}
 use Rattle.std.specs.Prelude.{◌+◌, if◌then◌else◌}
 use Rattle.raft_log.specs.Shelf.{puts_on}
 use Rattle.raft_model.specs.Lists.{at}
 use Rattle.raft_model.specs.Runs.{World, after}
-use Rattle.raft_model.specs.Runs.Event.{Steps}
-use Rattle.server_parts.specs.Going.{messages}
-use Rattle.server_parts.specs.Transfers.{Made}
-use Rattle.world_parts.specs.Refinement.{made_of}
 use Rattle.world_parts.specs.Members.{Life, Member, cut_off, puts_of, stepped}
 use Rattle.world_parts.specs.Members.Life.{Up}
 use Rattle.server_parts.specs.Step.{step}
@@ -61,6 +57,7 @@ returns c =
       uids = c.proposals_of_a_step.ensures.keeps;
       records = c.proposals_of_a_step.ensures.uids;
       tells = λ t number event offer i what message reads node known. c.members_of_a_step.ensures.told_nodes t number event offer message node i what reads known;
+      given = c.pairs_of_a_step.ensures.offered;
       list = c.members_are_a_list.ensures;
       done = λ shelf puts e. (c.the_disk_by_states.ensures.done shelf puts e).0;
       votes = c.puts_are_stored.ensures.votes;
@@ -83,6 +80,7 @@ returns c =
       f.stop_event,
       f.is_one,
       f.may_be,
+      f.stays_written,
       subst (λ (life : Life). Shows choice made (record w { member = at w.member n (stepped (w.rows + 1) event life (w.member n)); rows = w.rows + 1 }) run_then) (sym runs)
           (subst (λ (x : Member). Shows choice made (record w { member = at w.member n x; rows = w.rows + 1 }) run_then)
           (sym (ap (λ (b : Bool). if b then up else cut_off (w.member n) (w.rows + 1) t going (puts_on (puts_of (w.member n) going) (w.member n).disk)) failed)) f.shown_then),

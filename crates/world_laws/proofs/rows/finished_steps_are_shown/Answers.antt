@@ -60,6 +60,7 @@ returns c =
       uids = c.proposals_of_a_step.ensures.keeps;
       records = c.proposals_of_a_step.ensures.uids;
       tells = λ t number event offer i what message reads node known. c.members_of_a_step.ensures.told_nodes t number event offer message node i what reads known;
+      given = c.pairs_of_a_step.ensures.offered;
       list = c.members_are_a_list.ensures;
       done = λ shelf puts e. (c.the_disk_by_states.ensures.done shelf puts e).0;
       votes = c.puts_are_stored.ensures.votes;

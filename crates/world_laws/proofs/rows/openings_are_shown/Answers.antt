@@ -1,4 +1,5 @@
 use Rattle.world_laws.proofs.Starting.{DiskLaws, may_open, not_opened_shown, open_shown}
+use Rattle.world_laws.proofs.StillWritable.{opened_written}
 use Rattle.world_laws.proofs.rows.openings_are_shown.Goals as goal
 
 pub returns : goal.returns
@@ -10,8 +11,9 @@ returns c =
     } in
     let order = c.moves_of_a_step.ensures.opening in
     let sound = c.steps_stay_in_range.ensures.opening in record {
-      opened = λ choice made w run members shows n ms word listed stopped opens. (
+      opened = λ choice made w run members shows written n ms word listed stopped opens. (
         may_open disk order sound choice made w members.five run shows n ms word listed stopped opens,
+        opened_written run n written,
         open_shown disk order sound choice made w members.five run shows n ms word listed stopped opens,
       );
       failed = λ choice made w run members shows n ms word listed stopped fails.

@@ -1,0 +1,98 @@
+-- What the run of a list of rows tells of two of its moments.
+use Rattle.std.proofs.Common.{◌≡◌, ℕ, Bool, List, [], ◌++◌, sym, ap, subst, ◌∙◌}
+use Rattle.std.proofs.lemmas.List.{append_assoc}
+use Rattle.kv_store.specs.Shelf.{Shelf}
+use Rattle.raft_log.specs.Stored.{Stored}
+use Rattle.raft_model.specs.Lists.{In}
+use Rattle.raft_model.specs.Runs as machine
+use Rattle.raft_model.specs.Runs.{Event, beginning}
+use Rattle.raft_model.specs.Server.{Plain}
+use Rattle.replay_text.specs.declared.row.Row.{Row}
+use Rattle.server_parts.specs.TimedServer.{Timed}
+use Rattle.server_parts.specs.Transfers.{Made}
+use Rattle.world_parts.specs.Cluster.{AreMembers, Cluster, cluster, world_of}
+use Rattle.world_parts.specs.Lawful.{Lawful}
+use Rattle.world_parts.specs.Logs.{stored_on}
+use Rattle.world_parts.specs.Members.{Life}
+use Rattle.world_parts.specs.Members.Life.{Down, Failed, Up}
+use Rattle.world_parts.specs.Choices.{Fits}
+use Rattle.world_parts.specs.Refinement.{events, made}
+use Rattle.world_laws.specs.Continues.{Continues}
+use Rattle.world_laws.specs.Headline.{HasHeadline, Headline}
+use Rattle.world_laws.specs.Mirrors.{Mirrors, OffersAreMade}
+use Rattle.world_laws.specs.Shows.{Shows, ShowsLife, ShowsUp}
+use Rattle.world_laws.proofs.Joining.{events_joined, first_fits, first_lawful, ids_stay, lawful_parted, run_joined}
+
+-- ---- a world that is shown mirrors its run
+
+module _ (choice : ℕ → Bool) (made : List Made) (w : Cluster) (run : machine.World) (shows : Shows choice made w run) where
+  same_store : (n : ℕ) (life : Life) (disk : Shelf Stored) → ShowsLife choice made w.ids w.frames run n life disk
+      → (run.server n).store ≡ stored_on choice life disk
+  same_store n Down disk is = is.stored
+  same_store n (Up t) disk is = ap (λ (p : Plain). p.store) is.runs.plain ∙ sym is.runs.stored
+  same_store n (Failed failure) disk is = is.stored
+
+  same_server : (n : ℕ) (t : Timed) → In n w.ids → (w.member n).life ≡ Up t → run.server n ≡ t.plain
+  same_server n t listed runs =
+      let is : ShowsUp made w.ids w.frames run n t (w.member n).disk
+      = subst (λ (life : Life). ShowsLife choice made w.ids w.frames run n life (w.member n).disk) runs (shows.lives n listed) in
+      is.runs.plain
+
+  pub mirrors : OffersAreMade w run → Mirrors choice w run
+  mirrors offers = record {
+    stored = λ n listed. same_store n (w.member n).life (w.member n).disk (shows.lives n listed);
+    serves = same_server;
+    offers = offers;
+  }
+
+-- ---- two moments
+
+-- what is known of lists of rows, as their laws say it
+pub record ListLaws : Type 0 where
+  pub rows : (choice : ℕ → Bool) (ids : List ℕ) (rows : List Row) → AreMembers ids → Lawful (cluster ids) rows → Fits choice (cluster ids) rows
+      → Continues choice (made (cluster ids) rows []) (world_of ids rows) (beginning ids) (events choice (cluster ids) rows)
+  pub offers : (choice : ℕ → Bool) (made : List Made) (w : Cluster) (run : machine.World) → AreMembers w.ids → Shows choice made w run
+      → OffersAreMade w run
+  pub headline : (choice : ℕ → Bool) (members : List ℕ) (first rest : List Event) (now later : Cluster)
+      → machine.Lawful (beginning members) first → machine.Lawful (machine.run (beginning members) first) rest → later.ids ≡ now.ids
+      → Mirrors choice now (machine.run (beginning members) first)
+      → Mirrors choice later (machine.run (machine.run (beginning members) first) rest) → Headline choice now later
+  pub choices : (ids : List ℕ) (rows : List Row) → AreMembers ids → Lawful (cluster ids) rows → (choice : ℕ → Bool) × Fits choice (cluster ids) rows
+
+module _ (laws : ListLaws) (ids : List ℕ) (members : AreMembers ids) (choice : ℕ → Bool) where
+  mirrored : (rows : List Row) → Lawful (cluster ids) rows → Fits choice (cluster ids) rows
+      → Mirrors choice (world_of ids rows) (machine.run (beginning ids) (events choice (cluster ids) rows))
+  mirrored rows lawful fits =
+      let is = laws.rows choice ids rows members lawful fits in
+      mirrors choice (made (cluster ids) rows []) (world_of ids rows) (machine.run (beginning ids) (events choice (cluster ids) rows)) is.shows
+      (laws.offers choice (made (cluster ids) rows []) (world_of ids rows) (machine.run (beginning ids) (events choice (cluster ids) rows))
+      (subst AreMembers (sym (ids_stay (cluster ids) rows)) members) is.shows)
+
+  module _ (first more : List Row) (lawful : Lawful (cluster ids) (first ++ more)) (fits : Fits choice (cluster ids) (first ++ more)) where
+    abbrev early : List Event
+    early = events choice (cluster ids) first
+
+    abbrev late : List Event
+    late = events choice (world_of ids first) more
+
+    both : machine.Lawful (beginning ids) early × machine.Lawful (machine.run (beginning ids) early) late
+    both = lawful_parted (beginning ids) early late
+        (subst (λ (l : List Event). machine.Lawful (beginning ids) l) (events_joined choice (cluster ids) first more)
+        (laws.rows choice ids (first ++ more) members lawful fits).lawful)
+
+    same_run : machine.run (beginning ids) (events choice (cluster ids) (first ++ more)) ≡ machine.run (machine.run (beginning ids) early) late
+    same_run = ap (λ (l : List Event). machine.run (beginning ids) l) (events_joined choice (cluster ids) first more) ∙ run_joined (beginning ids) early late
+
+    pub between : Headline choice (world_of ids first) (world_of ids (first ++ more))
+    between = laws.headline choice ids early late (world_of ids first) (world_of ids (first ++ more)) both.0 both.1
+        (ids_stay (cluster ids) (first ++ more) ∙ sym (ids_stay (cluster ids) first))
+        (mirrored first (first_lawful (cluster ids) first more lawful) (first_fits choice (cluster ids) first more fits))
+        (subst (λ (r : machine.World). Mirrors choice (world_of ids (first ++ more)) r) same_run (mirrored (first ++ more) lawful fits))
+
+pub has_headline : ListLaws → (ids : List ℕ) (rows : List Row) → AreMembers ids → Lawful (cluster ids) rows → HasHeadline ids rows
+has_headline laws ids rows members lawful = record {
+  some = laws.choices ids rows members lawful;
+  holds = λ first more rest choice cut fits. between laws ids members choice first more
+      (first_lawful (cluster ids) (first ++ more) rest
+      (subst (λ (l : List Row). Lawful (cluster ids) l) (cut ∙ sym (append_assoc first more rest)) lawful)) fits;
+}

@@ -1,0 +1,12 @@
+use Rattle.world_laws.proofs.Mirroring.{ListLaws, has_headline}
+use Rattle.world_laws.proofs.headline.the_headline.Goals as goal
+
+pub returns : goal.returns
+returns c =
+    let laws : ListLaws = record {
+      rows = c.rows_are_shown.ensures;
+      offers = c.offers_are_pairs.ensures;
+      headline = c.what_is_mirrored_has_the_headline.ensures;
+      choices = c.a_choice_fits.ensures;
+    } in
+    has_headline laws

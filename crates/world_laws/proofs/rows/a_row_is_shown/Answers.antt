@@ -1,0 +1,18 @@
+use Rattle.world_laws.proofs.OneRow.{RowLaws, row_shown}
+use Rattle.world_laws.proofs.rows.a_row_is_shown.Goals as goal
+
+pub returns : goal.returns
+returns c =
+    let laws : RowLaws = record {
+      outside = c.rows_without_events_are_shown.ensures.outside;
+      sent = c.rows_without_events_are_shown.ensures.sent;
+      stop_armed = c.rows_without_events_are_shown.ensures.stop_armed;
+      failure_armed = c.rows_without_events_are_shown.ensures.failure_armed;
+      stopped = c.stops_are_shown.ensures.running;
+      failed_stopped = c.stops_are_shown.ensures.failed;
+      opened = c.openings_are_shown.ensures.opened;
+      not_opened = c.openings_are_shown.ensures.failed;
+      finished = c.finished_steps_are_shown.ensures;
+      cut_off = c.cut_steps_are_shown.ensures;
+    } in
+    λ choice made w run members shows sound written row lawful fits. row_shown laws choice made w run members shows sound written row lawful fits

@@ -1,0 +1,16 @@
+-- How a run of the message machine goes on.
+use Rattle.std.specs.Prelude.{ℕ, Bool, List}
+use Rattle.raft_model.specs.Runs as machine
+use Rattle.raft_model.specs.Runs.{Event}
+use Rattle.server_parts.specs.Transfers.{Made}
+use Rattle.world_parts.specs.Cluster.{Cluster}
+use Rattle.world_laws.specs.Said.{IsRunWritable}
+use Rattle.world_laws.specs.Shows.{Shows}
+
+-- by these events, each of which may come when its turn is there, to a run that this world shows, and in which all
+-- that is stored and said has bytes
+pub record Continues (choice : ℕ → Bool) (made : List Made) (w : Cluster) (run : machine.World) (events : List Event)
+    : Type 0 where
+  pub lawful : machine.Lawful run events
+  pub shows : Shows choice made w (machine.run run events)
+  pub writable : IsRunWritable (machine.run run events)
