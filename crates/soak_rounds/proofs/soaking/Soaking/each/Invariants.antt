@@ -1,0 +1,10 @@
+use Rattle.soak_rounds.specs.Rounds.{Soak, for_each, has_turn}
+use Rattle.soak_rounds.specs.Soaking.{Keeps, StandsFor}
+use Rattle.soak_rounds.proofs.soaking.Soaking.each.Given as goal
+
+-- so many members had their turn
+abbrev pub invariant-loop-place : goal.invariant-loop-place
+invariant-loop-place g l = record {
+  stands : (s : Soak) → StandsFor l.fn.self s → StandsFor l.self (for_each (has_turn l.turn) 1 l.place s);
+  keeps : Keeps l.fn.self l.self;
+}
