@@ -1,0 +1,50 @@
+use Rattle.std.proofs.Common.{◌≡◌, ap, ◌∙◌, sym, subst}
+use Rattle.std.specs.Prelude.{Some, None}
+use Rattle.alloc_server.specs.Server.{event_of}
+use Rattle.outside.specs.Traffic.{items_behind, next_item}
+use Rattle.node_turns.specs.Frames.{event_in}
+use Rattle.node_turns.specs.Stands.{IsTurning}
+use Rattle.node_turns.specs.Turn.{takes}
+use Rattle.node_turns.proofs.Lists.{on_ok}
+use Rattle.node_turns.proofs.Turning.{received}
+use Rattle.node_turns.proofs.runner.Runner.hear.Goals as goal
+
+pub returns-in-Some-clause-heard : goal.returns-in-Some-clause-heard
+returns-in-Some-clause-heard g c = on_ok c.step.result (λ stepped t is.
+    let coming = g.L.Link.coming in
+    let sent = g.L.Link.sent in
+    let told = received c.in-Ok.item (coming c.args.link.now) (coming c.recv.new.self) t.running.coming c.in-Ok.ensures.items is.running.coming_is in
+    let after = record t { running = record t.running { coming = items_behind t.running.coming } } in
+    let event : event_in c.args.now (next_item t.running.coming) ≡ Some (event_of c.in-Some.event) =
+    ap (event_in c.args.now) (sym told.0) ∙ sym c.in-Some.ensures in
+    subst (λ e. IsTurning c.step.new.self (coming c.recv.new.self) (sent c.recv.new.self) c.step.new.steps (takes e after)) (sym event)
+    (stepped after (coming c.recv.new.self) (sent c.recv.new.self) (record {
+      running = record {
+        id = is.running.id;
+        server = is.running.server;
+        draws = is.running.draws;
+        coming_is = told.1;
+        sent_is = c.in-Ok.ensures.sent ∙ is.running.sent_is;
+      };
+      lines = is.lines;
+    }))) c.step.ensures.stepped
+
+pub returns-in-None-clause-heard : goal.returns-in-None-clause-heard
+returns-in-None-clause-heard g c = λ t is.
+    let coming = g.L.Link.coming in
+    let sent = g.L.Link.sent in
+    let told = received c.in-Ok.item (coming c.args.link.now) (coming c.recv.new.self) t.running.coming c.in-Ok.ensures.items is.running.coming_is in
+    let after = record t { running = record t.running { coming = items_behind t.running.coming } } in
+    let event : event_in c.args.now (next_item t.running.coming) ≡ None =
+    ap (event_in c.args.now) (sym told.0) ∙ sym c.in-None.ensures in
+    subst (λ e. IsTurning c.args.self.now (coming c.recv.new.self) (sent c.recv.new.self) c.args.steps.now (takes e after)) (sym event)
+    (record {
+      running = record {
+        id = is.running.id;
+        server = is.running.server;
+        draws = is.running.draws;
+        coming_is = told.1;
+        sent_is = c.in-Ok.ensures.sent ∙ is.running.sent_is;
+      };
+      lines = is.lines;
+    })

@@ -1,0 +1,30 @@
+use Rattle.std.proofs.Common.{◌≡◌, suc, ◌∷◌, [], ◌++◌, length, ap, ◌∙◌, subst, arith}
+use Rattle.std.specs.Prelude.{Ok}
+use Rattle.server_parts.specs.Step.{step as step_of}
+use Rattle.server_parts.specs.TimedServer.{view_of}
+use Rattle.world_parts.specs.Telling.{telling_line}
+use Rattle.alloc_server.specs.Server.{StepsTo, event_of}
+use Rattle.node_turns.specs.Steps.{Keeps}
+use Rattle.node_turns.proofs.Turning.{told_same}
+use Rattle.node_turns.proofs.runner.Runner.step.Goals as goal
+
+pub returns-in-Ok-clause-stepped : goal.returns-in-Ok-clause-stepped
+returns-in-Ok-clause-stepped g c = λ t coming sent is.
+    let number = suc (length t.lines) in
+    let count = is.lines.made in
+    let at : c.next_number.result ≡ number = omega (arith, c.next_number.ensures, count) in
+    let sight = step_of t.running.timed number (event_of c.args.event) in
+    let does = subst (λ n. StepsTo c.args.self.now.server c.step.new.self (step_of t.running.timed n (event_of c.args.event)) (Ok c.in-Ok.outcome)) at
+    (c.in-Ok.ensures.steps t.running.timed is.running.server) in
+    let line = c.stepped.ensures number ∙ ap (telling_line number) (told_same c.args.self.now.id t.running.id c.view.result (view_of sight.going.timed) c.in-Ok.outcome.seen
+    c.in-Ok.outcome.sent.items sight is.running.id (c.view.ensures.stands sight.going.timed does.stands) does.tells.seen does.tells.sent) in
+    record {
+      running = record {
+        id = is.running.id;
+        server = does.stands;
+        draws = is.running.draws;
+        coming_is = is.running.coming_is;
+        sent_is = is.running.sent_is;
+      };
+      lines = subst (λ l. Keeps c.push.new.self (t.lines ++ l ∷ [])) line (c.push.ensures.keeps t.lines is.lines);
+    }

@@ -1,0 +1,136 @@
+use Rattle.std.proofs.Common.{◌≡◌, suc, ◌+◌, ◌<◌, ◌++◌, ℕ, List, length, take, drop, append-nil, ap, sym, ◌∙◌, subst, refl, arith}
+use Rattle.std.proofs.lemmas.List.{drop_all, take_all}
+use Rattle.std.specs.Prelude.{slice_index_or}
+use Rattle.node_turns.specs.Runners.{runners_of}
+use Rattle.node_turns.specs.Stands.{Stand, closure_of}
+use Rattle.node_turns.specs.Taking.{AreWorking, EndsTurn, KeepsNodes}
+use Rattle.node_turns.specs.Turns.{all_turns, first_turns}
+use Rattle.node_turns.proofs.Together.{ends_later, links_kept, links_then, nodes_kept, nodes_then}
+use Rattle.node_turns.proofs.runners.Runners.take_turns.Goals as goal
+
+-- a list that was written through a slice of all of it
+whole : {A : Type 0} (n : ℕ) (items new : List A) → n ≡ length items → length new ≡ length items → take n (new ++ drop (length new) items) ≡ new
+whole n items new size same =
+    ap (λ rest. take n (new ++ rest)) (drop_all (length new) items (omega (arith, same))) ∙ ap (take n) (append-nil new) ∙ take_all n new (omega (arith, size, same))
+
+pub turns-init : goal.turns-init
+turns-init g c = record {
+  some = omega arith;
+  accepts = refl;
+  nodes = nodes_kept (runners_of c.args.self.now);
+  links = links_kept g.L.Link.faults c.args.links.now;
+  working = c.requires.working;
+  few = let first = c.requires.first in omega (arith, first);
+  turned = λ all is. is;
+}
+
+pub take_turn-requires-clause-callable : goal.take_turn-requires-clause-callable
+take_turn-requires-clause-callable g c = λ i runner within.
+    let value = c.as_mut_slice.ensures.value in
+    let size = ap length value in
+    let inside : i < length (runners_of c.turns.self) = omega (arith, size, within) in
+    let same = sym (ap (λ l. closure_of (slice_index_or l i runner)) value ∙ c.turns.self.alike i runner inside ∙ c.turns.invariant.accepts) in
+    rw same at c.requires.callable
+
+pub take_turn-requires-clause-answers : goal.take_turn-requires-clause-answers
+take_turn-requires-clause-answers g c = λ i runner within.
+    let value = c.as_mut_slice.ensures.value in
+    let size = ap length value in
+    let inside : i < length (runners_of c.turns.self) = omega (arith, size, within) in
+    let same = sym (ap (λ l. closure_of (slice_index_or l i runner)) value ∙ c.turns.self.alike i runner inside ∙ c.turns.invariant.accepts) in
+    rw same at c.requires.answers
+
+pub take_turn-requires-clause-working : goal.take_turn-requires-clause-working
+take_turn-requires-clause-working g c = subst (λ l. AreWorking l) (sym c.as_mut_slice.ensures.value) c.turns.invariant.working
+
+pub invariant_of-self : goal.invariant_of-self
+invariant_of-self g c =
+    let value = c.as_mut_slice.ensures.value in
+    let items = runners_of c.turns.self in
+    let new = c.take_turn.new.runners in
+    let nodes = subst (λ l. KeepsNodes l new) value c.take_turn.ensures.nodes in
+    let len = c.as_mut_slice.ensures.len in
+    let sizes = ap length value in
+    let same = whole c.turns.self.list.len items new (omega (arith, len, sizes)) nodes.count in
+    record {
+      five = let size = ap length same in let count = nodes.count in let five = c.turns.self.five in omega (arith, size, count, five);
+      room = c.turns.self.room;
+      alike = λ i runner within.
+          let size = ap length same in
+          let count = nodes.count in
+          let inside : i < length items = omega (arith, size, count, within) in
+          ap (λ l. closure_of (slice_index_or l i runner)) same ∙ (nodes.each i runner runner inside).accepts ∙ c.turns.self.alike i runner inside;
+    }
+
+pub returns-in-Err-clause-nodes : goal.returns-in-Err-clause-nodes
+returns-in-Err-clause-nodes g c =
+    let value = c.as_mut_slice.ensures.value in
+    let items = runners_of c.turns.self in
+    let new = c.take_turn.new.runners in
+    let nodes = subst (λ l. KeepsNodes l new) value c.take_turn.ensures.nodes in
+    let len = c.as_mut_slice.ensures.len in
+    let sizes = ap length value in
+    let same = whole c.turns.self.list.len items new (omega (arith, len, sizes)) nodes.count in
+    subst (λ l. KeepsNodes (runners_of c.args.self.now) l) (sym same) (nodes_then (runners_of c.args.self.now) items new c.turns.invariant.nodes nodes)
+
+pub returns-in-Err-clause-links : goal.returns-in-Err-clause-links
+returns-in-Err-clause-links g c =
+    links_then g.L.Link.faults c.args.links.now c.turns.links c.take_turn.new.links c.turns.invariant.links c.take_turn.ensures.links
+
+pub returns-in-Err-clause-failed : goal.returns-in-Err-clause-failed
+returns-in-Err-clause-failed g c =
+    let value = c.as_mut_slice.ensures.value in
+    let items = runners_of c.turns.self in
+    let new = c.take_turn.new.runners in
+    let nodes = subst (λ l. KeepsNodes l new) value c.take_turn.ensures.nodes in
+    let len = c.as_mut_slice.ensures.len in
+    let sizes = ap length value in
+    let same = whole c.turns.self.list.len items new (omega (arith, len, sizes)) nodes.count in
+    let before = runners_of c.args.self.now in
+    let faults = g.L.Link.faults in
+    subst (λ l. EndsTurn faults before l c.args.links.now c.take_turn.new.links c.in-Err.fault) (sym same)
+    (ends_later faults before items new c.args.links.now c.turns.links c.take_turn.new.links c.in-Err.fault c.turns.invariant.nodes c.turns.invariant.links c.requires.each
+    (subst (λ l. EndsTurn faults l new c.turns.links c.take_turn.new.links c.in-Err.fault) value c.in-Err.ensures.failed))
+
+pub turns-preserved : goal.turns-preserved
+turns-preserved g c =
+    let so_far = c.turns.invariant in
+    let value = c.as_mut_slice.ensures.value in
+    let items = runners_of c.turns.self in
+    let new = c.take_turn.new.runners in
+    let nodes = subst (λ l. KeepsNodes l new) value c.take_turn.ensures.nodes in
+    let len = c.as_mut_slice.ensures.len in
+    let sizes = ap length value in
+    let same = whole c.turns.self.list.len items new (omega (arith, len, sizes)) nodes.count in
+    let before = runners_of c.args.self.now in
+    let coming = g.L.Link.coming in
+    let sent = g.L.Link.sent in
+    let readings = g.C.Clock.readings in
+    let low = c.turns-test.true in
+    record {
+      some = omega (arith, low);
+      accepts = so_far.accepts;
+      nodes = subst (λ l. KeepsNodes before l) (sym same) (nodes_then before items new so_far.nodes nodes);
+      links = links_then g.L.Link.faults c.args.links.now c.turns.links c.take_turn.new.links so_far.links c.take_turn.ensures.links;
+      working = subst (λ l. AreWorking l) (sym same) c.in-Ok.ensures.working;
+      few = let steps = so_far.few in let more = c.take_turn.ensures.few in omega (arith, steps, more);
+      turned = λ all is.
+          let far = so_far.turned all is in
+          let by_then = all_turns (length before) c.turns.taken all in
+          let count : length c.as_mut_slice.result.now ≡ length before = sizes ∙ so_far.nodes.count in
+          let now = c.in-Ok.ensures.turned by_then (subst (λ l. Stand coming sent l c.turns.links (readings c.turns.clock) c.turns.steps by_then) (sym value) far) in
+          let next : suc c.turns.taken ≡ c.turns.taken + 1 = omega arith in
+          subst (λ n. Stand coming sent (take c.turns.self.list.len (new ++ drop (length new) items)) c.take_turn.new.links (readings c.take_turn.new.clock) c.take_turn.new.steps
+          (all_turns (length before) n all)) next
+          (subst (λ l. Stand coming sent l c.take_turn.new.links (readings c.take_turn.new.clock) c.take_turn.new.steps (first_turns (length before) by_then)) (sym same)
+          (subst (λ n. Stand coming sent new c.take_turn.new.links (readings c.take_turn.new.clock) c.take_turn.new.steps (first_turns n by_then)) count now));
+    }
+
+pub returns-clause-turned : goal.returns-clause-turned
+returns-clause-turned g c = λ all is.
+    let so_far = c.turns.invariant in
+    let high = c.turns-test.false in
+    let some = so_far.some in
+    let end : c.turns.taken ≡ c.args.turns = omega (arith, some, high) in
+    subst (λ n. Stand g.L.Link.coming g.L.Link.sent (runners_of c.turns.self) c.turns.links (g.C.Clock.readings c.turns.clock) c.turns.steps
+    (all_turns (length (runners_of c.args.self.now)) n all)) end (so_far.turned all is)

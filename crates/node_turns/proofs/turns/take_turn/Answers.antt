@@ -1,0 +1,203 @@
+use Rattle.std.proofs.Common.{◌≡◌, suc, ◌+◌, ◌<◌, length, ap, sym, ◌∙◌, subst, arith}
+use Rattle.std.specs.Prelude.{Err, slice_index_or, slice_set}
+use Rattle.outside.specs.Readings.{next_reading}
+use Rattle.node_turns.specs.Stands.{IsTurning, Stand, Works, runner_disk}
+use Rattle.node_turns.specs.Turn.{Turning, turn}
+use Rattle.node_turns.specs.Turns.{first_turns}
+use Rattle.node_turns.proofs.Lists.{all_set}
+use Rattle.node_turns.proofs.Together.{are_running, ends_turn, keeps_links, keeps_nodes, links_kept, nodes_kept, rose_before}
+use Rattle.node_turns.proofs.Turning.{reads}
+use Rattle.node_turns.proofs.turns.take_turn.Goals as goal
+
+pub loop-place-init : goal.loop-place-init
+loop-place-init g c = record {
+  nodes = nodes_kept c.args.runners.now;
+  links = links_kept g.L.Link.faults c.args.links.now;
+  working = c.requires.working;
+  few = omega arith;
+  turned = λ all is. is;
+}
+
+pub turn-requires-clause-callable : goal.turn-requires-clause-callable
+turn-requires-clause-callable g c =
+    let nodes = c.loop-place.invariant.nodes in
+    let count = nodes.count in
+    let low = c.loop-place-test.true in
+    let first : c.loop-place.place < length c.args.runners.now = omega (arith, low, count) in
+    let some = c.index-runners-place.result in
+    let same = sym (nodes.each c.loop-place.place some some first).accepts in
+    rw same at (c.requires.callable c.loop-place.place some first)
+
+pub turn-requires-clause-answers : goal.turn-requires-clause-answers
+turn-requires-clause-answers g c =
+    let nodes = c.loop-place.invariant.nodes in
+    let count = nodes.count in
+    let low = c.loop-place-test.true in
+    let first : c.loop-place.place < length c.args.runners.now = omega (arith, low, count) in
+    let some = c.index-runners-place.result in
+    let same = sym (nodes.each c.loop-place.place some some first).accepts in
+    rw same at (c.requires.answers c.loop-place.place some first)
+
+pub loop-place-preserved : goal.loop-place-preserved
+loop-place-preserved g c =
+    let so_far = c.loop-place.invariant in
+    let place = c.loop-place.place in
+    let low = c.loop-place-test.true in
+    let runners = c.loop-place.runners in
+    let links = c.loop-place.links in
+    let faults = g.L.Link.faults in
+    let disk_faults = g.D.Disk.faults in
+    let nodes = so_far.nodes in
+    let kept = so_far.links in
+    let node_count = nodes.count in
+    let link_count = kept.count in
+    let each = c.requires.each in
+    let first : place < length c.args.runners.now = omega (arith, low, node_count) in
+    let first_link : place < length c.args.links.now = omega (arith, low, node_count, link_count, each) in
+    let here : place < length runners = omega (arith, first, node_count) in
+    let there : place < length links = omega (arith, first_link, link_count) in
+    let some = c.index-runners-place.result in
+    let some_link = c.index-links-place.result in
+    let old = slice_index_or runners place some in
+    let old_link = slice_index_or links place some_link in
+    let runner = c.turn.new.self in
+    let link = c.turn.new.link in
+    record {
+      nodes = keeps_nodes runners links place runner link here there c.args.runners.now c.args.links.now faults nodes kept (λ before.
+          let was = nodes.each place before some first in record {
+            id = c.turn.ensures.id ∙ was.id;
+            later = let earlier = was.later in let now = c.turn.ensures.disk_later in omega (arith, earlier, now);
+            tells = c.turn.ensures.tells ∙ was.tells;
+            accepts = c.turn.ensures.accepts ∙ was.accepts;
+          });
+      links = keeps_links runners links place runner link here there c.args.runners.now c.args.links.now faults nodes kept (λ before.
+          let earlier = kept.later place before some_link first_link in
+          let now = c.turn.ensures.link_later in omega (arith, earlier, now));
+      working = all_set (λ i r. Works r) runners place runner so_far.working c.in-Ok.ensures.works;
+      few = let steps = so_far.few in let now = c.turn.ensures.few in omega (arith, steps, now);
+      turned = λ all is.
+          let far = so_far.turned all is in
+          let before = first_turns place all in
+          let read = reads c.now-now.result (g.C.Clock.readings c.loop-place.clock) (g.C.Clock.readings c.now-now.new.self) before.readings c.now-now.ensures far.readings_are in
+          let t : Turning = record { running = before.running place; lines = before.lines } in
+          let running = far.each place some some_link here in
+          let now = c.in-Ok.ensures.turned t (record { running = running; lines = far.lines }) in
+          let done = turn (next_reading before.readings) t in
+          let turned = subst (λ m. IsTurning runner (g.L.Link.coming link) (g.L.Link.sent link) c.turn.new.steps (turn m t)) read.0 now in
+          let next : suc place ≡ place + 1 = omega arith in
+          subst (λ n. Stand g.L.Link.coming g.L.Link.sent (slice_set runners place runner) (slice_set links place link) (g.C.Clock.readings c.now-now.new.self) c.turn.new.steps
+          (first_turns n all)) next (record {
+            each = are_running runners links place runner link here there g.L.Link.coming g.L.Link.sent before.running done.running far.each turned.running;
+            readings_are = read.1;
+            lines = turned.lines;
+          });
+    }
+
+pub returns-in-Err-clause-nodes : goal.returns-in-Err-clause-nodes
+returns-in-Err-clause-nodes g c =
+    let so_far = c.loop-place.invariant in
+    let place = c.loop-place.place in
+    let low = c.loop-place-test.true in
+    let runners = c.loop-place.runners in
+    let links = c.loop-place.links in
+    let faults = g.L.Link.faults in
+    let disk_faults = g.D.Disk.faults in
+    let nodes = so_far.nodes in
+    let kept = so_far.links in
+    let node_count = nodes.count in
+    let link_count = kept.count in
+    let each = c.requires.each in
+    let first : place < length c.args.runners.now = omega (arith, low, node_count) in
+    let first_link : place < length c.args.links.now = omega (arith, low, node_count, link_count, each) in
+    let here : place < length runners = omega (arith, first, node_count) in
+    let there : place < length links = omega (arith, first_link, link_count) in
+    let some = c.index-runners-place.result in
+    let some_link = c.index-links-place.result in
+    let old = slice_index_or runners place some in
+    let old_link = slice_index_or links place some_link in
+    let runner = c.turn.new.self in
+    let link = c.turn.new.link in
+    keeps_nodes runners links place runner link here there c.args.runners.now c.args.links.now faults nodes kept (λ before.
+    let was = nodes.each place before some first in record {
+      id = c.turn.ensures.id ∙ was.id;
+      later = let earlier = was.later in let now = c.turn.ensures.disk_later in omega (arith, earlier, now);
+      tells = c.turn.ensures.tells ∙ was.tells;
+      accepts = c.turn.ensures.accepts ∙ was.accepts;
+    })
+
+pub returns-in-Err-clause-links : goal.returns-in-Err-clause-links
+returns-in-Err-clause-links g c =
+    let so_far = c.loop-place.invariant in
+    let place = c.loop-place.place in
+    let low = c.loop-place-test.true in
+    let runners = c.loop-place.runners in
+    let links = c.loop-place.links in
+    let faults = g.L.Link.faults in
+    let disk_faults = g.D.Disk.faults in
+    let nodes = so_far.nodes in
+    let kept = so_far.links in
+    let node_count = nodes.count in
+    let link_count = kept.count in
+    let each = c.requires.each in
+    let first : place < length c.args.runners.now = omega (arith, low, node_count) in
+    let first_link : place < length c.args.links.now = omega (arith, low, node_count, link_count, each) in
+    let here : place < length runners = omega (arith, first, node_count) in
+    let there : place < length links = omega (arith, first_link, link_count) in
+    let some = c.index-runners-place.result in
+    let some_link = c.index-links-place.result in
+    let old = slice_index_or runners place some in
+    let old_link = slice_index_or links place some_link in
+    let runner = c.turn.new.self in
+    let link = c.turn.new.link in
+    keeps_links runners links place runner link here there c.args.runners.now c.args.links.now faults nodes kept (λ before.
+    let earlier = kept.later place before some_link first_link in
+    let now = c.turn.ensures.link_later in omega (arith, earlier, now))
+
+pub returns-clause-turned : goal.returns-clause-turned
+returns-clause-turned g c = λ all is.
+    let so_far = c.loop-place.invariant in
+    let count = so_far.nodes.count in
+    let high = c.loop-place-test.false in
+    let end = c.loop-place.auto.place-end in
+    let all_of : c.loop-place.place ≡ length c.args.runners.now = omega (arith, count, high, end) in
+    subst (λ n. Stand g.L.Link.coming g.L.Link.sent c.loop-place.runners c.loop-place.links (g.C.Clock.readings c.loop-place.clock) c.loop-place.steps (first_turns n all)) all_of
+    (so_far.turned all is)
+
+pub returns-in-Err-clause-failed : goal.returns-in-Err-clause-failed
+returns-in-Err-clause-failed g c =
+    let so_far = c.loop-place.invariant in
+    let place = c.loop-place.place in
+    let low = c.loop-place-test.true in
+    let runners = c.loop-place.runners in
+    let links = c.loop-place.links in
+    let faults = g.L.Link.faults in
+    let disk_faults = g.D.Disk.faults in
+    let nodes = so_far.nodes in
+    let kept = so_far.links in
+    let node_count = nodes.count in
+    let link_count = kept.count in
+    let each = c.requires.each in
+    let first : place < length c.args.runners.now = omega (arith, low, node_count) in
+    let first_link : place < length c.args.links.now = omega (arith, low, node_count, link_count, each) in
+    let here : place < length runners = omega (arith, first, node_count) in
+    let there : place < length links = omega (arith, first_link, link_count) in
+    let some = c.index-runners-place.result in
+    let some_link = c.index-links-place.result in
+    let old = slice_index_or runners place some in
+    let old_link = slice_index_or links place some_link in
+    let works = so_far.working place some here in
+    ends_turn runners links place c.turn.new.self c.turn.new.link here there c.args.runners.now c.args.links.now faults nodes kept c.in-Err.fault old.id
+    (λ before. sym (nodes.each place before some first).id) first
+    (λ node is. let why = c.in-Err.ensures.link_failed node (ap Err is) in (
+      why.0,
+      λ before.
+          rose_before (faults (slice_index_or c.args.links.now place before)) (faults old_link) (faults c.turn.new.link)
+          (kept.later place before some_link first_link) why.1,
+    ))
+    (λ node is. let why = c.in-Err.ensures.disk_failed node works (ap Err is) in (
+      why.0,
+      λ before.
+          rose_before (disk_faults (runner_disk (slice_index_or c.args.runners.now place before))) (disk_faults (runner_disk old)) (disk_faults (runner_disk c.turn.new.self))
+          (nodes.each place before some first).later why.1,
+    ))
+    (λ node key is. c.in-Err.ensures.sound node key (ap Err is))

@@ -1,0 +1,21 @@
+use Rattle.std.proofs.Common.{◌≤◌, ◌+◌, ◌*◌}
+use Rattle.node_turns.specs.Stands.{Stand}
+use Rattle.node_turns.specs.Steps.{steps_made}
+use Rattle.node_turns.specs.Taking.{AreWorking, KeepsLinks, KeepsNodes}
+use Rattle.node_turns.specs.Turns.{Together, first_turns}
+use Rattle.node_turns.proofs.turns.take_turn.Given as goal
+
+-- those at the places so far have taken their turn
+abbrev pub invariant-loop-place : goal.invariant-loop-place
+invariant-loop-place g l =
+    let coming = g.L.Link.coming in
+    let sent = g.L.Link.sent in
+    let readings = g.C.Clock.readings in
+    record {
+      nodes : KeepsNodes l.fn.runners l.runners;
+      links : KeepsLinks g.L.Link.faults l.fn.links l.links;
+      working : AreWorking l.runners;
+      few : steps_made l.steps ≤ steps_made l.fn.steps + 2 * l.place;
+      turned : (all : Together) → Stand coming sent l.fn.runners l.fn.links (readings l.fn.clock) l.fn.steps all →
+          Stand coming sent l.runners l.links (readings l.clock) l.steps (first_turns l.place all);
+    }

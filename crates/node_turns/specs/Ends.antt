@@ -1,0 +1,24 @@
+-- How a run ends before its last turn.
+use Rattle.std.specs.Prelude.{ℕ, List}
+use Rattle.kv_store.specs.declared.fault.OpenFault.{OpenFault}
+use Rattle.kv_store.specs.declared.fault.OpenFault.TheVariants.{Fault as DiskFailed, Damaged as DamagedAt}
+use Rattle.program_parts.specs.declared.status.Status.{Status}
+use Rattle.program_parts.specs.declared.status.Status.TheVariants.{LinkFault, DiskFault, Damaged as IsDamaged}
+use Rattle.node_turns.specs.Report.{damaged_line, disk_fault_line, link_fault_line}
+use Rattle.node_turns.specs.declared.fault.Fault.{Fault}
+use Rattle.node_turns.specs.declared.fault.Fault.TheVariants.{Link, Disk, Damaged}
+
+abbrev pub fault_status : Fault → Status
+fault_status (Link id) = LinkFault id
+fault_status (Disk id) = DiskFault id
+fault_status (Damaged id key) = IsDamaged id key
+
+abbrev pub fault_line : Fault → List ℕ
+fault_line (Link id) = link_fault_line id
+fault_line (Disk id) = disk_fault_line id
+fault_line (Damaged id key) = damaged_line id key
+
+-- why a run ends whose opening of a node was refused
+abbrev pub refusal_of : ℕ → OpenFault → Fault
+refusal_of id (DiskFailed fault) = Disk id
+refusal_of id (DamagedAt key) = Damaged id key

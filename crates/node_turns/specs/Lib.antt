@@ -1,0 +1,14 @@
+pub mod Ends
+pub mod Frames
+pub mod Kept
+pub mod Opening
+pub mod Report
+pub mod Run
+pub mod Runners
+pub mod Stands
+pub mod Status
+pub mod Steps
+pub mod Taking
+pub mod Turn
+pub mod Turns
+pub mod WholeRun

@@ -1,0 +1,176 @@
+ghost use Rattle.std.specs.Prelude.{◌≡◌, ◌<◌, ◌≤◌, ℕ, List, [], None, Ok, Err, IsSome, OnOk, length, slice_index_or};
+ghost use Rattle.std.specs.Io.KnownBytes.{Appends};
+ghost use Rattle.outside.specs.Faults.{Rose};
+ghost use Rattle.server_parts.specs.Accepted as accepted;
+ghost use Rattle.transfer_rx.specs.Acceptance.{AnswersByRows, first_signature};
+ghost use Rattle.transfer_rx.specs.Memory.{ReceiverFitsInMemory};
+ghost use Rattle.world_parts.specs.Cluster.{AreMembers};
+ghost use Rattle.node_turns.specs.Opening.{Given};
+ghost use Rattle.node_turns.specs.Report.{damaged_line, disk_fault_line, link_fault_line, report};
+ghost use Rattle.node_turns.specs.Run.{AreTelling, HasRun};
+ghost use Rattle.node_turns.specs.Runners.{accepts, runners_of};
+ghost use Rattle.node_turns.specs.Stands.{Stand};
+ghost use Rattle.node_turns.specs.Status.{DiskRose, IsDamagedDisk, IsEndStatus, IsStatus, LinkRose};
+ghost use Rattle.node_turns.specs.Steps.{Keeps, steps_made};
+ghost use Rattle.node_turns.specs.WholeRun.{IsWholeRun, Tell, after_turns};
+ghost use Rattle.node_turns.specs.declared.fault.Fault.TheVariants.{Link as LinkFailed, Disk as DiskFailed, Damaged as IsDamaged};
+
+use crate::fault::Fault;
+use crate::runners::Runners;
+use crate::steps::LastSteps;
+use can_frame::Kind;
+use disk_model::Disk;
+use outside::{Clock, Failed, Link, Sink};
+use program_parts::{Output, Status};
+use raft_log::laws::{a_state_is_durable, an_image_stands_for_one_state, an_opening_goes_on};
+use std::alloc::Global;
+
+/// Runs the allocators of these nodes, of a cluster of `size` members: each on the disk and the link at
+/// its place. Each is opened, takes `turns` turns, and is stopped; its disk is put back. The report goes
+/// to the sink at the end.
+///
+/// `LinkFault`, `DiskFault` and `WriteFault` come only where the link or the disk of that node, or the
+/// sink, counted a fault; `Damaged` where the store of that node is damaged, first at that key, before
+/// any turn. Then one line is all that is written. All memory is taken before anything else: with
+/// `Memory` nothing was touched.
+pub fn node<K: Sink, L: Link, D: Disk, C: Clock>(
+    alloc: Global,
+    size: u8,
+    turns: u64,
+    ids: &[u8],
+    sink: &mut K,
+    links: &mut [L],
+    disks: &mut [Option<D>],
+    clock: &mut C,
+) -> Status
+    requires some { 1 ≤ size }
+    requires five { size ≤ 5 }
+    requires turns { turns ≤ 1000000000 }
+    requires members { AreMembers ids.now }
+    requires links { length links.old ≡ length ids.now }
+    requires disks { length disks.old ≡ length ids.now }
+    requires present { (i : ℕ) → i < length ids.now → IsSome (slice_index_or disks.old i None) }
+    ensures kinds { IsStatus result }
+    ensures untouched { result ≡ Status.Memory → (sink.new ≡ sink.old) × (links.new ≡ links.old) ×
+        (disks.new ≡ disks.old) × (clock.new ≡ clock.old) }
+    ensures put_back { (i : ℕ) → i < length ids.now → IsSome (slice_index_or disks.new i None) }
+    ensures places { length disks.new ≡ length disks.old }
+    ensures write_fault { result ≡ Status.WriteFault →
+        Rose (K.faults sink.old) (K.faults sink.new) }
+    ensures kept { result ≡ Status.Done → K.faults sink.new ≡ K.faults sink.old }
+    ensures link_fault { (id : ℕ) → result ≡ Status.LinkFault id →
+        LinkRose L.faults ids.now links.old links.new id }
+    ensures link_line { (id : ℕ) → result ≡ Status.LinkFault id →
+        Appends (K.written sink.old) (K.written sink.new) (link_fault_line id) }
+    ensures disk_fault { (id : ℕ) → result ≡ Status.DiskFault id →
+        DiskRose D.faults ids.now disks.old disks.new id }
+    ensures disk_line { (id : ℕ) → result ≡ Status.DiskFault id →
+        Appends (K.written sink.old) (K.written sink.new) (disk_fault_line id) }
+    // Nothing came or was sent then.
+    ensures damaged { (id key : ℕ) → result ≡ Status.Damaged id key →
+        IsDamagedDisk D.Disk ids.now disks.old id key × (links.new ≡ links.old) }
+    ensures damaged_line { (id key : ℕ) → result ≡ Status.Damaged id key →
+        Appends (K.written sink.old) (K.written sink.new) (damaged_line id key) }
+    // What they did together is what the definition says.
+    ensures done { (given : Given) → Tell L.coming L.sent D.Disk links.old disks.old
+        (C.readings clock.old) given → result ≡ Status.Done → IsWholeRun L.coming L.sent D.Disk
+        links.new disks.new (C.readings clock.new) (K.written sink.old) (K.written sink.new)
+        (length ids.now) turns (after_turns size turns ids.now given) }
+{
+    a_state_is_durable::<D>();
+    let Some(mut steps) = LastSteps::new(alloc) else {
+        return Status::Memory;
+    };
+    let Some(mut runners) = Runners::new(alloc, accept) else {
+        return Status::Memory;
+    };
+    let ended = run_all(
+        size,
+        turns,
+        ids,
+        &mut runners,
+        links,
+        disks,
+        clock,
+        &mut steps,
+    );
+    runners.stop(disks);
+    finish(ended, turns, steps, sink)
+}
+
+/// What an allocator receives: `alloc_server::accept`, under a name of this crate.
+fn accept(kind: Kind, number: u16) -> Option<u64>
+    ensures { result ≡ first_signature accepted.rows kind number }
+{
+    alloc_server::accept(kind, number)
+}
+
+/// Opens the servers of all nodes, and lets them take their turns.
+fn run_all<F: Fn(Kind, u16) -> Option<u64> + Copy, L: Link, D: Disk, C: Clock>(
+    size: u8,
+    turns: u64,
+    ids: &[u8],
+    runners: &mut Runners<D, F>,
+    links: &mut [L],
+    disks: &mut [Option<D>],
+    clock: &mut C,
+    steps: &mut LastSteps,
+) -> Result<(), Fault>
+    requires memory { ReceiverFitsInMemory F.row 160 128 }
+    requires callable { F.IsAlwaysCallable (accepts runners.old) }
+    requires answers { AnswersByRows (F.post (accepts runners.old)) accepted.rows }
+    requires some { 1 ≤ size }
+    requires five { size ≤ 5 }
+    requires turns { turns ≤ 1000000000 }
+    requires members { AreMembers ids.now }
+    requires links { length links.old ≡ length ids.now }
+    requires disks { length disks.old ≡ length ids.now }
+    requires present { (i : ℕ) → i < length ids.now → IsSome (slice_index_or disks.old i None) }
+    requires none { runners_of runners.old ≡ [] }
+    requires first { steps_made steps.old ≡ 0 }
+    requires keeps { Keeps steps.old [] }
+    ensures run { HasRun L.faults ids.now disks.old disks.new links.old links.new
+        (runners_of runners.new) result }
+    ensures all { OnOk result (length (runners_of runners.new) ≡ length ids.now) }
+    ensures stands { OnOk result ((given : Given) → Tell L.coming L.sent D.Disk links.old disks.old
+        (C.readings clock.old) given → Stand L.coming L.sent (runners_of runners.new) links.new
+        (C.readings clock.new) steps.new (after_turns size turns ids.now given)) }
+    ensures tells { OnOk result ((given : Given) → Tell L.coming L.sent D.Disk links.old disks.old
+        (C.readings clock.old) given → AreTelling (runners_of runners.new)) }
+{
+    an_image_stands_for_one_state();
+    an_opening_goes_on();
+    match runners.open_all(size, ids, disks, clock) {
+        Ok(()) => runners.take_turns(turns, links, clock, steps),
+        Err(fault) => Err(fault),
+    }
+}
+
+/// Writes what a run leaves, and gives its status.
+fn finish<K: Sink>(ended: Result<(), Fault>, turns: u64, steps: LastSteps, sink: &mut K) -> Status
+    ensures kinds { IsEndStatus result }
+    ensures write_fault { result ≡ Status.WriteFault →
+        Rose (K.faults sink.old) (K.faults sink.new) }
+    ensures link { (id : ℕ) → result ≡ Status.LinkFault id → (ended ≡ Err (LinkFailed id)) ×
+        Appends (K.written sink.old) (K.written sink.new) (link_fault_line id) }
+    ensures disk { (id : ℕ) → result ≡ Status.DiskFault id → (ended ≡ Err (DiskFailed id)) ×
+        Appends (K.written sink.old) (K.written sink.new) (disk_fault_line id) }
+    ensures damaged { (id key : ℕ) → result ≡ Status.Damaged id key →
+        (ended ≡ Err (IsDamaged id key)) ×
+        Appends (K.written sink.old) (K.written sink.new) (damaged_line id key) }
+    ensures kept { result ≡ Status.Done → K.faults sink.new ≡ K.faults sink.old }
+    ensures ended { result ≡ Status.Done → ended ≡ Ok tt }
+    ensures done { (lines : List (List ℕ)) → Keeps steps lines → result ≡ Status.Done →
+        (ended ≡ Ok tt) × Appends (K.written sink.old) (K.written sink.new) (report turns lines) }
+{
+    match ended {
+        Ok(()) => match steps.write(turns, sink) {
+            Ok(()) => Status::Done,
+            Err(Failed) => Status::WriteFault,
+        },
+        Err(fault) => match Output::new().last(sink, fault.line().as_bytes()) {
+            Ok(()) => fault.status(),
+            Err(Failed) => Status::WriteFault,
+        },
+    }
+}
