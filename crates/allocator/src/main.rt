@@ -1,17 +1,21 @@
 //! The program `allocator`: it makes the real objects of the outside, and [`run`] does the rest.
 //!
 //! The source is standard input, the sink is standard output, the clock is the system's, and the exit
-//! code is that of the status. The words that the program reads so far ask for no link and no disk, so
-//! none is opened. A word that is not UTF-8 is none that the program reads.
+//! code is that of the status. For the words of `node` each member has its link over UDP, and its disk
+//! in the file `alloc-<id>.store`; where one of these cannot be opened the exit code is 12. A word that
+//! is not UTF-8 is none that the program reads.
 #![tactic(auto)]
 
-use allocator_app::{Status, run};
+use allocator_app::{Plan, Status, plan, run};
 use disk_model::FileDisk;
 use outside::{StdClock, StdSink, StdSource};
 use std::env;
 use std::io::ErrorKind;
 use std::process::ExitCode;
 use udp_link::UdpLink;
+
+/// The exit code where a link or a disk was not opened.
+const NOT_OPENED: u8 = 12;
 
 fn main(rt: HostRuntime) -> ExitCode {
     let arguments = match env::args(&rt) {
@@ -27,18 +31,42 @@ fn main(rt: HostRuntime) -> ExitCode {
             return ExitCode::from(Status::Memory.code());
         }
     }
+    let mut links = Vec::new(rt.alloc());
+    let mut disks = Vec::new(rt.alloc());
+    if let Some(
+        Plan::Node {
+            size: _,
+            base,
+            turns: _,
+            ids,
+        },
+    ) = plan(&words)
+    {
+        for id in ids.as_slice() {
+            let Ok(link) = UdpLink::open(&rt, base, *id) else {
+                return ExitCode::from(NOT_OPENED);
+            };
+            let Ok(path) = format!(in rt.alloc(); "alloc-{}.store", *id) else {
+                return ExitCode::from(Status::Memory.code());
+            };
+            let Ok(disk) = FileDisk::open(&rt, path.as_str()) else {
+                return ExitCode::from(NOT_OPENED);
+            };
+            if links.push(link).is_err() || disks.push(Some(disk)).is_err() {
+                return ExitCode::from(Status::Memory.code());
+            }
+        }
+    }
     let mut source = StdSource::new(rt.stdin());
     let mut sink = StdSink::new(rt.stdout());
     let mut clock = StdClock::new(&rt);
-    let mut links: [UdpLink; 0] = [];
-    let mut disks: [Option<FileDisk>; 0] = [];
     let status = run(
         rt.alloc(),
         &words,
         &mut source,
         &mut sink,
-        &mut links,
-        &mut disks,
+        links.as_mut_slice(),
+        disks.as_mut_slice(),
         &mut clock,
     );
     ExitCode::from(status.code())

@@ -9,16 +9,6 @@ use Rattle.std.specs.Io.KnownBytes.{Appends, Consumes, IsAtEnd}
 use Rattle.std.proofs.KnownBytes.{Appends-trans}
 use Rattle.allocator_app.specs.Input.{ReadsMore}
 
--- a sink took so many bytes of the rest
-pub more_written : (a b c : Option (List ℕ)) (piece front rest : List ℕ) (count : ℕ) →
-    piece ≡ front ++ rest → Appends a b front → Appends b c (take count rest) →
-    (more : List ℕ) × (piece ≡ more ++ drop count rest) × Appends a c more
-more_written a b c piece front rest count e p q = (
-  front ++ take count rest,
-  e ∙ ap (λ r. front ++ r) (sym (take-append-drop count rest)) ∙ sym (append_assoc front (take count rest) (drop count rest)),
-  Appends-trans a b c front (take count rest) p q,
-)
-
 -- what waits is followed by what was read behind it
 filled : (bytes waiting : List ℕ) (size count : ℕ) → take size bytes ≡ waiting →
     slice_range bytes 0 (size + count) ≡ waiting ++ take count (drop size bytes)

@@ -8,4 +8,3 @@ pub mod OneReport
 pub mod Reading
 pub mod Rest
 pub mod Spelling
-pub mod Written

@@ -11,11 +11,11 @@ use Rattle.world_parts.specs.Telling.{telling_line}
 use Rattle.world_parts.specs.declared.unlawful.Unlawful.{Unlawful}
 use Rattle.allocator_app.specs.InPart.{IsWrittenInPart}
 use Rattle.allocator_app.specs.InPart.IsWrittenInPart.{InRows, AtTheEnd}
-use Rattle.allocator_app.specs.Output.{WritesFront}
+use Rattle.program_parts.specs.Output.{WritesFront}
 use Rattle.allocator_app.specs.Report.{IsBadRow, IsBeyond, IsRefused, IsReport, Says, bad_row_line, limit_line, unlawful_line}
-use Rattle.allocator_app.specs.declared.status.Status.{Status}
-use Rattle.allocator_app.specs.declared.status.Status.TheVariants.{Done, Usage, BadRow, Unlawful as IsUnlawful, ReadFault, WriteFault, Memory, Limit}
-use Rattle.allocator_app.proofs.Written.{front-of_more}
+use Rattle.program_parts.specs.declared.status.Status.{Status}
+use Rattle.program_parts.specs.declared.status.Status.TheVariants.{Done, Usage, BadRow, Unlawful as IsUnlawful, ReadFault, WriteFault, Memory, Limit, LinkFault, DiskFault, Damaged}
+use Rattle.program_parts.proofs.Written.{front-of_more}
 
 -- ---- rows are taken up to where none can be
 
@@ -73,6 +73,9 @@ module _ (one_row : (a b : Row) (line : List ℕ) → Reads a line → Reads b l
   stuck-at_end end rest last ReadFault says row behind begins low takes = absurd says
   stuck-at_end end rest last WriteFault says row behind begins low takes = absurd says
   stuck-at_end end rest last Memory says row behind begins low takes = absurd says
+  stuck-at_end end rest last (LinkFault id) says row behind begins low takes = absurd says
+  stuck-at_end end rest last (DiskFault id) says row behind begins low takes = absurd says
+  stuck-at_end end rest last (Damaged id key) says row behind begins low takes = absurd says
 
   -- ---- a schedule ends in one way
 
@@ -125,10 +128,16 @@ module _ (one_row : (a b : Row) (line : List ℕ) → Reads a line → Reads b l
   one_end end rest last other status ReadFault p q = absurd q
   one_end end rest last other status WriteFault p q = absurd q
   one_end end rest last other status Memory p q = absurd q
+  one_end end rest last other status (LinkFault id) p q = absurd q
+  one_end end rest last other status (DiskFault id) p q = absurd q
+  one_end end rest last other status (Damaged id key) p q = absurd q
   one_end end rest last other Usage ending p q = absurd p
   one_end end rest last other ReadFault ending p q = absurd p
   one_end end rest last other WriteFault ending p q = absurd p
   one_end end rest last other Memory ending p q = absurd p
+  one_end end rest last other (LinkFault id) ending p q = absurd p
+  one_end end rest last other (DiskFault id) ending p q = absurd p
+  one_end end rest last other (Damaged id key) ending p q = absurd p
 
   -- where none can be taken, none more is
   none_more : (w : Cluster) (rows : List Row) (bytes rest : List ℕ) → IsStuck limit w bytes → ReadsRows rows bytes rest → Lawful w rows →

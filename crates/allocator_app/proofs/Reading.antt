@@ -6,16 +6,16 @@ use Rattle.replay_text.specs.Lines.{after_line}
 use Rattle.allocator_app.specs.InPart.{HasRead, IsReadInPart, IsWrittenInPart}
 use Rattle.allocator_app.specs.InPart.IsWrittenInPart.{InRows}
 use Rattle.allocator_app.specs.Input.{ReadsMore}
-use Rattle.allocator_app.specs.Output.{Grows, WritesFront}
+use Rattle.program_parts.specs.Output.{Grows, WritesFront}
 use Rattle.world_parts.specs.Cluster.{Cluster}
 use Rattle.world_parts.specs.Promise.{GivesOnce}
-use Rattle.allocator_app.specs.Report.{Goes, IsBegun, IsReport, Says}
+use Rattle.allocator_app.specs.Report.{Goes, IsOfSchedule, IsReport, Says}
 use Rattle.allocator_app.specs.Rows.{BreaksOff, Ends, EndsAt, IsTold, ReadsRows, StopsAt, TakesRows, Waits, WaitsOn, last_of, status_of}
-use Rattle.allocator_app.specs.declared.status.Status.TheVariants.{Memory, ReadFault, WriteFault}
+use Rattle.program_parts.specs.declared.status.Status.TheVariants.{Memory, ReadFault, WriteFault}
 use Rattle.allocator_app.specs.declared.rows.Rows.{Rows}
 use Rattle.allocator_app.specs.declared.rows.Rows.TheVariants.{Taken, NoRow, Refused, Full}
 use Rattle.allocator_app.proofs.Coming.{goes-join, goes-nil}
-use Rattle.allocator_app.proofs.Written.{flushed, front-behind}
+use Rattle.program_parts.proofs.Written.{flushed, front-behind}
 
 consumed : (ahead came : List ℕ) (left : Option (List ℕ)) → Consumes (Some ahead) left came →
     (rest : List ℕ) × (left ≡ Some rest) × (ahead ≡ came ++ rest)
@@ -260,7 +260,7 @@ ends_told limit first bytes left sink sink_now NoRow count told = told
 ends_told limit first bytes left sink sink_now (Refused why) count told = told
 ends_told limit first bytes left sink sink_now Full count told = told
 
-pub is_begun : (rows : Rows) (count : ℕ) → IsBegun (status_of rows count)
+pub is_begun : (rows : Rows) (count : ℕ) → IsOfSchedule (status_of rows count)
 is_begun Taken count = tt
 is_begun NoRow count = tt
 is_begun (Refused why) count = tt

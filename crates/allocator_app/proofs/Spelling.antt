@@ -1,10 +1,12 @@
 -- Words that are numbers.
-use Rattle.std.proofs.Common.{◌≡◌, ◌≤◌, ◌<◌, ℕ, zero, suc, inl, inr, List, [], ◌∷◌, ◌++◌, length, refl, sym, ap, ◌∙◌, subst, arith, map, decimal}
-use Rattle.std.specs.Prelude.{slice_index, slice_index_or}
+use Rattle.std.proofs.Common.{◌≡◌, ◌≤◌, ◌<◌, ℕ, zero, suc, ◌-◌, inl, inr, Bool, false, List, [], ◌∷◌, ◌++◌, length, take, drop, nat_eq, refl, sym, ap, ◌∙◌, arith, map, decimal}
+use Rattle.std.specs.Prelude.{not, slice_index, slice_index_or}
+use Rattle.std.specs.Cmp.Lexicographic.{pointwise, same_text}
+use Rattle.std.proofs.Math.Seq.{take-length}
+use Rattle.std.proofs.lemmas.Bool.{not-false}
 use Rattle.std.proofs.lemmas.Fmt.{decimal_injective}
 use Rattle.raft_model.specs.Lists.{In}
 use Rattle.world_parts.specs.Cluster.{AreMembers}
-use Rattle.allocator_app.specs.Words.{IsReplay}
 
 -- a word at its place spells the number at this place
 pub named_at : {A : Type 0} (f : A → List ℕ) (words : List A) (ids : List ℕ) (i : ℕ) (none : A) → i < length words → map f words ≡ map decimal ids →
@@ -28,16 +30,58 @@ same_numbers (x ∷ xs) (y ∷ ys) p q e =
     let rest : xs ≡ ys = same_numbers xs ys (λ i low. p (suc i) (omega (arith, low))) (λ n in_ys. q n (inr in_ys)) cc in
     ap (λ a. a ∷ xs) first ∙ ap (λ l. y ∷ l) rest
 
-others : {a b x y : List ℕ} {c z : List (List ℕ)} → a ∷ b ∷ c ≡ x ∷ y ∷ z → c ≡ z
-others e = cc
+-- the members that words spell are those of any cluster that they spell
+pub same_members : (numbers ids : List ℕ) → ((i : ℕ) → i < length numbers → slice_index numbers i < 256) → AreMembers ids →
+    (words : List (List ℕ)) → words ≡ map decimal numbers → words ≡ map decimal ids → numbers ≡ ids
+same_members numbers ids bytes members words own spelled =
+    same_numbers numbers ids bytes (λ n here. (members.nodes n here).1) (sym own ∙ spelled)
 
--- words that spell no members ask for nothing
-pub no_members : (mode rows : List ℕ) (words : List (List ℕ)) (numbers : List ℕ) → words ≡ map decimal numbers →
-    ((i : ℕ) → i < length numbers → slice_index numbers i < 256) → (AreMembers numbers → ⊥) →
-    (limit : ℕ) (ids : List ℕ) → IsReplay limit ids (mode ∷ rows ∷ words) → ⊥
-no_members mode rows words numbers spelled bytes none limit ids asks =
-    let same : numbers ≡ ids = same_numbers numbers ids bytes (λ n here. (asks.members.nodes n here).1) (sym spelled ∙ others asks.spelled) in
-    none (subst AreMembers (sym same) asks.members)
+-- ---- words, one by one
+
+-- a word is this one
+pub is_word : (word text : List ℕ) (differs : Bool) → differs ≡ false → differs ≡ not (pointwise nat_eq word text) → word ≡ text
+is_word word text differs same is = same_text word text (sym (not-false (pointwise nat_eq word text) (sym is ∙ same)))
+
+all_but : {A : Type 0} (f : A → List ℕ) (xs : List A) (n : ℕ) → n ≡ length xs → map f xs ≡ map f (take n xs)
+all_but f xs n e = ap (map f) (sym (ap (λ k. take k xs) e ∙ take-length xs))
+
+-- the first two, and the others
+pub from_two : {A : Type 0} (f : A → List ℕ) (xs : List A) (a b : A) → 2 ≤ length xs → a ≡ slice_index_or xs 0 a → b ≡ slice_index_or xs 1 b →
+    map f xs ≡ f a ∷ f b ∷ map f (take (length xs - 2) (drop 2 xs))
+from_two f [] a b long p q = absurd (omega (arith, long))
+from_two f (x ∷ []) a b long p q = absurd (omega (arith, long))
+from_two f (x ∷ y ∷ xs) a b long p q =
+    let rest = all_but f xs (length (x ∷ y ∷ xs) - 2) (omega arith) in
+    ap (λ w. w ∷ f y ∷ map f xs) (ap f (sym p)) ∙ ap (λ w. f a ∷ w ∷ map f xs) (ap f (sym q)) ∙ ap (λ l. f a ∷ f b ∷ l) rest
+
+-- the first four, and the others
+pub from_four : {A : Type 0} (f : A → List ℕ) (xs : List A) (a b c d : A) → 4 ≤ length xs → a ≡ slice_index_or xs 0 a → b ≡ slice_index_or xs 1 b →
+    c ≡ slice_index_or xs 2 c → d ≡ slice_index_or xs 3 d → map f xs ≡ f a ∷ f b ∷ f c ∷ f d ∷ map f (take (length xs - 4) (drop 4 xs))
+from_four f [] a b c d long p q r s = absurd (omega (arith, long))
+from_four f (x ∷ []) a b c d long p q r s = absurd (omega (arith, long))
+from_four f (x ∷ y ∷ []) a b c d long p q r s = absurd (omega (arith, long))
+from_four f (x ∷ y ∷ z ∷ []) a b c d long p q r s = absurd (omega (arith, long))
+from_four f (x ∷ y ∷ z ∷ w ∷ xs) a b c d long p q r s =
+    let rest = all_but f xs (length (x ∷ y ∷ z ∷ w ∷ xs) - 4) (omega arith) in
+    ap (λ v. v ∷ f y ∷ f z ∷ f w ∷ map f xs) (ap f (sym p)) ∙ ap (λ v. f a ∷ v ∷ f z ∷ f w ∷ map f xs) (ap f (sym q))
+    ∙ ap (λ v. f a ∷ f b ∷ v ∷ f w ∷ map f xs) (ap f (sym r)) ∙ ap (λ v. f a ∷ f b ∷ f c ∷ v ∷ map f xs) (ap f (sym s))
+    ∙ ap (λ l. f a ∷ f b ∷ f c ∷ f d ∷ l) rest
+
+-- four, and no other
+pub four_alone : {A : Type 0} (f : A → List ℕ) (xs : List A) (a b c d : A) → 4 ≤ length xs → length xs < 5 → a ≡ slice_index_or xs 0 a →
+    b ≡ slice_index_or xs 1 b → c ≡ slice_index_or xs 2 c → d ≡ slice_index_or xs 3 d → map f xs ≡ f a ∷ f b ∷ f c ∷ f d ∷ []
+four_alone f xs a b c d long short p q r s =
+    let none : length xs - 4 ≡ 0 = omega (arith, short) in
+    from_four f xs a b c d long p q r s ∙ ap (λ n. f a ∷ f b ∷ f c ∷ f d ∷ map f (take n (drop 4 xs))) none
+
+pub second_of_four : {a b c d x y z w : List ℕ} {l m : List (List ℕ)} → a ∷ b ∷ c ∷ d ∷ l ≡ x ∷ y ∷ z ∷ w ∷ m → b ≡ y
+second_of_four e = cc
+
+pub after_four : {a b c d x y z w : List ℕ} {l m : List (List ℕ)} → a ∷ b ∷ c ∷ d ∷ l ≡ x ∷ y ∷ z ∷ w ∷ m → l ≡ m
+after_four e = cc
+
+pub one_size : (a b : ℕ) → a ≤ 5 → b ≤ 5 → decimal a ≡ decimal b → a ≡ b
+one_size a b low most e = decimal_injective a b (omega (arith, low)) (omega (arith, most)) e
 
 -- one number more
 pub bytes_more : (xs : List ℕ) (x : ℕ) → ((i : ℕ) → i < length xs → slice_index xs i < 256) → x < 256 → (i : ℕ) → i < length (xs ++ x ∷ []) →

@@ -2,10 +2,10 @@
 use Rattle.std.specs.Prelude.{◌≡◌, ◌≤◌, ℕ, List, ◌++◌, Option, Some, None}
 use Rattle.std.specs.Io.KnownBytes.{Appends}
 use Rattle.replay_text.specs.Lines.{after_line}
-use Rattle.allocator_app.specs.Output.{WritesFront}
+use Rattle.program_parts.specs.Output.{WritesFront}
 use Rattle.allocator_app.specs.Report.{Comes, Goes, IsReport}
 use Rattle.world_parts.specs.Cluster.{Cluster}
-use Rattle.allocator_app.specs.declared.status.Status.{Status}
+use Rattle.program_parts.specs.declared.status.Status.{Status}
 
 -- so far: some of the schedule's bytes were read, and all that their rows tell was written; some bytes
 -- behind these rows were read too and wait, and the others are left in the source

@@ -1,9 +1,9 @@
-pub mod Codes
 pub mod InPart
 pub mod Input
 pub mod Logs
-pub mod Output
+pub mod Nodes
 pub mod Reaching
 pub mod Report
 pub mod Rows
+pub mod Soaking
 pub mod Words

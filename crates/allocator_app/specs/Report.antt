@@ -8,8 +8,8 @@ use Rattle.world_parts.specs.Promise.{KeepsItsWord}
 use Rattle.world_parts.specs.Report.{end_lines, row_lines}
 use Rattle.world_parts.specs.declared.unlawful.Unlawful.{Unlawful}
 use Rattle.allocator_app.specs.Words.{IsReplay}
-use Rattle.allocator_app.specs.declared.status.Status.{Status}
-use Rattle.allocator_app.specs.declared.status.Status.TheVariants.{Done, Usage, BadRow, Unlawful as IsUnlawful, Limit}
+use Rattle.program_parts.specs.declared.status.Status.{Status}
+use Rattle.program_parts.specs.declared.status.Status.TheVariants.{Done, Usage, BadRow, Unlawful as IsUnlawful, Limit, LinkFault, DiskFault, Damaged}
 
 -- lawful rows were taken from the front of the bytes, up to a world and the rest of the bytes, and these lines tell of them
 pub record Comes (first : Cluster) (bytes lines : List ℕ) (now : Cluster) (rest : List ℕ) : Type 0 where
@@ -70,6 +70,21 @@ Says limit w rest last _ = ⊥
 abbrev pub IsBegun : Status → Type 0
 IsBegun Usage = ⊥
 IsBegun _ = Unit {0}
+
+-- the status of a run over a schedule
+abbrev pub IsOfSchedule : Status → Type 0
+IsOfSchedule Usage = ⊥
+IsOfSchedule (LinkFault id) = ⊥
+IsOfSchedule (DiskFault id) = ⊥
+IsOfSchedule (Damaged id key) = ⊥
+IsOfSchedule _ = Unit {0}
+
+-- one that comes of links, disks and stores that are handed in
+abbrev pub IsOfNodes : Status → Type 0
+IsOfNodes (LinkFault id) = Unit {0}
+IsOfNodes (DiskFault id) = Unit {0}
+IsOfNodes (Damaged id key) = Unit {0}
+IsOfNodes _ = ⊥
 
 -- the status of a run that no fault ended, and that had words to begin with
 abbrev pub IsToTheEnd : Status → Type 0

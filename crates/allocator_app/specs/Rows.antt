@@ -8,16 +8,16 @@ use Rattle.world_parts.specs.Lawful.{number_of}
 use Rattle.world_parts.specs.Promise.{KeepsItsWord}
 use Rattle.world_parts.specs.Report.{all_logs, end_line}
 use Rattle.allocator_app.specs.declared.plans.Plan.{Plan}
-use Rattle.allocator_app.specs.declared.plans.Plan.TheVariants.{Replay}
+use Rattle.allocator_app.specs.declared.plans.Plan.TheVariants.{Replay, Node, Soak}
 use Rattle.allocator_app.specs.InPart.{IsReadInPart, IsWrittenInPart}
-use Rattle.allocator_app.specs.Output.{WritesFront}
+use Rattle.program_parts.specs.Output.{WritesFront}
 use Rattle.allocator_app.specs.Report.{Goes, IsBadRow, IsBeyond, IsRefused, IsReport, bad_row_line, limit_line, unlawful_line}
 use Rattle.allocator_app.specs.declared.rows.Rows.{Rows}
 use Rattle.allocator_app.specs.declared.rows.Rows.TheVariants.{Taken, NoRow, Refused, Full}
 use Rattle.allocator_app.specs.declared.rows.Fault.{Fault}
 use Rattle.allocator_app.specs.declared.rows.Fault.TheVariants.{Source, Sink}
-use Rattle.allocator_app.specs.declared.status.Status.{Status}
-use Rattle.allocator_app.specs.declared.status.Status.TheVariants.{Done, Usage, BadRow, Unlawful, ReadFault, WriteFault, Memory, Limit}
+use Rattle.program_parts.specs.declared.status.Status.{Status}
+use Rattle.program_parts.specs.declared.status.Status.TheVariants.{Done, Usage, BadRow, Unlawful, ReadFault, WriteFault, Memory, Limit, LinkFault, DiskFault, Damaged}
 
 -- where the rows that wait end: all were taken but the beginning of a line; or the next one is not taken, whatever comes behind
 abbrev pub StopsAt : ℕ → Cluster → List ℕ → List ℕ → Rows → Type 0
@@ -120,7 +120,12 @@ Ends ReadFault limit first bytes left sink_before sink_now = IsReadInPart limit 
 Ends WriteFault limit first bytes left sink_before sink_now = IsWrittenInPart limit first bytes sink_before sink_now
 Ends Memory limit first bytes left sink_before sink_now = Unit {0}
 Ends Usage limit first bytes left sink_before sink_now = ⊥
+Ends (LinkFault id) limit first bytes left sink_before sink_now = ⊥
+Ends (DiskFault id) limit first bytes left sink_before sink_now = ⊥
+Ends (Damaged id key) limit first bytes left sink_before sink_now = ⊥
 
--- what the plan asks for was done
-abbrev pub IsFollowed : Plan → List ℕ → Option (List ℕ) → Option (List ℕ) → Option (List ℕ) → Status → Type 0
-IsFollowed (Replay rows ids) bytes left sink_before sink_now status = Ends status rows (cluster ids.items) bytes left sink_before sink_now
+-- a plan to replay was followed so
+abbrev pub IsReplayedBy : Plan → List ℕ → Option (List ℕ) → Option (List ℕ) → Option (List ℕ) → Status → Type 0
+IsReplayedBy (Replay rows ids) bytes left sink_before sink_now status = Ends status rows (cluster ids.items) bytes left sink_before sink_now
+IsReplayedBy (Node size base turns ids) bytes left sink_before sink_now status = Unit {0}
+IsReplayedBy (Soak seed rounds size) bytes left sink_before sink_now status = Unit {0}

@@ -3,9 +3,9 @@
 ghost use Rattle.std.specs.Prelude.{◌≡◌, ℕ, List, Option};
 ghost use Rattle.world_parts.specs.Cluster.{Cluster};
 ghost use Rattle.allocator_app.specs.InPart.{IsWrittenInPart};
-ghost use Rattle.allocator_app.specs.Output.{WritesFront};
+ghost use Rattle.program_parts.specs.Output.{WritesFront};
 ghost use Rattle.allocator_app.specs.Report.{IsReport};
-ghost use Rattle.allocator_app.specs.declared.status.Status.{Status};
+ghost use Rattle.program_parts.specs.declared.status.Status.{Status};
 
 use replay_text::laws::a_line_has_one_row;
 

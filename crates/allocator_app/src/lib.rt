@@ -8,16 +8,14 @@
 
 mod input;
 pub mod laws;
-mod output;
 mod plans;
 mod program;
 mod replay;
 mod report;
 mod rows;
-mod status;
 mod words;
 
 pub use plans::Plan;
 pub use program::run;
-pub use status::Status;
+pub use program_parts::Status;
 pub use words::plan;

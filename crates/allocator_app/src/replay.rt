@@ -5,21 +5,20 @@ ghost use Rattle.server_parts.specs.Accepted as accepted;
 ghost use Rattle.transfer_rx.specs.Acceptance.{AnswersByRows, first_signature};
 ghost use Rattle.transfer_rx.specs.Memory.{ReceiverFitsInMemory};
 ghost use Rattle.world_parts.specs.Cluster.{AreMembers, Cluster, cluster};
-ghost use Rattle.allocator_app.specs.Output.{Grows};
+ghost use Rattle.program_parts.specs.Output.{Grows};
 ghost use Rattle.allocator_app.specs.Reaching.{HasRoom, Reaches};
-ghost use Rattle.allocator_app.specs.Report.{IsBegun};
+ghost use Rattle.allocator_app.specs.Report.{IsOfSchedule, IsToTheEnd};
 ghost use Rattle.allocator_app.specs.Rows.{BreaksOff, Ends, IsCausedBy, IsInPart, ReadsRows, TakesRows, Waits};
 
 use crate::input::{Input, Next};
-use crate::output::Output;
 use crate::report::end_report;
 use crate::rows::{Fault, Rows};
-use crate::status::Status;
 use alloc_server::accept_rows;
 use bus_world::World;
 use bus_world::laws::logs_give_once;
 use can_frame::Kind;
 use outside::{Failed, Sink, Source};
+use program_parts::{Output, Status};
 use replay_text::write_told;
 use std::alloc::Global;
 
@@ -40,7 +39,9 @@ pub(crate) fn replay<S: Source, K: Sink>(
         (source.new ≡ source.old) × (sink.new ≡ sink.old) }
     ensures read { result ≡ Status.ReadFault → Rose (S.faults source.old) (S.faults source.new) }
     ensures write { result ≡ Status.WriteFault → Rose (K.faults sink.old) (K.faults sink.new) }
-    ensures begun { IsBegun result }
+    ensures begun { IsOfSchedule result }
+    ensures kept { IsToTheEnd result → (S.faults source.new ≡ S.faults source.old) ×
+        (K.faults sink.new ≡ K.faults sink.old) }
 {
     let Ok(mut world) = World::new(alloc, ids, limit as usize, accept_rows(), accept) else {
         return Status::Memory;
@@ -96,6 +97,8 @@ fn read_rows<F: Fn(Kind, u16) -> Option<u64> + Copy, S: Source, K: Sink>(
     ensures cause { IfErr result (IsCausedBy (S.faults source.old) (S.faults source.new)
         (K.faults sink.old) (K.faults sink.new)) }
     ensures later { K.faults sink.old ≤ K.faults sink.new }
+    ensures kept { OnOk result ((S.faults source.new ≡ S.faults source.old) ×
+        (K.faults sink.new ≡ K.faults sink.old)) }
 {
     logs_give_once::<F>();
     let mut input = Input::new();
@@ -149,6 +152,7 @@ fn take_rows<F: Fn(Kind, u16) -> Option<u64> + Copy, K: Sink>(
     ensures room { HasRoom limit world.new }
     ensures accepts { accepts world.new ≡ accepts world.old }
     ensures cause { HasCause (K.faults sink.old) (K.faults sink.new) result }
+    ensures kept { OnOk result (K.faults sink.new ≡ K.faults sink.old) }
 {
     logs_give_once::<F>();
     'rows: loop {

@@ -1,22 +1,19 @@
-ghost use Rattle.std.specs.Prelude.{◌≡◌, ◌≤◌, ◌<◌, ◌+◌, ◌++◌, ℕ, List, length, take, IfOk, codes, decimal};
+ghost use Rattle.std.specs.Prelude.{◌≡◌, ◌≤◌, ◌<◌, ◌+◌, ◌++◌, ℕ, List, length, take, IfOk, OnOk, codes, decimal};
 ghost use Rattle.can_frame.specs.declared.entry.Entry.{Entry};
 ghost use Rattle.outside.specs.Faults.{HasCause};
 ghost use Rattle.bus_world.specs.World.{StandsFor, rows_taken};
 ghost use Rattle.world_parts.specs.Cluster.{Cluster};
-ghost use Rattle.world_parts.specs.Lawful.{number_of};
 ghost use Rattle.world_parts.specs.Report.{all_logs, entry_line, entry_lines, member_lines};
 ghost use Rattle.allocator_app.specs.Logs.{HasLog, log_head};
-ghost use Rattle.allocator_app.specs.Output.{Grows, Writes, WritesLast};
-ghost use Rattle.allocator_app.specs.Report.{unlawful_line};
+ghost use Rattle.program_parts.specs.Output.{Grows, Writes, WritesLast};
 ghost use Rattle.allocator_app.specs.Rows.{last_line_of, last_of, logs_before, status_of};
 
-use crate::output::Output;
 use crate::replay::taken;
 use crate::rows::Rows;
-use crate::status::Status;
-use bus_world::{Unlawful, World};
+use bus_world::World;
 use can_frame::{Entry, Kind};
 use outside::{Failed, Sink};
+use program_parts::{Output, Status, number_line, numbers_line};
 use replay_text::Line;
 
 /// The last node ID that a member may have.
@@ -34,10 +31,12 @@ pub(crate) fn end_report<F: Fn(Kind, u16) -> Option<u64> + Copy, K: Sink>(
         WritesLast (K.written sink.old) output.old (K.written sink.new) (last_of rows w) result }
     ensures status { IfOk result (λ status. status ≡ status_of rows (rows_taken world.now)) }
     ensures cause { HasCause (K.faults sink.old) (K.faults sink.new) result }
+    ensures kept { OnOk result (K.faults sink.new ≡ K.faults sink.old) }
 {
     write_logs_before(rows, world, output, sink)?;
     let taken = taken(world);
-    write_last(&last_line(rows, taken), output, sink)?;
+    let line = last_line(rows, taken);
+    output.last(sink, line.as_bytes())?;
     Ok(status(rows, taken))
 }
 
@@ -52,6 +51,7 @@ fn write_logs_before<F: Fn(Kind, u16) -> Option<u64> + Copy, K: Sink>(
         (K.written sink.new) output.new (logs_before rows w) result }
     ensures grew { Grows (K.written sink.old) (K.written sink.new) }
     ensures cause { HasCause (K.faults sink.old) (K.faults sink.new) result }
+    ensures kept { OnOk result (K.faults sink.new ≡ K.faults sink.old) }
 {
     match rows {
         Rows::Taken => write_logs(world, output, sink),
@@ -68,7 +68,7 @@ fn last_line(rows: Rows, taken: u64) -> Line
     match rows {
         Rows::Taken => number_line(b"end ", taken),
         Rows::NoRow => number_line(b"bad row ", taken + 1),
-        Rows::Refused(why) => unlawful_line(taken + 1, why),
+        Rows::Refused(why) => numbers_line(b"unlawful ", taken + 1, u64::from(why.number())),
         Rows::Full => number_line(b"limit ", taken + 1),
     }
 }
@@ -86,42 +86,6 @@ fn status(rows: Rows, taken: u64) -> Status
     }
 }
 
-/// Writes the last line, and all that waits before it.
-fn write_last<K: Sink>(line: &Line, output: &mut Output, sink: &mut K) -> Result<(), Failed>
-    requires { length line.now ≤ 400 }
-    ensures told { WritesLast (K.written sink.old) output.old (K.written sink.new) line.now result }
-    ensures cause { HasCause (K.faults sink.old) (K.faults sink.new) result }
-{
-    output.line(sink, line.as_bytes())?;
-    output.flush(sink)
-}
-
-/// A word and a number on a line.
-fn number_line(word: &[u8], number: u64) -> Line
-    requires { length word.now ≤ 20 }
-    ensures short { length result ≤ 400 }
-    ensures text { result ≡ word.now ++ decimal number ++ codes "\n" }
-{
-    let mut line = Line::new();
-    line.text(word);
-    line.number(number);
-    line.text(b"\n");
-    line
-}
-
-/// The number of the row that is refused, and that of the cause.
-fn unlawful_line(row: u64, why: Unlawful) -> Line
-    ensures short { length result ≤ 400 }
-    ensures text { result ≡ unlawful_line row (number_of why) }
-{
-    let mut line = Line::new();
-    line.text(b"unlawful ");
-    line.number(row);
-    line.field(u64::from(why.number()));
-    line.text(b"\n");
-    line
-}
-
 /// The logs of the running members that have not failed, by rising node ID.
 fn write_logs<F: Fn(Kind, u16) -> Option<u64> + Copy, K: Sink>(
     world: &World<F>,
@@ -132,6 +96,7 @@ fn write_logs<F: Fn(Kind, u16) -> Option<u64> + Copy, K: Sink>(
         (K.written sink.new) output.new (all_logs w) result }
     ensures grew { Grows (K.written sink.old) (K.written sink.new) }
     ensures cause { HasCause (K.faults sink.old) (K.faults sink.new) result }
+    ensures kept { OnOk result (K.faults sink.new ≡ K.faults sink.old) }
 {
     let mut id = 1;
     'ids: while id <= LAST_ID {
@@ -152,6 +117,7 @@ fn write_log<F: Fn(Kind, u16) -> Option<u64> + Copy, K: Sink>(
         (K.written sink.new) output.new (member_lines w id) result }
     ensures grew { Grows (K.written sink.old) (K.written sink.new) }
     ensures cause { HasCause (K.faults sink.old) (K.faults sink.new) result }
+    ensures kept { OnOk result (K.faults sink.new ≡ K.faults sink.old) }
 {
     let Some(view) = world.view(id) else {
         return Ok(());
@@ -186,6 +152,7 @@ fn write_entries<F: Fn(Kind, u16) -> Option<u64> + Copy, K: Sink>(
         (entry_lines 1 (take commit log)) result }
     ensures grew { Grows (K.written sink.old) (K.written sink.new) }
     ensures cause { HasCause (K.faults sink.old) (K.faults sink.new) result }
+    ensures kept { OnOk result (K.faults sink.new ≡ K.faults sink.old) }
 {
     let mut written = 0;
     'entries: while written < commit {

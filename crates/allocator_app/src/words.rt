@@ -1,39 +1,106 @@
-ghost use Rattle.std.specs.Prelude.{◌≡◌, ◌≤◌, ◌<◌, ℕ, List, ◌∷◌, map, string_bytes, decimal, length, slice_index, EachIndex, IfSome, IsNone};
+ghost use Rattle.std.specs.Prelude.{◌≡◌, ◌≤◌, ◌<◌, ℕ, List, map, string_bytes, decimal, length, slice_index, EachIndex, IfSome, IsNone};
 ghost use Rattle.raft_model.specs.Lists.{In};
-ghost use Rattle.allocator_app.specs.Words.{IsPlan, IsReplay};
+ghost use Rattle.world_parts.specs.Cluster.{AreMembers};
+ghost use Rattle.allocator_app.specs.Words.{IsNode, IsPlan, IsReplay, IsSoak};
 
 use crate::plans::Plan;
 use arrayvec::ArrayVec;
 use replay_text::read_number;
 use world_parts::are_members;
 
-/// The plan of the words, without the program's name; `None` where they are not
-/// `replay <rows> <id>..`.
+/// The plan of the words, without the program's name; `None` where they are none of
+/// `replay <rows> <id>..`, `node <size> <base> <turns> <id>..` and `soak <seed> <rounds> <size>`.
 pub fn plan(words: &[String]) -> Option<Plan>
+    ensures some { IfSome result (λ plan. IsPlan plan (map string_bytes words.now)) }
+    ensures replay { IsNone result → (rows : ℕ) (ids : List ℕ) →
+        IsReplay rows ids (map string_bytes words.now) → ⊥ }
+    ensures node { IsNone result → (size base turns : ℕ) (ids : List ℕ) →
+        IsNode size base turns ids (map string_bytes words.now) → ⊥ }
+    ensures soak { IsNone result → (seed rounds size : ℕ) →
+        IsSoak seed rounds size (map string_bytes words.now) → ⊥ }
+{
+    match replay_plan(words) {
+        Some(plan) => Some(plan),
+        None => match node_plan(words) {
+            Some(plan) => Some(plan),
+            None => soak_plan(words),
+        },
+    }
+}
+
+fn replay_plan(words: &[String]) -> Option<Plan>
     ensures some { IfSome result (λ plan. IsPlan plan (map string_bytes words.now)) }
     ensures none { IsNone result → (rows : ℕ) (ids : List ℕ) →
         IsReplay rows ids (map string_bytes words.now) → ⊥ }
 {
-    let (mode, words) = words.split_first()?;
-    let (rows, ids) = words.split_first()?;
-    replay_plan(mode.as_str(), rows.as_bytes(), ids)
-}
-
-fn replay_plan(mode: &str, rows: &[u8], words: &[String]) -> Option<Plan>
-    ensures some { IfSome result (λ plan. IsPlan plan
-        (mode.now ∷ rows.now ∷ map string_bytes words.now)) }
-    ensures none { IsNone result → (n : ℕ) (ids : List ℕ) →
-        IsReplay n ids (mode.now ∷ rows.now ∷ map string_bytes words.now) → ⊥ }
-{
-    if mode != "replay" {
+    let [mode, rows, ids @ ..] = words else {
+        return None;
+    };
+    if mode.as_str() != "replay" {
         return None;
     }
-    let rows = number_within(rows, 1_000_000)?;
+    let rows = number_within(rows.as_bytes(), 1, 1_000_000)?;
+    let ids = read_members(ids)?;
+    Some(Plan::Replay { rows, ids })
+}
+
+fn node_plan(words: &[String]) -> Option<Plan>
+    ensures some { IfSome result (λ plan. IsPlan plan (map string_bytes words.now)) }
+    ensures none { IsNone result → (size base turns : ℕ) (ids : List ℕ) →
+        IsNode size base turns ids (map string_bytes words.now) → ⊥ }
+{
+    let [mode, size, base, turns, ids @ ..] = words else {
+        return None;
+    };
+    if mode.as_str() != "node" {
+        return None;
+    }
+    let size = number_within(size.as_bytes(), 1, 5)? as u8;
+    let base = number_within(base.as_bytes(), 1_024, 65_410)? as u16;
+    let turns = read_number(turns.as_bytes(), 1_000_000_000)?;
+    let ids = read_members(ids)?;
+    if ids.len() > usize::from(size) {
+        return None;
+    }
+    Some(Plan::Node {
+        size,
+        base,
+        turns,
+        ids,
+    })
+}
+
+fn soak_plan(words: &[String]) -> Option<Plan>
+    ensures some { IfSome result (λ plan. IsPlan plan (map string_bytes words.now)) }
+    ensures none { IsNone result → (seed rounds size : ℕ) →
+        IsSoak seed rounds size (map string_bytes words.now) → ⊥ }
+{
+    let [mode, seed, rounds, size] = words else {
+        return None;
+    };
+    if mode.as_str() != "soak" {
+        return None;
+    }
+    let seed = read_number(seed.as_bytes(), u64::MAX)?;
+    let rounds = read_number(rounds.as_bytes(), 20_000)?;
+    let size = number_within(size.as_bytes(), 1, 5)? as u8;
+    Some(Plan::Soak { seed, rounds, size })
+}
+
+/// The members of a cluster that the words spell.
+fn read_members(words: &[String]) -> Option<ArrayVec<u8, 5>>
+    ensures some { IfSome result (λ ids. map string_bytes words.now ≡ map decimal ids.items) }
+    ensures members { IfSome result (λ ids. AreMembers ids.items) }
+    ensures none { IsNone result → (ids : List ℕ) → AreMembers ids →
+        map string_bytes words.now ≡ map decimal ids → ⊥ }
+    ensures only { IfSome result (λ own. (ids : List ℕ) → AreMembers ids →
+        map string_bytes words.now ≡ map decimal ids → own.items ≡ ids) }
+{
     let ids = read_ids(words)?;
     if !are_members(&ids) {
         return None;
     }
-    Some(Plan::Replay { rows, ids })
+    Some(ids)
 }
 
 /// The numbers of at most five words, each up to 255.
@@ -52,13 +119,14 @@ fn read_ids(words: &[String]) -> Option<ArrayVec<u8, 5>>
     Some(ids)
 }
 
-/// The number, of 1 to `most`, that a word spells.
-fn number_within(word: &[u8], most: u64) -> Option<u64>
-    ensures some { IfSome result (λ n. (1 ≤ n) × (n ≤ most) × (word.now ≡ decimal n)) }
-    ensures none { IsNone result → (n : ℕ) → 1 ≤ n → n ≤ most → word.now ≡ decimal n → ⊥ }
+/// The number, of `least` to `most`, that a word spells.
+fn number_within(word: &[u8], least: u64, most: u64) -> Option<u64>
+    ensures some { IfSome result (λ n. (least ≤ n) × (n ≤ most) × (word.now ≡ decimal n)) }
+    ensures none { IsNone result → (n : ℕ) → least ≤ n → n ≤ most → word.now ≡ decimal n → ⊥ }
 {
-    match read_number(word, most) {
-        Some(0) | None => None,
-        Some(n) => Some(n),
+    let n = read_number(word, most)?;
+    if n < least {
+        return None;
     }
+    Some(n)
 }

@@ -1,12 +1,15 @@
-ghost use Rattle.std.specs.Prelude.{◌≡◌, ◌≤◌, ◌<◌, ◌+◌, ◌↔◌, ◌^◌, ℕ, None, Some, IfOk, IfErr, IfSome, IsErr, OnOk, length, slice_index_or, vec_capacity};
+ghost use Rattle.std.specs.Prelude.{◌≡◌, ◌≤◌, ◌<◌, ◌+◌, ◌++◌, ◌∷◌, ◌↔◌, ◌^◌, ℕ, List, [], None, Some, IfOk, IfErr, IfSome, IsErr, OnOk, length, slice_index_or, vec_capacity};
 ghost use Rattle.disk_model.specs.Pattern.{IsUsable};
 ghost use Rattle.outside.specs.declared.pattern.Pattern.{Pattern};
+ghost use Rattle.replay_text.specs.declared.row.Row.{Row};
 ghost use Rattle.replay_text.specs.declared.row.Row.TheVariants.{Crash};
 ghost use Rattle.transfer_rx.specs.Acceptance.{AnswersByRows};
 ghost use Rattle.transfer_rx.specs.Memory.{ReceiverFitsInMemory};
 ghost use Rattle.server_parts.specs.Accepted as accepted;
-ghost use Rattle.world_parts.specs.Cluster.{AreMembers, AreNodes, Cluster, cluster, next};
-ghost use Rattle.world_parts.specs.Lawful.{cause};
+ghost use Rattle.world_laws.specs.Headline.{HasHeadline};
+ghost use Rattle.world_laws.specs.Safe.{AreSafe};
+ghost use Rattle.world_parts.specs.Cluster.{AreMembers, AreNodes, Cluster, cluster, next, world_of};
+ghost use Rattle.world_parts.specs.Lawful.{Lawful, cause};
 ghost use Rattle.world_parts.specs.Promise.{OffersItsOwn};
 ghost use Rattle.world_parts.specs.Report.{entry_of, told as told_by, view_at};
 ghost use Rattle.world_parts.specs.Telling.{telling_of};
@@ -24,6 +27,7 @@ use server_laws::laws::pairs_of_a_step;
 use std::alloc::Global;
 use transfer_rx::AcceptRow;
 use transfer_tx::Marked;
+use world_laws::headline::{rows_are_safe, rows_grow_by_one, the_headline};
 use world_parts::{Unlawful, WorldFault, are_members};
 
 /// A cluster of 1 to 5 members on one bus.
@@ -98,6 +102,11 @@ impl<F: Fn(Kind, u16) -> Option<u64> + Copy> World<F> {
 
     /// Takes a row and tells what it did. A row that is refused changes nothing. Whatever pair a step
     /// offers to a device is one of its member's committed log when the row is done.
+    ///
+    /// Along all rows that a world took, what its members commit is a beginning of one list that only
+    /// grows and gives no ID twice, every allocation that they offer is a pair of it by then, and every
+    /// later leader holds it (`HasHeadline` of `world_laws`). The run of the message machine that the
+    /// rows show is lawful and safe (`AreSafe`).
     pub fn row(&mut self, row: &Row) -> Result<Told, Unlawful>
         requires memory { ReceiverFitsInMemory F.row 160 128 }
         requires callable { F.IsAlwaysCallable (accepts self.old) }
@@ -114,6 +123,12 @@ impl<F: Fn(Kind, u16) -> Option<u64> + Copy> World<F> {
             StandsFor self.new (next c row.now)) }
         ensures kept { OnOk result ((c : Cluster) → StandsFor self.old c →
             OffersItsOwn c row.now) }
+        ensures headline { OnOk result ((ids : List ℕ) (rows : List Row) →
+            Lawful (cluster ids) rows → StandsFor self.old (world_of ids rows) →
+            HasHeadline ids (rows ++ row.now ∷ [])) }
+        ensures safe { OnOk result ((ids : List ℕ) (rows : List Row) →
+            Lawful (cluster ids) rows → StandsFor self.old (world_of ids rows) →
+            AreSafe ids (rows ++ row.now ∷ [])) }
         ensures unchanged { IsErr result → self.new ≡ self.old }
         ensures taken { OnOk result (rows_taken self.new ≡ rows_taken self.old + 1) }
         ensures left { OnOk result (frames_left self.old ≤ frames_left self.new + 1) }
@@ -121,6 +136,9 @@ impl<F: Fn(Kind, u16) -> Option<u64> + Copy> World<F> {
         ensures accepts { accepts self.new ≡ accepts self.old }
     {
         pairs_of_a_step();
+        rows_are_safe();
+        rows_grow_by_one();
+        the_headline();
         match self.change(row) {
             Ok(told) => {
                 self.taken += 1;

@@ -17,3 +17,5 @@ mod refusals;
 mod run;
 #[cfg(test)]
 mod schedules;
+#[cfg(test)]
+mod soaks;

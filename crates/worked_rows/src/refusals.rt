@@ -1,6 +1,5 @@
 use crate::run::{run_over, run_words};
 use allocator_app::Status;
-use disk_model::{IMAGE, MemoryDisk};
 use outside::{MemoryLink, MemorySink, MemorySource};
 use std::test::Fail;
 
@@ -89,7 +88,7 @@ fn a_row_that_is_not_taken_ends_the_report(rt: HostRuntime) -> Result<(), Fail> 
 
 #[test]
 fn other_words_do_nothing(rt: HostRuntime) -> Result<(), Fail> {
-    const CASES: [&str; 11] = [
+    const CASES: [&str; 15] = [
         "replay 0 1",
         "replay 1000001 1",
         "replay 10 1 1",
@@ -100,7 +99,11 @@ fn other_words_do_nothing(rt: HostRuntime) -> Result<(), Fail> {
         "replay 10 1 2 3 4 5 6",
         "",
         "node 1 5000 3 1",
-        "soak 1 0 3",
+        "soak 1 20001 3",
+        "soak 1 1 0",
+        "soak 1 1 6",
+        "soak 18446744073709551616 1 1",
+        "soak 1 1",
     ];
     for words in CASES {
         let mut source = MemorySource::new(b"open 1 0 0\n", Some(1));
@@ -114,27 +117,17 @@ fn other_words_do_nothing(rt: HostRuntime) -> Result<(), Fail> {
     Ok(())
 }
 
-/// The words of a schedule ask for neither a link nor a disk; a place without a disk is none.
+/// The words of a schedule ask for no link; a place without a disk is none.
 #[test]
-fn a_link_or_a_disk_is_refused(rt: HostRuntime) -> Result<(), Fail> {
-    const CASES: [(bool, bool, Status); 4] = [
-        (false, false, Status::Done),
-        (true, false, Status::Usage),
-        (false, true, Status::Usage),
-        (true, true, Status::Usage),
-    ];
-    for (has_link, has_disk, status) in CASES {
+fn a_link_is_refused(rt: HostRuntime) -> Result<(), Fail> {
+    const CASES: [(bool, Status); 2] = [(false, Status::Done), (true, Status::Usage)];
+    for (has_link, status) in CASES {
         let mut links = [MemoryLink::new(&[], None)];
         let links = if has_link {
             &mut links[..]
         } else {
             &mut links[..0]
         };
-        let mut disks = [if has_disk {
-            Some(MemoryDisk::new(&[0; IMAGE]))
-        } else {
-            None
-        }];
         let mut source = MemorySource::new(b"", None);
         let mut sink = MemorySink::new(rt.alloc(), 100, None, None)?;
         assert_eq!(rt;
@@ -144,7 +137,7 @@ fn a_link_or_a_disk_is_refused(rt: HostRuntime) -> Result<(), Fail> {
                 &mut source,
                 &mut sink,
                 links,
-                &mut disks
+                &mut [None]
             )?,
             status
         );

@@ -1,5 +1,5 @@
 use allocator_app::{Status, run};
-use disk_model::MemoryDisk;
+use disk_model::FileDisk;
 use outside::{MemoryClock, MemoryLink, Sink, Source};
 use std::alloc::{AllocError, Global};
 
@@ -20,7 +20,7 @@ pub(crate) fn run_over<S: Source, K: Sink>(
     source: &mut S,
     sink: &mut K,
     links: &mut [MemoryLink<'_>],
-    disks: &mut [Option<MemoryDisk>],
+    disks: &mut [Option<FileDisk>],
 ) -> Result<Status, AllocError> {
     let mut words = Vec::new(alloc);
     for word in text.split_whitespace() {

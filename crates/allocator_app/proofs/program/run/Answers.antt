@@ -1,40 +1,74 @@
-use Rattle.std.proofs.Common.{subst, inl, inr}
-use Rattle.allocator_app.specs.Report.{IsBegun}
-use Rattle.allocator_app.proofs.Ending.{all_lawful, asked, comes_to, read_part, replayed, sound, written_part}
+use Rattle.std.proofs.Common.{ℕ, List, length, inl, inr, subst}
+use Rattle.node_turns.specs.WholeRun.{IsWholeRun, after_turns}
+use Rattle.allocator_app.proofs.Ending.{all_lawful, asked, asked_for_nodes, asked_to_soak, comes_to, has_headline, node_plan, nothing_given, read_part, replayed, words_for_nodes, words_for_rows, written_part}
 use Rattle.allocator_app.proofs.program.run.Goals as goal
 
-pub follow-requires : goal.follow-requires
-follow-requires g c = sound _ _ c.in-Some.ensures.some
+pub returns-clause-report : goal.returns-clause-report
+returns-clause-report g c = λ limit nodes bytes asks told over.
+    replayed c.follow.result c.in-Some.plan limit nodes _ bytes _ _ _ c.in-Some.ensures.some asks (c.follow.ensures.replays bytes told) over
 
-pub returns-in-Some-clause-report : goal.returns-in-Some-clause-report
-returns-in-Some-clause-report g c = λ bytes told over.
-    replayed c.follow.result c.in-Some.plan _ bytes _ _ _ c.in-Some.ensures.some (c.follow.ensures.followed bytes told) over
+pub returns-clause-headline : goal.returns-clause-headline
+returns-clause-headline g c = λ limit nodes bytes asks told over.
+    has_headline c.the_headline.ensures c.follow.result c.in-Some.plan limit nodes _ bytes _ _ _ c.in-Some.ensures.some asks
+    (c.follow.ensures.replays bytes told) over
 
-pub returns-in-Some-clause-untouched : goal.returns-in-Some-clause-untouched
-returns-in-Some-clause-untouched g c = λ before. elim before [
-  | inl usage ↦ absurd (subst IsBegun usage c.follow.ensures.begun)
-  | inr memory ↦ c.follow.ensures.untouched memory
-]
-
-pub returns-in-Some-clause-complete : goal.returns-in-Some-clause-complete
-returns-in-Some-clause-complete g c = λ bytes report status told none said read write.
-    let ends = asked c.in-Some.plan _ bytes _ _ _ c.follow.result c.in-Some.ensures.some (c.follow.ensures.followed bytes told) in
-    comes_to c.a_line_has_one_row.ensures c.follow.result ends.0 ends.1 _ bytes report status _ _ _ ends.2 ends.3 said
+pub returns-clause-complete : goal.returns-clause-complete
+returns-clause-complete g c = λ bytes report status told none said read write.
+    comes_to c.a_line_has_one_row.ensures c.follow.result said.limit said.ids _ bytes report status _ _ _ said.words_read
+    (asked c.in-Some.plan said.limit said.ids _ bytes _ _ _ c.follow.result c.in-Some.ensures.some said.words_read (c.follow.ensures.replays bytes told)) said
     (λ is. read (c.follow.ensures.read is)) (λ is. write (c.follow.ensures.write is))
 
-pub returns-in-Some-clause-finishes : goal.returns-in-Some-clause-finishes
-returns-in-Some-clause-finishes g c = λ limit ids bytes rows told none asks reads few lawful read write.
-    let ends = asked c.in-Some.plan _ bytes _ _ _ c.follow.result c.in-Some.ensures.some (c.follow.ensures.followed bytes told) in
-    comes_to c.a_line_has_one_row.ensures c.follow.result ends.0 ends.1 _ bytes _ _ _ _ _ ends.2 ends.3
+pub returns-clause-finishes : goal.returns-clause-finishes
+returns-clause-finishes g c = λ limit ids bytes rows told none asks reads few lawful read write.
+    comes_to c.a_line_has_one_row.ensures c.follow.result limit ids _ bytes _ _ _ _ _ asks
+    (asked c.in-Some.plan limit ids _ bytes _ _ _ c.follow.result c.in-Some.ensures.some asks (c.follow.ensures.replays bytes told))
     (all_lawful limit ids _ bytes rows asks reads few lawful)
     (λ is. read (c.follow.ensures.read is)) (λ is. write (c.follow.ensures.write is))
 
-pub returns-in-Some-clause-read_in_part : goal.returns-in-Some-clause-read_in_part
-returns-in-Some-clause-read_in_part g c = λ bytes told is.
-    let ends = asked c.in-Some.plan _ bytes _ _ _ c.follow.result c.in-Some.ensures.some (c.follow.ensures.followed bytes told) in
-    (ends.0, ends.1, ends.2, read_part c.follow.result ends.0 _ bytes _ _ _ ends.3 is)
+pub returns-clause-read_in_part : goal.returns-clause-read_in_part
+returns-clause-read_in_part g c = λ limit nodes bytes asks told is.
+    read_part c.follow.result limit _ bytes _ _ _
+    (asked c.in-Some.plan limit nodes _ bytes _ _ _ c.follow.result c.in-Some.ensures.some asks (c.follow.ensures.replays bytes told)) is
 
-pub returns-in-Some-clause-written_in_part : goal.returns-in-Some-clause-written_in_part
-returns-in-Some-clause-written_in_part g c = λ bytes told is.
-    let ends = asked c.in-Some.plan _ bytes _ _ _ c.follow.result c.in-Some.ensures.some (c.follow.ensures.followed bytes told) in
-    (ends.0, ends.1, ends.2, written_part c.follow.result ends.0 _ bytes _ _ _ ends.3 is)
+pub returns-clause-written_in_part : goal.returns-clause-written_in_part
+returns-clause-written_in_part g c = λ limit nodes bytes asks told is.
+    written_part c.follow.result limit _ bytes _ _ _
+    (asked c.in-Some.plan limit nodes _ bytes _ _ _ c.follow.result c.in-Some.ensures.some asks (c.follow.ensures.replays bytes told)) is
+
+pub returns-clause-soak : goal.returns-clause-soak
+returns-clause-soak g c = λ seed rounds size asks done.
+    let soaks = asked_to_soak c.in-Some.plan seed rounds size _ _ _ c.follow.result c.in-Some.ensures.some asks c.follow.ensures.soaks in
+    let rows = c.rows_are_lawful.ensures in
+    (soaks.report done, c.the_headline.ensures _ _ (rows.members size asks.size_least asks.size_most) (rows.rows seed rounds size).lawful)
+
+pub returns-clause-soak_in_part : goal.returns-clause-soak_in_part
+returns-clause-soak_in_part g c = λ seed rounds size asks is.
+    (asked_to_soak c.in-Some.plan seed rounds size _ _ _ c.follow.result c.in-Some.ensures.some asks c.follow.ensures.soaks).in_part is
+
+pub returns-clause-nodes : goal.returns-clause-nodes
+returns-clause-nodes g c = λ size base turns ids asks given.
+    asked_for_nodes _ _ c.in-Some.plan size base turns ids _ _ _ _ _ _ _ c.follow.result c.in-Some.ensures.some asks c.follow.ensures.nodes
+
+pub returns-clause-nodes_alone : goal.returns-clause-nodes_alone
+returns-clause-nodes_alone g c = λ is. words_for_nodes c.in-Some.plan _ c.in-Some.ensures.some (c.follow.ensures.nodes_alone is)
+
+pub returns-clause-unread : goal.returns-clause-unread
+returns-clause-unread g c = λ none. elim c.follow.ensures.unread [
+  | inl rows ↦ let asks = words_for_rows c.in-Some.plan _ c.in-Some.ensures.some rows in absurd (none asks.0 asks.1 asks.2)
+  | inr same ↦ same
+]
+
+pub returns-clause-objects : goal.returns-clause-objects
+returns-clause-objects g c = λ none. elim c.follow.ensures.objects [
+  | inl nodes ↦ absurd (nothing_given c.in-Some.plan _ _ _ c.in-Some.ensures.some nodes (c.has_objects.ensures.0 c.if-not-has_objects.false) none)
+  | inr same ↦ same
+]
+
+pub returns-clause-nodes_whole : goal.returns-clause-nodes_whole
+returns-clause-nodes_whole g c = λ size base turns ids given asks objects tells done.
+    let plan = node_plan c.in-Some.plan size base turns ids _ c.in-Some.ensures.some asks in
+    let whole = c.follow.ensures.nodes_whole plan.count plan.port plan.times plan.nodes given plan.is tells done in
+    let Whole = λ (count times : ℕ) (nodes : List ℕ). IsWholeRun g.L.Link.coming g.L.Link.sent g.D.Disk c.follow.new.links c.follow.new.disks
+    (g.C.Clock.readings c.follow.new.clock) (g.K.Sink.written c.args.sink.now) (g.K.Sink.written c.follow.new.sink) (length nodes) times (after_turns count times nodes given) in
+    subst (λ l. Whole size turns l) plan.same_ids (subst (λ n. Whole size n plan.nodes.items) plan.same_turns
+    (subst (λ n. Whole n plan.times plan.nodes.items) plan.same_size whole))

@@ -3,7 +3,7 @@ use Rattle.std.proofs.lemmas.Bool.{true≢false}
 use Rattle.std.proofs.KnownBytes.{Appends-nil}
 use Rattle.replay_text.specs.Lines.{after_line}
 use Rattle.allocator_app.proofs.Reading.{ended_taken, ended_unended, flush_in_part, nearer, read_in_part, read_on, read_stopped, rows_in_part, some_length, start, took_all, waited_on}
-use Rattle.allocator_app.proofs.Written.{grows-appended, grows-front, grows-refl, grows-trans}
+use Rattle.program_parts.proofs.Written.{grows-appended, grows-front, grows-refl, grows-trans}
 use Rattle.allocator_app.proofs.replay.read_rows.Goals as goal
 
 pub reading-init : goal.reading-init
@@ -14,8 +14,8 @@ reading-init g c = record {
   short = let empty = ap length c.new-input.ensures in omega (arith, empty);
   unended = ap after_line c.new-input.ensures;
   another = inl c.new-input.ensures;
-  source_later = omega arith;
-  sink_later = omega arith;
+  source_kept = refl;
+  sink_kept = refl;
   grew = grows-refl _;
   told = λ bytes told first is. (
     first,
@@ -99,8 +99,8 @@ reading-preserved g c =
       short = waits.short;
       unended = waits.unended;
       another = waits.another;
-      source_later = omega (arith, so_far.source_later, c.in-Ok-true.ensures.cause.later);
-      sink_later = omega (arith, so_far.sink_later, c.in-Ok.ensures.cause.later, c.in-Ok-flush.ensures.cause.later);
+      source_kept = c.in-Ok-true.ensures.kept ∙ so_far.source_kept;
+      sink_kept = c.in-Ok-flush.ensures.kept ∙ (c.in-Ok.ensures.kept ∙ so_far.sink_kept);
       grew = grows-trans _ _ _ (grows-trans _ _ _ so_far.grew c.in-Ok.ensures.grew) (grows-appended _ _ _ c.in-Ok-flush.ensures.ok);
       told = λ bytes told first is.
           let far = so_far.told bytes told first is in

@@ -2,7 +2,7 @@ use Rattle.std.proofs.Common.{◌≡◌, ◌≤◌, ◌<◌, ◌+◌, ◌-◌, �
 use Rattle.bus_world.specs.World.{accepts, rows_taken}
 use Rattle.replay_text.specs.Lines.{after_line}
 use Rattle.allocator_app.specs.InPart.{HasRead}
-use Rattle.allocator_app.specs.Output.{Grows}
+use Rattle.program_parts.specs.Output.{Grows}
 use Rattle.allocator_app.specs.Reaching.{HasRoom, Reaches}
 use Rattle.allocator_app.proofs.replay.read_rows.Given as goal
 
@@ -18,8 +18,8 @@ invariant-reading g l =
       short : length l.input ≤ 120;
       unended : after_line l.input ≡ None;
       another : (l.input ≡ []) ⊎ (rows_taken l.world < l.fn.limit);
-      source_later : g.S.Source.faults l.fn.source ≤ g.S.Source.faults l.source;
-      sink_later : g.K.Sink.faults l.fn.sink ≤ g.K.Sink.faults l.sink;
+      source_kept : g.S.Source.faults l.source ≡ g.S.Source.faults l.fn.source;
+      sink_kept : g.K.Sink.faults l.sink ≡ g.K.Sink.faults l.fn.sink;
       grew : Grows (written l.fn.sink) (written l.sink);
       told : (bytes : List ℕ) → left l.fn.source ≡ Some bytes → Reaches l.fn.world l.world (λ first now.
           HasRead first now bytes l.input (left l.source) (written l.fn.sink) (written l.sink));

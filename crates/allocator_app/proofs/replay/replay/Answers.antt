@@ -2,10 +2,10 @@ use Rattle.std.proofs.Common.{◌++◌, sym, ap, ◌∙◌, subst, arith}
 use Rattle.std.proofs.KnownBytes.{Appends-trans}
 use Rattle.world_parts.specs.Cluster.{cluster}
 use Rattle.allocator_app.specs.InPart.IsWrittenInPart.{AtTheEnd}
-use Rattle.allocator_app.specs.Report.{IsBegun}
+use Rattle.allocator_app.specs.Report.{IsOfSchedule}
 use Rattle.allocator_app.specs.Rows.{Ends, last_of, status_of}
 use Rattle.allocator_app.proofs.Reading.{ends_told, is_begun, is_no_fault, report_of, told_of}
-use Rattle.allocator_app.proofs.Written.{front-behind}
+use Rattle.program_parts.proofs.Written.{front-behind}
 use Rattle.allocator_app.proofs.replay.replay.Goals as goal
 
 pub returns-in-Ok-end_report-clause-ends : goal.returns-in-Ok-end_report-clause-ends
@@ -25,7 +25,7 @@ returns-in-Ok-end_report-clause-ends g c = λ bytes told.
 -- what the status tells of
 
 pub returns-in-Ok-end_report-clause-begun : goal.returns-in-Ok-end_report-clause-begun
-returns-in-Ok-end_report-clause-begun g c = subst IsBegun (sym c.in-Ok-end_report.ensures.status) (is_begun c.in-Ok-read_rows.rows _)
+returns-in-Ok-end_report-clause-begun g c = subst IsOfSchedule (sym c.in-Ok-end_report.ensures.status) (is_begun c.in-Ok-read_rows.rows _)
 
 pub returns-in-Ok-end_report-clause-untouched : goal.returns-in-Ok-end_report-clause-untouched
 returns-in-Ok-end_report-clause-untouched g c = λ is. absurd ((is_no_fault c.in-Ok-read_rows.rows _).0 (sym c.in-Ok-end_report.ensures.status ∙ is))

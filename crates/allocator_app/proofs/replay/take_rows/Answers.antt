@@ -5,7 +5,7 @@ use Rattle.std.proofs.lemmas.Bool.Decides.{nat_tests}
 use Rattle.world_parts.specs.Cluster.{next}
 use Rattle.allocator_app.proofs.Coming.{bad-row, beyond, goes-more, goes-nil, refused-row}
 use Rattle.allocator_app.proofs.Rest.{read_usable, rows_taken}
-use Rattle.allocator_app.proofs.Written.{front-on, grows-refl, grows-trans, on_err}
+use Rattle.program_parts.proofs.Written.{front-on, grows-refl, grows-trans, on_err}
 use Rattle.allocator_app.proofs.replay.take_rows.Goals as goal
 
 pub row-requires-clause-filled : goal.row-requires-clause-filled
@@ -15,7 +15,7 @@ pub rows-init : goal.rows-init
 rows-init g c = record {
   room = c.requires.room;
   accepts = refl;
-  later = omega arith;
+  kept = refl;
   grows = omega arith;
   some = inr refl;
   grew = grows-refl _;
@@ -74,7 +74,7 @@ rows-preserved g c =
     record {
       room = record { within = grind (arith, nat_tests, room, taken, count, low); frames = omega (arith, frames, taken, left) };
       accepts = c.in-Ok.ensures.accepts ∙ so_far.accepts;
-      later = omega (arith, so_far.later, c.in_ok-line.ensures.cause.later);
+      kept = c.in_ok-line.ensures.kept ∙ so_far.kept;
       grows = omega (arith, so_far.grows, taken);
       some = inl (omega (arith, so_far.grows, taken));
       grew = grows-trans _ _ _ so_far.grew c.in_ok-line.ensures.told.grew;

@@ -1,6 +1,6 @@
 use Rattle.std.proofs.Common.{◌≡◌, ◌≤◌, ◌<◌, ◌⊎◌, length}
 use Rattle.bus_world.specs.World.{accepts, rows_taken}
-use Rattle.allocator_app.specs.Output.{Grows}
+use Rattle.program_parts.specs.Output.{Grows}
 use Rattle.allocator_app.specs.Reaching.{HasRoom, Reaches}
 use Rattle.allocator_app.proofs.Rest.{TakesSome}
 use Rattle.allocator_app.proofs.replay.take_rows.Given as goal
@@ -13,7 +13,7 @@ invariant-rows g l =
     record {
       room : HasRoom l.fn.limit l.world;
       accepts : accepts l.world ≡ accepts l.fn.world;
-      later : faults l.fn.sink ≤ faults l.sink;
+      kept : faults l.sink ≡ faults l.fn.sink;
       grows : rows_taken l.fn.world ≤ rows_taken l.world;
       some : (rows_taken l.fn.world < rows_taken l.world) ⊎ (l.input ≡ l.fn.input);
       grew : Grows (written l.fn.sink) (written l.sink);

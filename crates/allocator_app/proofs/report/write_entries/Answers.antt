@@ -3,9 +3,9 @@ use Rattle.std.specs.Io.KnownBytes.{Appends, append_known}
 use Rattle.std.proofs.KnownBytes.{Appends-trans}
 use Rattle.std.proofs.lemmas.Bool.Decides.{nat_tests}
 use Rattle.world_parts.specs.Report.{entry_line, entry_lines}
-use Rattle.allocator_app.specs.Output.{WritesFront}
+use Rattle.program_parts.specs.Output.{WritesFront}
 use Rattle.allocator_app.proofs.Entries.{all_taken, entry_lines-front, entry_lines-next, is_last, is_there}
-use Rattle.allocator_app.proofs.Written.{front-on, front-of_more, grows-trans, writes-failed, writes-so_far}
+use Rattle.program_parts.proofs.Written.{front-on, front-of_more, grows-trans, writes-failed, writes-so_far}
 use Rattle.allocator_app.proofs.report.write_entries.Goals as goal
 
 pub entries-preserved : goal.entries-preserved
@@ -15,7 +15,7 @@ entries-preserved g c =
     let low = c.entries-test.true in
     record {
       within = grind (arith, nat_tests, low);
-      later = omega (arith, so_far.later, c.in_ok-line.ensures.cause.later);
+      kept = c.in_ok-line.ensures.kept ∙ so_far.kept;
       grew = grows-trans _ _ _ so_far.grew c.in_ok-line.ensures.told.grew;
       told = λ w is log has.
           let far = so_far.told w is log has in

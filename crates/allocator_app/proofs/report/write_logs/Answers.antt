@@ -1,11 +1,11 @@
-use Rattle.std.proofs.Common.{◌-◌, ◌++◌, subst, arith}
+use Rattle.std.proofs.Common.{◌-◌, ◌++◌, ◌∙◌, subst, arith}
 use Rattle.std.specs.Io.KnownBytes.{Appends, append_known}
 use Rattle.std.proofs.KnownBytes.{Appends-trans}
 use Rattle.std.proofs.lemmas.Bool.Decides.{nat_tests}
 use Rattle.world_parts.specs.Report.{all_logs, log_lines, member_lines}
-use Rattle.allocator_app.specs.Output.{WritesFront}
+use Rattle.program_parts.specs.Output.{WritesFront}
 use Rattle.allocator_app.proofs.Entries.{all_logs-are, all_logs-front, log_lines-more}
-use Rattle.allocator_app.proofs.Written.{front-on, front-of_more, grows-trans, writes-failed, writes-so_far}
+use Rattle.program_parts.proofs.Written.{front-on, front-of_more, grows-trans, writes-failed, writes-so_far}
 use Rattle.allocator_app.proofs.report.write_logs.Goals as goal
 
 pub ids-preserved : goal.ids-preserved
@@ -17,7 +17,7 @@ ids-preserved g c =
     record {
       least = omega arith;
       most = grind (arith, nat_tests, low);
-      later = omega (arith, so_far.later, c.in_ok-write_log.ensures.cause.later);
+      kept = c.in_ok-write_log.ensures.kept ∙ so_far.kept;
       grew = grows-trans _ _ _ so_far.grew c.in_ok-write_log.ensures.grew;
       told = λ w is.
           subst (λ lines. Appends (append_known (g.K.Sink.written c.args.sink.now) c.args.output.now) (append_known (g.K.Sink.written c.write_log.new.sink) c.write_log.new.output) lines)

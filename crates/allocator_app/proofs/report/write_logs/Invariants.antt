@@ -1,9 +1,9 @@
-use Rattle.std.proofs.Common.{◌≤◌, ◌-◌}
+use Rattle.std.proofs.Common.{◌≡◌, ◌≤◌, ◌-◌}
 use Rattle.std.specs.Io.KnownBytes.{Appends, append_known}
 use Rattle.bus_world.specs.World.{StandsFor}
 use Rattle.world_parts.specs.Cluster.{Cluster}
 use Rattle.world_parts.specs.Report.{log_lines}
-use Rattle.allocator_app.specs.Output.{Grows}
+use Rattle.program_parts.specs.Output.{Grows}
 use Rattle.allocator_app.proofs.report.write_logs.Given as goal
 
 -- the logs of the nodes so far were written or wait to be
@@ -14,7 +14,7 @@ invariant-ids g l =
     record {
       least : 1 ≤ l.id;
       most : l.id ≤ 126;
-      later : faults l.fn.sink ≤ faults l.sink;
+      kept : faults l.sink ≡ faults l.fn.sink;
       grew : Grows (written l.fn.sink) (written l.sink);
       told : (w : Cluster) → StandsFor l.fn.world w →
           Appends (append_known (written l.fn.sink) l.fn.output) (append_known (written l.sink) l.output) (log_lines w 1 (l.id - 1));
