@@ -40,8 +40,10 @@ impl Exchange {
     /// else the bytes so far where `may_follow`, or else is denied. Only a follow-up keeps the bytes.
     #[tactic(auto, unfolding(crate::specs::Exchange::answer, crate::specs::Exchange::after))]
     pub fn heard(&mut self, message: &Allocation, now: u64, may_follow: bool) -> Heard
-        ensures answer { (accepted : List Accepted) → StandsFor self.old accepted → result ≡ answer accepted message.now now may_follow }
-        ensures after { (accepted : List Accepted) → StandsFor self.old accepted → StandsFor self.new (after accepted message.now now may_follow) }
+        ensures answer { (accepted : List Accepted) → StandsFor self.old accepted →
+            result ≡ answer accepted message.now now may_follow }
+        ensures after { (accepted : List Accepted) → StandsFor self.old accepted →
+            StandsFor self.new (after accepted message.now now may_follow) }
         ensures size { HasItsSize result }
     {
         self.forget_where_late(now);
@@ -56,7 +58,8 @@ impl Exchange {
     }
 
     fn forget_where_late(&mut self, now: u64)
-        ensures { (accepted : List Accepted) → StandsFor self.old accepted → StandsFor self.new (kept accepted now) }
+        ensures { (accepted : List Accepted) → StandsFor self.old accepted →
+            StandsFor self.new (kept accepted now) }
     {
         if now > self.last.saturating_add(500) {
             *self = Exchange::new();
@@ -65,8 +68,10 @@ impl Exchange {
 
     fn accept(&mut self, message: &Allocation, now: u64, may_follow: bool) -> Heard
         requires { IsEndOfStage (array_vec_len self.old.collected + array_vec_len message.now.uid) }
-        ensures answer { (accepted : List Accepted) → StandsFor self.old accepted → result ≡ response (with_request accepted message.now now) message.now.node may_follow }
-        ensures after { (accepted : List Accepted) → StandsFor self.old accepted → StandsFor self.new (left_over (with_request accepted message.now now) may_follow) }
+        ensures answer { (accepted : List Accepted) → StandsFor self.old accepted →
+            result ≡ response (with_request accepted message.now now) message.now.node may_follow }
+        ensures after { (accepted : List Accepted) → StandsFor self.old accepted →
+            StandsFor self.new (left_over (with_request accepted message.now now) may_follow) }
         ensures size { HasItsSize result }
     {
         let collected = joined(&self.collected, &message.uid);

@@ -9,4 +9,5 @@ use Rattle.bus_world.specs.declared.member.Member.{Member}
 pub record AreFresh {F : Type 0} (ids : List ℕ) (members : List (Member F)) : Type 0 where
   pub same : map (λ member. member.id) members ≡ ids
   pub begun : (i : ℕ) (d : Member F) → i < length members → StandsFor (slice_index_or members i d) fresh
-  pub alike : (i : ℕ) (d : Member F) (accept : F) → i < length members → Accepts (slice_index_or members i d).place accept
+  pub alike : (i : ℕ) (d : Member F) (accept : F) → i < length members →
+      Accepts (slice_index_or members i d).place accept

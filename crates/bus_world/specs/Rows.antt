@@ -17,7 +17,8 @@ module _ {F : Type 0} where
 
   -- the row is lawful, and tells this
   abbrev pub Tells : World F → Row → Told → Type 0
-  Tells world row told = (c : Cluster) → StandsFor world c → (cause c row ≡ None) × (telling_of told ≡ told_by c row)
+  Tells world row told = (c : Cluster) → StandsFor world c → (cause c row ≡ None)
+      × (telling_of told ≡ told_by c row)
 
   -- and leaves this, but for the count of rows
   abbrev pub Leaves : World F → World F → Row → Type 0

@@ -22,7 +22,8 @@ impl<F: Fn(Kind, u16) -> Option<u64> + Copy> Place<F> {
 
     /// The disk stops in place of that call of it.
     pub fn stop_at(&mut self, call: u64)
-        ensures life { (life : Life) (shelf : Shelf Stored) → IsLife self.old life shelf → IsLife self.new life
+        ensures life { (life : Life) (shelf : Shelf Stored) → IsLife self.old life shelf →
+            IsLife self.new life
             (record shelf { calls = record shelf.calls { stop_in = call } }) }
         ensures accepts { (accept : F) → Accepts self.old accept → Accepts self.new accept }
     {
@@ -37,7 +38,8 @@ impl<F: Fn(Kind, u16) -> Option<u64> + Copy> Place<F> {
 
     /// That call of the disk fails.
     pub fn fail_at(&mut self, call: u64)
-        ensures life { (life : Life) (shelf : Shelf Stored) → IsLife self.old life shelf → IsLife self.new life
+        ensures life { (life : Life) (shelf : Shelf Stored) → IsLife self.old life shelf →
+            IsLife self.new life
             (record shelf { calls = record shelf.calls { fail_in = call } }) }
         ensures accepts { (accept : F) → Accepts self.old accept → Accepts self.new accept }
     {

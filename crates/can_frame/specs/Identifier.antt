@@ -11,8 +11,10 @@ use Rattle.can_frame.specs.declared.identifier.Kind.TheVariants.{Message, Anonym
 
 -- the ranges of the fields that depend on the kind
 abbrev pub IsInRange : Kind → Ident → Type 0
-IsInRange Message ident = (ident.number < 2 ^ 16) × (0 < ident.source) × (ident.dest ≡ 0) × (ident.discriminator ≡ 0)
-IsInRange Anonymous ident = (ident.number < 4) × (ident.source ≡ 0) × (ident.dest ≡ 0) × (ident.discriminator < 2 ^ 14)
+IsInRange Message ident = (ident.number < 2 ^ 16) × (0 < ident.source) × (ident.dest ≡ 0)
+    × (ident.discriminator ≡ 0)
+IsInRange Anonymous ident = (ident.number < 4) × (ident.source ≡ 0) × (ident.dest ≡ 0)
+    × (ident.discriminator < 2 ^ 14)
 IsInRange Request ident = (ident.number < 256) × (0 < ident.source) × (0 < ident.dest) × (ident.discriminator ≡ 0)
 IsInRange Response ident = (ident.number < 256) × (0 < ident.source) × (0 < ident.dest) × (ident.discriminator ≡ 0)
 
@@ -53,8 +55,22 @@ service_of id = cond (nat_eq (id % 128) 0 || nat_eq (id / 256 % 128) 0) None (So
 -- a message from node 0 is anonymous
 abbrev pub message_of : ℕ → Ident
 message_of id = cond (nat_eq (id % 128) 0)
-    (record { priority = id / 16777216; kind = Anonymous; number = id / 256 % 4; source = 0; dest = 0; discriminator = id / 1024 % 16384 })
-    (record { priority = id / 16777216; kind = Message; number = id / 256 % 65536; source = id % 128; dest = 0; discriminator = 0 })
+    (record {
+      priority = id / 16777216;
+      kind = Anonymous;
+      number = id / 256 % 4;
+      source = 0;
+      dest = 0;
+      discriminator = id / 1024 % 16384;
+    })
+    (record {
+      priority = id / 16777216;
+      kind = Message;
+      number = id / 256 % 65536;
+      source = id % 128;
+      dest = 0;
+      discriminator = 0;
+    })
 
 -- the fields of a number, where it has any; bit 7 tells services from messages
 unfoldable pub identifier_of : ℕ → Option Ident

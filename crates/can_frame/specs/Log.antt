@@ -53,7 +53,8 @@ last_term log = (entry_at log (length log)).term
 
 -- no node ID stands twice, and no unique ID but zeros; blanks do not count
 abbrev pub IsInjective : List Entry → Type 0
-IsInjective log = (i j : ℕ) → i < j → j < length log → AreDistinct (slice_index_or log i (blank 0)) (slice_index_or log j (blank 0))
+IsInjective log = (i j : ℕ) → i < j → j < length log →
+    AreDistinct (slice_index_or log i (blank 0)) (slice_index_or log j (blank 0))
 
 -- the entry is distinct from each of the log
 abbrev pub IsDistinctFromAll : List Entry → Entry → Type 0

@@ -16,7 +16,8 @@ add_front (x ∷ xs) (y ∷ ys) = xor x y ∷ add_front xs ys
 
 -- x^16 + x^12 + x^5 + 1, without its highest coefficient
 abbrev pub divisor : List Bool
-divisor = false ∷ false ∷ false ∷ true ∷ false ∷ false ∷ false ∷ false ∷ false ∷ false ∷ true ∷ false ∷ false ∷ false ∷ false ∷ true ∷ []
+divisor = false ∷ false ∷ false ∷ true ∷ false ∷ false ∷ false ∷ false ∷ false ∷ false ∷ true
+    ∷ false ∷ false ∷ false ∷ false ∷ true ∷ []
 
 -- so many steps of long division: where the highest coefficient is 1, the divisor is taken away
 unfoldable pub divide : ℕ → List Bool → List Bool
@@ -25,10 +26,12 @@ divide (suc n) [] = []
 divide (suc n) (b ∷ bits) = divide n (cond b (add_front divisor bits) bits)
 
 abbrev pub zeros : List Bool
-zeros = false ∷ false ∷ false ∷ false ∷ false ∷ false ∷ false ∷ false ∷ false ∷ false ∷ false ∷ false ∷ false ∷ false ∷ false ∷ false ∷ []
+zeros = false ∷ false ∷ false ∷ false ∷ false ∷ false ∷ false ∷ false ∷ false ∷ false ∷ false
+    ∷ false ∷ false ∷ false ∷ false ∷ false ∷ []
 
 abbrev pub ones : List Bool
-ones = true ∷ true ∷ true ∷ true ∷ true ∷ true ∷ true ∷ true ∷ true ∷ true ∷ true ∷ true ∷ true ∷ true ∷ true ∷ true ∷ []
+ones = true ∷ true ∷ true ∷ true ∷ true ∷ true ∷ true ∷ true ∷ true ∷ true ∷ true ∷ true
+    ∷ true ∷ true ∷ true ∷ true ∷ []
 
 -- the first 16 bits are inverted and x^16 is multiplied; what the division by the divisor leaves
 abbrev pub remainder : List Bool → List Bool

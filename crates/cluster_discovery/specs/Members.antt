@@ -32,7 +32,8 @@ lists members node = list_any (λ member. nat_eq member node) members
 
 -- a node joins where it is 1 to 125, is new, and the list is shorter than the size
 abbrev pub may_join : ℕ → List ℕ → ℕ → Bool
-may_join size members node = (nat_le 1 node && nat_le node 125) && (nat_lt (length members) size && not (lists members node))
+may_join size members node =
+    (nat_le 1 node && nat_le node 125) && (nat_lt (length members) size && not (lists members node))
 
 -- at the end of the list
 abbrev pub joined : ℕ → List ℕ → ℕ → List ℕ
@@ -101,4 +102,5 @@ last_sent start (Sent moment ∷ events) = moment
 
 -- owed, or the list is not complete; and 1,000 ms have passed
 abbrev pub is_due : Start → List Event → ℕ → Bool
-is_due start events now = (owes start events || not (is_complete start events)) && nat_le 1000 (now - last_sent start events)
+is_due start events now =
+    (owes start events || not (is_complete start events)) && nat_le 1000 (now - last_sent start events)

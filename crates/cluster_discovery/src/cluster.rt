@@ -28,7 +28,8 @@ pub struct Cluster {
     ghost first: { slice_index_or members.items 0 0 ≡ me },
     ghost numbered: { (i : ℕ) → i < length members.items → 1 ≤ slice_index_or members.items i 0 },
     ghost devices: { (i : ℕ) → i < length members.items → slice_index_or members.items i 0 ≤ 125 },
-    ghost different: { (i j : ℕ) → i < j → j < length members.items → slice_index_or members.items i 0 ≢ slice_index_or members.items j 0 },
+    ghost different: { (i j : ℕ) → i < j → j < length members.items →
+        slice_index_or members.items i 0 ≢ slice_index_or members.items j 0 },
 }
 
 impl Cluster {
@@ -62,9 +63,12 @@ impl Cluster {
     /// A Discovery of the node `from` was heard; whether a member was learnt. One of another cluster
     /// size, or from the member itself, changes nothing.
     pub fn heard(&mut self, from: u8, message: &Discovery) -> bool
-        ensures learnt { (start : Start) (events : List Event) → StandsFor self.old start events → result ≡ learns start events from message.now }
-        ensures follows { (start : Start) (events : List Event) → StandsFor self.old start events → StandsFor self.new start (Heard from message.now ∷ events) }
-        ensures complete { length (member_list self.old) ≡ cluster_size self.old → member_list self.new ≡ member_list self.old }
+        ensures learnt { (start : Start) (events : List Event) → StandsFor self.old start events →
+            result ≡ learns start events from message.now }
+        ensures follows { (start : Start) (events : List Event) → StandsFor self.old start events →
+            StandsFor self.new start (Heard from message.now ∷ events) }
+        ensures complete { length (member_list self.old) ≡ cluster_size self.old →
+            member_list self.new ≡ member_list self.old }
         ensures me { own_id self.new ≡ own_id self.old }
         ensures size { cluster_size self.new ≡ cluster_size self.old }
     {
@@ -83,14 +87,16 @@ impl Cluster {
     /// Whether it is time for the member's own Discovery: it owes one or its list is not complete, and
     /// 1,000 ms have passed since its last one, or since it started.
     pub fn due(&self, now: u64) -> bool
-        ensures { (start : Start) (events : List Event) → StandsFor self.now start events → result ≡ is_due start events now }
+        ensures { (start : Start) (events : List Event) → StandsFor self.now start events →
+            result ≡ is_due start events now }
     {
         (self.owes || !self.complete()) && now.saturating_sub(self.last) >= 1000
     }
 
     /// The member's own Discovery was sent, or found no room: nothing is owed from now on.
     pub fn sent(&mut self, now: u64)
-        ensures follows { (start : Start) (events : List Event) → StandsFor self.old start events → StandsFor self.new start (Sent now ∷ events) }
+        ensures follows { (start : Start) (events : List Event) → StandsFor self.old start events →
+            StandsFor self.new start (Sent now ∷ events) }
         ensures list { member_list self.new ≡ member_list self.old }
         ensures me { own_id self.new ≡ own_id self.old }
         ensures size { cluster_size self.new ≡ cluster_size self.old }
@@ -101,8 +107,10 @@ impl Cluster {
 
     /// The member's own Discovery.
     pub fn message(&self) -> Discovery
-        ensures size { (start : Start) (events : List Event) → StandsFor self.now start events → result.size ≡ start.size }
-        ensures known { (start : Start) (events : List Event) → StandsFor self.now start events → result.known.items ≡ members.members start events }
+        ensures size { (start : Start) (events : List Event) → StandsFor self.now start events →
+            result.size ≡ start.size }
+        ensures known { (start : Start) (events : List Event) → StandsFor self.now start events →
+            result.known.items ≡ members.members start events }
         ensures fits { array_vec_len result.known ≤ 5 }
     {
         match ArrayVec::try_from(self.members.as_slice()) {
@@ -117,31 +125,38 @@ impl Cluster {
     /// Whether all members are known.
     pub fn complete(&self) -> bool
         ensures all { IsTrue result ↔ (length (member_list self.now) ≡ cluster_size self.now) }
-        ensures computed { (start : Start) (events : List Event) → StandsFor self.now start events → result ≡ is_complete start events }
+        ensures computed { (start : Start) (events : List Event) → StandsFor self.now start events →
+            result ≡ is_complete start events }
     {
         self.members.len() == self.size as usize
     }
 
     /// The members that are known, itself first, and the others in the order in which they were learnt.
     pub fn members(&self) -> &[u8]
-        ensures known { (start : Start) (events : List Event) → StandsFor self.now start events → result.now ≡ members.members start events }
-        ensures first { (start : Start) (events : List Event) → StandsFor self.now start events → slice_index_or result.now 0 0 ≡ start.me }
-        ensures within { (start : Start) (events : List Event) → StandsFor self.now start events → length result.now ≤ start.size }
-        ensures start { (start : Start) (events : List Event) → StandsFor self.now start events → IsStart start }
+        ensures known { (start : Start) (events : List Event) → StandsFor self.now start events →
+            result.now ≡ members.members start events }
+        ensures first { (start : Start) (events : List Event) → StandsFor self.now start events →
+            slice_index_or result.now 0 0 ≡ start.me }
+        ensures within { (start : Start) (events : List Event) → StandsFor self.now start events →
+            length result.now ≤ start.size }
+        ensures start { (start : Start) (events : List Event) → StandsFor self.now start events →
+            IsStart start }
         ensures list { result.now ≡ member_list self.now }
         ensures is_list { IsMemberList (own_id self.now) (cluster_size self.now) result.now }
         ensures few { length result.now ≤ 5 }
         ensures own { 1 ≤ length result.now }
         ensures numbered { (i : ℕ) → i < length result.now → 1 ≤ slice_index_or result.now i 0 }
         ensures devices { (i : ℕ) → i < length result.now → slice_index_or result.now i 0 ≤ 125 }
-        ensures different { (i j : ℕ) → i < j → j < length result.now → slice_index_or result.now i 0 ≢ slice_index_or result.now j 0 }
+        ensures different { (i j : ℕ) → i < j → j < length result.now →
+            slice_index_or result.now i 0 ≢ slice_index_or result.now j 0 }
     {
         &self.members
     }
 
     /// How many members are more than half of the cluster.
     pub fn quorum(&self) -> u8
-        ensures computed { (start : Start) (events : List Event) → StandsFor self.now start events → result ≡ quorum start }
+        ensures computed { (start : Start) (events : List Event) → StandsFor self.now start events →
+            result ≡ quorum start }
         ensures half { result ≡ cluster_size self.now / 2 + 1 }
     {
         self.size / 2 + 1
@@ -149,7 +164,8 @@ impl Cluster {
 
     /// Adds a node at the end of the list, where it is one of 1 to 125, is new, and has room.
     fn join(&mut self, node: u8)
-        ensures members { self.new.members.items ≡ joined self.old.size self.old.members.items node }
+        ensures members { self.new.members.items
+            ≡ joined self.old.size self.old.members.items node }
         ensures longer { length self.old.members.items ≤ length self.new.members.items }
         ensures me { self.new.me ≡ self.old.me }
         ensures size { self.new.size ≡ self.old.size }
@@ -165,7 +181,8 @@ impl Cluster {
     }
 
     fn join_all(&mut self, nodes: &[u8])
-        ensures members { self.new.members.items ≡ all_joined self.old.size self.old.members.items nodes.now }
+        ensures members { self.new.members.items
+            ≡ all_joined self.old.size self.old.members.items nodes.now }
         ensures me { self.new.me ≡ self.old.me }
         ensures size { self.new.size ≡ self.old.size }
         ensures owes { self.new.owes ≡ self.old.owes }

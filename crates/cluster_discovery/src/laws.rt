@@ -14,7 +14,8 @@ pub fn members_stay()
 /// Whatever was heard, the list begins with the member itself, has node IDs of 1 to 125 alone and none
 /// twice, and is no longer than the size.
 pub fn members_are_a_list()
-    ensures { (start : Start) (events : List Event) → IsStart start → IsMemberList start.me start.size (members start events) }
+    ensures { (start : Start) (events : List Event) → IsStart start →
+        IsMemberList start.me start.size (members start events) }
 {}
 
 /// Who is new was named: it is the source of the message, or the message lists it; and the message
@@ -27,32 +28,41 @@ pub fn new_members_were_named()
 
 /// A complete list stays as it is, whatever is heard, and nothing is learnt any more.
 pub fn a_complete_list_stays()
-    ensures members { (start : Start) (events : List Event) (from : ℕ) (message : Discovery) → is_complete start events ≡ true →
+    ensures members { (start : Start) (events : List Event) (from : ℕ) (message : Discovery) →
+        is_complete start events ≡ true →
         members start (Heard from message ∷ events) ≡ members start events }
-    ensures complete { (start : Start) (events : List Event) (from : ℕ) (message : Discovery) → is_complete start events ≡ true →
+    ensures complete { (start : Start) (events : List Event) (from : ℕ) (message : Discovery) →
+        is_complete start events ≡ true →
         is_complete start (Heard from message ∷ events) ≡ true }
-    ensures learns { (start : Start) (events : List Event) (from : ℕ) (message : Discovery) → is_complete start events ≡ true →
+    ensures learns { (start : Start) (events : List Event) (from : ℕ) (message : Discovery) →
+        is_complete start events ≡ true →
         learns start events from message ≡ false }
 {}
 
 /// A message of another cluster size, or from the member itself, teaches nothing and is owed nothing.
 pub fn what_does_not_count_changes_nothing()
-    ensures members { (start : Start) (events : List Event) (from : ℕ) (message : Discovery) → counts start from message ≡ false →
+    ensures members { (start : Start) (events : List Event) (from : ℕ) (message : Discovery) →
+        counts start from message ≡ false →
         members start (Heard from message ∷ events) ≡ members start events }
-    ensures owes { (start : Start) (events : List Event) (from : ℕ) (message : Discovery) → counts start from message ≡ false →
+    ensures owes { (start : Start) (events : List Event) (from : ℕ) (message : Discovery) →
+        counts start from message ≡ false →
         owes start (Heard from message ∷ events) ≡ owes start events }
-    ensures learns { (start : Start) (events : List Event) (from : ℕ) (message : Discovery) → counts start from message ≡ false →
+    ensures learns { (start : Start) (events : List Event) (from : ℕ) (message : Discovery) →
+        counts start from message ≡ false →
         learns start events from message ≡ false }
 {}
 
 /// A list that is shorter than the size is owed a Discovery, also where nothing was learnt from it.
 pub fn a_shorter_list_is_owed_a_discovery()
-    ensures { (start : Start) (events : List Event) (from : ℕ) (message : Discovery) → counts start from message ≡ true →
+    ensures { (start : Start) (events : List Event) (from : ℕ) (message : Discovery) →
+        counts start from message ≡ true →
         length message.known.items < start.size → owes start (Heard from message ∷ events) ≡ true }
 {}
 
 /// A Discovery ends what is owed, and the next is not due for 1,000 ms.
 pub fn a_discovery_ends_what_is_owed()
-    ensures owes { (start : Start) (events : List Event) (moment : ℕ) → owes start (Sent moment ∷ events) ≡ false }
-    ensures waits { (start : Start) (events : List Event) (moment now : ℕ) → now < moment + 1000 → is_due start (Sent moment ∷ events) now ≡ false }
+    ensures owes { (start : Start) (events : List Event) (moment : ℕ) →
+        owes start (Sent moment ∷ events) ≡ false }
+    ensures waits { (start : Start) (events : List Event) (moment now : ℕ) → now < moment + 1000 →
+        is_due start (Sent moment ∷ events) now ≡ false }
 {}

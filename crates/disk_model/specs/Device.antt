@@ -31,7 +31,9 @@ pub record IsSynced (old new : Contents) : Type 0 where
   pub settled : IsSettled new
 
 -- these device calls were made in this order, up to the first that failed; they are all made where none did
-abbrev pub Makes : {D : Type 0} → (D → DeviceCall → Bool → D → Type 0) → List DeviceCall → Bool → D → D → Type 0
+abbrev pub Makes : {D : Type 0} → (D → DeviceCall → Bool → D → Type 0) → List DeviceCall → Bool →
+    D → D → Type 0
 Makes does [] ok old new = (ok ≡ true) × (new ≡ old)
 Makes {D} does (call ∷ calls) ok old new =
-    ((ok ≡ false) × does old call false new) ⊎ ((between : D) × does old call true between × Makes does calls ok between new)
+    ((ok ≡ false) × does old call false new)
+    ⊎ ((between : D) × does old call true between × Makes does calls ok between new)

@@ -10,7 +10,8 @@ use Rattle.disk_model.specs.Restart.{restarted_byte}
 use Rattle.outside.specs.declared.pattern.Pattern.{Pattern}
 
 abbrev pub memory_contents : MemoryDisk → Contents
-memory_contents disk = record { seen = disk.seen; stable = disk.stable; written = λ i. slice_index_or disk.touched i false }
+memory_contents disk =
+    record { seen = disk.seen; stable = disk.stable; written = λ i. slice_index_or disk.touched i false }
 
 abbrev pub memory_calls : MemoryDisk → Calls
 memory_calls disk = disk.calls
@@ -34,7 +35,8 @@ pub record DoesInMemory (old : MemoryDisk) (call : DeviceCall) (ok : Bool) (new 
 
 -- a restart leaves the image that the pattern makes, all of it stable, with nothing set to fail
 pub record Restarts (pattern : Pattern) (old new : MemoryDisk) : Type 0 where
-  pub bytes : (i : ℕ) → i < image_size → slice_index (memory_contents new).seen i ≡ restarted_byte pattern (memory_contents old) i
+  pub bytes : (i : ℕ) → i < image_size →
+      slice_index (memory_contents new).seen i ≡ restarted_byte pattern (memory_contents old) i
   pub image : MayLeave (memory_contents old) (memory_contents new).seen
   pub stable : (memory_contents new).stable ≡ (memory_contents new).seen
   pub settled : IsSettled (memory_contents new)

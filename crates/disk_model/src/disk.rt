@@ -31,7 +31,8 @@ pub trait Disk: Drop {
         ensures no_fault { OnOk result (faults self.new ≡ faults self.old) }
         ensures tells { tells self.new ≡ tells self.old }
         ensures contents { tells self.old ≡ true → contents self.new ≡ contents self.old }
-        ensures bytes { OnOk result (tells self.old ≡ true → HasBytes (contents self.old).seen at buf.new) };
+        ensures bytes { OnOk result (tells self.old ≡ true →
+            HasBytes (contents self.old).seen at buf.new) };
 
     /// Writes `bytes` at `at`. One that fails changes at most that range.
     fn write(&mut self, at: usize, bytes: &[u8]) -> Result<(), Failed>
@@ -42,7 +43,8 @@ pub trait Disk: Drop {
         ensures tells { tells self.new ≡ tells self.old }
         ensures outside { tells self.old ≡ true →
             ChangesOnly at (length bytes.now) (contents self.old) (contents self.new) }
-        ensures bytes { OnOk result (tells self.old ≡ true → HasBytes (contents self.new).seen at bytes.now) };
+        ensures bytes { OnOk result (tells self.old ≡ true →
+            HasBytes (contents self.new).seen at bytes.now) };
 
     /// Makes what reads give stable. One that fails changes nothing.
     fn sync(&mut self) -> Result<(), Failed>
@@ -50,8 +52,10 @@ pub trait Disk: Drop {
         ensures cause { HasCause (faults self.old) (faults self.new) result }
         ensures no_fault { OnOk result (faults self.new ≡ faults self.old) }
         ensures tells { tells self.new ≡ tells self.old }
-        ensures synced { OnOk result (tells self.old ≡ true → IsSynced (contents self.old) (contents self.new)) }
-        ensures kept { OnErr result (tells self.old ≡ true → contents self.new ≡ contents self.old) };
+        ensures synced { OnOk result (tells self.old ≡ true →
+            IsSynced (contents self.old) (contents self.new)) }
+        ensures kept { OnErr result (tells self.old ≡ true →
+            contents self.new ≡ contents self.old) };
 
     /// How many calls on it failed.
     fn faults(&self) -> u64

@@ -25,7 +25,8 @@ pub struct MemoryDisk {
     ghost range: { high ≤ image_size },
     ghost below: { (i : ℕ) → i < low → slice_index_or touched i false ≡ false },
     ghost above: { (i : ℕ) → high ≤ i → slice_index_or touched i false ≡ false },
-    ghost agrees: { (i : ℕ) → slice_index_or touched i false ≡ false → slice_index seen i ≡ slice_index stable i },
+    ghost agrees: { (i : ℕ) → slice_index_or touched i false ≡ false →
+        slice_index seen i ≡ slice_index stable i },
 }
 
 impl MemoryDisk {
@@ -113,7 +114,8 @@ impl Disk for MemoryDisk {
         ap (λ calls. calls.faults) done.calls ∙
         ap (λ ok. if ok then old.calls.faults else one_more old.calls.faults) (sym done.answer) };
 
-    ghost sound = { λ d told. record { size = d.stable_size; current = record { size = d.seen_size; kept = d.agrees } } };
+    ghost sound = { λ d told.
+        record { size = d.stable_size; current = record { size = d.seen_size; kept = d.agrees } } };
 
     fn read(&mut self, at: usize, buf: &mut [u8]) -> Result<(), Failed> {
         if !self.calls.count() {

@@ -16,9 +16,11 @@ pub fn unmarked() -> [bool; IMAGE]
 pub fn mark(marks: &mut [bool], from: usize, to: usize)
     requires order { from ≤ to }
     requires fits { to ≤ length marks.old }
-    ensures before { (i : ℕ) → i < from → slice_index_or marks.new i false ≡ slice_index_or marks.old i false }
+    ensures before { (i : ℕ) → i < from →
+        slice_index_or marks.new i false ≡ slice_index_or marks.old i false }
     ensures inside { (i : ℕ) → from ≤ i → i < to → slice_index_or marks.new i false ≡ true }
-    ensures after { (i : ℕ) → to ≤ i → slice_index_or marks.new i false ≡ slice_index_or marks.old i false }
+    ensures after { (i : ℕ) → to ≤ i →
+        slice_index_or marks.new i false ≡ slice_index_or marks.old i false }
 {
     marks[from..to].fill(true);
 }
@@ -26,9 +28,11 @@ pub fn mark(marks: &mut [bool], from: usize, to: usize)
 /// Takes the marks in a range away.
 pub fn unmark(marks: &mut [bool], from: usize, to: usize)
     requires fits { to ≤ length marks.old }
-    ensures before { (i : ℕ) → i < from → slice_index_or marks.new i false ≡ slice_index_or marks.old i false }
+    ensures before { (i : ℕ) → i < from →
+        slice_index_or marks.new i false ≡ slice_index_or marks.old i false }
     ensures inside { (i : ℕ) → from ≤ i → i < to → slice_index_or marks.new i false ≡ false }
-    ensures after { (i : ℕ) → to ≤ i → slice_index_or marks.new i false ≡ slice_index_or marks.old i false }
+    ensures after { (i : ℕ) → to ≤ i →
+        slice_index_or marks.new i false ≡ slice_index_or marks.old i false }
 {
     if from < to {
         marks[from..to].fill(false);
@@ -39,8 +43,10 @@ pub fn unmark(marks: &mut [bool], from: usize, to: usize)
 pub fn overwrite(image: &mut [u8], at: usize, bytes: &[u8])
     requires fits { at + length bytes.now ≤ length image.old }
     ensures before { (i : ℕ) → i < at → slice_index image.new i ≡ slice_index image.old i }
-    ensures inside { (i : ℕ) → i < length bytes.now → slice_index image.new (at + i) ≡ slice_index bytes.now i }
-    ensures after { (i : ℕ) → at + length bytes.now ≤ i → slice_index image.new i ≡ slice_index image.old i }
+    ensures inside { (i : ℕ) → i < length bytes.now →
+        slice_index image.new (at + i) ≡ slice_index bytes.now i }
+    ensures after { (i : ℕ) → at + length bytes.now ≤ i →
+        slice_index image.new i ≡ slice_index image.old i }
 {
     image[at..at + bytes.len()].copy_from_slice(bytes);
 }
@@ -64,8 +70,10 @@ pub fn repeat_over(image: &mut [u8], marks: &[bool], pattern: &[u8])
     requires size { length marks.now ≡ length image.old }
     requires some { 0 < length pattern.now }
     ensures marked { (i : ℕ) → i < length image.old → slice_index_or marks.now i false ≡ true →
-        slice_index image.new i ≡ repeated pattern.now (run_start (λ k. slice_index_or marks.now k false) i) i }
-    ensures others { (i : ℕ) → slice_index_or marks.now i false ≡ false → slice_index image.new i ≡ slice_index image.old i }
+        slice_index image.new i
+        ≡ repeated pattern.now (run_start (λ k. slice_index_or marks.now k false) i) i }
+    ensures others { (i : ℕ) → slice_index_or marks.now i false ≡ false →
+        slice_index image.new i ≡ slice_index image.old i }
 {
     let mut start = 0;
     for i in 0..marks.len() {

@@ -21,4 +21,5 @@ pub record SpellsDiscovery (discovery : Discovery) (bytes : List ℕ) : Type 0 w
 -- the value of bytes, where they are some value's
 abbrev pub discovery_of : List ℕ → Option Discovery
 discovery_of [] = None
-discovery_of (size ∷ rest) = cond (nat_le (length rest) 5) (Some (record { size = size; known = record { items = rest } })) None
+discovery_of (size ∷ rest) =
+    cond (nat_le (length rest) 5) (Some (record { size = size; known = record { items = rest } })) None

@@ -40,7 +40,11 @@ pub record SpellsOptionalEntry (entry : Option Entry) (bytes : List ℕ) : Type 
 -- the entry of bytes, where they are some entry's
 abbrev pub entry_of : List ℕ → Option Entry
 entry_of (a ∷ b ∷ c ∷ d ∷ rest) = cond (nat_eq (length rest) 17)
-    (Some (record { term = from_le_bytes w32 (a ∷ b ∷ c ∷ d ∷ []); uid = take 16 rest; node = slice_index_or rest 16 0 % 128 }))
+    (Some (record {
+      term = from_le_bytes w32 (a ∷ b ∷ c ∷ d ∷ []);
+      uid = take 16 rest;
+      node = slice_index_or rest 16 0 % 128;
+    }))
     None
 entry_of _ = None
 

@@ -24,10 +24,18 @@ pub record IsNodeInfo (info : NodeInfo) : Type 0 where
 
 -- the two versions in a value
 abbrev pub software_in : NodeInfo → SoftwareVersion
-software_in info = record { major = info.sw_major; minor = info.sw_minor; flags = info.sw_flags; commit = info.sw_commit; crc = info.sw_crc }
+software_in info =
+    (record {
+      major = info.sw_major;
+      minor = info.sw_minor;
+      flags = info.sw_flags;
+      commit = info.sw_commit;
+      crc = info.sw_crc;
+    })
 
 abbrev pub hardware_in : NodeInfo → HardwareVersion
-hardware_in info = record { major = info.hw_major; minor = info.hw_minor; uid = info.uid; certificate = info.certificate }
+hardware_in info =
+    record { major = info.hw_major; minor = info.hw_minor; uid = info.uid; certificate = info.certificate }
 
 -- the bytes of a value
 abbrev pub node_info_bytes : NodeInfo → List ℕ

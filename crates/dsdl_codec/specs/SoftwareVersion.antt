@@ -24,11 +24,13 @@ pub record SpellsSoftwareVersion (version : SoftwareVersion) (bytes : List ℕ) 
 
 -- the value of bytes, where they are some value's
 abbrev pub software_version_of : List ℕ → Option SoftwareVersion
-software_version_of (major ∷ minor ∷ flags ∷ a ∷ b ∷ c ∷ d ∷ e ∷ f ∷ g ∷ h ∷ i ∷ j ∷ k ∷ l ∷ []) = Some (record {
-  major = major;
-  minor = minor;
-  flags = flags;
-  commit = from_le_bytes w32 (a ∷ b ∷ c ∷ d ∷ []);
-  crc = from_le_bytes w64 (e ∷ f ∷ g ∷ h ∷ i ∷ j ∷ k ∷ l ∷ []);
-})
+software_version_of
+    (major ∷ minor ∷ flags ∷ a ∷ b ∷ c ∷ d ∷ e ∷ f ∷ g ∷ h ∷ i ∷ j ∷ k ∷ l ∷ []) =
+    Some (record {
+      major = major;
+      minor = minor;
+      flags = flags;
+      commit = from_le_bytes w32 (a ∷ b ∷ c ∷ d ∷ []);
+      crc = from_le_bytes w64 (e ∷ f ∷ g ∷ h ∷ i ∷ j ∷ k ∷ l ∷ []);
+    })
 software_version_of _ = None

@@ -20,5 +20,6 @@ pub record SpellsVerdict (term : ℕ) (flag : Bool) (bytes : List ℕ) : Type 0 
 
 -- the term and the flag of bytes
 abbrev pub verdict_of : List ℕ → Option (ℕ × Bool)
-verdict_of (a ∷ b ∷ c ∷ d ∷ state ∷ []) = Some (from_le_bytes w32 (a ∷ b ∷ c ∷ d ∷ []), nat_le 128 state)
+verdict_of (a ∷ b ∷ c ∷ d ∷ state ∷ []) =
+    Some (from_le_bytes w32 (a ∷ b ∷ c ∷ d ∷ []), nat_le 128 state)
 verdict_of _ = None

@@ -13,7 +13,8 @@ pub record IsVoteRequest (request : VoteRequest) : Type 0 where
 
 -- the bytes of a value
 abbrev pub vote_request_bytes : VoteRequest → List ℕ
-vote_request_bytes request = to_le_bytes w32 request.term ++ to_le_bytes w32 request.last_term ++ request.last_index ∷ []
+vote_request_bytes request =
+    to_le_bytes w32 request.term ++ to_le_bytes w32 request.last_term ++ request.last_index ∷ []
 
 -- these are the bytes of the value
 pub record SpellsVoteRequest (request : VoteRequest) (bytes : List ℕ) : Type 0 where

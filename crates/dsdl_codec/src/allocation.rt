@@ -26,8 +26,10 @@ impl Allocation {
     pub fn read(payload: &[u8]) -> Option<Allocation>
         ensures value { result ≡ allocation_of payload.now }
         ensures found { IfSome result (λ allocation. SpellsAllocation allocation payload.now) }
-        ensures none { IsNone result → (allocation : Allocation) → SpellsAllocation allocation payload.now → ⊥ }
-        ensures only { (allocation : Allocation) → SpellsAllocation allocation payload.now → result ≡ Some allocation }
+        ensures none { IsNone result → (allocation : Allocation) →
+            SpellsAllocation allocation payload.now → ⊥ }
+        ensures only { (allocation : Allocation) → SpellsAllocation allocation payload.now →
+            result ≡ Some allocation }
     {
         let (first, rest) = payload.split_first()?;
         Some(Allocation {

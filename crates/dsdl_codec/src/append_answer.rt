@@ -22,8 +22,10 @@ impl AppendAnswer {
     pub fn read(payload: &[u8]) -> Option<AppendAnswer>
         ensures value { result ≡ append_answer_of payload.now }
         ensures found { IfSome result (λ answer. SpellsAppendAnswer answer payload.now) }
-        ensures none { IsNone result → (answer : AppendAnswer) → SpellsAppendAnswer answer payload.now → ⊥ }
-        ensures only { (answer : AppendAnswer) → SpellsAppendAnswer answer payload.now → result ≡ Some answer }
+        ensures none { IsNone result → (answer : AppendAnswer) →
+            SpellsAppendAnswer answer payload.now → ⊥ }
+        ensures only { (answer : AppendAnswer) → SpellsAppendAnswer answer payload.now →
+            result ≡ Some answer }
     {
         let (term, success) = verdict::read(payload)?;
         Some(AppendAnswer { term, success })

@@ -32,8 +32,10 @@ impl AppendRequest {
     pub fn read(payload: &[u8]) -> Option<AppendRequest>
         ensures value { result ≡ append_request_of payload.now }
         ensures found { IfSome result (λ request. SpellsAppendRequest request payload.now) }
-        ensures none { IsNone result → (request : AppendRequest) → SpellsAppendRequest request payload.now → ⊥ }
-        ensures only { (request : AppendRequest) → SpellsAppendRequest request payload.now → result ≡ Some request }
+        ensures none { IsNone result → (request : AppendRequest) →
+            SpellsAppendRequest request payload.now → ⊥ }
+        ensures only { (request : AppendRequest) → SpellsAppendRequest request payload.now →
+            result ≡ Some request }
     {
         let [a, b, c, d, e, f, g, h, prev_index, commit, rest @ ..] = payload else {
             return None;
@@ -53,7 +55,8 @@ impl AppendRequest {
         requires { IfSome self.now.entry (λ entry. entry.node < 128) }
         ensures bytes { result.items ≡ append_request_bytes self.now 0 }
         ensures spelled { SpellsAppendRequest self.now result.items }
-        ensures length { MatchOption self.now.entry (array_vec_len result ≡ 10) (λ _. array_vec_len result ≡ 31) }
+        ensures length { MatchOption self.now.entry (array_vec_len result ≡ 10)
+            (λ _. array_vec_len result ≡ 31) }
     {
         let mut payload = Payload::new();
         append(&mut payload, &self.term.to_le_bytes());

@@ -22,8 +22,10 @@ impl Discovery {
     pub fn read(payload: &[u8]) -> Option<Discovery>
         ensures value { result ≡ discovery_of payload.now }
         ensures found { IfSome result (λ discovery. SpellsDiscovery discovery payload.now) }
-        ensures none { IsNone result → (discovery : Discovery) → SpellsDiscovery discovery payload.now → ⊥ }
-        ensures only { (discovery : Discovery) → SpellsDiscovery discovery payload.now → result ≡ Some discovery }
+        ensures none { IsNone result → (discovery : Discovery) →
+            SpellsDiscovery discovery payload.now → ⊥ }
+        ensures only { (discovery : Discovery) → SpellsDiscovery discovery payload.now →
+            result ≡ Some discovery }
     {
         let (size, known) = payload.split_first()?;
         Some(Discovery {

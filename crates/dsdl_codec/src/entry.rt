@@ -31,7 +31,8 @@ pub fn read_entry(bytes: &[u8]) -> Option<Entry>
 pub fn read_optional_entry(bytes: &[u8]) -> Option<Option<Entry>>
     ensures value { result ≡ optional_entry_of bytes.now }
     ensures found { IfSome result (λ entry. SpellsOptionalEntry entry bytes.now) }
-    ensures only { (entry : Option Entry) → SpellsOptionalEntry entry bytes.now → result ≡ Some entry }
+    ensures only { (entry : Option Entry) → SpellsOptionalEntry entry bytes.now →
+        result ≡ Some entry }
 {
     if bytes.is_empty() {
         return Some(None);

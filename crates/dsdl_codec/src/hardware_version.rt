@@ -18,8 +18,10 @@ impl HardwareVersion {
 
     /// The value that the bytes begin with, and the bytes behind it.
     pub fn read(bytes: &[u8]) -> Option<(HardwareVersion, &[u8])>
-        ensures found { IfSome result (λ read. BeginsWithHardwareVersion read.0 read.1.now bytes.now) }
-        ensures only { (version : HardwareVersion) (left : List ℕ) → BeginsWithHardwareVersion version left bytes.now →
+        ensures found { IfSome result
+            (λ read. BeginsWithHardwareVersion read.0 read.1.now bytes.now) }
+        ensures only { (version : HardwareVersion) (left : List ℕ) →
+            BeginsWithHardwareVersion version left bytes.now →
             IsSomeAnd result (λ read. (read.0 ≡ version) × (read.1.now ≡ left)) }
         ensures short { IsNone result → length bytes.now < 19 + slice_index_or bytes.now 18 0 }
     {

@@ -75,7 +75,8 @@ impl NodeInfo {
         requires sub_mode { self.now.status.sub_mode < 8 }
         ensures bytes { result.items ≡ node_info_bytes self.now }
         ensures spelled { SpellsNodeInfo self.now result.items }
-        ensures length { array_vec_len result ≡ 41 + array_vec_len self.now.certificate + array_vec_len self.now.name }
+        ensures length { array_vec_len result ≡ 41 + array_vec_len self.now.certificate
+            + array_vec_len self.now.name }
     {
         let mut payload = self.status.write();
         append(&mut payload, &[self.sw_major, self.sw_minor, self.sw_flags]);

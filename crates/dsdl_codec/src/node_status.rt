@@ -29,8 +29,10 @@ impl NodeStatus {
     pub fn read(payload: &[u8]) -> Option<NodeStatus>
         ensures value { result ≡ node_status_of payload.now }
         ensures found { IfSome result (λ status. SpellsNodeStatus status payload.now) }
-        ensures none { IsNone result → (status : NodeStatus) → SpellsNodeStatus status payload.now → ⊥ }
-        ensures only { (status : NodeStatus) → SpellsNodeStatus status payload.now → result ≡ Some status }
+        ensures none { IsNone result → (status : NodeStatus) →
+            SpellsNodeStatus status payload.now → ⊥ }
+        ensures only { (status : NodeStatus) → SpellsNodeStatus status payload.now →
+            result ≡ Some status }
     {
         let bytes = <[u8; 7]>::try_from(payload).ok()?;
         Some(NodeStatus::from_bytes(&bytes))

@@ -15,7 +15,8 @@ impl SoftwareVersion {
 
     pub fn from_bytes(bytes: &[u8; 15]) -> SoftwareVersion
         ensures found { SpellsSoftwareVersion result bytes.now }
-        ensures only { (version : SoftwareVersion) → SpellsSoftwareVersion version bytes.now → result ≡ version }
+        ensures only { (version : SoftwareVersion) → SpellsSoftwareVersion version bytes.now →
+            result ≡ version }
     {
         let [major, minor, flags, a, b, c, d, e, f, g, h, i, j, k, l] = *bytes;
         SoftwareVersion {

@@ -10,7 +10,8 @@ use crate::payload::{Payload, append};
 pub fn read(payload: &[u8]) -> Option<(u32, bool)>
     ensures value { result ≡ verdict_of payload.now }
     ensures found { IfSome result (λ verdict. SpellsVerdict verdict.0 verdict.1 payload.now) }
-    ensures only { (term : ℕ) (flag : Bool) → SpellsVerdict term flag payload.now → result ≡ Some (term, flag) }
+    ensures only { (term : ℕ) (flag : Bool) → SpellsVerdict term flag payload.now →
+        result ≡ Some (term, flag) }
 {
     let [a, b, c, d, state] = payload else {
         return None;

@@ -22,8 +22,10 @@ impl VoteAnswer {
     pub fn read(payload: &[u8]) -> Option<VoteAnswer>
         ensures value { result ≡ vote_answer_of payload.now }
         ensures found { IfSome result (λ answer. SpellsVoteAnswer answer payload.now) }
-        ensures none { IsNone result → (answer : VoteAnswer) → SpellsVoteAnswer answer payload.now → ⊥ }
-        ensures only { (answer : VoteAnswer) → SpellsVoteAnswer answer payload.now → result ≡ Some answer }
+        ensures none { IsNone result → (answer : VoteAnswer) →
+            SpellsVoteAnswer answer payload.now → ⊥ }
+        ensures only { (answer : VoteAnswer) → SpellsVoteAnswer answer payload.now →
+            result ≡ Some answer }
     {
         let (term, granted) = verdict::read(payload)?;
         Some(VoteAnswer { term, granted })

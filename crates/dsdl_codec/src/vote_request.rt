@@ -24,8 +24,10 @@ impl VoteRequest {
     pub fn read(payload: &[u8]) -> Option<VoteRequest>
         ensures value { result ≡ vote_request_of payload.now }
         ensures found { IfSome result (λ request. SpellsVoteRequest request payload.now) }
-        ensures none { IsNone result → (request : VoteRequest) → SpellsVoteRequest request payload.now → ⊥ }
-        ensures only { (request : VoteRequest) → SpellsVoteRequest request payload.now → result ≡ Some request }
+        ensures none { IsNone result → (request : VoteRequest) →
+            SpellsVoteRequest request payload.now → ⊥ }
+        ensures only { (request : VoteRequest) → SpellsVoteRequest request payload.now →
+            result ≡ Some request }
     {
         let [a, b, c, d, e, f, g, h, last_index] = payload else {
             return None;

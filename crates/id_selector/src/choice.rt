@@ -31,7 +31,9 @@ fn counted(preferred: u8) -> u8
 fn first_free(taken: &[bool; 128], from: u8) -> Option<NodeId>
     requires least { 1 ≤ from }
     requires most { from ≤ 125 }
-    ensures { result ≡ option_or (find (is_free taken.now) (upwards from)) (find (is_free taken.now) (downwards (from - 1))) }
+    ensures { result
+        ≡ option_or (find (is_free taken.now) (upwards from))
+        (find (is_free taken.now) (downwards (from - 1))) }
 {
     first_up(taken, from).or_else(|| first_down(taken, from))
 }

@@ -60,7 +60,8 @@ copy_bytes value = length value ∷ value ++ replicate (value_limit - length val
 
 -- the device calls of a put: the copy that is not chosen, a sync, the selector that chooses it, a sync
 abbrev pub put_calls : ℕ → ℕ → List ℕ → List DeviceCall
-put_calls key copy value = Write (copy_start key copy) (copy_bytes value) ∷ Sync ∷ Write (67 * key) (copy ∷ []) ∷ Sync ∷ []
+put_calls key copy value =
+    Write (copy_start key copy) (copy_bytes value) ∷ Sync ∷ Write (67 * key) (copy ∷ []) ∷ Sync ∷ []
 
 -- the device calls of an opening: what reads give becomes stable, and is read
 abbrev pub open_calls : List DeviceCall

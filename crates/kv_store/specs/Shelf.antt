@@ -49,7 +49,8 @@ keeps (Bytes bytes) copy = (slice_index bytes.items 0 % 2) == copy
 module _ {S : Type 0} where
   -- the shelf after a selector was turned
   abbrev pub turned_to : ℕ → S → Shelf S → Option (Loose S) → Calls → Shelf S
-  turned_to key store shelf loose calls = record { store = store; copies = turned key shelf.copies; loose = loose; calls = calls }
+  turned_to key store shelf loose calls =
+      record { store = store; copies = turned key shelf.copies; loose = loose; calls = calls }
 
   -- a put at a key, after which this is stored: it writes the copy, syncs, writes the selector, which turns
   -- it, and syncs, up to the first that fails
@@ -58,16 +59,19 @@ module _ {S : Type 0} where
       if not (acts shelf.calls) then record shelf { calls = after_call shelf.calls }
       else if not (acts (after_call shelf.calls)) then record shelf { calls = after_two shelf.calls }
       else if not (acts (after_two shelf.calls)) then record shelf { calls = after_three shelf.calls }
-      else turned_to key after shelf (if acts (after_three shelf.calls) then None else Some (record { key = key; before = shelf.store })) (after_call (after_three shelf.calls))
+      else turned_to key after shelf (if acts (after_three shelf.calls) then None
+      else Some (record { key = key; before = shelf.store })) (after_call (after_three shelf.calls))
 
   -- an opening: it syncs and reads
   abbrev pub opened_on : Shelf S → Shelf S
-  opened_on shelf = if acts shelf.calls then record shelf { loose = None; calls = after_two shelf.calls } else record shelf { calls = after_call shelf.calls }
+  opened_on shelf = if acts shelf.calls then record shelf { loose = None; calls = after_two shelf.calls }
+      else record shelf { calls = after_call shelf.calls }
 
   -- what a restart with this pattern makes of a loose selector
   abbrev pub settled_by : Pattern → Option (Loose S) → Shelf S → Shelf S
   settled_by pattern None shelf = record shelf { loose = None }
-  settled_by pattern (Some loose) shelf = if keeps pattern (shelf.copies loose.key) then record shelf { loose = None } else turned_to loose.key loose.before shelf None shelf.calls
+  settled_by pattern (Some loose) shelf = if keeps pattern (shelf.copies loose.key) then record shelf { loose = None }
+      else turned_to loose.key loose.before shelf None shelf.calls
 
   -- a restart: nothing is set to fail, and a selector that was not synced is kept or lost
   abbrev pub restarted_on : Pattern → Shelf S → Shelf S
@@ -80,10 +84,13 @@ pub record Shows (image : List ℕ) (map : ℕ → List ℕ) (copies : ℕ → �
 
 -- of what was written and not synced the selector of this key alone matters: an image that a stop may
 -- leave stands for the one map or for the other, as that selector says
-pub record IsLoose (disk : Contents) (map : ℕ → List ℕ) (copies : ℕ → ℕ) (loose : Loose (ℕ → List ℕ)) : Type 0 where
+pub record IsLoose (disk : Contents) (map : ℕ → List ℕ) (copies : ℕ → ℕ)
+    (loose : Loose (ℕ → List ℕ)) : Type 0 where
   pub exists : loose.key < key_count
-  pub kept : (image : List ℕ) → MayLeave disk image → chosen_copy image loose.key ≡ copies loose.key → Shows image map copies
-  pub lost : (image : List ℕ) → MayLeave disk image → chosen_copy image loose.key ≡ 1 - copies loose.key → Shows image loose.before (turned loose.key copies)
+  pub kept : (image : List ℕ) → MayLeave disk image → chosen_copy image loose.key ≡ copies loose.key →
+      Shows image map copies
+  pub lost : (image : List ℕ) → MayLeave disk image → chosen_copy image loose.key ≡ 1 - copies loose.key →
+      Shows image loose.before (turned loose.key copies)
   pub stable : chosen_copy disk.stable loose.key ≡ 1 - copies loose.key
   pub written : disk.written (67 * loose.key) ≡ true
   pub alone : run_start disk.written (67 * loose.key) ≡ 67 * loose.key
@@ -93,7 +100,8 @@ pub record IsOn (disk : MemoryDisk) (shelf : Shelf (ℕ → List ℕ)) : Type 0 
   pub calls : memory_calls disk ≡ shelf.calls
   pub bits : (key : ℕ) → shelf.copies key < 2
   pub seen : Shows (memory_contents disk).seen shelf.store shelf.copies
-  pub firm : shelf.loose ≡ None → (image : List ℕ) → MayLeave (memory_contents disk) image → Shows image shelf.store shelf.copies
+  pub firm : shelf.loose ≡ None → (image : List ℕ) → MayLeave (memory_contents disk) image →
+      Shows image shelf.store shelf.copies
   pub loose : IfSome shelf.loose (λ loose. IsLoose (memory_contents disk) shelf.store shelf.copies loose)
 
 -- and nothing waits for a sync

@@ -19,13 +19,16 @@ use disk_model::Disk;
 pub fn an_image_stands_for_one_map()
     ensures map { (image : List ℕ) (a b : ℕ → List ℕ) → StandsFor image a → StandsFor image b →
         (key : ℕ) → key < key_count → a key ≡ b key }
-    ensures damaged { (image : List ℕ) (a b : ℕ) → IsFirstDamaged image a → IsFirstDamaged image b → a ≡ b }
-    ensures either { (image : List ℕ) (map : ℕ → List ℕ) (key : ℕ) → StandsFor image map → IsFirstDamaged image key → ⊥ }
+    ensures damaged { (image : List ℕ) (a b : ℕ) → IsFirstDamaged image a →
+        IsFirstDamaged image b → a ≡ b }
+    ensures either { (image : List ℕ) (map : ℕ → List ℕ) (key : ℕ) → StandsFor image map →
+        IsFirstDamaged image key → ⊥ }
 {}
 
 /// Whatever a stop leaves of the disk of a store stands for its map, while no put has failed.
 pub fn a_store_is_durable<D: Disk>()
-    ensures { (store : Store D D.Disk) → store_fault store ≡ None → D.tells (store_disk store) ≡ true →
+    ensures { (store : Store D D.Disk) → store_fault store ≡ None →
+        D.tells (store_disk store) ≡ true →
         AlwaysStandsFor (D.contents (store_disk store)) (store_map store) }
 {}
 
@@ -33,19 +36,27 @@ pub fn a_store_is_durable<D: Disk>()
 /// after a put, an opening, a restart and a change of its settings, and these device calls succeed exactly
 /// where the shelf says.
 pub fn the_disk_by_keys()
-    ensures put { (old new : MemoryDisk) (shelf : Shelf (ℕ → List ℕ)) (key : ℕ) (value : List ℕ) (ok : Bool) →
+    ensures put { (old new : MemoryDisk) (shelf : Shelf (ℕ → List ℕ)) (key : ℕ) (value : List ℕ)
+        (ok : Bool) →
         IsReady old shelf → key < key_count → length value ≤ value_limit →
         Makes DoesInMemory (put_calls key (1 - shelf.copies key) value) ok old new →
         let after = put_on key (put_in shelf.store key value) shelf in
         IsOn new after × (ok ≡ is_put shelf.calls) × (ok ≡ true → IsReady new after) }
-    ensures opened { (old new : MemoryDisk) (shelf : Shelf (ℕ → List ℕ)) (ok : Bool) → IsOn old shelf →
+    ensures opened { (old new : MemoryDisk) (shelf : Shelf (ℕ → List ℕ)) (ok : Bool) →
+        IsOn old shelf →
         Makes DoesInMemory open_calls ok old new →
-        IsOn new (opened_on shelf) × (ok ≡ is_opened shelf.calls) × (ok ≡ true → IsReady new (opened_on shelf)) }
-    ensures restarted { (old new : MemoryDisk) (shelf : Shelf (ℕ → List ℕ)) (pattern : Pattern) → IsOn old shelf → IsUsable pattern →
+        IsOn new (opened_on shelf) × (ok ≡ is_opened shelf.calls)
+        × (ok ≡ true → IsReady new (opened_on shelf)) }
+    ensures restarted { (old new : MemoryDisk) (shelf : Shelf (ℕ → List ℕ)) (pattern : Pattern) →
+        IsOn old shelf → IsUsable pattern →
         Restarts pattern old new → IsReady new (restarted_on pattern shelf) }
-    ensures set { (old new : MemoryDisk) (shelf : Shelf (ℕ → List ℕ)) (calls : Calls) → IsOn old shelf →
-        memory_contents new ≡ memory_contents old → memory_calls new ≡ calls → IsOn new (record shelf { calls = calls }) }
+    ensures set { (old new : MemoryDisk) (shelf : Shelf (ℕ → List ℕ)) (calls : Calls) →
+        IsOn old shelf →
+        memory_contents new ≡ memory_contents old → memory_calls new ≡ calls →
+        IsOn new (record shelf { calls = calls }) }
     ensures begun { (disk : MemoryDisk) (map : ℕ → List ℕ) (copies : ℕ → ℕ) →
-        Shows (memory_contents disk).seen map copies → ((key : ℕ) → copies key < 2) → IsSettled (memory_contents disk) →
-        IsReady disk (record { store = map; copies = copies; loose = None; calls = memory_calls disk }) }
+        Shows (memory_contents disk).seen map copies → ((key : ℕ) → copies key < 2) →
+        IsSettled (memory_contents disk) →
+        IsReady disk
+        (record { store = map; copies = copies; loose = None; calls = memory_calls disk }) }
 {}

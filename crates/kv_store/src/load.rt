@@ -12,7 +12,8 @@ pub fn load<D: Disk>(disk: &mut D, image: &mut [u8; IMAGE]) -> Result<(), Failed
     ensures made { Makes D.does open_calls (is_ok result) disk.old disk.new }
     ensures image { OnOk result (D.tells disk.old ≡ true → image.new ≡ (D.contents disk.old).seen) }
     ensures settled { OnOk result (D.tells disk.old ≡ true → IsSettled (D.contents disk.new)) }
-    ensures images { D.tells disk.old ≡ true → AddsNoImage (D.contents disk.old) (D.contents disk.new) }
+    ensures images { D.tells disk.old ≡ true →
+        AddsNoImage (D.contents disk.old) (D.contents disk.new) }
     ensures cause { HasCause (D.faults disk.old) (D.faults disk.new) result }
     ensures tells { D.tells disk.new ≡ D.tells disk.old }
 {

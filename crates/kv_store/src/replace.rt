@@ -14,20 +14,26 @@ pub fn replace<D: Disk>(disk: &mut D, key: usize, copy: u8, value: &Value) -> Re
     requires key { key < key_count }
     requires short { array_vec_len value.now ≤ value_limit }
     requires copy { copy < 2 }
-    requires other { D.tells disk.old ≡ true → chosen_copy (D.contents disk.old).seen key ≡ 1 - copy }
+    requires other { D.tells disk.old ≡ true →
+        chosen_copy (D.contents disk.old).seen key ≡ 1 - copy }
     requires settled { D.tells disk.old ≡ true → IsSettled (D.contents disk.old) }
-    ensures made { Makes D.does (put_calls key copy value.now.items) (is_ok result) disk.old disk.new }
+    ensures made { Makes D.does (put_calls key copy value.now.items)
+        (is_ok result) disk.old disk.new }
     ensures cause { HasCause (D.faults disk.old) (D.faults disk.new) result }
     ensures tells { D.tells disk.new ≡ D.tells disk.old }
 
     // A stop at any moment leaves the old map or the new one.
-    ensures stop { D.tells disk.old ≡ true → (map : ℕ → List ℕ) → StandsFor (D.contents disk.old).seen map →
-        (image : List ℕ) → MayLeave (D.contents disk.new) image → StandsFor image map ⊎ StandsFor image (put_in map key value.now.items) }
+    ensures stop { D.tells disk.old ≡ true → (map : ℕ → List ℕ) →
+        StandsFor (D.contents disk.old).seen map →
+        (image : List ℕ) → MayLeave (D.contents disk.new) image → StandsFor image map
+        ⊎ StandsFor image (put_in map key value.now.items) }
 
     // Once it has succeeded, reads give the new one, and nothing waits for a sync.
-    ensures map { OnOk result (D.tells disk.old ≡ true → (map : ℕ → List ℕ) → StandsFor (D.contents disk.old).seen map →
+    ensures map { OnOk result (D.tells disk.old ≡ true → (map : ℕ → List ℕ) →
+        StandsFor (D.contents disk.old).seen map →
         StandsFor (D.contents disk.new).seen (put_in map key value.now.items)) }
-    ensures chosen { OnOk result (D.tells disk.old ≡ true → chosen_copy (D.contents disk.new).seen key ≡ copy) }
+    ensures chosen { OnOk result (D.tells disk.old ≡ true →
+        chosen_copy (D.contents disk.new).seen key ≡ copy) }
     ensures others { OnOk result (D.tells disk.old ≡ true → (k : ℕ) → k ≢ key →
         chosen_copy (D.contents disk.new).seen k ≡ chosen_copy (D.contents disk.old).seen k) }
     ensures settled { OnOk result (D.tells disk.old ≡ true → IsSettled (D.contents disk.new)) }

@@ -23,7 +23,8 @@ pub struct Store<D: Disk> {
 
     /// The fault of the put that failed, if one did.
     failed: Option<Fault>,
-    ghost holds: { failed ≡ None → D.tells disk ≡ true → Holds (D.contents disk) (table_map table) (table_copy table) },
+    ghost holds: { failed ≡ None → D.tells disk ≡ true →
+        Holds (D.contents disk) (table_map table) (table_copy table) },
 }
 
 impl<D: Disk> Store<D> {
@@ -35,23 +36,29 @@ impl<D: Disk> Store<D> {
     /// The store that the disk holds, found by a sync and one read.
     pub fn open(mut disk: D) -> Result<Store<D>, OpenRefused<D>>
         // The map is that of what reads give, and of whatever a stop may leave from now on.
-        ensures map { IfOk result (λ store. D.tells disk ≡ true → StandsFor (D.contents disk).seen (store_map store)) }
-        ensures durable { IfOk result (λ store. D.tells disk ≡ true → AlwaysStandsFor (D.contents (store_disk store)) (store_map store)) }
+        ensures map { IfOk result (λ store. D.tells disk ≡ true →
+            StandsFor (D.contents disk).seen (store_map store)) }
+        ensures durable { IfOk result (λ store. D.tells disk ≡ true →
+            AlwaysStandsFor (D.contents (store_disk store)) (store_map store)) }
         ensures copies { IfOk result (λ store. D.tells disk ≡ true → (key : ℕ) → key < key_count →
             store_copy store key ≡ chosen_copy (D.contents disk).seen key) }
         ensures works { IfOk result (λ store. store_fault store ≡ None) }
 
         // It refuses a disk of which a key is damaged, and one that failed in this call.
-        ensures damaged { IfErr result (λ refused. (key : ℕ) → refused.why ≡ Damaged key → D.tells disk ≡ true →
+        ensures damaged { IfErr result (λ refused. (key : ℕ) → refused.why ≡ Damaged key →
+            D.tells disk ≡ true →
             IsFirstDamaged (D.contents disk).seen key) }
         ensures fault { IfErr result (λ refused. (fault : Fault) → refused.why ≡ DiskFault fault →
             (fault.count ≡ D.faults refused.disk) × Rose (D.faults disk) (D.faults refused.disk)) }
 
         // It adds no image, also where it refuses.
-        ensures images { IfOk result (λ store. D.tells disk ≡ true → AddsNoImage (D.contents disk) (D.contents (store_disk store))) }
-        ensures refused { IfErr result (λ refused. D.tells disk ≡ true → AddsNoImage (D.contents disk) (D.contents refused.disk)) }
+        ensures images { IfOk result (λ store. D.tells disk ≡ true →
+            AddsNoImage (D.contents disk) (D.contents (store_disk store))) }
+        ensures refused { IfErr result (λ refused. D.tells disk ≡ true →
+            AddsNoImage (D.contents disk) (D.contents refused.disk)) }
         ensures made { IfOk result (λ store. Makes D.does open_calls true disk (store_disk store)) }
-        ensures refused_made { IfErr result (λ refused. Makes D.does open_calls (was_read refused.why) disk refused.disk) }
+        ensures refused_made { IfErr result
+            (λ refused. Makes D.does open_calls (was_read refused.why) disk refused.disk) }
         ensures tells { IfOk result (λ store. D.tells (store_disk store) ≡ D.tells disk) }
         ensures refused_tells { IfErr result (λ refused. D.tells refused.disk ≡ D.tells disk) }
         ensures later { IfOk result (λ store. D.faults disk ≤ D.faults (store_disk store)) }
@@ -93,28 +100,36 @@ impl<D: Disk> Store<D> {
     pub fn put(&mut self, key: u8, value: &Value) -> Result<(), Fault>
         requires key { key < key_count }
         requires short { array_vec_len value.now ≤ value_limit }
-        ensures put { OnOk result ((k : ℕ) → store_map self.new k ≡ put_in (store_map self.old) key value.now.items k) }
+        ensures put { OnOk result ((k : ℕ) →
+            store_map self.new k ≡ put_in (store_map self.old) key value.now.items k) }
         ensures same { OnErr result (store_map self.new ≡ store_map self.old) }
 
         // A stop at any moment of the call leaves the old map or the new one.
         ensures stop { store_fault self.old ≡ None → D.tells (store_disk self.old) ≡ true →
             (image : List ℕ) → MayLeave (D.contents (store_disk self.new)) image →
-            StandsFor image (store_map self.old) ⊎ StandsFor image (put_in (store_map self.old) key value.now.items) }
+            StandsFor image (store_map self.old)
+            ⊎ StandsFor image (put_in (store_map self.old) key value.now.items) }
 
         // Once it has succeeded, a stop leaves the new map alone.
-        ensures durable { OnOk result (D.tells (store_disk self.old) ≡ true → AlwaysStandsFor (D.contents (store_disk self.new)) (store_map self.new)) }
+        ensures durable { OnOk result (D.tells (store_disk self.old) ≡ true →
+            AlwaysStandsFor (D.contents (store_disk self.new)) (store_map self.new)) }
 
         // A fault has a cause in this call, or was there before; it is kept.
         ensures cause { store_fault self.old ≡ None → IfErr result (λ fault.
-            (fault.count ≡ D.faults (store_disk self.new)) × Rose (D.faults (store_disk self.old)) (D.faults (store_disk self.new))) }
-        ensures closed { IfSome (store_fault self.old) (λ fault. (result ≡ Err fault) × (self.new ≡ self.old)) }
+            (fault.count ≡ D.faults (store_disk self.new))
+            × Rose (D.faults (store_disk self.old)) (D.faults (store_disk self.new))) }
+        ensures closed { IfSome (store_fault self.old) (λ fault. (result ≡ Err fault)
+            × (self.new ≡ self.old)) }
         ensures kept { IfErr result (λ fault. store_fault self.new ≡ Some fault) }
         ensures works { OnOk result (store_fault self.new ≡ None) }
 
         // These device calls were made, up to the first that failed.
         ensures made { store_fault self.old ≡ None →
-            Makes D.does (put_calls key (1 - store_copy self.old key) value.now.items) (is_ok result) (store_disk self.old) (store_disk self.new) }
-        ensures copies { OnOk result ((k : ℕ) → store_copy self.new k ≡ turned key (store_copy self.old) k) }
+            Makes D.does (put_calls key (1 - store_copy self.old key) value.now.items)
+            (is_ok result)
+            (store_disk self.old) (store_disk self.new) }
+        ensures copies { OnOk result ((k : ℕ) →
+            store_copy self.new k ≡ turned key (store_copy self.old) k) }
         ensures same_copies { OnErr result (store_copy self.new ≡ store_copy self.old) }
         ensures tells { D.tells (store_disk self.new) ≡ D.tells (store_disk self.old) }
         ensures later { D.faults (store_disk self.old) ≤ D.faults (store_disk self.new) }
@@ -152,8 +167,10 @@ impl Store<MemoryDisk> {
 
     /// `MemoryDisk::stop_at` of the disk. All else stays.
     pub fn stop_at(&mut self, call: u64)
-        ensures calls { memory_calls (store_disk self.new) ≡ record (memory_calls (store_disk self.old)) { stop_in = call } }
-        ensures contents { memory_contents (store_disk self.new) ≡ memory_contents (store_disk self.old) }
+        ensures calls { memory_calls (store_disk self.new)
+            ≡ record (memory_calls (store_disk self.old)) { stop_in = call } }
+        ensures contents { memory_contents (store_disk self.new)
+            ≡ memory_contents (store_disk self.old) }
         ensures map { store_map self.new ≡ store_map self.old }
         ensures copies { store_copy self.new ≡ store_copy self.old }
         ensures fault { store_fault self.new ≡ store_fault self.old }
@@ -163,8 +180,10 @@ impl Store<MemoryDisk> {
 
     /// `MemoryDisk::fail_at` of the disk. All else stays.
     pub fn fail_at(&mut self, call: u64)
-        ensures calls { memory_calls (store_disk self.new) ≡ record (memory_calls (store_disk self.old)) { fail_in = call } }
-        ensures contents { memory_contents (store_disk self.new) ≡ memory_contents (store_disk self.old) }
+        ensures calls { memory_calls (store_disk self.new)
+            ≡ record (memory_calls (store_disk self.old)) { fail_in = call } }
+        ensures contents { memory_contents (store_disk self.new)
+            ≡ memory_contents (store_disk self.old) }
         ensures map { store_map self.new ≡ store_map self.old }
         ensures copies { store_copy self.new ≡ store_copy self.old }
         ensures fault { store_fault self.new ≡ store_fault self.old }

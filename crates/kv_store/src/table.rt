@@ -23,7 +23,8 @@ impl Table {
     /// The table that an image stands for. The error is the first key that is damaged.
     pub fn read(image: &[u8; IMAGE]) -> Result<Table, u8>
         ensures map { IfOk result (λ table. StandsFor image.now (table_map table)) }
-        ensures copies { IfOk result (λ table. (key : ℕ) → key < key_count → chosen_copy image.now key ≡ table_copy table key) }
+        ensures copies { IfOk result (λ table. (key : ℕ) → key < key_count →
+            chosen_copy image.now key ≡ table_copy table key) }
         ensures damaged { IfErr result (λ key. IsFirstDamaged image.now key) }
     {
         let mut values: ArrayVec<Value, KEYS> = ArrayVec::new();
@@ -59,7 +60,8 @@ impl Table {
         requires key { key < key_count }
         requires copy { copy < 2 }
         requires short { array_vec_len value.now ≤ value_limit }
-        ensures map { (k : ℕ) → table_map self.new k ≡ put_in (table_map self.old) key value.now.items k }
+        ensures map { (k : ℕ) →
+            table_map self.new k ≡ put_in (table_map self.old) key value.now.items k }
         ensures copy { table_copy self.new key ≡ copy }
         ensures others { (k : ℕ) → k ≢ key → table_copy self.new k ≡ table_copy self.old k }
     {

@@ -78,7 +78,8 @@ abbrev pub is_answered_by : Option Query → ℕ → ℕ → Bool
 is_answered_by None transfer_id now = false
 is_answered_by (Some query) transfer_id now = nat_eq query.transfer_id transfer_id && nat_lt (age query.moment now) 1000
 
--- an answer is taken: the last query of the spell has its transfer ID, is less than 1,000 ms old and had no answer taken since
+-- an answer is taken: the last query of the spell has its transfer ID, is less than 1,000 ms old and had no answer
+-- taken since
 abbrev pub takes : List Event → ℕ → ℕ → Bool
 takes events transfer_id now = is_answered_by (unanswered (spell events)) transfer_id now
 
@@ -102,7 +103,8 @@ query_count (Status moment ∷ events) = query_count events
 query_count (Asked transfer_id moment ∷ events) = suc (query_count events)
 query_count (Taken uid moment ∷ events) = query_count events
 
--- silent: online, and in its spell it told no unique ID and was asked five times or more, the last time 1,000 ms ago or more
+-- silent: online, and in its spell it told no unique ID and was asked five times or more, the last time 1,000 ms ago
+-- or more
 pub record IsSilent (events : List Event) (now : ℕ) : Type 0 where
   pub online : is_online events now ≡ true
   pub untold : unique_id events ≡ None

@@ -18,7 +18,8 @@ of_node node event = record { node = node; event = event }
 -- what happened with one node
 abbrev pub history : ℕ → List Watched → List Event
 history node [] = []
-history node (watched ∷ events) = if nat_eq watched.node node then watched.event ∷ history node events else history node events
+history node (watched ∷ events) =
+    if nat_eq watched.node node then watched.event ∷ history node events else history node events
 
 -- ---- what a status and an answer leave
 

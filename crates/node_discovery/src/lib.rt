@@ -17,7 +17,8 @@
 //! `uavcan.protocol.GetNodeInfo`; a query waits 1,000 ms for its answer, and a node is asked again no
 //! sooner. A node that has answered none of five queries or more of its spell is silent 1,000 ms after
 //! the last of them. Who is asked next, whether someone is unknown and who is silent are said twice, as
-//! functions of the list and as relations, and [`laws`] say that these are one. Node IDs of devices are 1 to 125; 126 and 127 are kept for tools.
+//! functions of the list and as relations, and [`laws`] say that these are one. Node IDs of devices are 1 to 125; 126
+//! and 127 are kept for tools.
 #![tactic(auto)]
 
 pub mod laws;

@@ -42,7 +42,8 @@ impl Node {
 
     /// A status was heard; where the node was not online, a spell begins.
     pub fn status(&mut self, now: u64)
-        ensures { (events : List Event) → Tells self.old events → Tells self.new (Status now ∷ events) }
+        ensures { (events : List Event) → Tells self.old events →
+            Tells self.new (Status now ∷ events) }
     {
         if !self.is_online(now) {
             self.uid = None;
@@ -54,7 +55,8 @@ impl Node {
 
     /// The node was asked for its unique ID.
     pub fn ask(&mut self, transfer_id: u8, now: u64)
-        ensures { (events : List Event) → Tells self.old events → Tells self.new (Asked transfer_id now ∷ events) }
+        ensures { (events : List Event) → Tells self.old events →
+            Tells self.new (Asked transfer_id now ∷ events) }
     {
         self.pending = Some(Query {
             transfer_id,
@@ -66,14 +68,16 @@ impl Node {
 
     /// Whether an answer is taken: the last query of the spell waits for it.
     pub fn takes(&self, transfer_id: u8, now: u64) -> bool
-        ensures { (events : List Event) → Tells self.now events → result ≡ takes events transfer_id now }
+        ensures { (events : List Event) → Tells self.now events →
+            result ≡ takes events transfer_id now }
     {
         is_answered_by(self.pending, transfer_id, now)
     }
 
     /// The answer was taken.
     pub fn take(&mut self, uid: &Uid, now: u64)
-        ensures { (events : List Event) → Tells self.old events → Tells self.new (Taken uid.now now ∷ events) }
+        ensures { (events : List Event) → Tells self.old events →
+            Tells self.new (Taken uid.now now ∷ events) }
     {
         self.uid = Some(*uid);
         self.pending = None;

@@ -28,7 +28,8 @@ impl Watch {
 
     /// A status of the node `from` was heard. One from outside 1 to 125 is not taken.
     pub fn status(&mut self, from: u8, now: u64)
-        ensures { (events : List Watched) → StandsFor self.old events → StandsFor self.new (after_status events from now) }
+        ensures { (events : List Watched) → StandsFor self.old events →
+            StandsFor self.new (after_status events from now) }
     {
         if from == 0 || from > 125 {
             return;
@@ -38,7 +39,8 @@ impl Watch {
 
     /// The node was asked for its unique ID, by a request with this transfer ID.
     pub fn asked(&mut self, node: NodeId, transfer_id: u8, now: u64)
-        ensures { (events : List Watched) → StandsFor self.old events → StandsFor self.new (of_node node (Asked transfer_id now) ∷ events) }
+        ensures { (events : List Watched) → StandsFor self.old events →
+            StandsFor self.new (of_node node (Asked transfer_id now) ∷ events) }
     {
         self.nodes[node.get() as usize].ask(transfer_id, now);
     }
@@ -46,8 +48,10 @@ impl Watch {
     /// The node `from` told its unique ID. Whether it is taken: where the last query of the node's
     /// spell has this transfer ID, is less than 1,000 ms old and had no answer yet.
     pub fn info(&mut self, from: u8, transfer_id: u8, uid: &Uid, now: u64) -> bool
-        ensures taken { (events : List Watched) → StandsFor self.old events → result ≡ takes (history from events) transfer_id now }
-        ensures follows { (events : List Watched) → StandsFor self.old events → StandsFor self.new (after_info events from transfer_id uid.now now) }
+        ensures taken { (events : List Watched) → StandsFor self.old events →
+            result ≡ takes (history from events) transfer_id now }
+        ensures follows { (events : List Watched) → StandsFor self.old events →
+            StandsFor self.new (after_info events from transfer_id uid.now now) }
         ensures refused { result ≡ false → self.new ≡ self.old }
     {
         if from > 127 || !self.nodes[from as usize].takes(transfer_id, now) {
@@ -59,7 +63,8 @@ impl Watch {
 
     /// Whether the last status of the node is at most 3,000 ms old.
     pub fn online(&self, node: u8, now: u64) -> bool
-        ensures { (events : List Watched) → StandsFor self.now events → result ≡ is_online (history node events) now }
+        ensures { (events : List Watched) → StandsFor self.now events →
+            result ≡ is_online (history node events) now }
     {
         node < 128 && self.nodes[node as usize].is_online(now)
     }
@@ -67,7 +72,8 @@ impl Watch {
     /// By node ID, who is online.
     pub fn seen(&self, now: u64) -> [bool; 128]
         ensures { (events : List Watched) → StandsFor self.now events →
-            (node : ℕ) → node < 128 → slice_index_or result node false ≡ is_online (history node events) now }
+            (node : ℕ) → node < 128 →
+            slice_index_or result node false ≡ is_online (history node events) now }
     {
         let mut seen = [false; 128];
         for node in 0..128 {
@@ -79,8 +85,10 @@ impl Watch {
     /// Whether the node is silent: it is online, and in its spell it told no unique ID and was asked for
     /// it five times or more, the last time 1,000 ms ago or more.
     pub fn silent(&self, node: u8, now: u64) -> bool
-        ensures computed { (events : List Watched) → StandsFor self.now events → result ≡ is_silent (history node events) now }
-        ensures silent { (events : List Watched) → StandsFor self.now events → IsTrue result ↔ IsSilent (history node events) now }
+        ensures computed { (events : List Watched) → StandsFor self.now events →
+            result ≡ is_silent (history node events) now }
+        ensures silent { (events : List Watched) → StandsFor self.now events → IsTrue result
+            ↔ IsSilent (history node events) now }
     {
         silence_is_computed();
         node < 128 && self.nodes[node as usize].is_silent(now)
@@ -88,7 +96,8 @@ impl Watch {
 
     /// The unique ID that the node told in its spell; `None` where it told none, or is offline.
     pub fn identified(&self, node: u8, now: u64) -> Option<Uid>
-        ensures { (events : List Watched) → StandsFor self.now events → result ≡ identity (history node events) now }
+        ensures { (events : List Watched) → StandsFor self.now events →
+            result ≡ identity (history node events) now }
     {
         if node > 127 {
             return None;
@@ -99,8 +108,10 @@ impl Watch {
     /// The least node that is to be asked for its unique ID: it is online, not known (`known` is by
     /// node ID), has not told it, and was not asked in the last 1,000 ms. `None` where there is none.
     pub fn next_query(&self, known: &[bool; 128], now: u64) -> Option<NodeId>
-        ensures computed { (events : List Watched) → StandsFor self.now events → result ≡ next_query events known.now now }
-        ensures least { (events : List Watched) → StandsFor self.now events → IsNextQuery events known.now now result }
+        ensures computed { (events : List Watched) → StandsFor self.now events →
+            result ≡ next_query events known.now now }
+        ensures least { (events : List Watched) → StandsFor self.now events →
+            IsNextQuery events known.now now result }
     {
         for node in 1..126 {
             if self.is_due(known, node, now) {
@@ -112,9 +123,12 @@ impl Watch {
 
     /// Whether some node is online that is not known and has not told its unique ID.
     pub fn unknown(&self, known: &[bool; 128], now: u64) -> bool
-        ensures computed { (events : List Watched) → StandsFor self.now events → result ≡ some_unknown events known.now now }
-        ensures some { (events : List Watched) → StandsFor self.now events → result ≡ true → IsSomeUnknown events known.now now }
-        ensures none { (events : List Watched) → StandsFor self.now events → result ≡ false → NoneIsUnknown events known.now now }
+        ensures computed { (events : List Watched) → StandsFor self.now events →
+            result ≡ some_unknown events known.now now }
+        ensures some { (events : List Watched) → StandsFor self.now events → result ≡ true →
+            IsSomeUnknown events known.now now }
+        ensures none { (events : List Watched) → StandsFor self.now events → result ≡ false →
+            NoneIsUnknown events known.now now }
     {
         for node in 1..126 {
             if self.is_unknown(known, node, now) {
@@ -126,14 +140,16 @@ impl Watch {
 
     fn is_unknown(&self, known: &[bool; 128], node: u8, now: u64) -> bool
         requires { node < 128 }
-        ensures { (events : List Watched) → StandsFor self.now events → result ≡ is_unknown events known.now node now }
+        ensures { (events : List Watched) → StandsFor self.now events →
+            result ≡ is_unknown events known.now node now }
     {
         self.nodes[node as usize].is_nameless(now) && !known[node as usize]
     }
 
     fn is_due(&self, known: &[bool; 128], node: u8, now: u64) -> bool
         requires { node < 128 }
-        ensures { (events : List Watched) → StandsFor self.now events → result ≡ is_due events known.now node now }
+        ensures { (events : List Watched) → StandsFor self.now events →
+            result ≡ is_due events known.now node now }
     {
         self.is_unknown(known, node, now) && self.nodes[node as usize].may_be_asked(now)
     }

@@ -52,7 +52,13 @@ pub struct MemoryLink<'a> {
 impl<'a> Model for MemoryLink<'a> {
     ghost Value = { MemoryTraffic };
 
-    ghost view = { λ l. record { coming = l.items.now; sent = l.sent.items; fail_at = l.fail_at; calls = l.calls; faults = l.faults } };
+    ghost view = { λ l. record {
+      coming = l.items.now;
+      sent = l.sent.items;
+      fail_at = l.fail_at;
+      calls = l.calls;
+      faults = l.faults;
+    } };
 
     ghost invariant = { λ l. array_vec_len l.sent ≤ most_sent };
 }
@@ -62,7 +68,14 @@ impl<'a> MemoryLink<'a> {
     /// are counted together from 1: the one with the number `fail_at` fails, and takes or sends
     /// nothing. It keeps 256 frames; a further `send` fails too.
     pub fn new(items: &'a [Received], fail_at: Option<u64>) -> MemoryLink<'a>
-        ensures { result ≡ record { coming = items.entry.now; sent = []; fail_at = fail_at; calls = 0; faults = 0 } }
+        ensures { result
+            ≡ record {
+              coming = items.entry.now;
+              sent = [];
+              fail_at = fail_at;
+              calls = 0;
+              faults = 0;
+            } }
     {
         MemoryLink {
             items,
@@ -136,7 +149,8 @@ impl Link for MemoryLink<'_> {
         ensures faults { self.new.faults ≡ counted result self.old.faults }
         ensures calls { self.new.calls ≡ one_more self.old.calls }
         ensures setting { self.new.fail_at ≡ self.old.fail_at }
-        ensures fails { IsErr result ↔ ((self.old.fail_at ≡ Some self.new.calls) ⊎ (most_sent ≤ length self.old.sent)) }
+        ensures fails { IsErr result
+            ↔ ((self.old.fail_at ≡ Some self.new.calls) ⊎ (most_sent ≤ length self.old.sent)) }
     {
         if self.is_to_fail() || self.sent.is_full() {
             return Err(self.fault());

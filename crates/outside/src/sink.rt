@@ -42,7 +42,14 @@ pub struct MemorySink {
 impl Model for MemorySink {
     ghost Value = { MemoryOutput };
 
-    ghost view = { λ s. record { written = s.bytes.items; capacity = s.capacity; fail_at = s.fail_at; zero_at = s.zero_at; calls = s.calls; faults = s.faults } };
+    ghost view = { λ s. record {
+      written = s.bytes.items;
+      capacity = s.capacity;
+      fail_at = s.fail_at;
+      zero_at = s.zero_at;
+      calls = s.calls;
+      faults = s.faults;
+    } };
 
     ghost invariant = { λ s. (vec_len s.bytes ≤ s.capacity) × (s.capacity ≤ vec_capacity s.bytes) };
 }
@@ -58,7 +65,16 @@ impl MemorySink {
         fail_at: Option<u64>,
         zero_at: Option<u64>,
     ) -> Result<MemorySink, AllocError>
-        ensures { IfOk result (λ sink. sink ≡ record { written = []; capacity = capacity; fail_at = fail_at; zero_at = zero_at; calls = 0; faults = 0 }) }
+        ensures { IfOk result
+            (λ sink. sink
+            ≡ record {
+              written = [];
+              capacity = capacity;
+              fail_at = fail_at;
+              zero_at = zero_at;
+              calls = 0;
+              faults = 0;
+            }) }
     {
         Ok(MemorySink {
             bytes: Vec::with_capacity(alloc, capacity)?,
@@ -85,7 +101,8 @@ impl Sink for MemorySink {
 
     fn write(&mut self, piece: &[u8]) -> Result<usize, Failed>
         ensures bound { WritesAtMost result piece.now }
-        ensures bytes { WriteAppends (Some self.old.written) (Some self.new.written) result piece.now }
+        ensures bytes { WriteAppends (Some self.old.written)
+            (Some self.new.written) result piece.now }
         ensures tells { TellsAsBefore (Some self.old.written) (Some self.new.written) }
         ensures cause { HasWriteCause self.old.faults self.new.faults piece.now result }
         ensures kept { IfOk result (λ count. 0 < count → self.new.faults ≡ self.old.faults) }
@@ -95,7 +112,8 @@ impl Sink for MemorySink {
             IsToTake self.old × IsTooMuchFor self.old (length piece.now)) }
         ensures takes_nothing { IsToTakeNothing self.old → IfOk result (λ count. count ≡ 0) }
         ensures takes_all { IsToTake self.old → IfOk result (λ count. count ≡ length piece.now) }
-        ensures counted { IsErr result ⊎ IsToTakeNothing self.old → self.new.faults ≡ one_more self.old.faults }
+        ensures counted { IsErr result ⊎ IsToTakeNothing self.old →
+            self.new.faults ≡ one_more self.old.faults }
         ensures uncounted { OnOk result (IsToTake self.old → self.new.faults ≡ self.old.faults) }
     {
         self.calls = self.calls.saturating_add(1);

@@ -39,7 +39,12 @@ pub struct MemorySource<'a> {
 impl<'a> Model for MemorySource<'a> {
     ghost Value = { MemoryInput };
 
-    ghost view = { λ s. record { left = s.bytes.now; fail_at = s.fail_at; calls = s.calls; faults = s.faults } };
+    ghost view = { λ s. record {
+      left = s.bytes.now;
+      fail_at = s.fail_at;
+      calls = s.calls;
+      faults = s.faults;
+    } };
 
     ghost invariant = { λ s. length s.bytes.now < 18446744073709551616 };
 }
@@ -47,7 +52,8 @@ impl<'a> Model for MemorySource<'a> {
 impl<'a> MemorySource<'a> {
     /// A source of these bytes. The call of `read` with the number `fail_at`, counted from 1, fails.
     pub fn new(bytes: &'a [u8], fail_at: Option<u64>) -> MemorySource<'a>
-        ensures { result ≡ record { left = bytes.entry.now; fail_at = fail_at; calls = 0; faults = 0 } }
+        ensures { result
+            ≡ record { left = bytes.entry.now; fail_at = fail_at; calls = 0; faults = 0 } }
     {
         MemorySource {
             bytes,

@@ -11,4 +11,5 @@ backs me (Place place) node peer = if node == me then true else nat_le place pee
 
 -- the test says of each node whether it stands behind it
 abbrev pub Backs : ℕ → List Peer → Cause → (ℕ → Bool) → Type 0
-Backs me peers cause test = (node : ℕ) (none : Peer) → node < 128 → test node ≡ backs me cause node (slice_index_or peers node none)
+Backs me peers cause test = (node : ℕ) (none : Peer) → node < 128 →
+    test node ≡ backs me cause node (slice_index_or peers node none)

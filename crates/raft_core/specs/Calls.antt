@@ -22,7 +22,9 @@ use Rattle.raft_core.specs.Times.{Sending, Times, is_silent}
 abbrev pub due : Role → Plain → Times → ℕ → ℕ → Option Move
 due Follower server times node now = None
 due Candidate server times node now = if times.answered node then None else Some (CallForVote node)
-due Leader server times node now = if nat_le (server.memory.next node) (length server.store.log) || is_silent (times.appended node) now then Some (CallToAppend node (server.memory.next node - 1) true) else None
+due Leader server times node now =
+    if nat_le (server.memory.next node) (length server.store.log) || is_silent (times.appended node) now
+    then Some (CallToAppend node (server.memory.next node - 1) true) else None
 
 -- none while a call is pending to the peer
 abbrev pub due_unless : Option Request → Option Move → Option Move
@@ -46,19 +48,24 @@ pub record SaysAppend (request : AppendRequest) (sent : Request) : Type 0 where
   pub entry : request.entry ≡ sent.entry
 
 abbrev pub Says : ℕ → ℕ → Plain → ℕ → Call → Move → Type 0
-Says member step server node (Vote request) move = (move ≡ CallForVote node) × SaysVote request (vote_request member step server.store node)
-Says member step server node (Append request) move = (previous : ℕ) × (move ≡ CallToAppend node previous true) × SaysAppend request (append_request member step server.store node previous true)
+Says member step server node (Vote request) move = (move ≡ CallForVote node)
+    × SaysVote request (vote_request member step server.store node)
+Says member step server node (Append request) move = (previous : ℕ) × (move ≡ CallToAppend node previous true)
+    × SaysAppend request (append_request member step server.store node previous true)
 
 -- the member owes the peer this call
 abbrev pub Owes : Raft → Stored → ℕ → ℕ → Call → Type 0
-Owes raft state node now call = (members : List ℕ) (step : ℕ) (server : Plain) (times : Times) → StandsFor raft members state server times →
+Owes raft state node now call = (members : List ℕ) (step : ℕ) (server : Plain) (times : Times) →
+    StandsFor raft members state server times →
     (move : Move) × (owed server times node now ≡ Some move) × Says (raft_me raft) step server node call move
 
 -- and it owes it none
 abbrev pub OwesNone : Raft → Stored → ℕ → ℕ → Type 0
-OwesNone raft state node now = (members : List ℕ) (server : Plain) (times : Times) → StandsFor raft members state server times → owed server times node now ≡ None
+OwesNone raft state node now = (members : List ℕ) (server : Plain) (times : Times) →
+    StandsFor raft members state server times → owed server times node now ≡ None
 
--- what is told of a pending call: its service, 31 for votes and 30 for appends, its transfer ID, its step and its moment
+-- what is told of a pending call: its service, 31 for votes and 30 for appends, its transfer ID, its step and its
+-- moment
 pub record IsPending (pending : Pending) (request : Request) (sending : Sending) : Type 0 where
   pub service : pending.service ≡ (if request.append then 30 else 31)
   pub id : pending.id ≡ sending.id

@@ -29,4 +29,5 @@ pub record Fits (raft : Raft) (state : Stored) : Type 0 where
   pub told : raft_told raft ≤ state.commit
   -- a Candidate or Leader is itself the stored vote
   pub vote : raft_role raft ≢ Follower → state.vote ≡ raft_me raft
-  pub peers : raft_role raft ≡ Leader → (node : ℕ) (none : Peer) → node < 128 → IsWithin (slice_index_or (raft_peers raft) node none) (length state.log)
+  pub peers : raft_role raft ≡ Leader → (node : ℕ) (none : Peer) → node < 128 →
+      IsWithin (slice_index_or (raft_peers raft) node none) (length state.log)

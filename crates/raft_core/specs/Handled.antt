@@ -18,8 +18,8 @@ use Rattle.raft_core.specs.Stands.{StandsFor}
 use Rattle.raft_core.specs.StoredPuts.{DoesPuts, Noted, noted, plain_puts}
 use Rattle.raft_core.specs.Times.{Given, Times, has_waited, times_after_all}
 
--- the origin of the entry that a move puts: the blank of a win, an entry that is proposed with the origin that was given, and
--- what a leader sent
+-- the origin of the entry that a move puts: the blank of a win, an entry that is proposed with the origin that was
+-- given, and what a leader sent
 abbrev pub origin_of : Given → Move → ℕ
 origin_of given TimeOut = WIN
 origin_of given (TakeVoteAnswer answer) = WIN
@@ -29,32 +29,61 @@ origin_of given move = LEADER
 -- the puts of these moves, which are given this, each with its origin
 abbrev pub noted_puts : List ℕ → ℕ → ℕ → Given → Plain → List Move → List Noted
 noted_puts members member step given server [] = []
-noted_puts members member step given server (move ∷ moves) = noted (origin_of given move) (puts members member server move)
+noted_puts members member step given server (move ∷ moves) =
+    noted (origin_of given move) (puts members member server move)
     ++ noted_puts members member step given (plain_after members member step server move) moves
 
 -- the member makes these moves in a step: their puts with these origins in order, up to the first that fails; and
 -- where none does, it stands for the server after them, and for these times
-pub record LeavesMoves {D : Type 0} {disk : Ghosts D} (members : List ℕ) (member step : ℕ) (moves : List Move) (server : Plain) (noted : List Noted) (times_then : Times)
+pub record LeavesMoves {D : Type 0} {disk : Ghosts D} (members : List ℕ) (member step : ℕ) (moves : List Move)
+    (server : Plain) (noted : List Noted) (times_then : Times)
     (old new : Durable D disk) (raft : Raft) (failed : Option Fault) : Type 0 where
   pub plain : plain_puts noted ≡ puts_of_all members member step server moves
   pub puts : DoesPuts noted old new failed
-  pub after : IfNone failed (StandsFor raft members (durable_state new) (plain_after_all members member step server moves) times_then)
+  pub after : IfNone failed
+      (StandsFor raft members (durable_state new) (plain_after_all members member step server moves) times_then)
 
 -- they are given this: the origins are as it says, and they leave the times after them
-abbrev pub MakesMoves : {D : Type 0} {disk : Ghosts D} → List ℕ → ℕ → ℕ → Given → List Move → Plain → Times → Durable D disk → Durable D disk → Raft → Option Fault → Type 0
-MakesMoves members member step given moves server times = LeavesMoves members member step moves server (noted_puts members member step given server moves) (times_after_all members member step given server moves times)
+abbrev pub MakesMoves : {D : Type 0} {disk : Ghosts D} → List ℕ → ℕ → ℕ → Given → List Move →
+    Plain → Times → Durable D disk → Durable D disk → Raft → Option Fault → Type 0
+MakesMoves members member step given moves server times =
+    LeavesMoves members member step moves server (noted_puts members member step given server moves)
+    (times_after_all members member step given server moves times)
 
 -- the request of the machine that a vote request carries, which the node `from` made in a step for the node `to`
 abbrev pub vote_request_of : VoteRequest → ℕ → ℕ → ℕ → Request
-vote_request_of request step from to = record { step = step; from = from; to = to; append = false; term = request.term; previous = request.last_index; previous_term = request.last_term; commit = 0; entry = None }
+vote_request_of request step from to =
+    (record {
+      step = step;
+      from = from;
+      to = to;
+      append = false;
+      term = request.term;
+      previous = request.last_index;
+      previous_term = request.last_term;
+      commit = 0;
+      entry = None;
+    })
 
 -- and the one that an append request carries
 abbrev pub append_request_of : AppendRequest → ℕ → ℕ → ℕ → Request
-append_request_of request step from to = record { step = step; from = from; to = to; append = true; term = request.term; previous = request.prev_index; previous_term = request.prev_term; commit = request.commit; entry = request.entry }
+append_request_of request step from to =
+    (record {
+      step = step;
+      from = from;
+      to = to;
+      append = true;
+      term = request.term;
+      previous = request.prev_index;
+      previous_term = request.prev_term;
+      commit = request.commit;
+      entry = request.entry;
+    })
 
 -- the answer of the machine that the node `from` made in a step to this request
 abbrev pub answer_of : ℕ → ℕ → Request → ℕ → Bool → Answer
-answer_of step from request term success = record { step = step; from = from; request = request; term = term; success = success }
+answer_of step from request term success =
+    record { step = step; from = from; request = request; term = term; success = success }
 
 -- a tick: whoever has waited, and knows all members, stands for election, if there is a next term and it does not lead
 abbrev pub moves_of_tick : Bool → ℕ → Plain → Times → List Move

@@ -23,7 +23,8 @@ expired now peer = record peer { call = young now peer.call }
 -- it answered an append request that reached up to a place
 abbrev pub moved_on : ℕ → Bool → Peer → Peer
 moved_on reach success peer =
-    if success then record peer { matched = max peer.matched reach; next = max peer.matched reach + 1 } else record peer { next = max 1 (peer.next - 1) }
+    if success then record peer { matched = max peer.matched reach; next = max peer.matched reach + 1 }
+    else record peer { next = max 1 (peer.next - 1) }
 
 -- what the call that waits under this transfer ID asks for
 abbrev pub asked_under : ℕ → Option Waiting → Option Asked

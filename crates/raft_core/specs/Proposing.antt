@@ -34,16 +34,23 @@ abbrev pub entry_puts : Entry → List Put
 entry_puts entry = PutEntry entry ∷ PutLonger entry ∷ []
 
 -- a leader is to append the entry of its term with this unique ID and this node ID, and to store it with this origin
-pub record Appends {D : Type 0} {disk : Ghosts D} (raft : Raft) (uid : List ℕ) (node origin : ℕ) (old new : Durable D disk) (result : Result Proposed Fault) : Type 0 where
+pub record Appends {D : Type 0} {disk : Ghosts D} (raft : Raft) (uid : List ℕ) (node origin : ℕ)
+    (old new : Durable D disk) (result : Result Proposed Fault) : Type 0 where
   -- it is tried exactly where the machine may propose it
-  pub tried : (server : Plain) → server.store ≡ store_of (durable_state old) → server.memory.role ≡ role_of (raft_role raft) →
+  pub tried : (server : Plain) → server.store ≡ store_of (durable_state old) →
+      server.memory.role ≡ role_of (raft_role raft) →
       IsTried result ↔ MayPropose server (proposal server.store.term uid node)
   -- and then its puts are made
-  pub puts : IsTried result → DoesPuts (noted origin (entry_puts (proposal (durable_state old).term uid node))) old new (result_err result)
-  pub moves : (members : List ℕ) (step : ℕ) (server : Plain) (times : Times) → StandsFor raft members (durable_state old) server times →
-      (given : Given) → given.origin ≡ origin → let entry = proposal server.store.term uid node in MayPropose server entry →
-      MakesMoves members (raft_me raft) step given (ProposeEntry entry ∷ []) server times old new raft (result_err result)
+  pub puts : IsTried result →
+      DoesPuts (noted origin (entry_puts (proposal (durable_state old).term uid node))) old new (result_err result)
+  pub moves : (members : List ℕ) (step : ℕ) (server : Plain) (times : Times) →
+      StandsFor raft members (durable_state old) server times →
+      (given : Given) → given.origin ≡ origin →
+      let entry = proposal server.store.term uid node in MayPropose server entry →
+      MakesMoves members (raft_me raft) step given (ProposeEntry entry ∷ []) server times old new raft
+      (result_err result)
   -- else nothing changes
   pub refused : (IsTried result → ⊥) → new ≡ old
-  pub unchanged : result ≢ Ok Added → (Rose (disk.faults (durable_disk old)) (disk.faults (durable_disk new)) → ⊥) → IsStill old new
+  pub unchanged : result ≢ Ok Added →
+      (Rose (disk.faults (durable_disk old)) (disk.faults (durable_disk new)) → ⊥) → IsStill old new
   pub faults : KeepsFaults old new (result_err result)

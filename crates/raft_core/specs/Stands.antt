@@ -56,4 +56,5 @@ pub record StandsFor (raft : Raft) (members : List ℕ) (state : Stored) (server
   pub known : raft_role raft ≢ Follower → raft_members raft ≡ members
   pub since : times.since ≡ raft_since raft
   pub word : times.word ≡ raft_word raft
-  pub peers : (node : ℕ) (none : Peer) → node < 128 → Tells (slice_index_or (raft_peers raft) node none) server times node
+  pub peers : (node : ℕ) (none : Peer) → node < 128 →
+      Tells (slice_index_or (raft_peers raft) node none) server times node

@@ -23,7 +23,8 @@ number_of_vote (Some node) = node
 abbrev pub store_of : Stored → Store
 store_of state = record { term = state.term; vote = vote_of state.vote; log = state.log; commit = state.commit }
 
--- a put of the machine, which knows no origins, and beside it the origin of the entry that it puts; a put of no entry uses none
+-- a put of the machine, which knows no origins, and beside it the origin of the entry that it puts; a put of no entry
+-- uses none
 pub record Noted : Type 0 where
   pub put : Put
   pub origin : ℕ
@@ -38,12 +39,14 @@ abbrev pub plain_puts : List Noted → List Put
 plain_puts [] = []
 plain_puts (first ∷ rest) = first.put ∷ plain_puts rest
 
--- a put of the machine as it is made of a stored state, with this origin of its entry: a log that is longer, or shorter, is put by its last
+-- a put of the machine as it is made of a stored state, with this origin of its entry: a log that is longer, or
+-- shorter, is put by its last
 abbrev pub put_from : ℕ → Put → Stored → StoredPut
 put_from origin (PutTerm term) state = StoredPut.PutTerm term
 put_from origin (PutVote vote) state = StoredPut.PutVote (number_of_vote vote)
 put_from origin (PutEntry entry) state = StoredPut.PutEntry entry origin
-put_from origin (PutLonger entry) state = StoredPut.PutLast (state.log ++ (entry ∷ [])) (state.origins ++ (Some origin ∷ []))
+put_from origin (PutLonger entry) state =
+    StoredPut.PutLast (state.log ++ (entry ∷ [])) (state.origins ++ (Some origin ∷ []))
 put_from origin (PutShorter count) state = StoredPut.PutLast (take count state.log) (take count state.origins)
 put_from origin (PutCommit index) state = StoredPut.PutCommit index
 
@@ -52,7 +55,8 @@ stored_put first state = put_from first.origin first.put state
 
 abbrev pub stored_puts : List Noted → Stored → List StoredPut
 stored_puts [] state = []
-stored_puts (first ∷ rest) state = stored_put first state ∷ stored_puts rest (after_put (stored_put first state) state)
+stored_puts (first ∷ rest) state =
+    stored_put first state ∷ stored_puts rest (after_put (stored_put first state) state)
 
 -- a put of a vote is for none, or for a node, whose ID is not 0: then what is stored says the same as the machine
 abbrev pub VotesForNode : Put → Type 0
@@ -83,14 +87,16 @@ pub record IsStill {D : Type 0} {ghosts : Ghosts D} (old new : Durable D ghosts)
   pub state : durable_state new ≡ durable_state old
   pub fault : durable_fault new ≡ durable_fault old
 
--- what a call that ended with this fault, or with none, tells of faults: of a store that had none before, what `raft_log` says of its calls; and of one that
--- had one, nothing changed
+-- what a call that ended with this fault, or with none, tells of faults: of a store that had none before, what
+-- `raft_log` says of its calls; and of one that had one, nothing changed
 pub record KeepsFaults {D : Type 0} {disk : Ghosts D} (old new : Durable D disk) (failed : Option Fault) : Type 0 where
   pub works : durable_fault old ≡ None → KeepsFault old new failed
   pub still : (fault : Fault) → durable_fault old ≡ Some fault → IsStill old new
   pub kept : IfSome failed (λ fault. durable_fault new ≡ Some fault)
 
--- these puts of the machine are made in order, each with its origin, up to the first that fails, whose fault is answered
-pub record DoesPuts {D : Type 0} {disk : Ghosts D} (puts : List Noted) (old new : Durable D disk) (failed : Option Fault) : Type 0 where
+-- these puts of the machine are made in order, each with its origin, up to the first that fails, whose fault is
+-- answered
+pub record DoesPuts {D : Type 0} {disk : Ghosts D} (puts : List Noted) (old new : Durable D disk)
+    (failed : Option Fault) : Type 0 where
   pub made : MakesPuts (stored_puts puts (durable_state old)) old new (is_none failed)
   pub faults : KeepsFaults old new failed

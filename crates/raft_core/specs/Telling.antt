@@ -12,13 +12,16 @@ use Rattle.raft_core.specs.declared.tell.Telling.{Telling}
 use Rattle.raft_core.specs.declared.tell.Telling.TheVariants.{Nothing, Skip, Pair}
 use Rattle.raft_core.specs.RaftViews.{raft_told}
 
--- what it tells, where it has room for a pair or not: nothing; a place without a unique ID, which is passed over; or the pair
--- of the place
+-- what it tells, where it has room for a pair or not: nothing; a place without a unique ID, which is passed over; or
+-- the pair of the place
 abbrev pub IsToTell : Plain → Telling → Type 0
 IsToTell server Nothing = (room : Bool) → tell_phase room server ≡ []
-IsToTell server (Skip place) = (place ≡ server.memory.told + 1) × ((room : Bool) → tell_phase room server ≡ TellNothing ∷ [])
-IsToTell server (Pair place uid node) = (place ≡ server.memory.told + 1) × ((room : Bool) → tell_phase room server ≡ (if room then TellPair ∷ [] else [])) ×
-    ((member step : ℕ) → ((pair_at member step server.store server.memory.told).uid ≡ uid) × ((pair_at member step server.store server.memory.told).node ≡ node))
+IsToTell server (Skip place) = (place ≡ server.memory.told + 1)
+    × ((room : Bool) → tell_phase room server ≡ TellNothing ∷ [])
+IsToTell server (Pair place uid node) = (place ≡ server.memory.told + 1)
+    × ((room : Bool) → tell_phase room server ≡ (if room then TellPair ∷ [] else [])) ×
+    ((member step : ℕ) → ((pair_at member step server.store server.memory.told).uid ≡ uid)
+    × ((pair_at member step server.store server.memory.told).node ≡ node))
 
 -- the place after the last that was told, which is committed
 pub record IsNext (raft : Raft) (state : Stored) (place : ℕ) : Type 0 where

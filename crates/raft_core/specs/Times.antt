@@ -28,7 +28,8 @@ pub record Times : Type 0 where
   -- for each pending call
   pub sending : ℕ → Option Sending
 
--- what the caller hands in: the moment, the word of a tick, the transfer ID of a call, and the origin of an entry that is proposed
+-- what the caller hands in: the moment, the word of a tick, the transfer ID of a call, and the origin of an entry
+-- that is proposed
 pub record Given : Type 0 where
   pub now : ℕ
   pub word : ℕ
@@ -50,7 +51,8 @@ given_proposal now origin = record { now = now; word = 0; id = 0; origin = origi
 
 -- a member that opens
 abbrev pub opened_times : ℕ → ℕ → Times
-opened_times now word = record { since = now; word = word; answered = λ node. false; appended = λ node. None; sending = λ node. None }
+opened_times now word =
+    record { since = now; word = word; answered = λ node. false; appended = λ node. None; sending = λ node. None }
 
 -- ---- how long
 
@@ -78,7 +80,8 @@ is_overdue (Some call) now = nat_le 1000 (age call.moment now)
 -- those of these nodes whose call is given up
 abbrev pub overdue : Times → ℕ → List ℕ → List ℕ
 overdue times now [] = []
-overdue times now (node ∷ nodes) = if is_overdue (times.sending node) now then node ∷ overdue times now nodes else overdue times now nodes
+overdue times now (node ∷ nodes) =
+    if is_overdue (times.sending node) now then node ∷ overdue times now nodes else overdue times now nodes
 
 -- an answer from a node under a transfer ID is awaited: the pending call to it, of this service, has this transfer ID
 abbrev pub awaits : Option Request → Option Sending → Bool → ℕ → Bool
@@ -104,7 +107,8 @@ abbrev pub raise : ℕ → ℕ → Plain → Times → Times
 raise now term server times = if nat_lt server.store.term term then step_down now server.memory.role times else times
 
 abbrev pub stand : Given → Times → Times
-stand given times = record times { since = given.now; word = given.word; answered = λ node. false; sending = λ node. None }
+stand given times =
+    record times { since = given.now; word = given.word; answered = λ node. false; sending = λ node. None }
 
 abbrev pub win : Times → Times
 win times = record times { appended = λ node. None; sending = λ node. None }
@@ -113,7 +117,8 @@ abbrev pub end_call : ℕ → Times → Times
 end_call node times = record times { sending = at times.sending node None }
 
 abbrev pub begin_call : ℕ → Given → Times → Times
-begin_call node given times = record times { sending = at times.sending node (Some (record { id = given.id; moment = given.now })) }
+begin_call node given times =
+    record times { sending = at times.sending node (Some (record { id = given.id; moment = given.now })) }
 
 -- the peer answered a vote request
 abbrev pub end_vote_call : ℕ → Times → Times
@@ -121,25 +126,34 @@ end_vote_call node times = record (end_call node times) { answered = at times.an
 
 -- the times after a move of a member, in a cluster of these members
 abbrev pub times_after : List ℕ → ℕ → Given → Plain → Move → Times → Times
-times_after members member given server TimeOut times = if has_quorum members (own_vote member) then win (stand given times) else stand given times
-times_after members member given server (TakeVoteRequest request granted) times = if granted then begin_wait given.now times else raise given.now request.term server times
-times_after members member given server (TakeVoteAnswer answer) times = if nat_lt server.store.term answer.term then step_down given.now server.memory.role (end_vote_call answer.from times)
-    else (if counts server answer && has_quorum members (counted server.memory answer) then win (end_vote_call answer.from times) else end_vote_call answer.from times)
+times_after members member given server TimeOut times =
+    if has_quorum members (own_vote member) then win (stand given times) else stand given times
+times_after members member given server (TakeVoteRequest request granted) times =
+    if granted then begin_wait given.now times else raise given.now request.term server times
+times_after members member given server (TakeVoteAnswer answer) times =
+    if nat_lt server.store.term answer.term
+    then step_down given.now server.memory.role (end_vote_call answer.from times)
+    else (if counts server answer && has_quorum members (counted server.memory answer)
+    then win (end_vote_call answer.from times) else end_vote_call answer.from times)
 times_after members member given server (TakeAppendRequest request Outdated) times = times
 times_after members member given server (TakeAppendRequest request Refused) times = begin_wait given.now times
 times_after members member given server (TakeAppendRequest request Held) times = begin_wait given.now times
 times_after members member given server (TakeAppendRequest request (Added entry)) times = begin_wait given.now times
-times_after members member given server (TakeAppendAnswer answer) times = raise given.now answer.term server (end_call answer.from times)
+times_after members member given server (TakeAppendAnswer answer) times =
+    raise given.now answer.term server (end_call answer.from times)
 times_after members member given server (ProposeEntry entry) times = times
 times_after members member given server (CommitTo index) times = times
 times_after members member given server TellPair times = times
 times_after members member given server TellNothing times = times
 times_after members member given server (CallForVote node) times = begin_call node given times
-times_after members member given server (CallToAppend node previous with_entry) times = record (begin_call node given times) { appended = at times.appended node (Some given.now) }
+times_after members member given server (CallToAppend node previous with_entry) times =
+    record (begin_call node given times) { appended = at times.appended node (Some given.now) }
 times_after members member given server (AnswerAgain place) times = times
 times_after members member given server (GiveUp node) times = end_call node times
 
 -- after these moves of a step with a number
 abbrev pub times_after_all : List ℕ → ℕ → ℕ → Given → Plain → List Move → Times → Times
 times_after_all members member step given server [] times = times
-times_after_all members member step given server (move ∷ moves) times = times_after_all members member step given (plain_after members member step server move) moves (times_after members member given server move times)
+times_after_all members member step given server (move ∷ moves) times =
+    times_after_all members member step given (plain_after members member step server move) moves
+    (times_after members member given server move times)

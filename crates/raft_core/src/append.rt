@@ -145,7 +145,15 @@ impl Raft {
             StandsFor self.old members state server times → self.old.role ≡ Leader →
             (answer : Answer) → answer.from ≡ from → answer.success ≡ success →
             messages.reach answer.request ≡ reach →
-            StandsFor self.new members state (record server { memory = record server.memory { matched = at server.memory.matched from (matched_after server.memory answer); next = at server.memory.next from (next_after server.memory answer) } }) times }
+            StandsFor self.new members state
+            (record server {
+              memory = record server.memory {
+                matched =
+                    at server.memory.matched from (matched_after server.memory answer);
+                next =
+                    at server.memory.next from (next_after server.memory answer);
+              };
+            }) times }
         ensures fits { (state : Stored) → Fits self.old state → reach ≤ length state.log →
             Fits self.new state }
         ensures me { raft_me self.new ≡ raft_me self.old }
@@ -261,7 +269,8 @@ fn write<D: Disk>(d: &mut Durable<D>, previous: u8, entry: Entry) -> Result<(), 
     requires inside { previous ≤ length (durable_state d.old).log }
     requires room { previous < log_limit }
     requires kept { (durable_state d.old).commit ≤ previous }
-    requires follows { MayFollow (take previous (durable_state d.old).log) (durable_state d.old).term entry }
+    requires follows { MayFollow (take previous (durable_state d.old).log)
+        (durable_state d.old).term entry }
     ensures puts { DoesPuts
         (noted LEADER (write_puts (store_of (durable_state d.old)) previous entry))
         d.old d.new (result_err result) }

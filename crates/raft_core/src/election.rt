@@ -100,7 +100,10 @@ impl Raft {
         ensures stands { (members : List ℕ) (server : Plain) (times : Times) →
             StandsFor self.old members (durable_state d.old) server times →
             OnOk result (StandsFor self.new (self.old.me ∷ peers.now) (durable_state d.new)
-            (record { store = put_all server.store (stand_puts self.old.me server.store); memory = stand_memory self.old.me server.memory })
+            (record {
+              store = put_all server.store (stand_puts self.old.me server.store);
+              memory = stand_memory self.old.me server.memory;
+            })
             (clock.stand (given_tick now word) times)) }
         ensures fits { OnOk result (Fits self.new (durable_state d.new)) }
         ensures role { OnOk result (self.new.role ≡ Candidate) }
@@ -125,7 +128,10 @@ impl Raft {
         ensures stands { (members : List ℕ) (server : Plain) (times : Times) →
             StandsFor self.old members (durable_state d.old) server times →
             OnOk result (StandsFor self.new members (durable_state d.new)
-            (record { store = put_all server.store (win_puts server.store); memory = win_memory server.store server.memory }) (clock.win times)) }
+            (record {
+              store = put_all server.store (win_puts server.store);
+              memory = win_memory server.store server.memory;
+            }) (clock.win times)) }
         ensures fits { OnOk result (Fits self.new (durable_state d.new)) }
         ensures me { raft_me self.new ≡ raft_me self.old }
         ensures size { raft_size self.new ≡ raft_size self.old }
@@ -180,7 +186,8 @@ fn add_blank<D: Disk>(d: &mut Durable<D>) -> Result<(), Fault>
         d.old d.new (result_err result) }
     ensures vote { OnOk result ((durable_state d.new).vote ≡ (durable_state d.old).vote) }
     ensures commit { OnOk result ((durable_state d.new).commit ≡ (durable_state d.old).commit) }
-    ensures log { OnOk result (length (durable_state d.old).log ≤ length (durable_state d.new).log) }
+    ensures log { OnOk result
+        (length (durable_state d.old).log ≤ length (durable_state d.new).log) }
 {
     puts_in_turn::<D>();
     if wants_blank(d) {

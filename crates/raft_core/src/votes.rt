@@ -135,7 +135,8 @@ impl Raft {
         requires { from ≤ 125 }
         ensures stands { (members : List ℕ) (state : Stored) (server : Plain) (times : Times) →
             StandsFor self.old members state server times →
-            StandsFor self.new members state server (record times { answered = at times.answered from true }) }
+            StandsFor self.new members state server
+            (record times { answered = at times.answered from true }) }
         ensures fits { (state : Stored) → Fits self.old state → Fits self.new state }
         ensures me { raft_me self.new ≡ raft_me self.old }
         ensures size { raft_size self.new ≡ raft_size self.old }
@@ -148,7 +149,13 @@ impl Raft {
         requires { from ≤ 125 }
         ensures stands { (members : List ℕ) (state : Stored) (server : Plain) (times : Times) →
             StandsFor self.old members state server times →
-            StandsFor self.new members state (record server { memory = record server.memory { votes = at server.memory.votes from true } }) times }
+            StandsFor self.new members state
+            (record server {
+              memory = record server.memory {
+                votes =
+                    at server.memory.votes from true;
+              };
+            }) times }
         ensures fits { (state : Stored) → Fits self.old state → Fits self.new state }
         ensures me { raft_me self.new ≡ raft_me self.old }
         ensures size { raft_size self.new ≡ raft_size self.old }
@@ -166,13 +173,18 @@ impl Raft {
             StandsFor self.old members (durable_state d.old) server times →
             DoesPuts
             (noted WIN
-            (if has_quorum members (at server.memory.votes from true) then win_puts server.store else []))
+            (if has_quorum members (at server.memory.votes from true) then win_puts server.store
+            else []))
             d.old d.new (result_err result) }
         ensures stands { (members : List ℕ) (server : Plain) (times : Times) →
             StandsFor self.old members (durable_state d.old) server times →
             let counted = record server.memory { votes = at server.memory.votes from true } in
             OnOk result (StandsFor self.new members (durable_state d.new)
-            (if has_quorum members counted.votes then record { store = put_all server.store (win_puts server.store); memory = win_memory server.store counted } else record server { memory = counted })
+            (if has_quorum members counted.votes
+            then record {
+              store = put_all server.store (win_puts server.store);
+              memory = win_memory server.store counted;
+            } else record server { memory = counted })
             (if has_quorum members counted.votes then clock.win times else times)) }
         ensures fault { KeepsFaults d.old d.new (result_err result) }
         ensures fits { OnOk result (Fits self.new (durable_state d.new)) }
@@ -195,7 +207,10 @@ fn vote<D: Disk>(d: &mut Durable<D>, node: u8) -> Result<(), Fault>
     ensures puts { DoesPuts (noted LEADER (vote_puts (store_of (durable_state d.old)).vote node))
         d.old d.new (result_err result) }
     ensures state { OnOk result (durable_state d.new
-        ≡ record (durable_state d.old) { vote = if (durable_state d.old).vote == 0 then node else (durable_state d.old).vote }) }
+        ≡ record (durable_state d.old) {
+          vote = if (durable_state d.old).vote == 0 then node
+              else (durable_state d.old).vote;
+        }) }
 {
     puts_in_turn::<D>();
     if d.vote() == 0 {
@@ -218,7 +233,8 @@ fn may_grant<D: Disk>(d: &Durable<D>, from: u8, req: &VoteRequest) -> bool
 /// place not below.
 fn is_not_behind<D: Disk>(d: &Durable<D>, req: &VoteRequest) -> bool
     ensures { IsTrue result ↔
-        NotAbove (last_term (durable_state d.now).log) (length (durable_state d.now).log) req.now.last_term req.now.last_index }
+        NotAbove (last_term (durable_state d.now).log)
+        (length (durable_state d.now).log) req.now.last_term req.now.last_index }
 {
     let last_term = d.entry(d.last()).term;
     last_term < req.last_term || last_term == req.last_term && d.last() <= req.last_index

@@ -23,7 +23,8 @@ pub record IsCut (log : List Entry) (origins : List (Option ℕ)) (state : Store
   pub within : place ≤ length state.log
 
 -- the log has the entry that stands after its last, if it may follow
-pub record IsLonger (log : List Entry) (origins : List (Option ℕ)) (state : Stored) (next : Option Kept) : Type 0 where
+pub record IsLonger (log : List Entry) (origins : List (Option ℕ)) (state : Stored)
+    (next : Option Kept) : Type 0 where
   pub kept : Kept
   pub there : next ≡ Some kept
   pub is : log ≡ state.log ++ kept.entry ∷ []
@@ -42,7 +43,8 @@ pub record IsBare (place : ℕ) (entry : Entry) (state : Stored) : Type 0 where
 abbrev pub IsAllowed : Put → Stored → Option Kept → Type 0
 IsAllowed (PutTerm term) state next = (state.term ≤ term) × (term < 2 ^ 32)
 IsAllowed (PutVote node) state next = node ≤ 125
-IsAllowed (PutEntry entry origin) state next = (length state.log < log_limit) × (origin ≤ origin_limit) × Fits entry origin
+IsAllowed (PutEntry entry origin) state next = (length state.log < log_limit) × (origin ≤ origin_limit)
+    × Fits entry origin
 IsAllowed (PutLast log origins) state next = IsCut log origins state ⊎ IsLonger log origins state next
 IsAllowed (PutCommit index) state next = index ≤ length state.log
 IsAllowed (PutOrigin place entry) state next = IsBare place entry state × Fits entry 0
@@ -65,8 +67,11 @@ nexts_after (put ∷ puts) next = nexts_after puts (next_after put next)
 
 -- the map has it after the last, where it is read again from its bytes
 abbrev pub IsNext : (ℕ → List ℕ) → Stored → Option Kept → Type 0
-IsNext map state next = IfSome next (λ kept. (map (5 + length state.log) ≡ entry_bytes kept.entry kept.origin) × Fits kept.entry kept.origin)
+IsNext map state next =
+    IfSome next (λ kept. (map (5 + length state.log) ≡ entry_bytes kept.entry kept.origin)
+    × Fits kept.entry kept.origin)
 
 abbrev pub AreAllowed : List Put → Stored → Option Kept → Type 0
 AreAllowed [] state next = ⊤
-AreAllowed (put ∷ puts) state next = IsAllowed put state next × AreAllowed puts (after_put put state) (next_after put next)
+AreAllowed (put ∷ puts) state next = IsAllowed put state next
+    × AreAllowed puts (after_put put state) (next_after put next)

@@ -29,10 +29,12 @@ abbrev pub MayMake : Change → Stored → Type 0
 MayMake (Term term) state = state.term ≤ term
 MayMake (Vote node) state = node ≤ 125
 MayMake (Next entry origin) state = (length state.log < log_limit) × IsSmall entry origin
-MayMake (Longer entry origin) state = (length state.log < log_limit) × MayFollow state.log state.term entry × (origin ≤ origin_limit)
+MayMake (Longer entry origin) state = (length state.log < log_limit) × MayFollow state.log state.term entry
+    × (origin ≤ origin_limit)
 MayMake (Shorter place) state = (state.commit ≤ place) × (place ≤ length state.log)
 MayMake (Commit place) state = place ≤ length state.log
-MayMake (Origin place) state = let entry = slice_index_or state.log place (blank 0) in IsBare place entry state × (entry.node < 128)
+MayMake (Origin place) state = let entry = slice_index_or state.log place (blank 0) in IsBare place entry state
+    × (entry.node < 128)
 MayMake Version state = HaveOrigins state.origins
 
 -- what has to stand after the last

@@ -35,7 +35,8 @@ bytes_of PutVersion = 2 ∷ []
 abbrev pub device_calls : List Put → Stored → (ℕ → ℕ) → List DeviceCall
 device_calls [] state copies = []
 device_calls (put ∷ puts) state copies =
-    put_calls (key_of put state) (1 - copies (key_of put state)) (bytes_of put) ++ device_calls puts (after_put put state) (turned (key_of put state) copies)
+    put_calls (key_of put state) (1 - copies (key_of put state)) (bytes_of put)
+    ++ device_calls puts (after_put put state) (turned (key_of put state) copies)
 
 -- the copies that the selectors choose after all of these puts
 abbrev pub copies_after : List Put → Stored → (ℕ → ℕ) → ℕ → ℕ

@@ -13,7 +13,8 @@ use Rattle.raft_log.specs.Stored.{Put, Stored, origin_put}
 
 -- the put that the entry at a place wants, counted from 0, where it has no origin
 abbrev pub put_at : ℕ → Stored → List Put
-put_at place state = origin_put place (slice_index_or state.log place (blank 0)) (slice_index_or state.origins place None)
+put_at place state =
+    origin_put place (slice_index_or state.log place (blank 0)) (slice_index_or state.origins place None)
 
 module _ {D : Type 0} {disk : Ghosts D} where
   -- its put is made
@@ -26,4 +27,6 @@ module _ {D : Type 0} {disk : Ghosts D} where
 
   -- and an entry that it put stands there
   abbrev pub LeavesNext : Change → Durable D disk → Durable D disk → Type 0
-  LeavesNext change old new = IsNext (store_map new.store) (durable_state new) (next_after (put_of change (durable_state old)) (next_for change))
+  LeavesNext change old new =
+      IsNext (store_map new.store) (durable_state new)
+      (next_after (put_of change (durable_state old)) (next_for change))

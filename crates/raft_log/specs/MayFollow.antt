@@ -21,7 +21,8 @@ pub record IsStorable (state : Stored) : Type 0 where
   pub vote : state.vote ≤ 125
   pub room : length state.log ≤ log_limit
   pub commit : state.commit ≤ length state.log
-  pub follows : (i : ℕ) → i < length state.log → MayFollow (take i state.log) state.term (slice_index_or state.log i (blank 0))
+  pub follows : (i : ℕ) → i < length state.log →
+      MayFollow (take i state.log) state.term (slice_index_or state.log i (blank 0))
   pub injective : IsInjective state.log
   pub count : length state.origins ≡ length state.log
   pub limit : (i origin : ℕ) → slice_index_or state.origins i None ≡ Some origin → origin ≤ origin_limit

@@ -18,7 +18,8 @@ opening_calls state copies = open_calls ++ device_calls (opening_puts state) sta
 -- what was read: the state that the disk stands for, and the copies that its selectors choose
 pub record Finds {D : Type 0} (ghosts : Ghosts D) (disk : D) (found : Stored) (copies : ℕ → ℕ) : Type 0 where
   pub state : ghosts.tells disk ≡ true → StandsForState (ghosts.contents disk).seen found
-  pub chosen : ghosts.tells disk ≡ true → (key : ℕ) → key < key_count → copies key ≡ chosen_copy (ghosts.contents disk).seen key
+  pub chosen : ghosts.tells disk ≡ true → (key : ℕ) → key < key_count →
+      copies key ≡ chosen_copy (ghosts.contents disk).seen key
   pub kept : IsKept found
 
 -- an opening that succeeds: all of its puts are done
@@ -30,7 +31,8 @@ pub record OpensTo {D : Type 0} {ghosts : Ghosts D} (disk : D) (durable : Durabl
   pub turned : durable_copies durable ≡ copies_after (opening_puts found) found copies
   pub made : Makes ghosts.does (opening_calls found copies) true disk (durable_disk durable)
   -- where nothing is put, no image is added
-  pub images : opening_puts found ≡ [] → ghosts.tells disk ≡ true → AddsNoImage (ghosts.contents disk) (ghosts.contents (durable_disk durable))
+  pub images : opening_puts found ≡ [] → ghosts.tells disk ≡ true →
+      AddsNoImage (ghosts.contents disk) (ghosts.contents (durable_disk durable))
 
 -- the disk was not read, so nothing was put
 pub record IsNotRead {D : Type 0} (ghosts : Ghosts D) (disk new : D) : Type 0 where
@@ -43,7 +45,8 @@ pub record IsNotPut {D : Type 0} (ghosts : Ghosts D) (disk new : D) : Type 0 whe
   pub copies : ℕ → ℕ
   pub finds : Finds ghosts disk found copies
   pub made : Makes ghosts.does (opening_calls found copies) false disk new
-  pub images : ghosts.tells disk ≡ true → (image : List ℕ) → MayLeave (ghosts.contents new) image → AfterSome (StandsForState image) (opening_puts found) found
+  pub images : ghosts.tells disk ≡ true → (image : List ℕ) → MayLeave (ghosts.contents new) image →
+      AfterSome (StandsForState image) (opening_puts found) found
 
 -- an opening of which a device call fails
 abbrev pub FailsToOpen : {D : Type 0} → Ghosts D → D → D → Type 0

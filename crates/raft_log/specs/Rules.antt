@@ -31,7 +31,8 @@ IsTerm value = 0 < length value → length value ≡ 4
 
 -- a number of 4 bytes, the low one first; 0 where they are not there
 abbrev pub number_of : List ℕ → ℕ
-number_of value = slice_index value 0 + 256 * slice_index value 1 + 65536 * slice_index value 2 + 16777216 * slice_index value 3
+number_of value =
+    slice_index value 0 + 256 * slice_index value 1 + 65536 * slice_index value 2 + 16777216 * slice_index value 3
 
 abbrev pub version_of : (ℕ → List ℕ) → ℕ
 version_of map = slice_index (map 0) 0
@@ -73,7 +74,8 @@ pub record KeepsRules (map : ℕ → List ℕ) (below : ℕ) : Type 0 where
   pub last : 3 < below → IsByteUpTo 127 (map 3)
   pub commit : 4 < below → IsByteUpTo (last_of map) (map 4)
   pub entry_value : (i : ℕ) → 5 + i < below → i < last_of map → IsEntryValue (version_of map) (map (5 + i))
-  pub entry : (i : ℕ) → 5 + i < below → i < last_of map → MayFollow (entries_of map i) (number_of (map 1)) (entry_of (map (5 + i)))
+  pub entry : (i : ℕ) → 5 + i < below → i < last_of map →
+      MayFollow (entries_of map i) (number_of (map 1)) (entry_of (map (5 + i)))
 
 -- the key is the first whose rule does not hold
 pub record IsFirstBroken (map : ℕ → List ℕ) (key : ℕ) : Type 0 where
@@ -107,7 +109,8 @@ pub record Stores (map : ℕ → List ℕ) (state : Stored) : Type 0 where
   pub vote : HasByte state.vote (map 2)
   pub last : HasByte (length state.log) (map 3)
   pub commit : HasByte state.commit (map 4)
-  pub entries : (i : ℕ) → i < length state.log → HasEntry (slice_index_or state.log i (blank 0)) (slice_index_or state.origins i None) (map (5 + i))
+  pub entries : (i : ℕ) → i < length state.log →
+      HasEntry (slice_index_or state.log i (blank 0)) (slice_index_or state.origins i None) (map (5 + i))
   pub storable : IsStorable state
 
 -- no key of the image has a length byte that is too large

@@ -22,7 +22,8 @@ put_state_on put shelf = put_on (key_of put shelf.store) (after_put put shelf.st
 -- puts, in order, up to the first that fails
 abbrev pub puts_on : List Put → Shelf Stored → Shelf Stored
 puts_on [] shelf = shelf
-puts_on (put ∷ puts) shelf = if is_put shelf.calls then puts_on puts (put_state_on put shelf) else put_state_on put shelf
+puts_on (put ∷ puts) shelf =
+    if is_put shelf.calls then puts_on puts (put_state_on put shelf) else put_state_on put shelf
 
 -- whether all of them are done
 abbrev pub are_put : List Put → Calls → Bool
@@ -36,7 +37,8 @@ done_on (put ∷ puts) calls = if is_put calls then 1 + done_on puts (after_call
 
 -- an opening: where the disk is read, its puts follow
 abbrev pub opening_on : Shelf Stored → Shelf Stored
-opening_on shelf = if is_opened shelf.calls then puts_on (opening_puts shelf.store) (opened_on shelf) else opened_on shelf
+opening_on shelf =
+    if is_opened shelf.calls then puts_on (opening_puts shelf.store) (opened_on shelf) else opened_on shelf
 
 -- whether all of it is done
 abbrev pub is_open_on : Shelf Stored → Bool
@@ -77,7 +79,8 @@ pub record IsReady (disk : MemoryDisk) (shelf : Shelf Stored) : Type 0 where
   pub firm : shelf.loose ≡ None
 
 -- the stored state of a running member is that of the shelf, and its disk the one that the shelf tells of
-pub record IsOnShelf {ghosts : Ghosts MemoryDisk} (durable : Durable MemoryDisk ghosts) (shelf : Shelf Stored) : Type 0 where
+pub record IsOnShelf {ghosts : Ghosts MemoryDisk} (durable : Durable MemoryDisk ghosts)
+    (shelf : Shelf Stored) : Type 0 where
   pub works : durable_fault durable ≡ None
   pub disk : IsReady (durable_disk durable) shelf
   pub state : durable_state durable ≡ shelf.store

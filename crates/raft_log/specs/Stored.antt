@@ -71,7 +71,8 @@ abbrev pub puts_of_term : ℕ → List Put
 puts_of_term term = PutTerm term ∷ PutVote 0 ∷ []
 
 abbrev pub puts_of_append : Entry → ℕ → Stored → List Put
-puts_of_append entry origin state = PutEntry entry origin ∷ PutLast (state.log ++ entry ∷ []) (state.origins ++ Some origin ∷ []) ∷ []
+puts_of_append entry origin state =
+    PutEntry entry origin ∷ PutLast (state.log ++ entry ∷ []) (state.origins ++ Some origin ∷ []) ∷ []
 
 abbrev pub puts_of_cut : ℕ → Stored → List Put
 puts_of_cut place state = PutLast (take place state.log) (take place state.origins) ∷ []
@@ -85,7 +86,8 @@ origin_put place entry (Some origin) = []
 abbrev pub origin_puts : ℕ → List Entry → List (Option ℕ) → List Put
 origin_puts place [] origins = []
 origin_puts place (entry ∷ log) [] = []
-origin_puts place (entry ∷ log) (origin ∷ origins) = origin_put place entry origin ++ origin_puts (place + 1) log origins
+origin_puts place (entry ∷ log) (origin ∷ origins) =
+    origin_put place entry origin ++ origin_puts (place + 1) log origins
 
 -- the puts of an opening: it stores the origins that are missing, and then the version
 abbrev pub opening_puts : Stored → List Put

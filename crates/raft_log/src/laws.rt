@@ -126,7 +126,8 @@ pub fn the_disk_by_states()
         chosen_copy (memory_contents disk).seen key ≡ shelf.copies key) }
     ensures puts { (old new : MemoryDisk) (shelf : Shelf Stored) (copies : ℕ → ℕ)
         (puts : List Put) (ok : Bool) → IsReady old shelf →
-        ((key : ℕ) → key < key_count → copies key ≡ shelf.copies key) → AreAllowed puts shelf.store None →
+        ((key : ℕ) → key < key_count → copies key ≡ shelf.copies key) →
+        AreAllowed puts shelf.store None →
         Makes DoesInMemory (device_calls puts shelf.store copies) ok old new →
         IsOn new (puts_on puts shelf) × (ok ≡ are_put puts shelf.calls) ×
         (ok ≡ true → IsReady new (puts_on puts shelf)) }

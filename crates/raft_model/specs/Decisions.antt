@@ -25,7 +25,8 @@ abbrev pub is_well_formed : Entry → Bool
 is_well_formed entry = is_blank entry || (is_reservation entry || is_pair entry)
 
 abbrev pub are_distinct : Entry → Entry → Bool
-are_distinct a b = (is_blank a || is_blank b) || (not (a.node == b.node) && (bytes_eq a.uid zeros || not (bytes_eq a.uid b.uid)))
+are_distinct a b =
+    (is_blank a || is_blank b) || (not (a.node == b.node) && (bytes_eq a.uid zeros || not (bytes_eq a.uid b.uid)))
 
 abbrev pub is_distinct_from_all : Entry → List Entry → Bool
 is_distinct_from_all entry [] = true
@@ -42,7 +43,8 @@ is_free None candidate = true
 is_free (Some vote) candidate = vote == candidate
 
 abbrev pub is_not_above : ℕ → ℕ → ℕ → ℕ → Bool
-is_not_above term index other_term other_index = nat_lt term other_term || ((term == other_term) && nat_le index other_index)
+is_not_above term index other_term other_index =
+    nat_lt term other_term || ((term == other_term) && nat_le index other_index)
 
 -- whether a vote is granted
 abbrev pub grants : Store → Request → Bool
@@ -83,7 +85,8 @@ is_current server request =
 
 -- what becomes of an append request
 abbrev pub judges : Plain → Request → Verdict
-judges server request = if is_current server request then rule (with_term server.store request.term) request else Outdated
+judges server request =
+    if is_current server request then rule (with_term server.store request.term) request else Outdated
 
 -- Proposals.
 

@@ -48,13 +48,14 @@ pub record CommitDuty (members : List ℕ) (member : ℕ) (before after : Plain)
   pub greatest : (index : ℕ) → CanCommit members member before index → index ≤ after.store.commit
   pub only : (after.store.commit ≡ before.store.commit) ⊎ CanCommit members member before after.store.commit
 
--- of the place after told: with a unique ID of zeros it is passed over, another is told where there is room; told goes on by one
--- exactly then
+-- of the place after told: with a unique ID of zeros it is passed over, another is told where there is room; told
+-- goes on by one exactly then
 pub record TellDuty (member step : ℕ) (room : Bool) (before after : Plain) (offered : List Message) : Type 0 where
   pub passed : before.memory.told < before.store.commit → (next_entry before).uid ≡ zeros
       → (after.memory.told ≡ before.memory.told + 1) × (offered ≡ [])
   pub told : before.memory.told < before.store.commit → (next_entry before).uid ≢ zeros → room ≡ true
-      → (after.memory.told ≡ before.memory.told + 1) × (offered ≡ Pairs (pair_at member step before.store before.memory.told) ∷ [])
+      → (after.memory.told ≡ before.memory.told + 1)
+      × (offered ≡ Pairs (pair_at member step before.store before.memory.told) ∷ [])
   pub no_room : before.memory.told < before.store.commit → (next_entry before).uid ≢ zeros → room ≡ false
       → (after ≡ before) × (offered ≡ [])
   pub nothing : before.store.commit ≤ before.memory.told → (after ≡ before) × (offered ≡ [])

@@ -18,4 +18,5 @@ pub record IsFit (member : ℕ) (server : Plain) : Type 0 where
   pub vote : server.memory.role ≢ Follower → server.store.vote ≡ Some member
   pub term : server.memory.role ≢ Follower → 1 ≤ server.store.term
   pub peers : server.memory.role ≡ Leader → (peer : ℕ)
-      → IsWithin (length server.store.log) (server.memory.next peer) (server.memory.matched peer) (server.memory.pending peer)
+      → IsWithin (length server.store.log) (server.memory.next peer) (server.memory.matched peer)
+      (server.memory.pending peer)

@@ -6,8 +6,11 @@ use Rattle.raft_model.specs.Moves.{Move, puts, memory_after, offers, calls}
 
 -- the server after one move, and after these
 abbrev pub plain_after : List ℕ → ℕ → ℕ → Plain → Move → Plain
-plain_after members member step server move = record
-    { store = put_all server.store (puts members member server move); memory = memory_after members member step server move }
+plain_after members member step server move = record {
+  store = put_all server.store (puts members member server move);
+  memory =
+      memory_after members member step server move;
+}
 
 abbrev pub plain_after_all : List ℕ → ℕ → ℕ → Plain → List Move → Plain
 plain_after_all members member step server [] = server
@@ -32,8 +35,10 @@ abbrev pub calls_of_all : List Move → List ℕ
 calls_of_all [] = []
 calls_of_all (move ∷ moves) = calls_of_all moves ++ calls move
 
--- where so many puts of a step end: behind all puts of the moves before one of them, and so many of that one's, at most all
-pub record IsCut (members : List ℕ) (member step : ℕ) (server : Plain) (moves : List Move) (count : ℕ) : Type 0 where
+-- where so many puts of a step end: behind all puts of the moves before one of them, and so many of that one's, at
+-- most all
+pub record IsCut (members : List ℕ) (member step : ℕ) (server : Plain) (moves : List Move)
+    (count : ℕ) : Type 0 where
   pub before : List Move
   pub next : Move
   pub rest : List Move
@@ -44,9 +49,10 @@ pub record IsCut (members : List ℕ) (member step : ℕ) (server : Plain) (move
       ≡ puts_of_all members member step server before
       ++ take within (puts members member (plain_after_all members member step server before) next)
 
--- where the put stands that failed after so many others: in one of the moves, behind so many puts of it; whether it is found undone or
--- done, the puts that are done end within this move
-pub record IsBreak (members : List ℕ) (member step : ℕ) (server : Plain) (moves : List Move) (done : ℕ) : Type 0 where
+-- where the put stands that failed after so many others: in one of the moves, behind so many puts of it; whether it
+-- is found undone or done, the puts that are done end within this move
+pub record IsBreak (members : List ℕ) (member step : ℕ) (server : Plain) (moves : List Move)
+    (done : ℕ) : Type 0 where
   pub before : List Move
   pub next : Move
   pub rest : List Move

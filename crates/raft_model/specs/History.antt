@@ -30,8 +30,10 @@ no_history = record { led = λ term. false; leader = λ term. 0; list = λ term.
 
 -- a vote of this voter, with this log, is kept
 abbrev pub voted : History → ℕ → ℕ → ℕ → List Entry → History
-voted history voter candidate term log = record history
-    { kept = record { voter = voter; candidate = candidate; term = term; log = log; led = history.led term } ∷ history.kept }
+voted history voter candidate term log = record history {
+  kept = record { voter = voter; candidate = candidate; term = term; log = log; led = history.led term }
+      ∷ history.kept;
+}
 
 -- the member stands for leader: its candidacy is kept, and the vote for itself
 abbrev pub stood : History → ℕ → ℕ → List Entry → History

@@ -13,8 +13,8 @@ use Rattle.raft_model.specs.Runs.{World}
 
 -- Stored.
 
--- commit is at most last, last at most 127; entries are well formed; terms do not fall, are at least 1 and at most the server's;
--- the log is injective
+-- commit is at most last, last at most 127; entries are well formed; terms do not fall, are at least 1 and at most
+-- the server's; the log is injective
 pub record SoundStore (store : Store) : Type 0 where
   pub commit : store.commit ≤ length store.log
   pub last : length store.log ≤ log_limit
@@ -32,10 +32,12 @@ abbrev pub IsBound : Store → ℕ → ℕ → Type 0
 IsBound store candidate term = (term < store.term) ⊎ ((term ≡ store.term) × (store.vote ≡ Some candidate))
 
 pub record VotesBound (world : World) : Type 0 where
-  pub granted : (kept : KeptVote) → In kept world.history.kept → IsBound (world.server kept.voter).store kept.candidate kept.term
+  pub granted : (kept : KeptVote) → In kept world.history.kept →
+      IsBound (world.server kept.voter).store kept.candidate kept.term
   pub stood : (candidacy : Candidacy) → In candidacy world.history.candidacies
       → IsBound (world.server candidacy.candidate).store candidacy.candidate candidacy.term
-  pub own : (member : ℕ) → (world.server member).memory.role ≢ Follower → (world.server member).store.vote ≡ Some member
+  pub own : (member : ℕ) → (world.server member).memory.role ≢ Follower →
+      (world.server member).store.vote ≡ Some member
 
 -- Leaders.
 
@@ -46,11 +48,14 @@ is_vote voter candidate term kept = (kept.voter == voter)
 
 -- a kept vote of this voter for this candidate in this term, whose log is not above that of the candidacy
 abbrev pub HasVote : History → ℕ → ℕ → ℕ → Type 0
-HasVote history voter candidate term = (kept : KeptVote) × In kept history.kept × (kept.voter ≡ voter) × (kept.candidate ≡ candidate) × (kept.term ≡ term) × (
-    (candidacy : Candidacy) × In candidacy history.candidacies × (candidacy.candidate ≡ candidate) × (candidacy.term ≡ term) × NotAbove (last_term kept.log) (length kept.log) (last_term candidacy.log) (length candidacy.log))
+HasVote history voter candidate term = (kept : KeptVote) × In kept history.kept × (kept.voter ≡ voter)
+    × (kept.candidate ≡ candidate) × (kept.term ≡ term) × (
+    (candidacy : Candidacy) × In candidacy history.candidacies × (candidacy.candidate ≡ candidate)
+    × (candidacy.term ≡ term)
+    × NotAbove (last_term kept.log) (length kept.log) (last_term candidacy.log) (length candidacy.log))
 
--- how the leader of a term came to be: its list begins with its candidacy's log, whose terms are below this term, and all that
--- follows has this term;
+-- how the leader of a term came to be: its list begins with its candidacy's log, whose terms are below this term, and
+-- all that follows has this term;
 -- a quorum voted for it before there was a leader, each with a log not above that of the candidacy
 pub record IsElected (world : World) (term : ℕ) : Type 0 where
   pub candidacy : Candidacy
@@ -63,7 +68,8 @@ pub record IsElected (world : World) (term : ℕ) : Type 0 where
   pub own : (place : ℕ) → place < length rest → (get_or rest place (blank 0)).term ≡ term
   pub votes : quorum world.members
       ≤ how_many (λ voter. any (is_vote voter (world.history.leader term) term) world.history.kept) world.members
-  pub not_above : (kept : KeptVote) → In kept world.history.kept → kept.candidate ≡ world.history.leader term → kept.term ≡ term
+  pub not_above : (kept : KeptVote) → In kept world.history.kept →
+      kept.candidate ≡ world.history.leader term → kept.term ≡ term
       → NotAbove (last_term kept.log) (length kept.log) (last_term candidacy.log) (length candidacy.log)
 
 pub record LeadersElected (world : World) : Type 0 where
@@ -83,12 +89,14 @@ pub record LeadersElected (world : World) : Type 0 where
 -- each prefix that ends in an entry of some term is a prefix of that term's list
 abbrev pub IsMatching : History → List Entry → Type 0
 IsMatching history log = (place : ℕ) → place < length log
-    → (history.led (get_or log place (blank 0)).term ≡ true) × (place < length (history.list (get_or log place (blank 0)).term))
+    → (history.led (get_or log place (blank 0)).term ≡ true)
+    × (place < length (history.list (get_or log place (blank 0)).term))
     × Same (place + 1) log (history.list (get_or log place (blank 0)).term)
 
 pub record LogsMatch (world : World) : Type 0 where
   pub logs : (member : ℕ) → IsMatching world.history (world.server member).store.log
-  pub candidacies : (candidacy : Candidacy) → In candidacy world.history.candidacies → IsMatching world.history candidacy.log
+  pub candidacies : (candidacy : Candidacy) → In candidacy world.history.candidacies →
+      IsMatching world.history candidacy.log
   pub voters : (kept : KeptVote) → In kept world.history.kept → IsMatching world.history kept.log
   pub lists : (term : ℕ) → IsMatching world.history (world.history.list term)
   -- an append request has the previous term and the entry that its term's list has at their places
@@ -105,16 +113,18 @@ pub record LogsMatch (world : World) : Type 0 where
 -- the member leads the term, with at least so many places
 abbrev pub LeadsWith : World → ℕ → ℕ → ℕ → Type 0
 LeadsWith world member term count =
-    (world.history.led term ≡ true) × (world.history.leader term ≡ member) × (count ≤ length (world.history.list term))
+    (world.history.led term ≡ true) × (world.history.leader term ≡ member)
+    × (count ≤ length (world.history.list term))
 
--- the member acknowledged so many places of the term: it leads the term, or answered an append request of it that reaches so far or
--- further
+-- the member acknowledged so many places of the term: it leads the term, or answered an append request of it that
+-- reaches so far or further
 abbrev pub Acknowledged : World → ℕ → ℕ → ℕ → Type 0
 Acknowledged world member term count = LeadsWith world member term count
     ⊎ ((answer : Answer) × In (Answers answer) world.bag × (answer.from ≡ member) × (answer.success ≡ true)
     × (answer.request.append ≡ true) × (answer.request.term ≡ term) × (count ≤ reach answer.request))
 
--- and just so many: a request that reaches no further. This is the usual form; the one above is carried, and this follows
+-- and just so many: a request that reaches no further. This is the usual form; the one above is carried, and this
+-- follows
 abbrev pub AcknowledgedExactly : World → ℕ → ℕ → ℕ → Type 0
 AcknowledgedExactly world member term count = LeadsWith world member term count
     ⊎ ((answer : Answer) × In (Answers answer) world.bag × (answer.from ≡ member) × (answer.success ≡ true)
@@ -122,7 +132,8 @@ AcknowledgedExactly world member term count = LeadsWith world member term count
 
 -- some term between these two has a list that does not begin with so many places of the first one's
 abbrev pub Diverges : History → ℕ → ℕ → ℕ → Type 0
-Diverges history term count later = (between : ℕ) × (term < between) × (between < later) × (history.led between ≡ true)
+Diverges history term count later = (between : ℕ) × (term < between) × (between < later)
+    × (history.led between ≡ true)
     × (Same count (history.list between) (history.list term) → ⊥)
 
 -- the member's log begins with so many places of the term, or a term up to its own diverges
@@ -133,21 +144,26 @@ HasKept world member term count = (count ≤ length (world.history.list term))
 
 -- so does the log with which it voted in a later term, or a term in between diverges
 abbrev pub HasVotedWith : World → KeptVote → ℕ → ℕ → Type 0
-HasVotedWith world kept term count = Same count kept.log (world.history.list term) ⊎ Diverges world.history term count kept.term
+HasVotedWith world kept term count = Same count kept.log (world.history.list term)
+    ⊎ Diverges world.history term count kept.term
 
 abbrev pub AcknowledgedKept : World → Type 0
-AcknowledgedKept world = (member term count : ℕ) → Acknowledged world member term count → HasKept world member term count
+AcknowledgedKept world = (member term count : ℕ) → Acknowledged world member term count →
+    HasKept world member term count
 
 abbrev pub AcknowledgedVoted : World → Type 0
-AcknowledgedVoted world = (kept : KeptVote) (term count : ℕ) → In kept world.history.kept → kept.led ≡ false → term < kept.term
+AcknowledgedVoted world = (kept : KeptVote) (term count : ℕ) → In kept world.history.kept →
+    kept.led ≡ false → term < kept.term
     → Acknowledged world kept.voter term count → HasVotedWith world kept term count
 
 -- what holds of just so many places, which follows from what holds of so many or more
 abbrev pub ExactlyKept : World → Type 0
-ExactlyKept world = (member term count : ℕ) → AcknowledgedExactly world member term count → HasKept world member term count
+ExactlyKept world = (member term count : ℕ) → AcknowledgedExactly world member term count →
+    HasKept world member term count
 
 abbrev pub ExactlyVoted : World → Type 0
-ExactlyVoted world = (kept : KeptVote) (term count : ℕ) → In kept world.history.kept → kept.led ≡ false → term < kept.term
+ExactlyVoted world = (kept : KeptVote) (term count : ℕ) → In kept world.history.kept → kept.led ≡ false →
+    term < kept.term
     → AcknowledgedExactly world kept.voter term count → HasVotedWith world kept term count
 
 -- Commit.
@@ -155,7 +171,8 @@ ExactlyVoted world = (kept : KeptVote) (term count : ℕ) → In kept world.hist
 abbrev pub is_acknowledgement : ℕ → ℕ → ℕ → Message → Bool
 is_acknowledgement member term place (Requests request) = false
 is_acknowledgement member term place (Answers answer) = (answer.from == member)
-    && (answer.success && (answer.request.append && ((answer.request.term == term) && nat_le place (reach answer.request))))
+    && (answer.success
+    && (answer.request.append && ((answer.request.term == term) && nat_le place (reach answer.request))))
 is_acknowledgement member term place (Pairs pair) = false
 
 -- the member leads the term, or an answer of it in the bag acknowledges so many places of the term or more
@@ -191,16 +208,19 @@ pub record CommitsSettled (world : World) : Type 0 where
       → IsSettled world (take (place + 1) world.ledger.entries) (get_or world.ledger.stamps place 0)
   pub servers : (member : ℕ)
       → ((world.server member).store.commit ≡ 0)
-      ⊎ ((term : ℕ) × (term ≤ (world.server member).store.term) × IsSettled world (committed (world.server member).store) term)
+      ⊎ ((term : ℕ) × (term ≤ (world.server member).store.term)
+      × IsSettled world (committed (world.server member).store) term)
   pub requests : (request : Request) → In (Requests request) world.bag → request.append ≡ true
       → (request.commit ≤ length world.ledger.entries)
       × ((request.commit ≡ 0)
-      ⊎ ((term : ℕ) × (term ≤ request.term) × IsSettled world (take request.commit (world.history.list request.term)) term))
+      ⊎ ((term : ℕ) × (term ≤ request.term)
+      × IsSettled world (take request.commit (world.history.list request.term)) term))
 
 -- Calls.
 
 pub record CallsSound (world : World) : Type 0 where
-  -- an answer names a request in the bag, from its receiver to its sender; a granted or successful one has that request's term
+  -- an answer names a request in the bag, from its receiver to its sender; a granted or successful one has that
+  -- request's term
   pub answers : (answer : Answer) → In (Answers answer) world.bag
       → In (Requests answer.request) world.bag × (answer.request.to ≡ answer.from)
       × (answer.success ≡ true → answer.term ≡ answer.request.term)
@@ -223,10 +243,13 @@ pub record CallsSound (world : World) : Type 0 where
       → (candidacy : Candidacy) × In candidacy world.history.candidacies × (candidacy.candidate ≡ request.from)
       × (candidacy.term ≡ request.term) × (last_term candidacy.log ≡ request.previous_term)
       × (length candidacy.log ≡ request.previous)
-  -- a granted vote answer, and a vote that a running Candidate counts, is a kept vote with a log not above that of the candidacy
-  pub granted : (answer : Answer) → In (Answers answer) world.bag → answer.success ≡ true → answer.request.append ≡ false
+  -- a granted vote answer, and a vote that a running Candidate counts, is a kept vote with a log not above that of
+  -- the candidacy
+  pub granted : (answer : Answer) → In (Answers answer) world.bag → answer.success ≡ true →
+      answer.request.append ≡ false
       → HasVote world.history answer.from answer.request.from answer.request.term
-  pub counted : (member peer : ℕ) → (world.server member).memory.role ≡ Candidate → (world.server member).memory.votes peer ≡ true
+  pub counted : (member peer : ℕ) → (world.server member).memory.role ≡ Candidate →
+      (world.server member).memory.votes peer ≡ true
       → HasVote world.history peer member (world.server member).store.term
 
 -- All of it.

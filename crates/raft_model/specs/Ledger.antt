@@ -3,8 +3,8 @@ use Rattle.std.specs.Prelude.{ℕ, ◌-◌, List, [], ◌∷◌, ◌++◌, lengt
 use Rattle.can_frame.specs.declared.entry.Entry.{Entry}
 use Rattle.raft_model.specs.Server.{Store, Put, put}
 
--- the stamp of a place is the term of the server by whose put the ledger first became so long; it is always a leader's, since no
--- request's commit is above the ledger
+-- the stamp of a place is the term of the server by whose put the ledger first became so long; it is always a
+-- leader's, since no request's commit is above the ledger
 pub record Ledger : Type 0 where
   pub entries : List Entry
   pub stamps : List ℕ
@@ -22,10 +22,14 @@ stamps_after stamps term count = stamps ++ replicate (count - length stamps) ter
 
 -- the ledger once a member has this stored: its committed list where it is longer
 abbrev pub ledger_with : Ledger → Store → Ledger
-ledger_with ledger store = record
-    { entries = ledger_after ledger.entries store.log store.commit; stamps = stamps_after ledger.stamps store.term store.commit }
+ledger_with ledger store = record {
+  entries = ledger_after ledger.entries store.log store.commit;
+  stamps =
+      stamps_after ledger.stamps store.term store.commit;
+}
 
 -- the ledger after each of these puts
 abbrev pub ledger_through : Ledger → Store → List Put → Ledger
 ledger_through ledger store [] = ledger
-ledger_through ledger store (first ∷ rest) = ledger_through (ledger_with ledger (put store first)) (put store first) rest
+ledger_through ledger store (first ∷ rest) =
+    ledger_through (ledger_with ledger (put store first)) (put store first) rest

@@ -13,13 +13,15 @@ abbrev pub at : {A : Type 0} → (ℕ → A) → ℕ → A → ℕ → A
 at values place x other = if other == place then x else values other
 
 -- this place has x then, and each other what it had
-pub at_here : {A : Type 0} (values : ℕ → A) (place other : ℕ) (x : A) → other ≡ place → at values place x other ≡ x
+pub at_here : {A : Type 0} (values : ℕ → A) (place other : ℕ) (x : A) → other ≡ place →
+    at values place x other ≡ x
 at_here values place other x e = elim (eqb_tells other place) [
   | inl h ↦ ap (λ (b : Bool). if b then x else values other) h.0
   | inr h ↦ absurd (h.1 e)
 ]
 
-pub at_other : {A : Type 0} (values : ℕ → A) (place other : ℕ) (x : A) → other ≢ place → at values place x other ≡ values other
+pub at_other : {A : Type 0} (values : ℕ → A) (place other : ℕ) (x : A) → other ≢ place →
+    at values place x other ≡ values other
 at_other values place other x n = elim (eqb_tells other place) [
   | inl h ↦ absurd (n h.1)
   | inr h ↦ ap (λ (b : Bool). if b then x else values other) h.0

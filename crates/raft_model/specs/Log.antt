@@ -11,7 +11,8 @@ term_at log place = (entry_at log place).term
 pub record IsRising (log : List Entry) (top : ℕ) : Type 0 where
   pub low : (i : ℕ) → i < length log → 1 ≤ (slice_index_or log i (blank 0)).term
   pub high : (i : ℕ) → i < length log → (slice_index_or log i (blank 0)).term ≤ top
-  pub rises : (i j : ℕ) → i ≤ j → j < length log → (slice_index_or log i (blank 0)).term ≤ (slice_index_or log j (blank 0)).term
+  pub rises : (i j : ℕ) → i ≤ j → j < length log →
+      (slice_index_or log i (blank 0)).term ≤ (slice_index_or log j (blank 0)).term
 
 -- a last term and last index are not above others, compared in this order
 abbrev pub NotAbove : ℕ → ℕ → ℕ → ℕ → Type 0

@@ -23,8 +23,8 @@ counts_votes server TimeOut = true
 counts_votes server (TakeVoteAnswer answer) = counts server answer
 counts_votes server move = false
 
--- the list has all members wherever these moves count over it: the server is a Follower or has all, and who stands for election has
--- all; a Follower that does not stand needs no list
+-- the list has all members wherever these moves count over it: the server is a Follower or has all, and who stands
+-- for election has all; a Follower that does not stand needs no list
 pub record KnowsEnough (list members : List ℕ) (server : Plain) (moves : List Move) : Type 0 where
   pub counting : server.memory.role ≢ Follower → IsAll list members
   pub standing : In TimeOut moves → IsAll list members

@@ -1,5 +1,5 @@
--- The moves of a server, row by row: when a move may come, its puts in order, its effect on memory and history, and the messages
--- that it offers. What a row says is defined in `Elections`, `Appending` and `Leading`, below this module.
+-- The moves of a server, row by row: when a move may come, its puts in order, its effect on memory and history, and
+-- the messages that it offers. What a row says is defined in `Elections`, `Appending` and `Leading`, below this module.
 -- `member` is the node ID of the server, `step` the number of its step, `server` what it has before the move.
 pub mod Elections
 pub mod Appending
@@ -37,19 +37,26 @@ pub data Move : Type 0 where
 -- when a move may come to a server that is up
 abbrev pub Comes : List ℕ → ℕ → List Message → List ℕ → Plain → Move → Type 0
 Comes members member bag called server TimeOut = (server.memory.role ≢ Leader) × (server.store.term < term_limit)
-Comes members member bag called server (TakeVoteRequest request granted) = In (Requests request) bag × (request.to ≡ member)
+Comes members member bag called server (TakeVoteRequest request granted) = In (Requests request) bag
+    × (request.to ≡ member)
     × (request.append ≡ false) × IsGranted (with_term server.store request.term) request granted
-Comes members member bag called server (TakeVoteAnswer answer) = In (Answers answer) bag × (answer.request.from ≡ member)
+Comes members member bag called server (TakeVoteAnswer answer) = In (Answers answer) bag
+    × (answer.request.from ≡ member)
     × (answer.request.append ≡ false) × (server.memory.pending answer.from ≡ Some answer.request)
-Comes members member bag called server (TakeAppendRequest request verdict) = In (Requests request) bag × (request.to ≡ member)
+Comes members member bag called server (TakeAppendRequest request verdict) = In (Requests request) bag
+    × (request.to ≡ member)
     × (request.append ≡ true) × IsJudged server request verdict
-Comes members member bag called server (TakeAppendAnswer answer) = In (Answers answer) bag × (answer.request.from ≡ member)
+Comes members member bag called server (TakeAppendAnswer answer) = In (Answers answer) bag
+    × (answer.request.from ≡ member)
     × (answer.request.append ≡ true) × (server.memory.pending answer.from ≡ Some answer.request)
 Comes members member bag called server (ProposeEntry entry) = MayPropose server entry
-Comes members member bag called server (CommitTo index) = (server.memory.role ≡ Leader) × IsCommitIndex members member server index
-Comes members member bag called server TellPair = (server.memory.role ≡ Leader) × (server.memory.told < server.store.commit)
+Comes members member bag called server (CommitTo index) = (server.memory.role ≡ Leader)
+    × IsCommitIndex members member server index
+Comes members member bag called server TellPair =
+    (server.memory.role ≡ Leader) × (server.memory.told < server.store.commit)
     × ((get_or server.store.log server.memory.told (blank 0)).uid ≢ zeros)
-Comes members member bag called server TellNothing = (server.memory.role ≡ Leader) × (server.memory.told < server.store.commit)
+Comes members member bag called server TellNothing = (server.memory.role ≡ Leader)
+    × (server.memory.told < server.store.commit)
     × ((get_or server.store.log server.memory.told (blank 0)).uid ≡ zeros)
 Comes members member bag called server (CallForVote peer) = (server.memory.role ≡ Candidate)
     × MayCall members member called server peer
@@ -62,7 +69,8 @@ Comes members member bag called server (GiveUp peer) = Unit {0}
 -- its puts, in order; the other moves have none
 abbrev pub puts : List ℕ → ℕ → Plain → Move → List Put
 puts members member server TimeOut = stand_puts member server.store
-    ++ (if has_quorum members (own_vote member) then win_puts (put_all server.store (stand_puts member server.store)) else [])
+    ++ (if has_quorum members (own_vote member)
+    then win_puts (put_all server.store (stand_puts member server.store)) else [])
 puts members member server (TakeVoteRequest request granted) = term_puts server.store request.term
     ++ grant_puts (with_term server.store request.term) request granted
 puts members member server (TakeVoteAnswer answer) =
@@ -90,7 +98,8 @@ memory_after members member step server (TakeAppendAnswer answer) =
     else (if acknowledges server answer then matched_memory server.memory answer else ended server.memory answer.from)
 memory_after members member step server TellPair = record server.memory { told = server.memory.told + 1 }
 memory_after members member step server TellNothing = record server.memory { told = server.memory.told + 1 }
-memory_after members member step server (CallForVote peer) = calling server.memory peer (vote_request member step server.store peer)
+memory_after members member step server (CallForVote peer) =
+    calling server.memory peer (vote_request member step server.store peer)
 memory_after members member step server (CallToAppend peer previous with_entry) =
     calling server.memory peer (append_request member step server.store peer previous with_entry)
 memory_after members member step server (GiveUp peer) = ended server.memory peer
@@ -119,7 +128,8 @@ calls move = []
 -- a candidacy and a granted vote with the put of that vote, a win and a leader's entry with the put of last
 abbrev pub put_history : ℕ → Move → Store → Put → History → History
 put_history member TimeOut store (PutVote (Some candidate)) history = stood history member store.term store.log
-put_history member TimeOut store (PutLonger entry) history = elected history member store.term (store.log ++ (entry ∷ []))
+put_history member TimeOut store (PutLonger entry) history =
+    elected history member store.term (store.log ++ (entry ∷ []))
 put_history member (TakeVoteRequest request granted) store (PutVote (Some candidate)) history =
     voted history member request.from request.term store.log
 put_history member (TakeVoteAnswer answer) store (PutLonger entry) history = elected history member store.term
@@ -135,7 +145,8 @@ puts_history member move store (first ∷ rest) history = puts_history member mo
 -- what the model remembers besides when the move is done: a win without a blank, and a vote granted again
 abbrev pub move_history : List ℕ → ℕ → Plain → Move → History → History
 move_history members member server TimeOut history =
-    if has_quorum members (own_vote member) then win_history member (put_all server.store (stand_puts member server.store)) history
+    if has_quorum members (own_vote member)
+    then win_history member (put_all server.store (stand_puts member server.store)) history
     else history
 move_history members member server (TakeVoteRequest request granted) history =
     grant_history member (with_term server.store request.term) request granted history

@@ -1,4 +1,5 @@
--- That the machine is not empty: a step of one move, which `law_rows` says of each row of the table, and what `law_example` comes to.
+-- That the machine is not empty: a step of one move, which `law_rows` says of each row of the table, and what
+-- `law_example` comes to.
 use Rattle.std.specs.Prelude.{◌≡◌, ℕ, ◌<◌, true, List, [], ◌∷◌, length}
 use Rattle.can_frame.specs.Log.{IsPair, IsReservation}
 use Rattle.raft_model.specs.Lists.{In}

@@ -8,7 +8,8 @@ use Rattle.raft_model.specs.Ledger.{Ledger, empty_ledger}
 use Rattle.raft_model.specs.Moves.{Move, Comes}
 use Rattle.raft_model.specs.Stops.{Site, stopped_within, stopped, all_moved, AllCome}
 
--- the whole: the members, their servers, the bag of messages, what the model remembers, and the number of the latest step
+-- the whole: the members, their servers, the bag of messages, what the model remembers, and the number of the latest
+-- step
 pub record World : Type 0 where
   pub members : List ℕ
   pub server : ℕ → Plain
@@ -66,8 +67,8 @@ after world (Stops member step moves) = with_site world member (stopped (site_af
 after world (StopsWithin member step moves next count) = with_site world member
     (stopped_within world.members member count (site_after world member step moves) next)
 
--- when an event may come: a member that is down opens; a server that is up takes a step, with a number above all before; one that
--- is up stops
+-- when an event may come: a member that is down opens; a server that is up takes a step, with a number above all
+-- before; one that is up stops
 abbrev pub MayCome : World → Event → Type 0
 MayCome world (Opens member) = In member world.members × ((world.server member).memory.up ≡ false)
 MayCome world (Steps member step moves fitted) = ((world.server member).memory.up ≡ true) × (world.steps < step)
@@ -77,7 +78,8 @@ MayCome world (Stops member step moves) = ((world.server member).memory.up ≡ t
     × AllCome world.members member step world.bag (site_of world member) moves
 MayCome world (StopsWithin member step moves next count) = ((world.server member).memory.up ≡ true)
     × AllCome world.members member step world.bag (site_of world member) moves
-    × Comes world.members member world.bag (site_after world member step moves).called (site_after world member step moves).plain
+    × Comes world.members member world.bag (site_after world member step moves).called
+    (site_after world member step moves).plain
     next
 
 -- the world after these events
@@ -92,9 +94,11 @@ Lawful world (event ∷ events) = MayCome world event × Lawful (after world eve
 
 -- a fact of the world holds at each moment of every run
 abbrev pub InEveryRun : (World → Type 0) → Type 0
-InEveryRun fact = (members : List ℕ) (events : List Event) → Lawful (beginning members) events → fact (run (beginning members) events)
+InEveryRun fact = (members : List ℕ) (events : List Event) → Lawful (beginning members) events →
+    fact (run (beginning members) events)
 
 -- a fact of two moments holds of each moment of every run and each later one
 abbrev pub FromEachMoment : (World → World → Type 0) → Type 0
 FromEachMoment fact = (members : List ℕ) (early late : List Event) → Lawful (beginning members) early
-    → Lawful (run (beginning members) early) late → fact (run (beginning members) early) (run (run (beginning members) early) late)
+    → Lawful (run (beginning members) early) late →
+    fact (run (beginning members) early) (run (run (beginning members) early) late)

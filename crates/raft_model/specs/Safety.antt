@@ -1,5 +1,5 @@
--- Safety: one ledger, which only grows, and every device is told from it alone. Two pairs of it have different node IDs and different
--- unique IDs, and no pair has a reserved node ID.
+-- Safety: one ledger, which only grows, and every device is told from it alone. Two pairs of it have different node
+-- IDs and different unique IDs, and no pair has a reserved node ID.
 use Rattle.std.specs.Prelude.{◌≡◌, ◌≢◌, ℕ, ◌+◌, ◌<◌, ◌≤◌, true, length, get_or}
 use Rattle.raft_model.specs.Lists.{In}
 use Rattle.can_frame.specs.declared.entry.Entry.{Entry}
@@ -21,10 +21,12 @@ pub record IsSafe (world : World) : Type 0 where
   pub pairs : (pair : Pair) → In (Pairs pair) world.bag
       → (place : ℕ) × (place < (world.server pair.from).store.commit)
       × ((get_or (world.server pair.from).store.log place (blank 0)).uid ≡ pair.uid)
-      × ((get_or (world.server pair.from).store.log place (blank 0)).node ≡ pair.node) × (pair.uid ≢ zeros) × (1 ≤ pair.node)
+      × ((get_or (world.server pair.from).store.log place (blank 0)).node ≡ pair.node) × (pair.uid ≢ zeros)
+      × (1 ≤ pair.node)
   -- every place of the ledger has a stamp, and every leader of a term from the stamp on has the ledger up to this place
   pub stamps : length world.ledger.stamps ≡ length world.ledger.entries
-  pub leaders : (place term : ℕ) → place < length world.ledger.entries → get_or world.ledger.stamps place 0 ≤ term
+  pub leaders : (place term : ℕ) → place < length world.ledger.entries →
+      get_or world.ledger.stamps place 0 ≤ term
       → world.history.led term ≡ true → Same (place + 1) (world.history.list term) world.ledger.entries
 
 -- the entry of the ledger that has so many before it
@@ -51,12 +53,15 @@ pub record IsGivenOnce (world : World) : Type 0 where
 -- what lasts from one moment of a run to every later one
 pub record Lasts (early late : World) : Type 0 where
   -- a member's committed list is a prefix of every one that it has later, through stops and openings
-  pub committed_here : (member : ℕ) → IsPrefix (committed (early.server member).store) (committed (late.server member).store)
+  pub committed_here : (member : ℕ) →
+      IsPrefix (committed (early.server member).store) (committed (late.server member).store)
   -- the ledger is a prefix of every later ledger
   pub ledger : IsPrefix early.ledger.entries late.ledger.entries
   -- a term has at most one leader for good, and its list only grows, by entries of this term alone
   pub led : (term : ℕ) → early.history.led term ≡ true → late.history.led term ≡ true
-  pub leader : (term : ℕ) → early.history.led term ≡ true → late.history.leader term ≡ early.history.leader term
-  pub list : (term : ℕ) → early.history.led term ≡ true → IsPrefix (early.history.list term) (late.history.list term)
+  pub leader : (term : ℕ) → early.history.led term ≡ true →
+      late.history.leader term ≡ early.history.leader term
+  pub list : (term : ℕ) → early.history.led term ≡ true →
+      IsPrefix (early.history.list term) (late.history.list term)
   pub gains : (term place : ℕ) → early.history.led term ≡ true → length (early.history.list term) ≤ place
       → place < length (late.history.list term) → (get_or (late.history.list term) place (blank 0)).term ≡ term

@@ -6,8 +6,8 @@ use Rattle.raft_model.specs.History.{History}
 use Rattle.raft_model.specs.Ledger.{Ledger, ledger_through}
 use Rattle.raft_model.specs.Moves.{Move, Comes, puts, memory_after, offers, calls, puts_history, move_history}
 
--- a server in its step: itself, the model's memory and the ledger, the messages that the step has offered and the peers that it has
--- called
+-- a server in its step: itself, the model's memory and the ledger, the messages that the step has offered and the
+-- peers that it has called
 pub record Site : Type 0 where
   pub plain : Plain
   pub history : History
@@ -52,7 +52,8 @@ stopped site = record {
 -- after these moves, one after another
 abbrev pub all_moved : List ℕ → ℕ → ℕ → Site → List Move → Site
 all_moved members member step site [] = site
-all_moved members member step site (move ∷ moves) = all_moved members member step (moved members member step site move) moves
+all_moved members member step site (move ∷ moves) =
+    all_moved members member step (moved members member step site move) moves
 
 -- each of these moves may come when its turn is there
 abbrev pub AllCome : List ℕ → ℕ → ℕ → List Message → Site → List Move → Type 0

@@ -51,7 +51,8 @@ transfer_name App = codes "app"
 
 -- a transfer's mark behind a space: whether it fitted, its name, and its destination
 abbrev pub sent_mark : Sent → List ℕ
-sent_mark sent = codes " " ++ cond sent.fitted (codes "+") (codes "-") ++ transfer_name sent.what ++ codes ":" ++ decimal sent.to
+sent_mark sent =
+    codes " " ++ cond sent.fitted (codes "+") (codes "-") ++ transfer_name sent.what ++ codes ":" ++ decimal sent.to
 
 -- the number of the row and that of its node, with which most lines begin
 abbrev pub line_head : ℕ → ℕ → List ℕ
@@ -59,14 +60,17 @@ line_head row n = decimal row ++ codes " " ++ decimal n
 
 -- the line of what a row did, its line feed included
 abbrev pub told_line : ℕ → Told → List ℕ
-told_line row (Opened n term vote last commit) = line_head row n ++ codes " open " ++ decimal term ++ codes " " ++ decimal vote
+told_line row (Opened n term vote last commit) =
+    line_head row n ++ codes " open " ++ decimal term ++ codes " " ++ decimal vote
     ++ codes " " ++ decimal last ++ codes " " ++ decimal commit ++ codes "\n"
 told_line row (Stepped n role term last commit queued seen sent) = line_head row n ++ codes " " ++ role_letter role
-    ++ codes " " ++ decimal term ++ codes " " ++ decimal last ++ codes " " ++ decimal commit ++ codes " " ++ decimal queued
+    ++ codes " " ++ decimal term ++ codes " " ++ decimal last ++ codes " " ++ decimal commit ++ codes " "
+    ++ decimal queued
     ++ codes " " ++ seen_word seen ++ flat_map sent_mark sent.items ++ codes "\n"
 told_line row (Failed n) = line_head row n ++ codes " fault\n"
 told_line row (Stopped n) = line_head row n ++ codes " stop\n"
 told_line row (Armed n) = line_head row n ++ codes " armed\n"
 told_line row (Popped n k frame) = line_head row n ++ codes " send " ++ decimal k
-    ++ codes " " ++ encode_lower (identifier_bytes frame.id) ++ codes " " ++ encode_lower frame.bytes.items ++ codes "\n"
+    ++ codes " " ++ encode_lower (identifier_bytes frame.id) ++ codes " " ++ encode_lower frame.bytes.items
+    ++ codes "\n"
 told_line row (Outside k) = decimal row ++ codes " ext " ++ decimal k ++ codes "\n"

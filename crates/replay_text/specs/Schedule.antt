@@ -50,7 +50,8 @@ Spells (Rx n k ms) line = line ≡ codes "rx" ∷ decimal n ∷ decimal k ∷ de
 Spells (Send n) line = line ≡ codes "send" ∷ decimal n ∷ []
 Spells (Ext frame) line = (id bytes : List ℕ) × (line ≡ codes "ext" ∷ id ∷ bytes ∷ [])
     × IsHex (identifier_bytes frame.id) id × IsHex frame.bytes.items bytes
-Spells (Crash n calls pattern) line = (word : List ℕ) × (line ≡ codes "crash" ∷ decimal n ∷ decimal calls ∷ word ∷ [])
+Spells (Crash n calls pattern) line = (word : List ℕ)
+    × (line ≡ codes "crash" ∷ decimal n ∷ decimal calls ∷ word ∷ [])
     × SpellsPattern pattern word
 Spells (Fault n call) line = line ≡ codes "fault" ∷ decimal n ∷ decimal call ∷ []
 
@@ -74,7 +75,8 @@ row_words (Open n ms word) = codes "open" ∷ decimal n ∷ decimal ms ∷ decim
 row_words (Tick n ms word) = codes "tick" ∷ decimal n ∷ decimal ms ∷ decimal word ∷ []
 row_words (Rx n k ms) = codes "rx" ∷ decimal n ∷ decimal k ∷ decimal ms ∷ []
 row_words (Send n) = codes "send" ∷ decimal n ∷ []
-row_words (Ext frame) = codes "ext" ∷ encode_lower (identifier_bytes frame.id) ∷ encode_lower frame.bytes.items ∷ []
+row_words (Ext frame) =
+    codes "ext" ∷ encode_lower (identifier_bytes frame.id) ∷ encode_lower frame.bytes.items ∷ []
 row_words (Crash n calls pattern) = codes "crash" ∷ decimal n ∷ decimal calls ∷ pattern_word pattern ∷ []
 row_words (Fault n call) = codes "fault" ∷ decimal n ∷ decimal call ∷ []
 

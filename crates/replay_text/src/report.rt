@@ -84,7 +84,8 @@ fn write_state(line: &mut Line, term: u32, first: u8, second: u8, third: u8)
 fn write_frame(line: &mut Line, k: u32, frame: &Frame)
     requires { length line.old + 47 ≤ 400 }
     ensures text { line.new ≡ line.old ++ codes " " ++ decimal k
-        ++ codes " " ++ encode_lower (identifier_bytes frame.now.id) ++ codes " " ++ encode_lower frame.now.bytes.items }
+        ++ codes " " ++ encode_lower (identifier_bytes frame.now.id) ++ codes " "
+        ++ encode_lower frame.now.bytes.items }
     ensures len { length line.new ≤ length line.old + 47 }
 {
     line.field(u64::from(k));

@@ -42,7 +42,8 @@ pub fn read_row(line: &[u8]) -> Option<Row>
 
 fn read_open(fields: &[u8]) -> Option<Row>
     ensures found { IfSome result (λ row. ReadsWords row (codes "open" ∷ words fields.now)) }
-    ensures only { (row : RowValue) → ReadsWords row (codes "open" ∷ words fields.now) → result ≡ Some row }
+    ensures only { (row : RowValue) → ReadsWords row (codes "open" ∷ words fields.now) →
+        result ≡ Some row }
 {
     let (n, ms, word) = read_turn(fields)?;
     Some(Row::Open { n, ms, word })
@@ -50,7 +51,8 @@ fn read_open(fields: &[u8]) -> Option<Row>
 
 fn read_tick(fields: &[u8]) -> Option<Row>
     ensures found { IfSome result (λ row. ReadsWords row (codes "tick" ∷ words fields.now)) }
-    ensures only { (row : RowValue) → ReadsWords row (codes "tick" ∷ words fields.now) → result ≡ Some row }
+    ensures only { (row : RowValue) → ReadsWords row (codes "tick" ∷ words fields.now) →
+        result ≡ Some row }
 {
     let (n, ms, word) = read_turn(fields)?;
     Some(Row::Tick { n, ms, word })
@@ -61,7 +63,8 @@ fn read_turn(fields: &[u8]) -> Option<(u8, u64, u32)>
     ensures found { IfSome result (λ turn. (turn.1 ≤ last_moment)
         × (words fields.now ≡ decimal turn.0 ∷ decimal turn.1 ∷ decimal turn.2 ∷ [])) }
     ensures only { (n ms word : ℕ) → n < 256 → ms ≤ last_moment → word < 2 ^ 32
-        → words fields.now ≡ decimal n ∷ decimal ms ∷ decimal word ∷ [] → result ≡ Some (n, ms, word) }
+        → words fields.now ≡ decimal n ∷ decimal ms ∷ decimal word ∷ [] →
+        result ≡ Some (n, ms, word) }
 {
     let (n, ms, word) = three_words(fields)?;
     let n = read_u8(n)?;
@@ -72,7 +75,8 @@ fn read_turn(fields: &[u8]) -> Option<(u8, u64, u32)>
 
 fn read_rx(fields: &[u8]) -> Option<Row>
     ensures found { IfSome result (λ row. ReadsWords row (codes "rx" ∷ words fields.now)) }
-    ensures only { (row : RowValue) → ReadsWords row (codes "rx" ∷ words fields.now) → result ≡ Some row }
+    ensures only { (row : RowValue) → ReadsWords row (codes "rx" ∷ words fields.now) →
+        result ≡ Some row }
 {
     let (n, k, ms) = three_words(fields)?;
     let n = read_u8(n)?;
@@ -83,7 +87,8 @@ fn read_rx(fields: &[u8]) -> Option<Row>
 
 fn read_send(fields: &[u8]) -> Option<Row>
     ensures found { IfSome result (λ row. ReadsWords row (codes "send" ∷ words fields.now)) }
-    ensures only { (row : RowValue) → ReadsWords row (codes "send" ∷ words fields.now) → result ≡ Some row }
+    ensures only { (row : RowValue) → ReadsWords row (codes "send" ∷ words fields.now) →
+        result ≡ Some row }
 {
     let n = one_word(fields)?;
     let n = read_u8(n)?;
@@ -92,7 +97,8 @@ fn read_send(fields: &[u8]) -> Option<Row>
 
 fn read_ext(fields: &[u8]) -> Option<Row>
     ensures found { IfSome result (λ row. ReadsWords row (codes "ext" ∷ words fields.now)) }
-    ensures only { (row : RowValue) → ReadsWords row (codes "ext" ∷ words fields.now) → result ≡ Some row }
+    ensures only { (row : RowValue) → ReadsWords row (codes "ext" ∷ words fields.now) →
+        result ≡ Some row }
 {
     let (id, bytes) = two_words(fields)?;
     let frame = read_frame(id, bytes)?;
@@ -102,7 +108,8 @@ fn read_ext(fields: &[u8]) -> Option<Row>
 fn read_frame(id: &[u8], bytes: &[u8]) -> Option<Frame>
     ensures found { IfSome result (λ frame. IsBytes frame.bytes.items
         × IsHex (identifier_bytes frame.id) id.now × IsHex frame.bytes.items bytes.now) }
-    ensures only { (frame : FrameValue) → IsHex (identifier_bytes frame.id) id.now → IsHex frame.bytes.items bytes.now → result ≡ Some frame }
+    ensures only { (frame : FrameValue) → IsHex (identifier_bytes frame.id) id.now →
+        IsHex frame.bytes.items bytes.now → result ≡ Some frame }
 {
     let id = read_identifier(id)?;
     let bytes = read_bytes::<8>(bytes)?;
@@ -114,7 +121,8 @@ fn read_frame(id: &[u8], bytes: &[u8]) -> Option<Frame>
 
 fn read_crash(fields: &[u8]) -> Option<Row>
     ensures found { IfSome result (λ row. ReadsWords row (codes "crash" ∷ words fields.now)) }
-    ensures only { (row : RowValue) → ReadsWords row (codes "crash" ∷ words fields.now) → result ≡ Some row }
+    ensures only { (row : RowValue) → ReadsWords row (codes "crash" ∷ words fields.now) →
+        result ≡ Some row }
 {
     let (n, calls, pattern) = three_words(fields)?;
     let n = read_u8(n)?;
@@ -125,7 +133,8 @@ fn read_crash(fields: &[u8]) -> Option<Row>
 
 fn read_pattern(word: &[u8]) -> Option<Pattern>
     ensures found { IfSome result (λ pattern. IsPattern pattern × SpellsPattern pattern word.now) }
-    ensures only { (pattern : PatternValue) → IsPattern pattern → SpellsPattern pattern word.now → result ≡ Some pattern }
+    ensures only { (pattern : PatternValue) → IsPattern pattern → SpellsPattern pattern word.now →
+        result ≡ Some pattern }
 {
     match word {
         b"old" => Some(Pattern::Old),
@@ -136,7 +145,8 @@ fn read_pattern(word: &[u8]) -> Option<Pattern>
 
 fn read_repeated(word: &[u8]) -> Option<Pattern>
     ensures found { IfSome result (λ pattern. IsPattern pattern × SpellsPattern pattern word.now) }
-    ensures only { (bytes : Items ℕ) → IsRepeated bytes.items → IsHex bytes.items word.now → result ≡ Some (Pattern.Bytes bytes) }
+    ensures only { (bytes : Items ℕ) → IsRepeated bytes.items → IsHex bytes.items word.now →
+        result ≡ Some (Pattern.Bytes bytes) }
 {
     let bytes = read_bytes::<16>(word)?;
     if bytes.is_empty() {
@@ -147,7 +157,8 @@ fn read_repeated(word: &[u8]) -> Option<Pattern>
 
 fn read_fault(fields: &[u8]) -> Option<Row>
     ensures found { IfSome result (λ row. ReadsWords row (codes "fault" ∷ words fields.now)) }
-    ensures only { (row : RowValue) → ReadsWords row (codes "fault" ∷ words fields.now) → result ≡ Some row }
+    ensures only { (row : RowValue) → ReadsWords row (codes "fault" ∷ words fields.now) →
+        result ≡ Some row }
 {
     let (n, call) = two_words(fields)?;
     let n = read_u8(n)?;

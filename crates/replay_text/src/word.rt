@@ -58,7 +58,8 @@ pub fn read_u32(word: &[u8], most: u32) -> Option<u32>
 /// The bytes that a word of hexadecimal digits spells, where they are at most `N`.
 pub fn read_bytes<const N: usize>(word: &[u8]) -> Option<ArrayVec<u8, N>>
     ensures found { IfSome result (λ bytes. (length bytes.items ≤ N) × IsHex bytes.items word.now) }
-    ensures only { (bytes : Items ℕ) → length bytes.items ≤ N → IsHex bytes.items word.now → result ≡ Some bytes }
+    ensures only { (bytes : Items ℕ) → length bytes.items ≤ N → IsHex bytes.items word.now →
+        result ≡ Some bytes }
 {
     let count = word.len() / 2;
     if count > N {
@@ -80,7 +81,8 @@ pub fn read_bytes<const N: usize>(word: &[u8]) -> Option<ArrayVec<u8, N>>
 /// The identifier that a word of eight hexadecimal digits spells.
 pub fn read_identifier(word: &[u8]) -> Option<u32>
     ensures found { IfSome result (λ id. IsHex (identifier_bytes id) word.now) }
-    ensures only { (id : ℕ) → id < 2 ^ 32 → IsHex (identifier_bytes id) word.now → result ≡ Some id }
+    ensures only { (id : ℕ) → id < 2 ^ 32 → IsHex (identifier_bytes id) word.now →
+        result ≡ Some id }
 {
     let bytes = read_bytes::<4>(word)?;
     match bytes.as_slice() {
@@ -133,7 +135,8 @@ pub fn two_words(text: &[u8]) -> Option<(&[u8], &[u8])>
 
 /// The three words of a text; `None` where it has fewer or more.
 pub fn three_words(text: &[u8]) -> Option<(&[u8], &[u8], &[u8])>
-    ensures some { IfSome result (λ parts. words text.now ≡ parts.0.now ∷ parts.1.now ∷ parts.2.now ∷ []) }
+    ensures some { IfSome result
+        (λ parts. words text.now ≡ parts.0.now ∷ parts.1.now ∷ parts.2.now ∷ []) }
     ensures none { IsNone result → (a b c : List ℕ) → words text.now ≡ a ∷ b ∷ c ∷ [] → ⊥ }
 {
     let (first, rest) = split_word(text)?;

@@ -6,7 +6,8 @@ use Rattle.server_parts.specs.Transfers.{Offer}
 
 -- two that fitted, of one kind and to one node, are Allocations with different transfer IDs
 abbrev pub AreApart : Offer → Offer → Type 0
-AreApart a b = a.fitted ≡ true → b.fitted ≡ true → a.what ≡ b.what → a.to ≡ b.to → (a.what ≡ Alloc) × (a.id ≢ b.id)
+AreApart a b = a.fitted ≡ true → b.fitted ≡ true → a.what ≡ b.what → a.to ≡ b.to →
+    (a.what ≡ Alloc) × (a.id ≢ b.id)
 
 -- each is apart from all behind it
 abbrev pub AreAllApart : List Offer → Type 0
@@ -15,5 +16,6 @@ AreAllApart (first ∷ rest) = ((other : Offer) → In other rest → AreApart f
 
 -- those that fitted are told apart by kind, destination and transfer ID: there is one of each name
 abbrev pub OneByName : List Offer → Type 0
-OneByName offers = (a b : Offer) → In a offers → In b offers → a.fitted ≡ true → b.fitted ≡ true → a.what ≡ b.what → a.to ≡ b.to
+OneByName offers = (a b : Offer) → In a offers → In b offers → a.fitted ≡ true → b.fitted ≡ true →
+    a.what ≡ b.what → a.to ≡ b.to
     → a.id ≡ b.id → a ≡ b

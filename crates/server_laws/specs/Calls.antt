@@ -22,8 +22,8 @@ pub record StaysPending (before after : Timed) (peer : ℕ) : Type 0 where
 abbrev pub carrier : Request → What
 carrier request = if request.append then AppQ else VoteQ
 
--- the step made the call to a peer: it offered this very request to it in a transfer that fitted, and keeps the ID of that
--- transfer with its own moment
+-- the step made the call to a peer: it offered this very request to it in a transfer that fitted, and keeps the ID of
+-- that transfer with its own moment
 pub record IsCalled (number : ℕ) (going : Going) (peer : ℕ) (request : Request) : Type 0 where
   pub offer : Offer
   pub offered : In offer going.offers
@@ -36,5 +36,6 @@ pub record IsCalled (number : ℕ) (going : Going) (peer : ℕ) (request : Reque
 
 -- each call that is pending after a step was pending before it, or the step made it
 abbrev pub CallsAreMade : ℕ → Timed → Going → Type 0
-CallsAreMade number before going = (peer : ℕ) (request : Request) → going.timed.plain.memory.pending peer ≡ Some request
+CallsAreMade number before going = (peer : ℕ) (request : Request) →
+    going.timed.plain.memory.pending peer ≡ Some request
     → StaysPending before going.timed peer ⊎ IsCalled number going peer request

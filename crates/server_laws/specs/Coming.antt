@@ -32,7 +32,8 @@ use Rattle.server_parts.specs.Step.{Event, at_step, begins}
 use Rattle.server_parts.specs.Step.Event.{Rx, Tick}
 use Rattle.server_parts.specs.TimedServer.{Timed, knows_all, members_of}
 
--- ---- what a delivered transfer of a member says is in the bag; service 1 is GetNodeInfo, 30 AppendEntries, the other RequestVote
+-- ---- what a delivered transfer of a member says is in the bag; service 1 is GetNodeInfo, 30 AppendEntries, the
+-- other RequestVote
 
 pub record RequestsFrom (bag : List Message) (me : ℕ) (d : Delivery) : Type 0 where
   pub votes : d.ident.number ≢ 1 → d.ident.number ≢ 30
@@ -43,12 +44,15 @@ pub record RequestsFrom (bag : List Message) (me : ℕ) (d : Delivery) : Type 0 
       → In (Requests (handled.append_request_of request d.mark.step d.ident.source me)) bag
 
 -- a response that the pending call takes answers that very call
-pub record AnswersFrom (bag : List Message) (plain : Plain) (times : Times) (d : Delivery) (call : Request) : Type 0 where
+pub record AnswersFrom (bag : List Message) (plain : Plain) (times : Times) (d : Delivery)
+    (call : Request) : Type 0 where
   pub votes : d.ident.number ≢ 1 → d.ident.number ≢ 30
-      → (says : VoteAnswer) → vote_answer_of d.payload ≡ Some says → is_awaited plain times d.ident.source false d.id ≡ true
+      → (says : VoteAnswer) → vote_answer_of d.payload ≡ Some says →
+      is_awaited plain times d.ident.source false d.id ≡ true
       → In (Answers (handled.answer_of d.mark.step d.ident.source call says.term says.granted)) bag
   pub appends : d.ident.number ≡ 30
-      → (says : AppendAnswer) → append_answer_of d.payload ≡ Some says → is_awaited plain times d.ident.source true d.id ≡ true
+      → (says : AppendAnswer) → append_answer_of d.payload ≡ Some says →
+      is_awaited plain times d.ident.source true d.id ≡ true
       → In (Answers (handled.answer_of d.mark.step d.ident.source call says.term says.success)) bag
 
 abbrev pub SaysFrom : List Message → Timed → Delivery → Kind → Type 0
@@ -56,7 +60,8 @@ SaysFrom bag t d Anonymous = ⊤
 SaysFrom bag t d Broadcast = ⊤
 SaysFrom bag t d RequestKind = is_listed d t ≡ true → RequestsFrom bag t.me d
 SaysFrom bag t d Response = is_listed d t ≡ true
-    → (call : Request) → t.plain.memory.pending d.ident.source ≡ Some call → AnswersFrom bag t.plain t.times d call
+    → (call : Request) → t.plain.memory.pending d.ident.source ≡ Some call →
+    AnswersFrom bag t.plain t.times d call
 
 abbrev pub AnswerFrom : List Message → Timed → Answer → Type 0
 AnswerFrom bag t (Gives d) = SaysFrom bag t d d.ident.kind
@@ -93,12 +98,15 @@ pub record Begins (t : Timed) (site : Site) : Type 0 where
   pub plain : site.plain ≡ t.plain
   pub called : (peer : ℕ) → In peer site.called → ⊥
 
--- the step went as a step of the machine: its moves may come, with its puts in order, they leave its server, and offer what it said
-pub record IsOfTheMachine (members : List ℕ) (me number : ℕ) (bag : List Message) (site : Site) (going : Going) : Type 0 where
+-- the step went as a step of the machine: its moves may come, with its puts in order, they leave its server, and
+-- offer what it said
+pub record IsOfTheMachine (members : List ℕ) (me number : ℕ) (bag : List Message) (site : Site)
+    (going : Going) : Type 0 where
   pub come : AllCome members me number bag site going.moves
   pub puts : plain_puts going.puts ≡ puts_of_all members me number site.plain going.moves
   pub leave : (all_moved members me number site going.moves).plain ≡ going.timed.plain
-  pub say : (message : Message) → In message (messages number going) → In message (all_moved members me number site going.moves).offered
+  pub say : (message : Message) → In message (messages number going) →
+      In message (all_moved members me number site going.moves).offered
 
 -- what a server keeps, whatever step it takes
 pub record KeepsOrder (t : Timed) : Type 0 where

@@ -25,41 +25,57 @@ use Rattle.raft_model.specs.Stops.{AllCome, Site, all_moved}
 
 pub record Laws : Type 0 where
   -- logs, choices and lists
-  pub blank_keeps : (log : List Entry) (entry : Entry) → IsBlank entry → IsInjective log → IsInjective (log ++ entry ∷ [])
-  pub reservation_keeps : (log : List Entry) (entry : Entry) → IsReservation entry → IsInjective log → (HasNodeId log entry.node → ⊥)
+  pub blank_keeps : (log : List Entry) (entry : Entry) → IsBlank entry → IsInjective log →
+      IsInjective (log ++ entry ∷ [])
+  pub reservation_keeps : (log : List Entry) (entry : Entry) → IsReservation entry → IsInjective log →
+      (HasNodeId log entry.node → ⊥)
       → IsInjective (log ++ entry ∷ [])
-  pub pair_keeps : (log : List Entry) (entry : Entry) → IsPair entry → IsInjective log → (HasUid log entry.uid → ⊥)
+  pub pair_keeps : (log : List Entry) (entry : Entry) → IsPair entry → IsInjective log →
+      (HasUid log entry.uid → ⊥)
       → (HasNodeId log entry.node → ⊥) → IsInjective (log ++ entry ∷ [])
   pub chosen_is : (busy : List Bool) (preferred : ℕ) → IsChoice busy preferred (chosen busy preferred)
-  pub complete_stays : (start : Start) (events : List Event) (from : ℕ) (message : Discovery) → is_complete start events ≡ true
+  pub complete_stays : (start : Start) (events : List Event) (from : ℕ) (message : Discovery) →
+      is_complete start events ≡ true
       → cluster.members start (Heard from message ∷ events) ≡ cluster.members start events
   -- the message machine
   pub opens_fit : (member : ℕ) (store : Store) → IsFit member (record { store = store; memory = opened })
-  pub fit_after : (members : List ℕ) (member step : ℕ) (bag : List Message) (called : List ℕ) (server : Plain) (move : Move)
-      → Comes members member bag called server move → IsFit member server → IsFit member (plain_after members member step server move)
+  pub fit_after : (members : List ℕ) (member step : ℕ) (bag : List Message) (called : List ℕ) (server : Plain)
+      (move : Move)
+      → Comes members member bag called server move → IsFit member server →
+      IsFit member (plain_after members member step server move)
   pub same_plain : (members : List ℕ) (member step : ℕ) (moves : List Move) (site : Site)
       → (all_moved members member step site moves).plain ≡ plain_after_all members member step site.plain moves
   pub same_offers : (members : List ℕ) (member step : ℕ) (moves : List Move) (site : Site)
-      → (all_moved members member step site moves).offered ≡ offers_of_all members member step site.plain moves ++ site.offered
+      → (all_moved members member step site moves).offered ≡ offers_of_all members member step site.plain moves
+      ++ site.offered
   pub same_calls : (members : List ℕ) (member step : ℕ) (moves : List Move) (site : Site)
       → (all_moved members member step site moves).called ≡ calls_of_all moves ++ site.called
   pub joined_moves : (members : List ℕ) (member step : ℕ) (first second : List Move) (site : Site)
-      → all_moved members member step site (first ++ second) ≡ all_moved members member step (all_moved members member step site first) second
-  pub joined_come : (members : List ℕ) (member step : ℕ) (bag : List Message) (first second : List Move) (site : Site)
-      → AllCome members member step bag site first → AllCome members member step bag (all_moved members member step site first) second
+      → all_moved members member step site (first ++ second)
+      ≡ all_moved members member step (all_moved members member step site first) second
+  pub joined_come : (members : List ℕ) (member step : ℕ) (bag : List Message) (first second : List Move)
+      (site : Site)
+      → AllCome members member step bag site first →
+      AllCome members member step bag (all_moved members member step site first) second
       → AllCome members member step bag site (first ++ second)
-  pub all_after : (list members : List ℕ) (member step : ℕ) (server : Plain) (moves : List Move) → KnowsEnough list members server moves
+  pub all_after : (list members : List ℕ) (member step : ℕ) (server : Plain) (moves : List Move) →
+      KnowsEnough list members server moves
       → plain_after_all list member step server moves ≡ plain_after_all members member step server moves
   pub noted_plain : (members : List ℕ) (member step : ℕ) (given : Given) (server : Plain) (moves : List Move)
-      → plain_puts (noted_puts members member step given server moves) ≡ puts_of_all members member step server moves
-  pub both_plain : (first second : List Noted) → plain_puts (first ++ second) ≡ plain_puts first ++ plain_puts second
+      → plain_puts (noted_puts members member step given server moves)
+      ≡ puts_of_all members member step server moves
+  pub both_plain : (first second : List Noted) →
+      plain_puts (first ++ second) ≡ plain_puts first ++ plain_puts second
   pub joined_puts : (members : List ℕ) (member step : ℕ) (first second : List Move) (server : Plain)
       → puts_of_all members member step server (first ++ second)
-      ≡ puts_of_all members member step server first ++ puts_of_all members member step (plain_after_all members member step server first) second
-  pub all_puts : (list members : List ℕ) (member step : ℕ) (server : Plain) (moves : List Move) → KnowsEnough list members server moves
+      ≡ puts_of_all members member step server first
+      ++ puts_of_all members member step (plain_after_all members member step server first) second
+  pub all_puts : (list members : List ℕ) (member step : ℕ) (server : Plain) (moves : List Move) →
+      KnowsEnough list members server moves
       → puts_of_all list member step server moves ≡ puts_of_all members member step server moves
   pub all_come : (list members : List ℕ) (member step : ℕ) (bag : List Message) (site : Site) (moves : List Move)
-      → KnowsEnough list members site.plain moves → AllCome list member step bag site moves → AllCome members member step bag site moves
+      → KnowsEnough list members site.plain moves → AllCome list member step bag site moves →
+      AllCome members member step bag site moves
   pub same_commit : (list members : List ℕ) (member : ℕ) (server : Plain) → IsAll list members
       → commit_index list member server ≡ commit_index members member server
   pub granted : (store : Store) (request : Request) → IsGranted store request (grants store request)
@@ -68,10 +84,13 @@ pub record Laws : Type 0 where
       → AllCome members member step bag site (tick_phase waited site.plain)
   pub commit_comes : (members : List ℕ) (member step : ℕ) (bag : List Message) (site : Site)
       → AllCome members member step bag site (commit_phase members member site.plain)
-  pub tick_duty : (members : List ℕ) (member step : ℕ) (server : Plain) → server.memory.role ≢ Leader → server.store.term < term_limit
+  pub tick_duty : (members : List ℕ) (member step : ℕ) (server : Plain) → server.memory.role ≢ Leader →
+      server.store.term < term_limit
       → TickDuty server (plain_after_all members member step server (tick_phase true server))
   pub commit_duty : (members : List ℕ) (member step : ℕ) (server : Plain) → server.memory.role ≡ Leader
-      → CommitDuty members member server (plain_after_all members member step server (commit_phase members member server))
-  pub tell_duty : (members : List ℕ) (member step : ℕ) (room : Bool) (server : Plain) → server.memory.role ≡ Leader
+      → CommitDuty members member server
+      (plain_after_all members member step server (commit_phase members member server))
+  pub tell_duty : (members : List ℕ) (member step : ℕ) (room : Bool) (server : Plain) →
+      server.memory.role ≡ Leader
       → TellDuty member step room server (plain_after_all members member step server (tell_phase room server))
       (offers_of_all members member step server (tell_phase room server))

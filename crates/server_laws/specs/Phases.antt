@@ -41,13 +41,14 @@ told_allocation t = record {
   fitted = has_room_to_tell t;
 }
 
--- a leader's duty to tell: its moves are those of the machine's phase, and tell one place. A pair is listed, whether it fits or
--- not; a place with a unique ID of zeros is not
+-- a leader's duty to tell: its moves are those of the machine's phase, and tell one place. A pair is listed, whether
+-- it fits or not; a place with a unique ID of zeros is not
 pub record TellsDuly (number : ℕ) (g told : Going) : Type 0 where
   pub moves : told.moves ≡ g.moves ++ duty.tell_phase (has_room_to_tell g.timed) g.timed.plain
   pub tells : g.timed.plain.memory.role ≡ Leader
       → TellDuty g.timed.me number (has_room_to_tell g.timed) g.timed.plain told.timed.plain
-      (offers_of_all (members_of g.timed) g.timed.me number g.timed.plain (duty.tell_phase (has_room_to_tell g.timed) g.timed.plain))
+      (offers_of_all (members_of g.timed) g.timed.me number g.timed.plain
+      (duty.tell_phase (has_room_to_tell g.timed) g.timed.plain))
   pub lists : g.timed.plain.memory.role ≡ Leader → g.timed.plain.memory.told < g.timed.plain.store.commit
       → (next_entry g.timed.plain).uid ≢ zeros → told.offers ≡ g.offers ++ told_allocation g.timed ∷ []
   pub passes : (next_entry g.timed.plain).uid ≡ zeros → told.offers ≡ g.offers

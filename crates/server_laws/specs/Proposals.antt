@@ -9,7 +9,8 @@ use Rattle.server_parts.specs.Going.{Going}
 
 -- each unique ID that a node told has 16 bytes
 abbrev pub HasUids : List Watched → Type 0
-HasUids watch = (node : ℕ) (uid : List ℕ) (moment : ℕ) → In (of_node node (Taken uid moment)) watch → length uid ≡ 16
+HasUids watch = (node : ℕ) (uid : List ℕ) (moment : ℕ) → In (of_node node (Taken uid moment)) watch →
+    length uid ≡ 16
 
 -- and so has that of each entry that a step records
 abbrev pub RecordsUids : Going → Type 0

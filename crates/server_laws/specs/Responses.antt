@@ -42,8 +42,8 @@ AnswersAsked d t Vote says = AnswersVote d t says
 AnswersAsked d t App says = AnswersAppend d t says
 AnswersAsked d t what says = ⊤
 
--- a response goes to the node whose request of its service the step was delivered, under that request's transfer ID, and names
--- the step that made it
+-- a response goes to the node whose request of its service the step was delivered, under that request's transfer ID,
+-- and names the step that made it
 pub record IsResponse (t : Timed) (number : ℕ) (event : Event) (offer : Offer) : Type 0 where
   pub d : Delivery
   pub delivered : IsDelivered t number event d
@@ -55,5 +55,6 @@ pub record IsResponse (t : Timed) (number : ℕ) (event : Event) (offer : Offer)
   pub says : AnswersAsked d t offer.what offer.says
 
 abbrev pub ResponsesAnswer : Timed → ℕ → Event → Type 0
-ResponsesAnswer t number event = (offer : Offer) → In offer (step t number event).going.offers → kind_of offer.what ≡ Response
+ResponsesAnswer t number event = (offer : Offer) → In offer (step t number event).going.offers →
+    kind_of offer.what ≡ Response
     → IsResponse t number event offer

@@ -17,7 +17,8 @@ pub record IsAsked (d : Delivery) (me : ℕ) (append : Bool) (request : Request)
   pub service : request.append ≡ append
 
 -- a request that the member makes in this step, to the node that the transfer goes to
-pub record SaysRequest (number me to : ℕ) (append : Bool) (bytes : Request → List ℕ) (payload : List ℕ) (says : Option Message) : Type 0 where
+pub record SaysRequest (number me to : ℕ) (append : Bool) (bytes : Request → List ℕ) (payload : List ℕ)
+    (says : Option Message) : Type 0 where
   pub request : Request
   pub is : says ≡ Some (Requests request)
   pub step : request.step ≡ number
@@ -26,8 +27,10 @@ pub record SaysRequest (number me to : ℕ) (append : Bool) (bytes : Request →
   pub service : request.append ≡ append
   pub written : payload ≡ bytes request
 
--- an answer that the member makes in this step, to a request that the node made for it in the step that the transfer answers
-pub record SaysAnswer (number me to re : ℕ) (append : Bool) (bytes : Answer → List ℕ) (payload : List ℕ) (says : Option Message) : Type 0 where
+-- an answer that the member makes in this step, to a request that the node made for it in the step that the transfer
+-- answers
+pub record SaysAnswer (number me to re : ℕ) (append : Bool) (bytes : Answer → List ℕ) (payload : List ℕ)
+    (says : Option Message) : Type 0 where
   pub answer : Answer
   pub is : says ≡ Some (Answers answer)
   pub step : answer.step ≡ number

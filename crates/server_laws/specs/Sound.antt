@@ -40,4 +40,5 @@ pub record IsInRange (offer : Offer) : Type 0 where
 
 -- of every step of a sound server, at an event of the bus
 abbrev pub FromSound : (Going → Type 0) → Type 0
-FromSound Fact = (t : Timed) (number : ℕ) (event : Event) → IsSound t → IsOnTheBus event → Fact (step t number event).going
+FromSound Fact = (t : Timed) (number : ℕ) (event : Event) → IsSound t → IsOnTheBus event →
+    Fact (step t number event).going

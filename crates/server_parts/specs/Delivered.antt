@@ -40,7 +40,8 @@ abbrev pub hears_status : Delivery → Going → Going
 hears_status d g = record g { timed = record g.timed { watch = after_status g.timed.watch d.ident.source g.timed.now } }
 
 abbrev pub hears_discovery : Delivery → Discovery → Going → Going
-hears_discovery d message g = record g { timed = record g.timed { heard = Heard d.ident.source message ∷ g.timed.heard } }
+hears_discovery d message g =
+    record g { timed = record g.timed { heard = Heard d.ident.source message ∷ g.timed.heard } }
 
 -- the request of GetNodeInfo is empty
 abbrev pub asks_info : ℕ → Delivery → List ℕ → Going → Sight

@@ -21,7 +21,8 @@ use Rattle.server_parts.specs.Going.{Going, sends, takes}
 use Rattle.server_parts.specs.Exchange.{gives_pair}
 
 abbrev pub commit_phase : ℕ → Going → Going
-commit_phase step g = takes step (given_at g.timed.now) (duty.commit_phase (members_of g.timed) g.timed.me g.timed.plain) g
+commit_phase step g =
+    takes step (given_at g.timed.now) (duty.commit_phase (members_of g.timed) g.timed.me g.timed.plain) g
 
 -- ---- tell: one place at most; one without a unique ID is passed over
 
@@ -39,7 +40,9 @@ tell_phase step g = if has_to_tell g.timed.plain then tells_next step g else g
 -- ---- calls: in the order of the list; one that finds no room is owed again
 
 abbrev pub vote_call_bytes : Request → List ℕ
-vote_call_bytes request = vote_request_bytes (record { term = request.term; last_term = request.previous_term; last_index = request.previous })
+vote_call_bytes request =
+    vote_request_bytes
+    (record { term = request.term; last_term = request.previous_term; last_index = request.previous })
 
 abbrev pub append_call_bytes : Request → List ℕ
 append_call_bytes request = append_request_bytes (record {
@@ -54,7 +57,8 @@ append_call_bytes request = append_request_bytes (record {
 abbrev pub calls_by : ℕ → What → ℕ → Move → Request → List ℕ → Going → Going
 calls_by step what peer move request payload g =
     if has_room g.timed.queue payload
-    then takes step (given_call g.timed.now (id_of g.timed.ids what peer)) (move ∷ []) (sends step what peer payload (Some (Requests request)) g)
+    then takes step (given_call g.timed.now (id_of g.timed.ids what peer)) (move ∷ [])
+    (sends step what peer payload (Some (Requests request)) g)
     else sends step what peer payload (Some (Requests request)) g
 
 abbrev pub asks_vote : ℕ → ℕ → Request → Going → Going
@@ -66,9 +70,11 @@ asks_append step peer previous with_entry request g =
 
 abbrev pub calls_owed : ℕ → Option Move → Going → Going
 calls_owed step None g = g
-calls_owed step (Some (CallForVote peer)) g = asks_vote step peer (vote_request g.timed.me step g.timed.plain.store peer) g
+calls_owed step (Some (CallForVote peer)) g =
+    asks_vote step peer (vote_request g.timed.me step g.timed.plain.store peer) g
 calls_owed step (Some (CallToAppend peer previous with_entry)) g =
-    asks_append step peer previous with_entry (append_request g.timed.me step g.timed.plain.store peer previous with_entry) g
+    asks_append step peer previous with_entry
+    (append_request g.timed.me step g.timed.plain.store peer previous with_entry) g
 calls_owed step (Some move) g = g
 
 abbrev pub calls_peer : ℕ → ℕ → Going → Going

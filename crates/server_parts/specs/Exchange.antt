@@ -22,13 +22,15 @@ use Rattle.server_parts.specs.Tick.{proposes}
 -- ---- Allocations: a node ID, or 0 in a follow-up, and bytes of the unique ID
 
 abbrev pub allocation_payload : ℕ → List ℕ → List ℕ
-allocation_payload node uid = allocation_bytes (record { node = node; first_part = false; uid = record { items = uid } })
+allocation_payload node uid =
+    allocation_bytes (record { node = node; first_part = false; uid = record { items = uid } })
 
 -- the Allocation of an entry, given by a move where it fits: without room nothing is noted
 abbrev pub gives_entry : ℕ → Move → Entry → Going → Going
 gives_entry step move entry g =
     if has_room g.timed.queue (allocation_payload entry.node entry.uid)
-    then takes step (given_at g.timed.now) (move ∷ []) (sends step Alloc 0 (allocation_payload entry.node entry.uid) None g)
+    then takes step (given_at g.timed.now) (move ∷ [])
+    (sends step Alloc 0 (allocation_payload entry.node entry.uid) None g)
     else sends step Alloc 0 (allocation_payload entry.node entry.uid) None g
 
 -- the entry that has so many before it
@@ -71,7 +73,8 @@ may_follow t = is_leader t.plain.memory.role
     && (nat_eq t.plain.store.commit (length t.plain.store.log) || nat_eq (length t.plain.store.log) 127)
 
 abbrev pub with_request : Allocation → Going → Going
-with_request message g = record g { timed = record g.timed { accepted = after g.timed.accepted message g.timed.now (may_follow g.timed) } }
+with_request message g =
+    record g { timed = record g.timed { accepted = after g.timed.accepted message g.timed.now (may_follow g.timed) } }
 
 abbrev pub answers_request : ℕ → Heard → Going → Going
 answers_request step (FollowUp bytes) g = sends step Alloc 0 (allocation_payload 0 bytes.items) None g

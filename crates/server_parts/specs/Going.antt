@@ -50,12 +50,14 @@ takes step given moves g = record g {
 -- a message, or a request to a node; its counter goes on where it fitted
 abbrev pub sends : ℕ → What → ℕ → List ℕ → Option Message → Going → Going
 sends step what to payload says g =
-    let t : Timed = g.timed in let id : ℕ = id_of t.ids what to in let fitted : Bool = has_room t.queue payload in record g {
+    let t : Timed = g.timed in let id : ℕ = id_of t.ids what to in let fitted : Bool = has_room t.queue payload in
+    record g {
       timed = record t {
         queue = queued_if fitted t.queue (queued_frames (outgoing t.me what to id payload) step 0);
         ids = counted_if fitted what to t.ids;
       };
-      offers = g.offers ++ (record { what = what; to = to; id = id; payload = payload; re = 0; says = says; fitted = fitted } ∷ []);
+      offers = g.offers
+          ++ (record { what = what; to = to; id = id; payload = payload; re = 0; says = says; fitted = fitted } ∷ []);
     }
 
 -- a response, to a node, under the transfer ID of its request, which the step `re` made
@@ -63,7 +65,16 @@ abbrev pub answers : ℕ → What → ℕ → ℕ → List ℕ → ℕ → Optio
 answers step what to id payload re says g =
     let t : Timed = g.timed in let fitted : Bool = has_room t.queue payload in record g {
       timed = record t { queue = queued_if fitted t.queue (queued_frames (outgoing t.me what to id payload) step re) };
-      offers = g.offers ++ (record { what = what; to = to; id = id; payload = payload; re = re; says = says; fitted = fitted } ∷ []);
+      offers = g.offers
+          ++ (record {
+            what = what;
+            to = to;
+            id = id;
+            payload = payload;
+            re = re;
+            says = says;
+            fitted = fitted;
+          } ∷ []);
     }
 
 -- the response to a request that was delivered

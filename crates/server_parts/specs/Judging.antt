@@ -15,7 +15,8 @@ use Rattle.server_parts.specs.TimedServer.{Timed}
 abbrev pub service_of : Call → ℕ
 service_of call = if call.append then 30 else 31
 
--- the call would take the response: it is of its service, under its transfer ID, and the call was sent less than 1,000 ms before
+-- the call would take the response: it is of its service, under its transfer ID, and the call was sent less than
+-- 1,000 ms before
 abbrev pub would_take : Delivery → ℕ → Call → Sending → Bool
 would_take d now call sending =
     nat_eq d.ident.number (service_of call) && (nat_eq d.id sending.id && nat_lt (now - sending.moment) 1000)
@@ -35,10 +36,12 @@ is_response Response = true
 -- members are 1 to 125
 abbrev pub is_stale : Timed → Delivery → ℕ → Bool
 is_stale t d now =
-    (is_response d.ident.kind && nat_le d.ident.source 125) && misses d now (t.plain.memory.pending d.ident.source) (t.times.sending d.ident.source)
+    (is_response d.ident.kind && nat_le d.ident.source 125)
+    && misses d now (t.plain.memory.pending d.ident.source) (t.times.sending d.ident.source)
 
 abbrev pub judged : Timed → ℕ → ℕ → Answer → Judged
-judged t step now (Gives d) = if not d.whole && not (nat_eq step 0) then Torn else (if is_stale t d now then Stale else Fine)
+judged t step now (Gives d) =
+    if not d.whole && not (nat_eq step 0) then Torn else (if is_stale t d now then Stale else Fine)
 judged t step now Continues = Fine
 judged t step now (Drops why) = Fine
 

@@ -33,11 +33,13 @@ is_listed d t = lists (members_of t) d.ident.source
 
 -- the 15 bytes UAVCAN-ALLOC-00, and the node ID
 abbrev pub uid_of : ℕ → List ℕ
-uid_of me = 85 ∷ 65 ∷ 86 ∷ 67 ∷ 65 ∷ 78 ∷ 45 ∷ 65 ∷ 76 ∷ 76 ∷ 79 ∷ 67 ∷ 45 ∷ 48 ∷ 48 ∷ me ∷ []
+uid_of me = 85 ∷ 65 ∷ 86 ∷ 67 ∷ 65 ∷ 78 ∷ 45 ∷ 65 ∷ 76 ∷ 76 ∷ 79 ∷ 67 ∷ 45 ∷ 48 ∷ 48
+    ∷ me ∷ []
 
 -- uavcan.allocator
 abbrev pub name : List ℕ
-name = 117 ∷ 97 ∷ 118 ∷ 99 ∷ 97 ∷ 110 ∷ 46 ∷ 97 ∷ 108 ∷ 108 ∷ 111 ∷ 99 ∷ 97 ∷ 116 ∷ 111 ∷ 114 ∷ []
+name = 117 ∷ 97 ∷ 118 ∷ 99 ∷ 97 ∷ 110 ∷ 46 ∷ 97 ∷ 108 ∷ 108 ∷ 111 ∷ 99 ∷ 97 ∷ 116 ∷ 111
+    ∷ 114 ∷ []
 
 abbrev pub info_of : Timed → NodeInfo
 info_of t = record {
@@ -58,7 +60,8 @@ abbrev pub tells_info : ℕ → Delivery → Going → Going
 tells_info step d g = responds step Info d (node_info_bytes (info_of g.timed)) None g
 
 abbrev pub hears_info : Delivery → NodeInfo → Going → Going
-hears_info d info g = record g { timed = record g.timed { watch = after_info g.timed.watch d.ident.source d.id info.uid g.timed.now } }
+hears_info d info g =
+    record g { timed = record g.timed { watch = after_info g.timed.watch d.ident.source d.id info.uid g.timed.now } }
 
 -- ---- RequestVote: the move, and then the answer, whether it fits or not
 
@@ -83,7 +86,8 @@ answers_call step move None g = g
 answers_call step move (Some request) g = takes step (given_at g.timed.now) (move request ∷ []) g
 
 abbrev pub vote_answered : Delivery → VoteAnswer → Request → Move
-vote_answered d answer request = TakeVoteAnswer (answer_of d.mark.step d.ident.source request answer.term answer.granted)
+vote_answered d answer request =
+    TakeVoteAnswer (answer_of d.mark.step d.ident.source request answer.term answer.granted)
 
 abbrev pub ends_vote_call : ℕ → Delivery → VoteAnswer → Going → Going
 ends_vote_call step d answer g =
@@ -111,7 +115,8 @@ abbrev pub takes_append_request : ℕ → Delivery → AppendRequest → Going �
 takes_append_request step d request g = if is_listed d g.timed then answers_append_request step d request g else g
 
 abbrev pub append_answered : Delivery → AppendAnswer → Request → Move
-append_answered d answer request = TakeAppendAnswer (answer_of d.mark.step d.ident.source request answer.term answer.success)
+append_answered d answer request =
+    TakeAppendAnswer (answer_of d.mark.step d.ident.source request answer.term answer.success)
 
 abbrev pub ends_append_call : ℕ → Delivery → AppendAnswer → Going → Going
 ends_append_call step d answer g =

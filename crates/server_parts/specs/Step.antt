@@ -59,7 +59,8 @@ with_sessions arrival g = at_sessions (next (setting_for g.timed.me) g.timed.ses
 -- the receiver takes the frame, and the server what it delivers
 abbrev pub receives : ℕ → Arrival → Going → Sight
 receives step arrival g =
-    with_answer step (answer (setting_for g.timed.me) g.timed.sessions (at_step g.timed arrival)) (with_sessions arrival g)
+    with_answer step (answer (setting_for g.timed.me) g.timed.sessions (at_step g.timed arrival))
+    (with_sessions arrival g)
 
 abbrev pub event_phase : ℕ → Event → Going → Sight
 event_phase step (Tick now word) g = record { seen = Ticked; going = ticks step word g }

@@ -57,7 +57,8 @@ election_phase step word g = takes step (given_tick g.timed.now word) (election_
 
 -- the origin says how it got the pair: 1 by the exchange, 2 by GetNodeInfo, 3 a reservation
 abbrev pub proposes : ℕ → ℕ → List ℕ → ℕ → Going → Going
-proposes step origin uid node g = takes step (given_proposal g.timed.now origin) (ProposeEntry (proposal g.timed.plain.store.term uid node) ∷ []) g
+proposes step origin uid node g =
+    takes step (given_proposal g.timed.now origin) (ProposeEntry (proposal g.timed.plain.store.term uid node) ∷ []) g
 
 abbrev pub reserves : ℕ → ℕ → Going → Going
 reserves step node g = proposes step 3 zeros node g
@@ -95,7 +96,8 @@ record_phase step g = if may_propose g.timed then records_node step (candidate g
 
 -- one that fitted is noted, any other is owed again
 abbrev pub with_query : ℕ → ℕ → Going → Going
-with_query node id g = record g { timed = record g.timed { watch = of_node node (Asked id g.timed.now) ∷ g.timed.watch } }
+with_query node id g =
+    record g { timed = record g.timed { watch = of_node node (Asked id g.timed.now) ∷ g.timed.watch } }
 
 abbrev pub asks : ℕ → Option ℕ → Going → Going
 asks step None g = g
@@ -105,9 +107,11 @@ asks step (Some node) g =
 
 abbrev pub query_phase : ℕ → Going → Going
 query_phase step g =
-    if is_leader g.timed.plain.memory.role then asks step (next_query g.timed.watch (known g.timed) g.timed.now) g else g
+    if is_leader g.timed.plain.memory.role
+    then asks step (next_query g.timed.watch (known g.timed) g.timed.now) g else g
 
 -- ---- in order
 
 abbrev pub ticks : ℕ → ℕ → Going → Going
-ticks step word g = query_phase step (record_phase step (election_phase step word (status_phase step (discovery_phase step g))))
+ticks step word g =
+    query_phase step (record_phase step (election_phase step word (status_phase step (discovery_phase step g))))

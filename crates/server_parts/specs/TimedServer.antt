@@ -117,7 +117,8 @@ taken t = by_node (is_taken t)
 
 -- the seconds since the opening; all is well
 abbrev pub status_of : Timed → NodeStatus
-status_of t = record { uptime = min ((t.now - t.opened_at) / 1000) 4294967295; health = 0; mode = 0; sub_mode = 0; vendor = 0 }
+status_of t =
+    record { uptime = min ((t.now - t.opened_at) / 1000) 4294967295; health = 0; mode = 0; sub_mode = 0; vendor = 0 }
 
 abbrev pub role_shown : MachineRole → Role
 role_shown MachineRole.Follower = Follower

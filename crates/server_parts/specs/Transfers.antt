@@ -51,11 +51,13 @@ signature_of App = 0x8032c7097b48a3cc
 
 -- from a member to a node, which is 0 for a message
 abbrev pub ident_of : ℕ → What → ℕ → Ident
-ident_of me what to = record { priority = 30; kind = kind_of what; number = number_of what; source = me; dest = to; discriminator = 0 }
+ident_of me what to =
+    record { priority = 30; kind = kind_of what; number = number_of what; source = me; dest = to; discriminator = 0 }
 
 -- as it is handed to the queue
 abbrev pub outgoing : ℕ → What → ℕ → ℕ → List ℕ → Outgoing
-outgoing me what to id payload = record { ident = ident_of me what to; signature = signature_of what; id = id; payload = record { items = payload } }
+outgoing me what to id payload =
+    record { ident = ident_of me what to; signature = signature_of what; id = id; payload = record { items = payload } }
 
 -- ---- as a step offers them
 
@@ -122,7 +124,8 @@ pub record Made : Type 0 where
 -- its frames, each with the mark of its place
 abbrev pub frames_of : Made → List Queued
 frames_of made =
-    queued_frames (outgoing made.by made.offer.what made.offer.to made.offer.id made.offer.payload) made.step made.offer.re
+    queued_frames
+    (outgoing made.by made.offer.what made.offer.to made.offer.id made.offer.payload) made.step made.offer.re
 
 -- ---- the queue
 
@@ -146,7 +149,14 @@ pub record Ids : Type 0 where
 
 -- all nodes begin with 0
 abbrev pub first_ids : Ids
-first_ids = record { alloc = 0; disc = 0; stat = 0; info = replicate 128 0; vote = replicate 128 0; append = replicate 128 0 }
+first_ids = record {
+  alloc = 0;
+  disc = 0;
+  stat = 0;
+  info = replicate 128 0;
+  vote = replicate 128 0;
+  append = replicate 128 0;
+}
 
 -- of the next message, or of the next request to a node
 abbrev pub id_of : Ids → What → ℕ → ℕ

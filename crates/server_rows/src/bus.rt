@@ -15,7 +15,8 @@ pub(crate) const OUTSIDE: Mark = Mark {
     place: 0,
 };
 
-/// What a node that asks for an ID sends in turn: three requests, with 6, 6 and 4 bytes of its unique ID, which are 0 to
+/// What a node that asks for an ID sends in turn: three requests, with 6, 6 and 4 bytes of its unique ID, which are 0
+/// to
 /// 15. It prefers node ID 125.
 pub(crate) const FIRST_ASK: &str = "ext 1e000500 fb000102030405c0";
 

@@ -8,8 +8,8 @@ use can_frame::{Entry, NodeId};
 use disk_model::{IMAGE, MemoryDisk};
 use std::test::Fail;
 
-/// The image of 127 entries, all of them committed: node IDs 2 to 125, each given to the unique ID of its own bytes, and
-/// three blanks.
+/// The image of 127 entries, all of them committed: node IDs 2 to 125, each given to the unique ID of its own bytes,
+/// and three blanks.
 fn full() -> [u8; IMAGE] {
     let mut entries = [Entry {
         term: 1,

@@ -16,8 +16,8 @@ use replay_text::{Told, write_told};
 use std::process::Abort;
 use std::str;
 
-/// A moment, what happens then (`tick`, or the row of a schedule that puts a frame on the bus), and what the report says
-/// of it.
+/// A moment, what happens then (`tick`, or the row of a schedule that puts a frame on the bus), and what the report
+/// says of it.
 pub(crate) type Case = (u64, &'static str, &'static str);
 
 /// The server takes each event of the table in turn, in steps from 1 on, and does what stands beside it.

@@ -16,10 +16,12 @@ abbrev pub place_of : Key → List (Option Progress) → Option ℕ
 place_of key progress = position (is_of_key key) progress
 
 -- each session has a chain of its own, and no other chain has bytes
-pub record HaveChains (most : ℕ) (number : Key → Option ℕ) (chains : List (List ℕ)) (sessions : List Session) : Type 0 where
+pub record HaveChains (most : ℕ) (number : Key → Option ℕ) (chains : List (List ℕ))
+    (sessions : List Session) : Type 0 where
   -- the chain of a session has the bytes of the frames that it took, without their tails
   pub each : (key : Key) (session : Session) → session_of key sessions ≡ Some session →
-      (chain : ℕ) × (number key ≡ Some chain) × (chain < most) × (get_or chains chain [] ≡ joined session.taken)
+      (chain : ℕ) × (number key ≡ Some chain) × (chain < most)
+      × (get_or chains chain [] ≡ joined session.taken)
   -- two sessions have different ones
   pub different : (a b : Key) (chain : ℕ) → number a ≡ Some chain → number b ≡ Some chain → a ≡ b
   -- a key has none exactly where there is no session of it

@@ -21,12 +21,14 @@ HasOwnCrc signature_of progress chain =
 -- the sessions at all places have it
 abbrev pub HaveCrcs : (Key → Option ℕ) → List (Option Progress) → List (List ℕ) → Type 0
 HaveCrcs signature_of progress chains =
-    (place : ℕ) (there : Progress) → get_or progress place None ≡ Some there → HasOwnCrc signature_of there (get_or chains place [])
+    (place : ℕ) (there : Progress) → get_or progress place None ≡ Some there →
+    HasOwnCrc signature_of there (get_or chains place [])
 
 -- the sessions of one key have it
 abbrev pub HaveCrcsOf : Key → ℕ → List (Option Progress) → List (List ℕ) → Type 0
 HaveCrcsOf key signature progress chains =
-    (place : ℕ) (there : Progress) → get_or progress place None ≡ Some there → there.key ≡ key → HasCrc signature there (get_or chains place [])
+    (place : ℕ) (there : Progress) → get_or progress place None ≡ Some there → there.key ≡ key →
+    HasCrc signature there (get_or chains place [])
 
 -- what was found is of a key, and has its CRC
 pub record IsUnder (key : Key) (signature : ℕ) (chains : List (List ℕ)) (found : Found) : Type 0 where

@@ -13,7 +13,8 @@ taken_at (Some progress) = progress.taken
 -- each chain has the bytes of the frames that its place has taken; without a session it is empty
 abbrev pub AreFilled : List (Option Progress) → List (List ℕ) → Type 0
 AreFilled progress chains =
-    (place : ℕ) → place < length progress → length (get_or chains place []) ≡ 7 * taken_at (get_or progress place None)
+    (place : ℕ) → place < length progress →
+    length (get_or chains place []) ≡ 7 * taken_at (get_or progress place None)
 
 -- where frames were taken, the chain has their bytes
 abbrev pub Fills : Progress → List ℕ → Type 0

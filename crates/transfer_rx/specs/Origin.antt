@@ -16,11 +16,13 @@ pub record IsIdleOrOf (key : Key) (sessions : List Session) (session : Session) 
 abbrev pub AreFormer : Key → List Session → List Piece → List Mark → Type 0
 AreFormer key sessions pieces marks =
     ((pieces ≡ []) × (marks ≡ []))
-    ⊎ ((former : Session) × Contains sessions former × (former.key ≡ key) × (former.taken ≡ pieces) × (former.marks ≡ marks))
+    ⊎ ((former : Session) × Contains sessions former × (former.key ≡ key) × (former.taken ≡ pieces)
+    × (former.marks ≡ marks))
 
--- what a session keeps after a frame: what a session of its key kept before, or nothing, and behind it at most this frame,
--- where it came with the key
-pub record IsKeptAfter (setting : Setting) (sessions : List Session) (arrival : Arrival) (session : Session) : Type 0 where
+-- what a session keeps after a frame: what a session of its key kept before, or nothing, and behind it at most this
+-- frame, where it came with the key
+pub record IsKeptAfter (setting : Setting) (sessions : List Session) (arrival : Arrival)
+    (session : Session) : Type 0 where
   pub pieces : List Piece
   pub marks : List Mark
   pub former : AreFormer session.key sessions pieces marks
@@ -31,7 +33,8 @@ pub record IsKeptAfter (setting : Setting) (sessions : List Session) (arrival : 
 -- these stand in a list, in this order
 abbrev pub AreAmong : List Arrival → List Arrival → Type 0
 AreAmong [] all = Unit {0}
-AreAmong (arrival ∷ arrivals) all = (front : List Arrival) × (back : List Arrival) × (all ≡ front ++ arrival ∷ back) × AreAmong arrivals back
+AreAmong (arrival ∷ arrivals) all = (front : List Arrival) × (back : List Arrival)
+    × (all ≡ front ++ arrival ∷ back) × AreAmong arrivals back
 
 -- the frames that a session keeps, with their marks, are some of those that came with its key, in their order
 pub record CameWithKey (setting : Setting) (arrivals : List Arrival) (session : Session) : Type 0 where

@@ -16,7 +16,8 @@ Places = List (Option Session)
 -- each place of the code stands for what is there
 pub record KeepPlaces (progress : List (Option Progress)) (bytes : List (List ℕ)) (places : Places) : Type 0 where
   pub size : length places ≡ length progress
-  pub each : (place : ℕ) → place < length progress → IsProgressAt (get_or progress place None) (get_or bytes place []) (get_or places place None)
+  pub each : (place : ℕ) → place < length progress →
+      IsProgressAt (get_or progress place None) (get_or bytes place []) (get_or places place None)
 
 -- the places without the sessions that are too old
 abbrev pub kept : ℕ → Option Session → Option Session
@@ -38,7 +39,8 @@ pub record Arranged (places : Places) (sessions : List Session) : Type 0 where
   pub different : AreDifferent sessions
 
 -- progress and bytes stand for sessions
-pub record KeepSessions (progress : List (Option Progress)) (bytes : List (List ℕ)) (sessions : List Session) : Type 0 where
+pub record KeepSessions (progress : List (Option Progress)) (bytes : List (List ℕ))
+    (sessions : List Session) : Type 0 where
   pub places : Places
   pub stand : KeepPlaces progress bytes places
   pub arranged : Arranged places sessions
@@ -57,18 +59,22 @@ is_free None = true
 is_free (Some session) = false
 
 -- what was found at a place for a key is the session that a frame comes to
-pub record IsSessionFound (bytes : List (List ℕ)) (key : Key) (places : Places) (sessions : List Session) (found : Found) (session : Session) : Type 0 where
+pub record IsSessionFound (bytes : List (List ℕ)) (key : Key) (places : Places) (sessions : List Session)
+    (found : Found) (session : Session) : Type 0 where
   pub place : IsPlaceFor key places sessions found.place
   pub keeps : IsProgressOf found.progress (get_or bytes found.place []) session
 
-abbrev pub IsSearchResult : List (List ℕ) → Key → Places → List Session → Result Found Why → Result Session Why → Type 0
-IsSearchResult bytes key places sessions (Ok found) (Ok session) = IsSessionFound bytes key places sessions found session
+abbrev pub IsSearchResult : List (List ℕ) → Key → Places → List Session → Result Found Why →
+    Result Session Why → Type 0
+IsSearchResult bytes key places sessions (Ok found) (Ok session) =
+    IsSessionFound bytes key places sessions found session
 IsSearchResult bytes key places sessions (Ok found) (Err why) = ⊥
 IsSearchResult bytes key places sessions (Err why) (Ok session) = ⊥
 IsSearchResult bytes key places sessions (Err a) (Err b) = a ≡ b
 
 -- the session of a key was found, at its place
-pub record IsSessionOfKey (bytes : List (List ℕ)) (key : Key) (places : Places) (sessions : List Session) (found : Found) : Type 0 where
+pub record IsSessionOfKey (bytes : List (List ℕ)) (key : Key) (places : Places) (sessions : List Session)
+    (found : Found) : Type 0 where
   pub session : Session
   pub own : session_of key sessions ≡ Some session
   pub finds : IsSessionFound bytes key places sessions found session

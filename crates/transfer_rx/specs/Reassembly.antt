@@ -21,7 +21,8 @@ pub record Setting : Type 0 where
   pub sessions : ℕ
   pub blocks : ℕ
 
--- a frame as it comes to a receiver: the number of its identifier, its bytes with the tail last, its mark, and the moment
+-- a frame as it comes to a receiver: the number of its identifier, its bytes with the tail last, its mark, and the
+-- moment
 pub record Arrival : Type 0 where
   pub id : ℕ
   pub bytes : List ℕ
@@ -64,7 +65,13 @@ abbrev pub alone : Ident → Piece → Mark → Answer
 alone ident piece mark =
     if piece.tail.start && piece.tail.end then
     (if piece.tail.toggle then Drops Toggle else
-    Gives (record { ident = ident; id = piece.tail.id; payload = piece.bytes; mark = mark; whole = is_whole (mark ∷ []) }))
+    Gives (record {
+      ident = ident;
+      id = piece.tail.id;
+      payload = piece.bytes;
+      mark = mark;
+      whole = is_whole (mark ∷ []);
+    }))
     else Drops Start
 
 -- a session with one more frame
@@ -78,7 +85,13 @@ cut_off now session = record session { expected = next_id session.expected; take
 
 abbrev pub answer_of : Ident → Piece → Mark → Session → Outcome → Answer
 answer_of ident piece mark session (Delivers payload) =
-    Gives (record { ident = ident; id = piece.tail.id; payload = payload; mark = mark; whole = is_whole (session.marks ++ mark ∷ []) })
+    Gives (record {
+      ident = ident;
+      id = piece.tail.id;
+      payload = payload;
+      mark = mark;
+      whole = is_whole (session.marks ++ mark ∷ []);
+    })
 answer_of ident piece mark session Grows = Continues
 answer_of ident piece mark session (Spoils why) = Drops why
 
@@ -92,7 +105,10 @@ session_after piece mark now session (Spoils why) = cut_off now session
 abbrev pub in_turn : ℕ → Wanted → Piece → Mark → ℕ → List Session → Session → Option Why → Step
 in_turn blocks w piece mark now rest session None =
     let result : Outcome = outcome blocks w.signature piece session.taken rest in
-    record { answer = answer_of w.ident piece mark session result; sessions = session_after piece mark now session result ∷ rest }
+    (record {
+      answer = answer_of w.ident piece mark session result;
+      sessions = session_after piece mark now session result ∷ rest;
+    })
 in_turn blocks w piece mark now rest session (Some why) = record { answer = Drops why; sessions = session ∷ rest }
 
 abbrev pub at_session : ℕ → Wanted → Piece → Mark → ℕ → List Session → Result Session Why → Step
@@ -107,9 +123,11 @@ session_step most blocks w piece mark now sessions =
 
 -- an anonymous frame has no session; before another one old sessions are forgotten
 abbrev pub by_kind : Setting → Wanted → Arrival → List Session → Bool → Step
-by_kind setting w arrival sessions true = record { answer = alone w.ident (piece_in arrival) arrival.mark; sessions = sessions }
+by_kind setting w arrival sessions true =
+    record { answer = alone w.ident (piece_in arrival) arrival.mark; sessions = sessions }
 by_kind setting w arrival sessions false =
-    session_step setting.sessions setting.blocks w (piece_in arrival) arrival.mark arrival.moment (remembered arrival.moment sessions)
+    session_step setting.sessions setting.blocks w (piece_in arrival) arrival.mark arrival.moment
+    (remembered arrival.moment sessions)
 
 abbrev pub of_wanted : Setting → Arrival → List Session → Result Wanted Why → Step
 of_wanted setting arrival sessions (Err why) = record { answer = Drops why; sessions = sessions }

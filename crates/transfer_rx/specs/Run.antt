@@ -26,28 +26,33 @@ is_of setting key arrival = has_session_key key (wanted setting.rows setting.me 
 abbrev pub of_key : Setting → Key → List Arrival → List Arrival
 of_key setting key arrivals = filter (is_of setting key) arrivals
 
--- a first frame may begin a transfer: it opens a session for which there is room, or its session waits for this ID and has
--- nothing in progress, or is begun anew by this ID
+-- a first frame may begin a transfer: it opens a session for which there is room, or its session waits for this ID
+-- and has nothing in progress, or is begun anew by this ID
 abbrev pub MayBegin : Setting → List Session → Key → Arrival → Type 0
 MayBegin setting sessions key first =
-    ((session_of key (remembered first.moment sessions) ≡ None) × (length (remembered first.moment sessions) < setting.sessions))
+    ((session_of key (remembered first.moment sessions) ≡ None)
+    × (length (remembered first.moment sessions) < setting.sessions))
     ⊎ ((session : Session) × (session_of key (remembered first.moment sessions) ≡ Some session)
     × (((session.expected ≡ (piece_in first).tail.id) × (session.taken ≡ []) × (session.marks ≡ []))
     ⊎ (restarts (piece_in first).tail session ≡ true)))
 
 -- from its first frame to its last, a transfer comes in order, among frames of other sessions
-pub record ComesWhole (setting : Setting) (sessions : List Session) (w : Wanted) (payload : List ℕ) (arrivals before : List Arrival) (first last : Arrival) : Type 0 where
+pub record ComesWhole (setting : Setting) (sessions : List Session) (w : Wanted) (payload : List ℕ)
+    (arrivals before : List Arrival) (first last : Arrival) : Type 0 where
   -- the last frame is wanted, and of a session
   pub accepted : wanted setting.rows setting.me last.id ≡ Ok w
   pub of_session : is_anonymous w.ident.kind ≡ false
-  -- the first of all is of this session, and the last of all is the last frame; the frames of the session are the payload's
+  -- the first of all is of this session, and the last of all is the last frame; the frames of the session are the
+  -- payload's
   pub begins : (rest : List Arrival) × (arrivals ≡ first ∷ rest) × (is_of setting (key_of w.ident) first ≡ true)
   pub ends : arrivals ≡ before ++ last ∷ []
-  pub cutting : IsCutting w.signature (piece_in last).tail.id payload (map piece_in (of_key setting (key_of w.ident) arrivals))
+  pub cutting : IsCutting w.signature (piece_in last).tail.id payload
+      (map piece_in (of_key setting (key_of w.ident) arrivals))
   -- none comes more than 2,000 ms after an earlier one
   pub in_time : AllPairs (λ earlier later. later.moment - earlier.moment ≤ 2000) arrivals
   pub may_begin : MayBegin setting sessions (key_of w.ident) first
   -- the blocks suffice for each of its frames
-  pub blocks : (front back : List Arrival) (arrival : Arrival) → arrivals ≡ front ++ arrival ∷ back → is_of setting (key_of w.ident) arrival ≡ true →
+  pub blocks : (front back : List Arrival) (arrival : Arrival) → arrivals ≡ front ++ arrival ∷ back →
+      is_of setting (key_of w.ident) arrival ≡ true →
       lacks_blocks setting.blocks (piece_in arrival) (map piece_in (of_key setting (key_of w.ident) front))
       (others (key_of w.ident) (remembered arrival.moment (run setting sessions front))) ≡ false

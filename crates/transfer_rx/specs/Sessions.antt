@@ -9,8 +9,8 @@ use Rattle.can_frame.specs.Cutting.{Piece}
 use Rattle.transfer_rx.specs.declared.key.Key.{Key}
 use Rattle.transfer_rx.specs.Keys.{same_key}
 
--- the frames of one key: the transfer ID that is expected next, the whole frames taken since the last cut, with their marks,
--- and the moment of the last of them
+-- the frames of one key: the transfer ID that is expected next, the whole frames taken since the last cut, with their
+-- marks, and the moment of the last of them
 pub record Session : Type 0 where
   pub key : Key
   pub expected : ℕ
@@ -52,12 +52,14 @@ restarts tail session =
     tail.start && (not (nat_eq tail.id session.expected) && not (nat_eq (next_id tail.id) session.expected))
 
 abbrev pub restarted : Tail → Session → Session
-restarted tail session = if restarts tail session then record session { expected = tail.id; taken = []; marks = [] } else session
+restarted tail session =
+    if restarts tail session then record session { expected = tail.id; taken = []; marks = [] } else session
 
 -- a first frame opens a session, where there are fewer than the receiver has room for
 abbrev pub begun : ℕ → Key → Tail → ℕ → List Session → Result Session Why
 begun most key tail now sessions =
-    if tail.start then (if nat_lt (length sessions) most then Ok (opened key tail now) else Err NoSession) else Err Start
+    if tail.start then (if nat_lt (length sessions) most then Ok (opened key tail now) else Err NoSession)
+    else Err Start
 
 abbrev pub continued : ℕ → Key → Tail → ℕ → List Session → Option Session → Result Session Why
 continued most key tail now sessions None = begun most key tail now sessions

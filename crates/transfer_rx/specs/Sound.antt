@@ -24,10 +24,13 @@ pub record ArePossible (setting : Setting) (sessions : List Session) : Type 0 wh
   pub sound : AreSound sessions
   pub few : length sessions ≤ setting.sessions
 
--- a frame completes a transfer of its session: the frames that the session had taken, and this one, are the cutting of the payload
-pub record Completes (setting : Setting) (sessions : List Session) (w : Wanted) (arrival : Arrival) (delivery : Delivery) : Type 0 where
+-- a frame completes a transfer of its session: the frames that the session had taken, and this one, are the cutting
+-- of the payload
+pub record Completes (setting : Setting) (sessions : List Session) (w : Wanted) (arrival : Arrival)
+    (delivery : Delivery) : Type 0 where
   pub session : Session
-  pub there : session_for setting.sessions (key_of w.ident) (piece_in arrival).tail arrival.moment (remembered arrival.moment sessions) ≡ Ok session
+  pub there : session_for setting.sessions (key_of w.ident) (piece_in arrival).tail arrival.moment
+      (remembered arrival.moment sessions) ≡ Ok session
   pub key : session.key ≡ key_of delivery.ident
   pub cutting : IsCutting w.signature delivery.id delivery.payload (session.taken ++ piece_in arrival ∷ [])
   pub whole : delivery.whole ≡ is_whole (session.marks ++ arrival.mark ∷ [])
@@ -38,9 +41,10 @@ pub record IsAlone (w : Wanted) (arrival : Arrival) (delivery : Delivery) : Type
   pub payload : delivery.payload ≡ (piece_in arrival).bytes
   pub whole : delivery.whole ≡ is_whole (arrival.mark ∷ [])
 
--- a delivery has the identifier, the ID and the mark of the frame that completed it. An anonymous one is that frame alone; any
--- other one completes a session, under the key of the session
-pub record IsDelivered (setting : Setting) (sessions : List Session) (arrival : Arrival) (delivery : Delivery) : Type 0 where
+-- a delivery has the identifier, the ID and the mark of the frame that completed it. An anonymous one is that frame
+-- alone; any other one completes a session, under the key of the session
+pub record IsDelivered (setting : Setting) (sessions : List Session) (arrival : Arrival)
+    (delivery : Delivery) : Type 0 where
   pub w : Wanted
   pub accepted : wanted setting.rows setting.me arrival.id ≡ Ok w
   pub ident : delivery.ident ≡ w.ident

@@ -20,19 +20,23 @@ pub record GoesOn (found : Found) (piece : Piece) : Type 0 where
 -- what can be done without a look at the definition
 abbrev pub IsRoomy : ℕ → List (List ℕ) → Piece → Turn → Type 0
 IsRoomy places chains piece (Refused why) = Unit {0}
-IsRoomy places chains piece (Out found why) = (found.place < places) × Fills found.progress (get_or chains found.place [])
+IsRoomy places chains piece (Out found why) = (found.place < places)
+    × Fills found.progress (get_or chains found.place [])
 IsRoomy places chains piece (Next found verdict) =
     (found.place < places) × Fills found.progress (get_or chains found.place []) × IfPart verdict (GoesOn found piece)
 
 -- a frame comes to its session
-pub record ComesTo (most : ℕ) (bytes : List (List ℕ)) (key : Key) (piece : Piece) (now : ℕ) (places : Places) (sessions : List Session) (found : Found) : Type 0 where
+pub record ComesTo (most : ℕ) (bytes : List (List ℕ)) (key : Key) (piece : Piece) (now : ℕ) (places : Places)
+    (sessions : List Session) (found : Found) : Type 0 where
   pub session : Session
   pub there : session_for most key piece.tail now sessions ≡ Ok session
   pub finds : IsSessionFound bytes key places sessions found session
 
 -- a turn is what the definition finds
-abbrev pub IsTurn : ℕ → List (List ℕ) → ℕ → Key → ℕ → Piece → ℕ → Places → List Session → Turn → Type 0
-IsTurn most bytes blocks key signature piece now places sessions (Refused why) = session_for most key piece.tail now sessions ≡ Err why
+abbrev pub IsTurn : ℕ → List (List ℕ) → ℕ → Key → ℕ → Piece → ℕ → Places → List Session →
+    Turn → Type 0
+IsTurn most bytes blocks key signature piece now places sessions (Refused why) =
+    session_for most key piece.tail now sessions ≡ Err why
 IsTurn most bytes blocks key signature piece now places sessions (Out found why) =
     (to : ComesTo most bytes key piece now places sessions found) × (out_of_turn piece.tail to.session ≡ Some why)
 IsTurn most bytes blocks key signature piece now places sessions (Next found verdict) =

@@ -27,6 +27,7 @@ chains_in receiver = receiver.sessions.pool
 abbrev pub chain_of : {F : Type 0} {S N : ℕ} → Receiver F S N → Key → Option ℕ
 chain_of receiver key = place_of key receiver.sessions.progress
 
--- each session has a chain of its own in the pool, with the bytes of the frames that it took, and no other chain has bytes
+-- each session has a chain of its own in the pool, with the bytes of the frames that it took, and no other chain has
+-- bytes
 abbrev pub HasChains : {F : Type 0} {S N : ℕ} → Receiver F S N → List Session → Type 0
 HasChains {S} receiver sessions = HaveChains S (chain_of receiver) (chains_in receiver) sessions

@@ -106,7 +106,13 @@ impl Progress {
         ensures none { result.taken ≡ 0 }
         ensures keeps { (bytes : List ℕ) →
             IsProgressOf result bytes
-            (record { key = self.key; expected = expected; taken = []; marks = []; moment = moment }) }
+            (record {
+              key = self.key;
+              expected = expected;
+              taken = [];
+              marks = [];
+              moment = moment;
+            }) }
     {
         Progress {
             key: self.key,

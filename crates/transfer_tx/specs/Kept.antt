@@ -2,7 +2,8 @@
 use Rattle.std.specs.Prelude.{◌≡◌, ℕ, zero, suc, ◌<◌, ◌≤◌, List, [], length, insert, slice_index_or}
 use Rattle.transfer_tx.specs.Queue.{GoesNext, Queued, blank, id_at}
 
--- the last n frames to go out, in the order of offering. Each frame was offered behind so many of those that go out after it
+-- the last n frames to go out, in the order of offering. Each frame was offered behind so many of those that go out
+-- after it
 abbrev pub offered_of : (ℕ → Queued) → (ℕ → ℕ) → ℕ → List Queued
 offered_of frame earlier zero = []
 offered_of frame earlier (suc n) = insert (offered_of frame earlier n) (earlier n) (frame n)
@@ -19,4 +20,5 @@ pub record IsInOrder (size : ℕ) (frames : List Queued) (earlier : List ℕ) : 
   pub same : length earlier ≡ length frames
   pub falling : (j k : ℕ) → j ≤ k → k < length frames → id_at frames k ≤ id_at frames j
   pub next : (k : ℕ) → k < length frames →
-      GoesNext (offered_of (λ j. slice_index_or frames j blank) (λ j. slice_index_or earlier j 0) (suc k)) (slice_index_or earlier k 0)
+      GoesNext (offered_of (λ j. slice_index_or frames j blank) (λ j. slice_index_or earlier j 0) (suc k))
+      (slice_index_or earlier k 0)

@@ -18,11 +18,16 @@ pub record Queued : Type 0 where
 abbrev pub marked : ℕ → ℕ → ℕ → ℕ → List Piece → List Queued
 marked id step re place [] = []
 marked id step re place (piece ∷ pieces) =
-    record { id = id; bytes = frame_bytes piece; mark = record { step = step; re = re; place = place } } ∷ marked id step re (suc place) pieces
+    (record {
+      id = id;
+      bytes = frame_bytes piece;
+      mark = record { step = step; re = re; place = place };
+    }) ∷ marked id step re (suc place) pieces
 
 -- the frames of a transfer, as a step offers them
 unfoldable pub queued_frames : Outgoing → ℕ → ℕ → List Queued
-queued_frames what step re = marked (identifier_number what.ident) step re 0 (frames_of what.signature what.id what.payload.items)
+queued_frames what step re =
+    marked (identifier_number what.ident) step re 0 (frames_of what.signature what.id what.payload.items)
 
 -- ---- the next frame out
 

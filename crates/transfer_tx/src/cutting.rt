@@ -13,7 +13,8 @@ use can_frame::{Frame, Mark, Tail, crc};
 /// behind the two bytes of its CRC, 7 bytes a frame.
 pub fn frames_needed(len: usize) -> usize
     ensures count { result ≡ frame_count len }
-    ensures cutting { (signature id : ℕ) (payload : List ℕ) → length payload ≡ len → length (frames_of signature id payload) ≡ result }
+    ensures cutting { (signature id : ℕ) (payload : List ℕ) → length payload ≡ len →
+        length (frames_of signature id payload) ≡ result }
 {
     lengths_of_cuttings();
     if len <= 7 { 1 } else { (len - 6) / 7 + 2 }
@@ -53,7 +54,8 @@ impl Stamp {
         requires size { length bytes.now ≤ 378 }
         requires room { length queue.old + (length bytes.now - 1) / 7 < Q }
         ensures { queue.new ≡ queue.old ++
-            marked self.now.id self.now.step self.now.re 0 (cut self.now.transfer_id 0 ((length bytes.now - 1) / 7) bytes.now) }
+            marked self.now.id self.now.step self.now.re 0
+            (cut self.now.transfer_id 0 ((length bytes.now - 1) / 7) bytes.now) }
     {
         let mut rest = bytes;
         let mut place = 0;
@@ -71,7 +73,8 @@ impl Stamp {
         requires { length bytes.now ≤ 7 }
         ensures { queued_of result ≡ record {
           id = self.now.id;
-          bytes = frame_bytes (record { bytes = bytes.now; tail = tail_at self.now.transfer_id place last });
+          bytes = frame_bytes
+              (record { bytes = bytes.now; tail = tail_at self.now.transfer_id place last });
           mark = record { step = self.now.step; re = self.now.re; place = place };
         } }
     {

@@ -78,9 +78,11 @@ impl<const Q: usize> Sender<Q> {
     pub fn offer(&mut self, what: &Outgoing, step: u64, re: u64) -> Result<(), NoRoom>
         requires ident { IsIdentifier what.now.ident }
         requires id { what.now.id < 32 }
-        ensures none { IsErr result ↔ (Q < length self.old + frame_count (length what.now.payload.items)) }
+        ensures none { IsErr result
+            ↔ (Q < length self.old + frame_count (length what.now.payload.items)) }
         ensures ok { OnOk result (self.new ≡ self.old ++ queued_frames what.now step re) }
-        ensures count { OnOk result (length self.new ≡ length self.old + frame_count (length what.now.payload.items)) }
+        ensures count { OnOk result
+            (length self.new ≡ length self.old + frame_count (length what.now.payload.items)) }
         ensures err { OnErr result (self.new ≡ self.old) }
     {
         lengths_of_cuttings();

@@ -9,7 +9,8 @@ use Rattle.world_laws.specs.Shows.{Shows}
 
 -- by these events, each of which may come when its turn is there, to a run that this world shows, and in which all
 -- that is stored and said has bytes
-pub record Continues (choice : ℕ → Bool) (made : List Made) (w : Cluster) (run : machine.World) (events : List Event)
+pub record Continues (choice : ℕ → Bool) (made : List Made) (w : Cluster) (run : machine.World)
+    (events : List Event)
     : Type 0 where
   pub lawful : machine.Lawful run events
   pub shows : Shows choice made w (machine.run run events)

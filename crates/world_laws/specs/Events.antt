@@ -21,5 +21,6 @@ pub record MayHappen (frames : List Queued) (t : Timed) (event : Event) : Type 0
 
 -- a Discovery lists members that the server knows
 abbrev pub TellsMembers : Timed → List Offer → Type 0
-TellsMembers t offers = (offer : Offer) → In offer offers → offer.what ≡ Disc → (message : Discovery) → discovery_of offer.payload ≡ Some message
+TellsMembers t offers = (offer : Offer) → In offer offers → offer.what ≡ Disc → (message : Discovery) →
+    discovery_of offer.payload ≡ Some message
     → (peer : ℕ) → In peer message.known.items → In peer (members_of t)

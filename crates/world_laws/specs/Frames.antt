@@ -1,7 +1,7 @@
 -- What stands on the bus of a cluster, and what its members hear of it.
 --
--- Facts about frames go by the source that a frame's identifier names: one with a member's source is a frame of a transfer
--- that this member made; of one from elsewhere nothing is said but that it is not forged.
+-- Facts about frames go by the source that a frame's identifier names: one with a member's source is a frame of a
+-- transfer that this member made; of one from elsewhere nothing is said but that it is not forged.
 use Rattle.std.specs.Prelude.{◌≡◌, ◌⊎◌, ℕ, ◌<◌, ◌≤◌, false, List, length, slice_index_or, All}
 use Rattle.can_frame.specs.Identifier.{identifier_of}
 use Rattle.raft_model.specs.Lists.{In}
@@ -38,10 +38,11 @@ IsOnBus made ids frame = IsMembers made ids frame ⊎ IsForeign ids frame
 
 -- ---- transfers
 
--- transfers of members are told apart by step, kind, destination and transfer ID; each has a step and a member, and its fields are
--- in their ranges
+-- transfers of members are told apart by step, kind, destination and transfer ID; each has a step and a member, and
+-- its fields are in their ranges
 pub record AreTransfers (ids : List ℕ) (made : List Made) : Type 0 where
-  pub once : (x y : Made) → In x made → In y made → x.step ≡ y.step → x.offer.what ≡ y.offer.what → x.offer.to ≡ y.offer.to
+  pub once : (x y : Made) → In x made → In y made → x.step ≡ y.step → x.offer.what ≡ y.offer.what →
+      x.offer.to ≡ y.offer.to
       → x.offer.id ≡ y.offer.id → x ≡ y
   pub numbered : (x : Made) → In x made → 1 ≤ x.step
   pub makers : (x : Made) → In x made → In x.by ids

@@ -48,7 +48,8 @@ pub record Headline (choice : ℕ → Bool) (now later : Cluster) : Type 0 where
   -- what a member has committed now begins the log of every Leader later whose term is at least the one that the member
   -- has stored now
   pub leaders : (n leader : ℕ) (server : Timed) → In n now.ids → In leader now.ids
-      → (later.member leader).life ≡ Up server → server.plain.memory.role ≡ Leader → (stored choice now n).term ≤ server.plain.store.term
+      → (later.member leader).life ≡ Up server → server.plain.memory.role ≡ Leader →
+      (stored choice now n).term ≤ server.plain.store.term
       → IsPrefix (committed choice now n) server.plain.store.log
 
 -- Of a list of rows: the headline holds from each of its moments to each later one, for every choice that fits the rows

@@ -12,6 +12,7 @@ use Rattle.world_laws.specs.Continues.{Continues}
 -- it is safe.
 pub record AreSafe (ids : List ℕ) (rows : List Row) : Type 0 where
   pub shown : (choice : ℕ → Bool) → Fits choice (cluster ids) rows
-      → Continues choice (made (cluster ids) rows []) (world_of ids rows) (beginning ids) (events choice (cluster ids) rows)
+      → Continues choice (made (cluster ids) rows []) (world_of ids rows) (beginning ids)
+      (events choice (cluster ids) rows)
   pub safe : (choice : ℕ → Bool) → Fits choice (cluster ids) rows
       → IsSafe (run (beginning ids) (events choice (cluster ids) rows))

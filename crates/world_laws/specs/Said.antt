@@ -31,8 +31,10 @@ pub record AreWritable (bag : List Message) : Type 0 where
 
 -- each transfer says what it should, and what it says is in the bag
 pub record AreSaid (made : List Made) (bag : List Message) : Type 0 where
-  pub carried : (x : Made) → In x made → IsSaid x.step x.by x.offer.what x.offer.to x.offer.re x.offer.payload x.offer.says
-  pub said : (x : Made) (message : Message) → In x made → message_of x.step x.by x.offer ≡ Some message → In message bag
+  pub carried : (x : Made) → In x made →
+      IsSaid x.step x.by x.offer.what x.offer.to x.offer.re x.offer.payload x.offer.says
+  pub said : (x : Made) (message : Message) → In x made → message_of x.step x.by x.offer ≡ Some message →
+      In message bag
 
 -- the request that a made response answers was made under the response's transfer ID
 pub record IsAnswered (made : List Made) (x : Made) (answer : Answer) (service : What) : Type 0 where
@@ -55,7 +57,8 @@ pub record AreAnswered (made : List Made) : Type 0 where
   pub appends : AnswersEach made App AppQ
 
 -- a pending call was made, under the transfer ID that the server keeps beside it
-pub record IsCalled (made : List Made) (server : Timed) (peer : ℕ) (request : Request) (sending : Sending) (service : What) : Type 0 where
+pub record IsCalled (made : List Made) (server : Timed) (peer : ℕ) (request : Request) (sending : Sending)
+    (service : What) : Type 0 where
   pub call : Made
   pub was_made : In call made
   pub what : call.offer.what ≡ service

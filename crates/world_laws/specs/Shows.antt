@@ -1,5 +1,5 @@
--- What holds between the world of a list of rows, the transfers that its members made, and the run of the message machine that it
--- shows.
+-- What holds between the world of a list of rows, the transfers that its members made, and the run of the message
+-- machine that it shows.
 use Rattle.std.specs.Prelude.{◌≡◌, ◌≢◌, ℕ, ◌<◌, ◌≤◌, ◌^◌, Bool, true, List, length, Some, None}
 use Rattle.can_frame.specs.declared.step.What.TheVariants.{Alloc, Disc}
 use Rattle.dsdl_codec.specs.declared.allocation.Allocation.{Allocation}
@@ -31,7 +31,8 @@ use Rattle.world_laws.specs.Said.{AreAnswered, AreCalled, AreSaid, AreWritable}
 -- ---- members
 
 -- what a server that runs is in the run
-pub record IsInRun (ids : List ℕ) (run : machine.World) (m : ℕ) (server : Timed) (disk : Shelf Stored) : Type 0 where
+pub record IsInRun (ids : List ℕ) (run : machine.World) (m : ℕ) (server : Timed)
+    (disk : Shelf Stored) : Type 0 where
   pub me : server.me ≡ m
   pub size : server.size ≡ length ids
   pub plain : run.server m ≡ server.plain
@@ -44,24 +45,27 @@ pub record IsInRun (ids : List ℕ) (run : machine.World) (m : ℕ) (server : Ti
   -- the unique IDs that it was told have 16 bytes
   pub uids : HasUids server.watch
 
--- what it made, heard and called: the frames that wait in its queue are of transfers that it made; its sessions keep frames of the
--- bus; its pending calls were made; it lists members alone
+-- what it made, heard and called: the frames that wait in its queue are of transfers that it made; its sessions keep
+-- frames of the bus; its pending calls were made; it lists members alone
 pub record IsAtWork (made : List Made) (ids : List ℕ) (frames : List Queued) (m : ℕ) (server : Timed) : Type 0 where
   pub queue : (frame : Queued) → In frame server.queue → IsPiece made m frame
   pub heard : AreHeard frames m server.sessions
   pub called : AreCalled made server
   pub among : (peer : ℕ) → In peer (members_of server) → In peer ids
 
-pub record ShowsUp (made : List Made) (ids : List ℕ) (frames : List Queued) (run : machine.World) (m : ℕ) (server : Timed) (disk : Shelf Stored) : Type 0 where
+pub record ShowsUp (made : List Made) (ids : List ℕ) (frames : List Queued) (run : machine.World) (m : ℕ)
+    (server : Timed) (disk : Shelf Stored) : Type 0 where
   pub runs : IsInRun ids run m server disk
   pub works : IsAtWork made ids frames m server
 
--- one that failed: it is down in the run, with what the choice says is stored; a stop would find the puts that are done for
--- sure, or one more
-pub record ShowsFailed (choice : ℕ → Bool) (run : machine.World) (m : ℕ) (failure : Failure) (disk : Shelf Stored) : Type 0 where
+-- one that failed: it is down in the run, with what the choice says is stored; a stop would find the puts that are
+-- done for sure, or one more
+pub record ShowsFailed (choice : ℕ → Bool) (run : machine.World) (m : ℕ) (failure : Failure)
+    (disk : Shelf Stored) : Type 0 where
   pub down : (run.server m).memory ≡ lost
   pub stored : (run.server m).store ≡ chosen_store choice failure
-  pub found : (pattern : Pattern) → store_of (restarted_on pattern disk).store ≡ stored_after failure (found_by pattern disk)
+  pub found : (pattern : Pattern) →
+      store_of (restarted_on pattern disk).store ≡ stored_after failure (found_by pattern disk)
 
 -- one that is stopped: a selector that waits for a sync makes no difference to what is stored
 pub record ShowsDown (run : machine.World) (m : ℕ) (disk : Shelf Stored) : Type 0 where
@@ -69,7 +73,8 @@ pub record ShowsDown (run : machine.World) (m : ℕ) (disk : Shelf Stored) : Typ
   pub stored : (run.server m).store ≡ store_of disk.store
   pub firm : (loose : Loose Stored) → disk.loose ≡ Some loose → store_of loose.before ≡ store_of disk.store
 
-abbrev pub ShowsLife : (ℕ → Bool) → List Made → List ℕ → List Queued → machine.World → ℕ → Life → Shelf Stored → Type 0
+abbrev pub ShowsLife : (ℕ → Bool) → List Made → List ℕ → List Queued → machine.World → ℕ →
+    Life → Shelf Stored → Type 0
 ShowsLife choice made ids frames run m Down disk = ShowsDown run m disk
 ShowsLife choice made ids frames run m (Up server) disk = ShowsUp made ids frames run m server disk
 ShowsLife choice made ids frames run m (Failed failure) disk = ShowsFailed choice run m failure disk
@@ -94,7 +99,8 @@ pub record HoldsOfMade (made : List Made) (ids : List ℕ) (bag : List Message) 
 pub record Shows (choice : ℕ → Bool) (made : List Made) (w : Cluster) (run : machine.World) : Type 0 where
   pub members : run.members ≡ w.ids
   pub steps : run.steps ≤ w.rows
-  pub lives : (m : ℕ) → In m w.ids → ShowsLife choice made w.ids w.frames run m (w.member m).life (w.member m).disk
+  pub lives : (m : ℕ) → In m w.ids →
+      ShowsLife choice made w.ids w.frames run m (w.member m).life (w.member m).disk
   pub bus : (frame : Queued) → In frame w.frames → IsOnBus made w.ids frame
   -- identifiers of 29 bits
   pub narrow : (frame : Queued) → In frame w.frames → frame.id < 2 ^ 29

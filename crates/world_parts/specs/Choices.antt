@@ -1,6 +1,6 @@
--- What is stored of a step that failed, while its member runs: so many of its puts are done for sure, and whether the next one
--- is, only a stop finds. Till then a choice says so, by the number of the row; it fits where the member's disk agrees once the
--- member stops.
+-- What is stored of a step that failed, while its member runs: so many of its puts are done for sure, and whether the
+-- next one is, only a stop finds. Till then a choice says so, by the number of the row; it fits where the member's
+-- disk agrees once the member stops.
 use Rattle.std.specs.Prelude.{◌≡◌, ⊤, ℕ, ◌==◌, Bool, true, false, List, [], ◌∷◌}
 use Rattle.kv_store.specs.Shelf.{restarted_on}
 use Rattle.raft_core.specs.StoredPuts.{store_of}

@@ -1,5 +1,5 @@
--- The world of a list of rows: the members of a cluster, and the frames of their bus. A row that is taken is the next event;
--- its number is that of the step that it may be.
+-- The world of a list of rows: the members of a cluster, and the frames of their bus. A row that is taken is the next
+-- event; its number is that of the step that it may be.
 use Rattle.std.specs.Prelude.{ℕ, ◌≤◌, ◌+◌, ◌-◌, ◌==◌, Bool, List, [], ◌∷◌, ◌++◌, length, slice_index_or, Option, Some, None}
 use Rattle.raft_model.specs.Lists.{In, any, at}
 use Rattle.raft_model.specs.Members.{HasNoneTwice}

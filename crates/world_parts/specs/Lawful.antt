@@ -57,8 +57,8 @@ nothing_to_send (Some frame) = None
 
 -- ---- frames from outside: by what their identifier says of their source and data type
 
--- A member is the source, or it is of a data type that members send each other: Discovery (message 390), AppendEntries and
--- RequestVote (services 30 and 31). An anonymous frame has no source, and is none of these.
+-- A member is the source, or it is of a data type that members send each other: Discovery (message 390),
+-- AppendEntries and RequestVote (services 30 and 31). An anonymous frame has no source, and is none of these.
 abbrev pub is_forged_by : List ℕ → Kind → Ident → Bool
 is_forged_by ids Anonymous ident = false
 is_forged_by ids Message ident = is_member ids ident.source || (ident.number == 390)

@@ -18,8 +18,8 @@ use Rattle.world_parts.specs.Members.{Life}
 use Rattle.world_parts.specs.Members.Life.{Down, Up, Failed}
 use Rattle.world_parts.specs.Choices.{chosen_store}
 
--- What a member has stored, running or stopped: what its disk stands for. Of a failed step so many puts are done for sure;
--- whether the next one is, only a stop finds, and till then the choice says.
+-- What a member has stored, running or stopped: what its disk stands for. Of a failed step so many puts are done for
+-- sure; whether the next one is, only a stop finds, and till then the choice says.
 abbrev pub stored_on : (ℕ → Bool) → Life → Shelf Stored → Store
 stored_on choice Down disk = store_of disk.store
 stored_on choice (Up server) disk = store_of disk.store

@@ -1,7 +1,7 @@
 -- A member of a cluster: a disk, and where it runs, a server in time over it. It opens, takes steps, and stops.
 --
--- The disk is the one by states (`raft_log`): what is stored, the copy that each selector chooses, the one selector that was
--- written and not synced, and which of its calls fail.
+-- The disk is the one by states (`raft_log`): what is stored, the copy that each selector chooses, the one selector
+-- that was written and not synced, and which of its calls fail.
 use Rattle.std.specs.Prelude.{ℕ, ◌+◌, ◌==◌, Bool, true, false, [], Option, None, take, if◌then◌else◌, List}
 use Rattle.disk_model.specs.Memory.{nothing_set}
 use Rattle.kv_store.specs.Shelf.{Shelf, restarted_on}
@@ -16,8 +16,8 @@ use Rattle.server_parts.specs.Going.{Going}
 use Rattle.server_parts.specs.Step.{Event, popped, step}
 use Rattle.server_parts.specs.TimedServer.{Timed, opening}
 
--- A step that failed, as it is known until its member stops: its row, the server before it, what it set out to do, and how
--- many of its puts are done for sure. Whether the next one is, a stop finds.
+-- A step that failed, as it is known until its member stops: its row, the server before it, what it set out to do,
+-- and how many of its puts are done for sure. Whether the next one is, a stop finds.
 pub record Failure : Type 0 where
   pub row : ℕ
   pub before : Timed
@@ -43,7 +43,8 @@ is_running (Failed failure) = true
 
 -- what is stored after a failed step, where so many more of its puts are done as are for sure
 abbrev pub stored_after : Failure → ℕ → Store
-stored_after failure more = put_all failure.before.plain.store (take (failure.done + more) (plain_puts failure.going.puts))
+stored_after failure more =
+    put_all failure.before.plain.store (take (failure.done + more) (plain_puts failure.going.puts))
 
 -- ---- a member at the beginning: stopped, on a disk of zeros
 
@@ -71,7 +72,10 @@ unopened x disk = if disk.calls.stopped then stopped_with x.pattern disk x else 
 abbrev pub opened : ℕ → ℕ → ℕ → ℕ → Member → Member
 opened n size moment word x =
     if is_open_on x.disk
-    then record x { life = Up (opening n size (store_of (opening_on x.disk).store) moment word); disk = opening_on x.disk }
+    then record x {
+      life = Up (opening n size (store_of (opening_on x.disk).store) moment word);
+      disk = opening_on x.disk;
+    }
     else unopened x (opening_on x.disk)
 
 -- ---- a step
@@ -85,7 +89,11 @@ abbrev pub cut_off : Member → ℕ → Timed → Going → Shelf Stored → Mem
 cut_off x row before going disk =
     if disk.calls.stopped
     then stopped_with x.pattern disk x
-    else record x { life = Failed (record { row = row; before = before; going = going; done = done_on (puts_of x going) x.disk.calls }); disk = disk }
+    else record x {
+      life = Failed
+          (record { row = row; before = before; going = going; done = done_on (puts_of x going) x.disk.calls });
+      disk = disk;
+    }
 
 abbrev pub wrote : Member → ℕ → Timed → Going → Member
 wrote x row before going =
@@ -116,7 +124,8 @@ after_sending (Failed failure) = Failed failure
 
 -- a stop in place of that call; it takes the place of an earlier one
 abbrev pub armed : ℕ → Pattern → Member → Member
-armed call pattern x = record x { disk = record x.disk { calls = record x.disk.calls { stop_in = call } }; pattern = pattern }
+armed call pattern x =
+    record x { disk = record x.disk { calls = record x.disk.calls { stop_in = call } }; pattern = pattern }
 
 -- a failure of that call; it takes the place of an earlier one
 abbrev pub failing : ℕ → Member → Member

@@ -1,5 +1,5 @@
--- What a vehicle maker relies on of each allocator: its log gives no ID twice, and whatever pair it offers to the bus is one
--- of its own committed log by then.
+-- What a vehicle maker relies on of each allocator: its log gives no ID twice, and whatever pair it offers to the bus
+-- is one of its own committed log by then.
 use Rattle.std.specs.Prelude.{◌≡◌, ℕ, ◌+◌, ◌<◌, List, [], ◌∷◌, length, slice_index_or, if◌then◌else◌}
 use Rattle.can_frame.specs.declared.entry.Entry.{Entry}
 use Rattle.can_frame.specs.Log.{IsInjective, blank}
@@ -18,7 +18,8 @@ use Rattle.world_parts.specs.Cluster.{Cluster, next, receipt_of, tick_of}
 use Rattle.world_parts.specs.Members.{Life, Member, puts_of}
 use Rattle.world_parts.specs.Members.Life.{Down, Up, Failed}
 
--- ---- the pairs that a row offers: those of the Allocations that a finished step puts into its queue, read from their payload
+-- ---- the pairs that a row offers: those of the Allocations that a finished step puts into its queue, read from
+-- their payload
 
 abbrev pub sight_given : Member → Sight → List Given
 sight_given x sight = if are_put (puts_of x sight.going) x.disk.calls then pairs sight.going else []
@@ -47,9 +48,11 @@ AreOwn givens life = (given : Given) → In given givens → IsGivenIn (committe
 -- whatever pair a lawful row offers, it is committed when the row is done
 abbrev pub OffersItsOwn : Cluster → Row → Type 0
 OffersItsOwn w (Tick n ms word) =
-    AreOwn (step_given (w.rows + 1) (tick_of ms word) (w.member n).life (w.member n)) ((next w (Tick n ms word)).member n).life
+    AreOwn (step_given (w.rows + 1) (tick_of ms word) (w.member n).life (w.member n))
+    ((next w (Tick n ms word)).member n).life
 OffersItsOwn w (Rx n k ms) =
-    AreOwn (step_given (w.rows + 1) (receipt_of w k ms) (w.member n).life (w.member n)) ((next w (Rx n k ms)).member n).life
+    AreOwn (step_given (w.rows + 1) (receipt_of w k ms) (w.member n).life (w.member n))
+    ((next w (Rx n k ms)).member n).life
 OffersItsOwn w (Open n ms word) = Unit {0}
 OffersItsOwn w (Send n) = Unit {0}
 OffersItsOwn w (Ext frame) = Unit {0}

@@ -1,4 +1,5 @@
--- The run of the message machine that a world shows: the events of each row, in order; and the transfers that were made.
+-- The run of the message machine that a world shows: the events of each row, in order; and the transfers that were
+-- made.
 --
 -- A step that its disk cut off ends within the move whose put failed. Where the member stopped with it, the disk tells
 -- whether that put was done. Where it did not, a choice says so (`Choices`).
@@ -26,17 +27,18 @@ use Rattle.world_parts.specs.Members.Life.{Down, Up, Failed}
 -- ---- a step that was cut off
 
 -- A step of member m ends after so many puts of its moves, counted over the members of the cluster. The event names the
--- moves before the one in which it ends, that move, and how many of that move's puts are done: `more` is 1 where the put
--- that failed is done, and else 0.
+-- moves before the one in which it ends, that move, and how many of that move's puts are done: `more` is 1 where the
+-- put that failed is done, and else 0.
 abbrev pub cut : List ℕ → ℕ → ℕ → Plain → List Move → List Move → ℕ → ℕ → List RunEvent
 cut members m number plain before [] done more = Stops m number before ∷ []
 cut members m number plain before (move ∷ moves) done more =
     if nat_lt done (length (puts members m plain move))
     then StopsWithin m number before move (done + more) ∷ []
-    else cut members m number (plain_after members m number plain move) (before ++ (move ∷ [])) moves (done - length (puts members m plain move)) more
+    else cut members m number (plain_after members m number plain move) (before ++ (move ∷ [])) moves
+    (done - length (puts members m plain move)) more
 
--- how many more puts are done than are for sure, 0 or 1: a stopped disk tells, by what its restart finds; for a failed step
--- the choice does
+-- how many more puts are done than are for sure, 0 or 1: a stopped disk tells, by what its restart finds; for a
+-- failed step the choice does
 abbrev pub more_done : (ℕ → Bool) → ℕ → Pattern → Shelf Stored → ℕ
 more_done choice row pattern disk = if disk.calls.stopped then found_by pattern disk else one_if (choice row)
 
@@ -56,7 +58,8 @@ going_events choice members m row x server going =
 -- one that is stopped, or has failed, takes no step
 abbrev pub step_events : (ℕ → Bool) → List ℕ → ℕ → ℕ → Event → Life → Member → List RunEvent
 step_events choice members m row event Down x = []
-step_events choice members m row event (Up server) x = going_events choice members m row x server (step server row event).going
+step_events choice members m row event (Up server) x =
+    going_events choice members m row x server (step server row event).going
 step_events choice members m row event (Failed failure) x = []
 
 -- a stop between two steps; one that failed went down with the step that failed
@@ -68,8 +71,10 @@ stop_events m row (Failed failure) = []
 -- an opening that succeeded opens; what sends, comes from outside, or arms a disk shows nothing
 abbrev pub row_events : (ℕ → Bool) → Cluster → Row → List RunEvent
 row_events choice w (Open n ms word) = if is_open_on (w.member n).disk then Opens n ∷ [] else []
-row_events choice w (Tick n ms word) = step_events choice w.ids n (w.rows + 1) (tick_of ms word) (w.member n).life (w.member n)
-row_events choice w (Rx n k ms) = step_events choice w.ids n (w.rows + 1) (receipt_of w k ms) (w.member n).life (w.member n)
+row_events choice w (Tick n ms word) =
+    step_events choice w.ids n (w.rows + 1) (tick_of ms word) (w.member n).life (w.member n)
+row_events choice w (Rx n k ms) =
+    step_events choice w.ids n (w.rows + 1) (receipt_of w k ms) (w.member n).life (w.member n)
 row_events choice w (Send n) = []
 row_events choice w (Ext frame) = []
 row_events choice w (Crash n calls pattern) = if calls == 0 then stop_events n (w.rows + 1) (w.member n).life else []
@@ -89,7 +94,8 @@ made_of row m (offer ∷ offers) earlier =
 
 -- of a step that finished
 abbrev pub made_by_going : ℕ → ℕ → Member → Going → List Made → List Made
-made_by_going row m x going earlier = if are_put (puts_of x going) x.disk.calls then made_of row m going.offers earlier else earlier
+made_by_going row m x going earlier =
+    if are_put (puts_of x going) x.disk.calls then made_of row m going.offers earlier else earlier
 
 abbrev pub made_by : ℕ → ℕ → Event → Life → Member → List Made → List Made
 made_by row m event Down x earlier = earlier

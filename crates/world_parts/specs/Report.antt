@@ -30,11 +30,13 @@ abbrev pub stored_told : ℕ → Stored → Telling
 stored_told n state = HasOpened n state.term state.vote (length state.log) state.commit
 
 abbrev pub opening_told : ℕ → Shelf Stored → Telling
-opening_told n disk = if is_open_on disk then stored_told n (opening_on disk).store else failure_told n (opening_on disk)
+opening_told n disk =
+    if is_open_on disk then stored_told n (opening_on disk).store else failure_told n (opening_on disk)
 
 -- a step: the numbers after it, what it saw, and what it offered
 abbrev pub view_told : ℕ → View → Sight → Telling
-view_told n view sight = HasStepped n view.role view.term view.last view.commit view.queued sight.seen (sents sight.going)
+view_told n view sight =
+    HasStepped n view.role view.term view.last view.commit view.queued sight.seen (sents sight.going)
 
 abbrev pub sight_told : ℕ → Member → Sight → Telling
 sight_told n x sight =
@@ -95,7 +97,8 @@ row_lines w (row ∷ rows) = telling_line (w.rows + 1) (told w row) ++ row_lines
 
 -- an entry at its place, counted from 1
 abbrev pub entry_line : ℕ → Entry → List ℕ
-entry_line place entry = decimal place ++ codes " " ++ decimal entry.node ++ codes " " ++ encode_lower entry.uid ++ codes "\n"
+entry_line place entry =
+    decimal place ++ codes " " ++ decimal entry.node ++ codes " " ++ encode_lower entry.uid ++ codes "\n"
 
 abbrev pub entry_lines : ℕ → List Entry → List ℕ
 entry_lines place [] = []
@@ -103,7 +106,8 @@ entry_lines place (entry ∷ entries) = entry_line place entry ++ entry_lines (s
 
 -- the log of a member: its commit index, and a line for each committed entry
 abbrev pub log_lines_of : ℕ → Store → List ℕ
-log_lines_of n store = codes "log " ++ decimal n ++ codes " " ++ decimal store.commit ++ codes "\n" ++ entry_lines 1 (committed store)
+log_lines_of n store =
+    codes "log " ++ decimal n ++ codes " " ++ decimal store.commit ++ codes "\n" ++ entry_lines 1 (committed store)
 
 abbrev pub life_lines : ℕ → Life → List ℕ
 life_lines n Down = []

@@ -1,5 +1,5 @@
-/// Three members find each other, one is elected by the vote of another, and a device is given a node ID. A frame is lost on
-/// the way, and its call is sent anew. The third member makes no device call behind its opening.
+/// Three members find each other, one is elected by the vote of another, and a device is given a node ID. A frame is
+/// lost on the way, and its call is sent anew. The third member makes no device call behind its opening.
 pub(crate) const WORKED_CLUSTER: &str = "open 1 0 0
 open 2 0 2000
 open 3 0 2000

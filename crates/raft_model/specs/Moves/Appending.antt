@@ -21,7 +21,8 @@ pub data Verdict : Type 0 where
 
 -- the term is not lower, and not its own while it is Leader
 abbrev pub IsCurrent : Plain → Request → Type 0
-IsCurrent server request = (server.store.term < request.term) ⊎ ((request.term ≡ server.store.term) × (server.memory.role ≢ Leader))
+IsCurrent server request = (server.store.term < request.term)
+    ⊎ ((request.term ≡ server.store.term) × (server.memory.role ≢ Leader))
 
 abbrev pub IsOutdated : Plain → Request → Type 0
 IsOutdated server request = (request.term < server.store.term)
@@ -34,13 +35,15 @@ pub record HasPrevious (store : Store) (request : Request) : Type 0 where
 
 -- the entry's place is in the log, with an entry of the same term
 abbrev pub IsThere : Store → Request → Entry → Type 0
-IsThere store request entry = (request.previous < length store.log) × (term_at store.log (request.previous + 1) ≡ entry.term)
+IsThere store request entry = (request.previous < length store.log)
+    × (term_at store.log (request.previous + 1) ≡ entry.term)
 
 -- there is no entry, or it is there
 pub record Holds (store : Store) (request : Request) : Type 0 where
   pub fits : HasPrevious store request
   pub has : (request.entry ≡ None)
-      ⊎ ((entry : Entry) × (request.entry ≡ Some entry) × (request.previous + 1 ≤ log_limit) × IsThere store request entry)
+      ⊎ ((entry : Entry) × (request.entry ≡ Some entry) × (request.previous + 1 ≤ log_limit)
+      × IsThere store request entry)
 
 -- the entry is not there and may come into the log, cut before its place
 pub record Adds (store : Store) (request : Request) (entry : Entry) : Type 0 where
@@ -78,7 +81,8 @@ IsRuled store request (Added entry) = Adds store request entry
 -- the verdict on a request: first its term, then log and entry
 abbrev pub IsJudged : Plain → Request → Verdict → Type 0
 IsJudged server request Outdated = IsOutdated server request
-IsJudged server request verdict = IsCurrent server request × IsRuled (with_term server.store request.term) request verdict
+IsJudged server request verdict = IsCurrent server request
+    × IsRuled (with_term server.store request.term) request verdict
 
 abbrev pub is_accepted : Verdict → Bool
 is_accepted Outdated = false
@@ -92,13 +96,15 @@ cut_puts store request = if nat_lt request.previous (length store.log) then PutS
 -- the lesser of the request's commit and its reach, where it is above commit
 abbrev pub advance_puts : Store → Request → List Put
 advance_puts store request =
-    if nat_lt store.commit (min request.commit (reach request)) then PutCommit (min request.commit (reach request)) ∷ [] else []
+    if nat_lt store.commit (min request.commit (reach request))
+    then PutCommit (min request.commit (reach request)) ∷ [] else []
 
 abbrev pub append_puts : Store → Request → Verdict → List Put
 append_puts store request Outdated = []
 append_puts store request Refused = []
 append_puts store request Held = advance_puts store request
-append_puts store request (Added entry) = cut_puts store request ++ (PutEntry entry ∷ PutLonger entry ∷ advance_puts store request)
+append_puts store request (Added entry) =
+    cut_puts store request ++ (PutEntry entry ∷ PutLonger entry ∷ advance_puts store request)
 
 abbrev pub append_memory : Plain → Request → Verdict → Memory
 append_memory server request Outdated = server.memory
@@ -116,7 +122,8 @@ matched_after memory answer =
 
 abbrev pub next_after : Memory → Answer → ℕ
 next_after memory answer =
-    if answer.success then max (memory.matched answer.from) (reach answer.request) + 1 else max 1 (memory.next answer.from - 1)
+    if answer.success then max (memory.matched answer.from) (reach answer.request) + 1
+    else max 1 (memory.next answer.from - 1)
 
 abbrev pub matched_memory : Memory → Answer → Memory
 matched_memory memory answer = record memory {

@@ -32,7 +32,8 @@ abbrev pub with_term : Store → ℕ → Store
 with_term store term = put_all store (term_puts store term)
 
 abbrev pub term_memory : Plain → ℕ → Memory
-term_memory server term = if nat_lt server.store.term term then record server.memory { role = Follower } else server.memory
+term_memory server term =
+    if nat_lt server.store.term term then record server.memory { role = Follower } else server.memory
 
 -- Standing and winning.
 
@@ -73,7 +74,8 @@ win_history member store history = if adds_blank store then history else elected
 
 -- Votes.
 
--- a vote is granted exactly where the terms are equal, the vote is none or the sender, and the sender's log is not behind
+-- a vote is granted exactly where the terms are equal, the vote is none or the sender, and the sender's log is not
+-- behind
 pub record MayGrant (store : Store) (request : Request) : Type 0 where
   pub own_term : request.term ≡ store.term
   pub free : (store.vote ≡ None) ⊎ (store.vote ≡ Some request.from)
@@ -121,7 +123,8 @@ abbrev pub with_vote : Memory → Answer → Memory
 with_vote memory answer = record (ended memory answer.from) { votes = counted memory answer }
 
 abbrev pub counting_puts : List ℕ → Plain → Answer → List Put
-counting_puts members server answer = if has_quorum members (counted server.memory answer) then win_puts server.store else []
+counting_puts members server answer =
+    if has_quorum members (counted server.memory answer) then win_puts server.store else []
 
 abbrev pub counting_memory : List ℕ → Plain → Answer → Memory
 counting_memory members server answer =
