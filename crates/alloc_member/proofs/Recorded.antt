@@ -1,27 +1,20 @@
--- Whether a node ID stands in a log, as a test and as a fact.
+-- Node IDs that are known: those of the members, and those that stand in the log.
 use Rattle.std.proofs.Common.{◌≡◌, ◌<◌, ℕ, zero, suc, Bool, true, false, List, [], ◌∷◌, length, ◌||◌, refl, sym, ap, ◌∙◌, arith}
 use Rattle.std.specs.Prelude.{nat_eq, slice_index_or}
 use Rattle.std.proofs.lemmas.Bool.Decides.{nat_tests}
 use Rattle.can_frame.specs.declared.entry.Entry.{Entry}
 use Rattle.can_frame.specs.Log.{HasNodeId, blank}
-use Rattle.server_parts.specs.TimedServer.{is_recorded}
-
-equal : (n m : ℕ) → nat_eq n m ≡ true → n ≡ m
-equal n m is = grind (arith, nat_tests)
+use Rattle.cluster_discovery.specs.Members.{lists}
+use Rattle.cluster_discovery.specs.Views.{member_list}
+use Rattle.disk_model.specs.declared.disk.Disk.{Ghosts}
+use Rattle.raft_log.specs.DurableViews.{durable_state}
+use Rattle.raft_model.specs.Server.{Store}
+use Rattle.server_parts.specs.TimedServer.{Timed, is_known, is_recorded}
+use Rattle.alloc_member.specs.declared.member.Member.{Member}
+use Rattle.alloc_member.specs.Stands.{StandsFor}
 
 told : (n m : ℕ) → n ≡ m → nat_eq n m ≡ true
 told n m is = grind (arith, nat_tests)
-
-any_has : (log : List Entry) (node : ℕ) → is_recorded log node ≡ true → HasNodeId log node
-any_has [] node is = cc
-any_has (entry ∷ log) node is = by (λ h. any_has log node h) (nat_eq entry.node node) refl
-  where
-    later : HasNodeId log node → HasNodeId (entry ∷ log) node
-    later h = record { place = suc h.place; within = omega (arith, h.within); same = h.same }
-
-    by : (is_recorded log node ≡ true → HasNodeId log node) → (b : Bool) → nat_eq entry.node node ≡ b → HasNodeId (entry ∷ log) node
-    by rest true here = record { place = 0; within = omega arith; same = equal entry.node node here }
-    by rest false not = later (rest (sym (ap (λ (b : Bool). b || is_recorded log node) not) ∙ is))
 
 or_true : (b : Bool) → (b || true) ≡ true
 or_true true = refl
@@ -33,10 +26,27 @@ at_place (entry ∷ log) node zero within same = ap (λ (b : Bool). b || is_reco
 at_place (entry ∷ log) node (suc place) within same =
     ap (λ (b : Bool). nat_eq entry.node node || b) (at_place log node place (omega (arith, within)) same) ∙ or_true (nat_eq entry.node node)
 
-pub recorded_is : (log : List Entry) (node : ℕ) (r : Bool) → (r ≡ true → HasNodeId log node) → (HasNodeId log node → r ≡ true) → r ≡ is_recorded log node
-recorded_is log node true has is = let h = has refl in sym (at_place log node h.place h.within h.same)
-recorded_is log node false has is = by (is_recorded log node) refl
-  where
-    by : (b : Bool) → is_recorded log node ≡ b → false ≡ is_recorded log node
-    by true found = let no_way : false ≡ true = is (any_has log node found) in cc
-    by false none = sym none
+-- one that is not marked stands at no place
+pub not_recorded : (log : List Entry) (node : ℕ) (listed before marked : Bool) → marked ≡ (listed || (is_recorded log node || before)) → marked ≡ false
+    → HasNodeId log node → ⊥
+not_recorded log node true before marked is not h = let no_way : true ≡ false = sym is ∙ not in cc
+not_recorded log node false before marked is not h =
+    let here : (is_recorded log node || before) ≡ true = ap (λ (b : Bool). b || before) (at_place log node h.place h.within h.same) in
+    let no_way : true ≡ false = sym here ∙ sym is ∙ not in cc
+
+-- a member knows those that the server in time knows, for which it stands
+pub knows : {D : Type 0} {disk : Ghosts D} (member : Member D disk) (t : Timed) (node : ℕ) → StandsFor member t
+    → is_known t node ≡ (lists (member_list member.cluster) node || is_recorded (durable_state member.durable).log node)
+knows member t node h =
+    ap (λ (list : List ℕ). lists list node || is_recorded t.plain.store.log node) (sym h.cluster.members)
+    ∙ ap (λ (store : Store). lists (member_list member.cluster) node || is_recorded store.log node) h.raft.store
+
+-- the table of those that are known begins without a mark
+pub unmarked : (listed recorded : Bool) → (listed || (recorded || false)) ≡ (listed || recorded)
+unmarked true recorded = refl
+unmarked false true = refl
+unmarked false false = refl
+
+pub marked_in_turn : (listed recorded before : Bool) → (listed || (recorded || before)) ≡ ((listed || recorded) || before)
+marked_in_turn true recorded before = refl
+marked_in_turn false recorded before = refl

@@ -1,26 +1,30 @@
 //! Which node IDs stand in the log, and which may be given.
 
-ghost use Rattle.std.specs.Prelude.{◌≡◌, ◌<◌, ℕ, true, false, slice_index_or};
+ghost use Rattle.std.specs.Prelude.{◌≡◌, ◌<◌, ℕ, Bool, ◌||◌, true, false, length, slice_index_or};
 ghost use Rattle.can_frame.specs.Log.{HasNodeId};
+ghost use Rattle.can_frame.specs.declared.entry.Entry.{Entry};
+ghost use Rattle.cluster_discovery.specs.Members.{lists};
+ghost use Rattle.cluster_discovery.specs.Views.{member_list};
 ghost use Rattle.raft_log.specs.DurableViews.{durable_state};
 ghost use Rattle.server_parts.specs.TimedServer as timed;
-ghost use Rattle.server_parts.specs.TimedServer.{Timed};
+ghost use Rattle.server_parts.specs.TimedServer.{Timed, is_recorded};
 
 use crate::member::Member;
-use can_frame::has_node_id;
+use can_frame::Entry;
 use disk_model::Disk;
+use raft_log::laws::a_durable_state_is_kept;
 
 impl<D: Disk> Member<D> {
     ghost use Rattle.alloc_member.specs.Stands.{StandsFor};
 
     /// By node ID: the members, and the nodes that stand in the log.
     pub fn known(&self) -> [bool; 128]
-        ensures { (t : Timed) → StandsFor self.now t → result ≡ timed.known t }
+        ensures known { (t : Timed) → StandsFor self.now t → result ≡ timed.known t }
+        ensures free { (node : ℕ) → node < 128 → slice_index_or result node true ≡ false →
+            HasNodeId (durable_state self.now.durable).log node → ⊥ }
     {
         let mut known = [false; 128];
-        for node in 0..128 {
-            known[node] = self.is_known(node as u8);
-        }
+        self.mark_known(&mut known);
         known
     }
 
@@ -30,31 +34,42 @@ impl<D: Disk> Member<D> {
         ensures free { (node : ℕ) → node < 128 → slice_index_or result node true ≡ false →
             HasNodeId (durable_state self.now.durable).log node → ⊥ }
     {
-        let mut taken = [false; 128];
-        for node in 0..128 {
-            taken[node] = self.is_taken(node as u8);
-        }
+        let mut taken = self.watch.seen(self.latest);
+        self.mark_known(&mut taken);
         taken
     }
 
-    pub fn is_known(&self, node: u8) -> bool
-        ensures known { (t : Timed) → StandsFor self.now t → result ≡ timed.is_known t node }
-        ensures free { result ≡ false → HasNodeId (durable_state self.now.durable).log node → ⊥ }
+    /// Marks the nodes that stand in the log, and the members.
+    fn mark_known(&self, marked: &mut [bool; 128])
+        ensures { (node : ℕ) (d : Bool) → node < 128 → slice_index_or marked.new node d ≡
+            (lists (member_list self.now.cluster) node ||
+            (is_recorded (durable_state self.now.durable).log node ||
+            slice_index_or marked.old node d)) }
     {
-        self.lists(node) || self.is_recorded(node)
+        a_durable_state_is_kept::<D>();
+        mark_recorded(self.durable.log(), marked);
+        mark_listed(self.cluster.members(), marked);
     }
+}
 
-    fn is_taken(&self, node: u8) -> bool
-        ensures taken { (t : Timed) → StandsFor self.now t → result ≡ timed.is_taken t node }
-        ensures free { result ≡ false → HasNodeId (durable_state self.now.durable).log node → ⊥ }
-    {
-        self.is_known(node) || self.watch.online(node, self.latest)
+/// Marks the node IDs of the entries.
+fn mark_recorded(log: &[Entry], marked: &mut [bool; 128])
+    requires { (i : ℕ) (d : Entry) → i < length log.now → (slice_index_or log.now i d).node < 128 }
+    ensures { (node : ℕ) (d : Bool) → node < 128 → slice_index_or marked.new node d ≡
+        (is_recorded log.now node || slice_index_or marked.old node d) }
+{
+    for entry in log {
+        marked[usize::from(entry.node)] = true;
     }
+}
 
-    fn is_recorded(&self, node: u8) -> bool
-        ensures recorded { result ≡ timed.is_recorded (durable_state self.now.durable).log node }
-        ensures free { result ≡ false → HasNodeId (durable_state self.now.durable).log node → ⊥ }
-    {
-        has_node_id(self.durable.log(), node)
+/// Marks the node IDs of the list.
+fn mark_listed(members: &[u8], marked: &mut [bool; 128])
+    requires { (i : ℕ) → i < length members.now → slice_index_or members.now i 0 < 128 }
+    ensures { (node : ℕ) (d : Bool) → node < 128 → slice_index_or marked.new node d ≡
+        (lists members.now node || slice_index_or marked.old node d) }
+{
+    for member in members {
+        marked[usize::from(*member)] = true;
     }
 }

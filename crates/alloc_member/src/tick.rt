@@ -1,6 +1,6 @@
 //! What a member does when it reads its clock.
 
-ghost use Rattle.std.specs.Prelude.{◌≡◌, ◌≢◌, ◌≤◌, ◌<◌, ℕ, true, None, Some, IfSome, OnOk, length};
+ghost use Rattle.std.specs.Prelude.{◌≡◌, ◌≢◌, ◌≤◌, ◌<◌, ℕ, true, false, None, Some, IfSome, OnOk, length, slice_index_or};
 ghost use Rattle.std.specs.Result.{result_err};
 ghost use Rattle.arrayvec.specs.ArrayVec.{array_vec_len};
 ghost use Rattle.can_frame.specs.Log.{HasNodeId, HasUid, log_limit};
@@ -11,7 +11,7 @@ ghost use Rattle.raft_log.specs.DurableViews.{durable_state};
 ghost use Rattle.raft_core.specs.StoredPuts.{KeepsFaults};
 ghost use Rattle.server_parts.specs.declared.offered.Offered.{Offered};
 ghost use Rattle.server_parts.specs.Tick.{asks, candidate, discovery_phase, election_phase, is_candidate, new_uid, proposes, query_phase, record_phase, records_as, reserves, status_phase, ticks};
-ghost use Rattle.server_parts.specs.TimedServer.{Timed};
+ghost use Rattle.server_parts.specs.TimedServer.{Timed, is_known};
 
 use crate::member::Member;
 use crate::puts::puts_go_on;
@@ -133,19 +133,22 @@ impl<D: Disk> Member<D> {
         ensures free { IfSome result (λ node. HasNodeId (durable_state self.now.durable).log node →
             ⊥) }
     {
+        let known = self.known();
         for node in 1..126 {
-            if self.is_candidate(node) {
+            if self.is_candidate(&known, node) {
                 return NodeId::new(node);
             }
         }
         None
     }
 
-    fn is_candidate(&self, node: u8) -> bool
-        ensures computed { (t : Timed) → StandsFor self.now t → result ≡ is_candidate t node }
-        ensures free { result ≡ true → HasNodeId (durable_state self.now.durable).log node → ⊥ }
+    fn is_candidate(&self, known: &[bool; 128], node: u8) -> bool
+        requires { node < 128 }
+        ensures computed { (t : Timed) → StandsFor self.now t →
+            slice_index_or known.now node true ≡ is_known t node → result ≡ is_candidate t node }
+        ensures unknown { result ≡ true → slice_index_or known.now node true ≡ false }
     {
-        !self.is_known(node)
+        !known[usize::from(node)]
             && (self.watch.identified(node, self.latest).is_some()
                 || self.watch.silent(node, self.latest))
     }
