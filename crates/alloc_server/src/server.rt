@@ -57,6 +57,7 @@ impl<D: Disk, F: Fn(Kind, u16) -> Option<u64> + Copy> Server<D, F> {
     /// A server of the node `me`, in a cluster of `size` members, with what its disk has stored, which
     /// is brought to version 2 of the store. The word makes its wait for an election differ from the
     /// others'.
+    #[inline(never)]
     pub fn open(
         me: u8,
         size: u8,
