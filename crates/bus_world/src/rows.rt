@@ -19,7 +19,9 @@ use world_parts::Unlawful;
 impl<F: Fn(Kind, u16) -> Option<u64> + Copy> World<F> {
     ghost use Rattle.bus_world.specs.Rows.{Keeps, Leaves, Refuses, Tells};
 
-    /// A stopped member opens.
+    /// A stopped member opens. It is not inlined: no other row is to pay for the place of a whole server
+    /// on the stack.
+    #[inline(never)]
     pub(crate) fn open(&mut self, n: u8, moment: u64, word: u32) -> Result<Told, Unlawful>
         requires memory { ReceiverFitsInMemory F.row 160 128 }
         requires callable { F.IsAlwaysCallable self.old.accept }
