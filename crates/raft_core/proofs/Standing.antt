@@ -1,5 +1,5 @@
 -- A member stands for election.
-use Rattle.std.proofs.Common.{◌≡◌, inl, inr, Option, Some, None, ℕ, zero, suc, ◌+◌, ◌<◌, ◌≤◌, false, List, [], ◌∷◌, replicate, get_or, set, get_or-set_other, get_or-set_same, refl, sym, ap, subst, ◌∙◌, arith}
+use Rattle.std.proofs.Common.{◌≡◌, inl, inr, Option, Some, None, ℕ, zero, suc, ◌+◌, ◌<◌, ◌≤◌, false, List, [], ◌∷◌, length, replicate, get_or, set, get_or-set_other, get_or-set_same, refl, sym, ap, subst, ◌∙◌, arith}
 use Rattle.std.specs.Prelude.{slice_index_or, slice_set, ◌==◌}
 use Rattle.std.proofs.lemmas.Bool.Decides.{eqb_tells}
 use Rattle.std.proofs.lemmas.List.{get_or-replicate, length-replicate}
@@ -63,3 +63,13 @@ stood_stands raft raft2 members peers s s2 p t given st inside least role since 
           (tells q voter refl x.0 refl)
       | inr x ↦ subst (λ y. Tells y p2 t2 q) (sym (get_or-set_other (replicate 128 (fresh 1)) raft.me q voter d x.1 ∙ get_or-replicate 128 q (fresh 1) d below)) (tells q (fresh 1) refl x.0 refl)
     ]
+
+-- the members that it counts stand in the table
+pub all_numbered : (me : ℕ) (peers members : List ℕ) → members ≡ me ∷ peers → me < 128 → ((i : ℕ) → i < length peers → slice_index_or peers i 0 ≤ 125)
+    → (i : ℕ) → i < length members → slice_index_or members i 0 < 128
+all_numbered me peers members is inside below =
+    subst (λ (list : List ℕ). (i : ℕ) → i < length list → slice_index_or list i 0 < 128) (sym is) each
+  where
+    each : (i : ℕ) → i < length (me ∷ peers) → slice_index_or (me ∷ peers) i 0 < 128
+    each zero within = inside
+    each (suc i) within = let other = below i (omega (arith, within)) in omega (arith, other)

@@ -9,11 +9,12 @@ ghost use Rattle.raft_model.specs.Messages.{Request, items, reach};
 ghost use Rattle.raft_model.specs.Moves.{Move};
 ghost use Rattle.raft_model.specs.Moves.Elections.{ended};
 ghost use Rattle.raft_model.specs.Server.{Plain};
+ghost use Rattle.raft_core.specs.Peers.{WaitsForNone};
 ghost use Rattle.raft_core.specs.Times as clock;
 ghost use Rattle.raft_core.specs.Times.{Sending, Times, given_at, given_call, is_awaited, overdue, times_after_all};
 ghost use Rattle.can_frame.specs.declared.step.Role.TheVariants.{Leader};
 
-use crate::peer::{Asked, Waiting};
+use crate::peer::{Asked, Peer, Waiting};
 use crate::raft::Raft;
 use can_frame::Role;
 use disk_model::Disk;
@@ -65,9 +66,13 @@ impl Raft {
         ensures me { raft_me self.new ≡ raft_me self.old }
         ensures size { raft_size self.new ≡ raft_size self.old }
     {
+        if !self.calling {
+            return;
+        }
         for peer in &mut self.peers {
             peer.expire(now);
         }
+        self.calling = !wait_for_none(&self.peers);
     }
 
     /// The call that is owed to a peer. A candidate asks each peer for its vote until it answers. A leader
@@ -119,6 +124,7 @@ impl Raft {
         ensures size { raft_size self.new ≡ raft_size self.old }
     {
         a_durable_state_is_kept::<D>();
+        self.calling = true;
         let kept = &mut self.peers[peer as usize];
         let asked = match what {
             Call::Vote(_) => Asked::Vote,
@@ -205,6 +211,13 @@ impl Raft {
     {
         self.peers[from as usize].call = None;
     }
+}
+
+/// Whether no call waits.
+fn wait_for_none(peers: &[Peer; 128]) -> bool
+    ensures { result ≡ true → WaitsForNone peers.now }
+{
+    peers.iter().all(|peer| peer.call.is_none())
 }
 
 fn vote_request<D: Disk>(d: &Durable<D>) -> VoteRequest
