@@ -194,6 +194,9 @@ impl<const S: usize, const N: usize> Sessions<S, N> {
             HaveCrcs signature_of self.new.progress self.new.pool }
     {
         for place in 0..S {
+            if self.progress[place].is_none() {
+                continue;
+            }
             let progress = unless_old(self.progress[place], now);
             self.keep(place, progress);
         }

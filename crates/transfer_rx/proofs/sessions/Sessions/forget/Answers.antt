@@ -10,9 +10,9 @@ loop-place-preserved g c =
     let size : length c.args.self.now.progress ≡ g.row.S = search rules in
     let same = c.loop-place.invariant.size in
     let there = c.loop-place-test.true in
-    let own = get_or_default c.loop-place.self.progress c.loop-place.place c.index-self-place.result None (omega arith)
+    let own = get_or_default c.loop-place.self.progress c.loop-place.place c.index-self-place-in-loop-place.result None (omega arith)
     ∙ c.loop-place.invariant.left c.loop-place.place (omega arith) in
-    let here = get_or_default c.loop-place.self.progress c.loop-place.place c.index-self-place.result None (omega arith) in
+    let here = get_or_default c.loop-place.self.progress c.loop-place.place c.index-self-place-in-loop-place.result None (omega arith) in
     record {
       done = λ places s i l.
           rw c.keep.ensures.progress
