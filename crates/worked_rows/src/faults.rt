@@ -1,10 +1,13 @@
 use crate::bytes::{ByteSink, ByteSource};
-use crate::ordinary_path::{END, ROWS};
+use crate::lost_frame::{END, ROWS};
 use crate::run::run_words;
 use allocator_app::Status;
 use outside::{MemorySink, MemorySource, Sink};
 use std::alloc::{AllocError, Global};
 use std::test::Fail;
+
+/// The words that the schedule is run with.
+const WORDS: &str = "replay 1000 1 2 3";
 
 fn schedule(alloc: Global) -> Result<Vec<u8>, AllocError> {
     let mut bytes = Vec::new(alloc);
@@ -40,10 +43,10 @@ fn a_byte_at_a_time_changes_nothing(rt: HostRuntime) -> Result<(), Fail> {
     let report = report(rt.alloc(), &schedule)?;
     let mut source = ByteSource::new(&schedule, None);
     let mut sink = ByteSink {
-        bytes: MemorySink::new(rt.alloc(), 1000, None, None)?,
+        bytes: MemorySink::new(rt.alloc(), 3000, None, None)?,
     };
     assert_eq!(rt;
-        run_words(rt.alloc(), "replay 100 1", &mut source, &mut sink)?,
+        run_words(rt.alloc(), WORDS, &mut source, &mut sink)?,
         Status::Done
     );
     assert_eq!(rt; sink.bytes.written(), report.as_slice());
@@ -58,9 +61,9 @@ fn a_read_that_fails_leaves_the_lines_of_the_rows_that_were_read(
     let schedule = schedule(rt.alloc())?;
     for read in 0..=schedule.len() {
         let mut source = ByteSource::new(&schedule, Some(read as u64 + 1));
-        let mut sink = MemorySink::new(rt.alloc(), 1000, None, None)?;
+        let mut sink = MemorySink::new(rt.alloc(), 3000, None, None)?;
         assert_eq!(rt;
-            run_words(rt.alloc(), "replay 100 1", &mut source, &mut sink)?,
+            run_words(rt.alloc(), WORDS, &mut source, &mut sink)?,
             Status::ReadFault
         );
         assert_eq!(rt; sink.written(), lines(rt.alloc(), read)?.as_slice());
@@ -68,46 +71,46 @@ fn a_read_that_fails_leaves_the_lines_of_the_rows_that_were_read(
     Ok(())
 }
 
-/// Each write fails in turn, of one byte each; and then each takes nothing.
+/// Each write fails in turn, of one byte each.
 #[test]
 fn a_write_that_fails_leaves_a_front_of_the_report(rt: HostRuntime) -> Result<(), Fail> {
     let schedule = schedule(rt.alloc())?;
     let report = report(rt.alloc(), &schedule)?;
     for written in 0..report.len() {
-        let call = Some(written as u64 + 1);
-        for (fail_at, zero_at) in [(call, None), (None, call)] {
-            let mut source = MemorySource::new(&schedule, None);
-            let mut sink = ByteSink {
-                bytes: MemorySink::new(rt.alloc(), 1000, fail_at, zero_at)?,
-            };
-            assert_eq!(rt;
-                run_words(rt.alloc(), "replay 100 1", &mut source, &mut sink)?,
-                Status::WriteFault
-            );
-            assert_eq!(rt; sink.bytes.written(), &report[..written]);
-        }
+        let mut source = MemorySource::new(&schedule, None);
+        let mut sink = ByteSink {
+            bytes: MemorySink::new(rt.alloc(), 3000, Some(written as u64 + 1), None)?,
+        };
+        assert_eq!(rt;
+            run_words(rt.alloc(), WORDS, &mut source, &mut sink)?,
+            Status::WriteFault
+        );
+        assert_eq!(rt; sink.bytes.written(), &report[..written]);
     }
     Ok(())
 }
 
-/// The whole schedule comes with one read, its lines go with one write, and the end with another.
+/// The whole schedule comes with one read, its lines go with one write, and the end with another: the read and the write
+/// that fails, and the write that takes nothing.
 #[test]
 fn whole_pieces_fail_in_turn(rt: HostRuntime) -> Result<(), Fail> {
     let schedule = schedule(rt.alloc())?;
     let report = report(rt.alloc(), &schedule)?;
     let lines = lines(rt.alloc(), schedule.len())?;
-    let cases: [(Option<u64>, Option<u64>, Status, &[u8]); 5] = [
-        (Some(1), None, Status::ReadFault, b""),
-        (Some(2), None, Status::ReadFault, &lines),
-        (None, Some(1), Status::WriteFault, b""),
-        (None, Some(2), Status::WriteFault, &lines),
-        (Some(3), Some(3), Status::Done, &report),
+    let cases: [(Option<u64>, Option<u64>, Option<u64>, Status, &[u8]); 7] = [
+        (Some(1), None, None, Status::ReadFault, b""),
+        (Some(2), None, None, Status::ReadFault, &lines),
+        (None, Some(1), None, Status::WriteFault, b""),
+        (None, Some(2), None, Status::WriteFault, &lines),
+        (None, None, Some(1), Status::WriteFault, b""),
+        (None, None, Some(2), Status::WriteFault, &lines),
+        (Some(3), Some(3), Some(3), Status::Done, &report),
     ];
-    for (read, write, status, written) in cases {
+    for (read, write, zero, status, written) in cases {
         let mut source = MemorySource::new(&schedule, read);
-        let mut sink = MemorySink::new(rt.alloc(), 1000, write, None)?;
+        let mut sink = MemorySink::new(rt.alloc(), 3000, write, zero)?;
         assert_eq!(rt;
-            run_words(rt.alloc(), "replay 100 1", &mut source, &mut sink)?,
+            run_words(rt.alloc(), WORDS, &mut source, &mut sink)?,
             status
         );
         assert_eq!(rt; sink.written(), written);

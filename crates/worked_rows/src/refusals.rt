@@ -1,6 +1,7 @@
 use crate::run::{run_over, run_words};
 use allocator_app::Status;
-use outside::{MemoryLink, MemorySink, MemorySource};
+use disk_model::{IMAGE, MemoryDisk};
+use outside::{MemoryClock, MemoryLink, MemorySink, MemorySource};
 use std::test::Fail;
 
 /// A line of 121 bytes.
@@ -86,6 +87,38 @@ fn a_row_that_is_not_taken_ends_the_report(rt: HostRuntime) -> Result<(), Fail> 
     Ok(())
 }
 
+/// Lines that are no rows, by a word, a space, a number or a digit.
+const NO_ROWS: [&[u8]; 13] = [
+    b"\n",
+    b"open 1 0\n",
+    b"open  1 0 0\n",
+    b"tick 1 01 0\n",
+    b"tick 256 0 0\n",
+    b"rx 1 4294967296 0\n",
+    b"ext 20000000 00c0\n",
+    b"ext 1e000500 c\n",
+    b"ext 1e000500 000000000000000000\n",
+    b"crash 1 1000001 old\n",
+    b"crash 1 1 5\n",
+    b"fault 1 0\n",
+    b"xxxxxxxxxxxxxxxxxxxxxxxxxxxxxxxxxxxxxxxxxxxxxxxxxxxxxxxxxxxx\
+      xxxxxxxxxxxxxxxxxxxxxxxxxxxxxxxxxxxxxxxxxxxxxxxxxxxxxxxxxxxx\n",
+];
+
+#[test]
+fn a_line_that_is_no_row_ends_the_report(rt: HostRuntime) -> Result<(), Fail> {
+    for line in NO_ROWS {
+        let mut source = MemorySource::new(line, None);
+        let mut sink = MemorySink::new(rt.alloc(), 100, None, None)?;
+        assert_eq!(rt;
+            run_words(rt.alloc(), "replay 10 1", &mut source, &mut sink)?,
+            Status::BadRow(1)
+        );
+        assert_eq!(rt; sink.written(), b"bad row 1\n".as_slice());
+    }
+    Ok(())
+}
+
 #[test]
 fn other_words_do_nothing(rt: HostRuntime) -> Result<(), Fail> {
     const CASES: [&str; 15] = [
@@ -117,27 +150,38 @@ fn other_words_do_nothing(rt: HostRuntime) -> Result<(), Fail> {
     Ok(())
 }
 
-/// The words of a schedule ask for no link; a place without a disk is none.
+/// The words of a schedule and of a soak ask for neither links nor disks, those of a node for one of each; a
+/// place without a disk is none.
 #[test]
-fn a_link_is_refused(rt: HostRuntime) -> Result<(), Fail> {
-    const CASES: [(bool, Status); 2] = [(false, Status::Done), (true, Status::Usage)];
-    for (has_link, status) in CASES {
-        let mut links = [MemoryLink::new(&[], None)];
-        let links = if has_link {
-            &mut links[..]
-        } else {
-            &mut links[..0]
-        };
+fn objects_that_are_not_asked_for_are_refused(rt: HostRuntime) -> Result<(), Fail> {
+    const CASES: [(&str, usize, bool, Status); 7] = [
+        ("replay 10 1", 0, false, Status::Done),
+        ("replay 10 1", 1, false, Status::Usage),
+        ("replay 10 1", 0, true, Status::Usage),
+        ("soak 1 0 3", 1, false, Status::Usage),
+        ("soak 1 0 3", 0, true, Status::Usage),
+        ("node 1 5000 3 1", 2, true, Status::Usage),
+        ("node 1 5000 3 1", 1, false, Status::Usage),
+    ];
+    for (words, links, has_disk, status) in CASES {
+        let mut two = [MemoryLink::new(&[], None), MemoryLink::new(&[], None)];
+        let count = two.len().min(links);
+        let mut disk = None;
+        if has_disk {
+            disk = Some(MemoryDisk::new(&[0; IMAGE]));
+        }
         let mut source = MemorySource::new(b"", None);
         let mut sink = MemorySink::new(rt.alloc(), 100, None, None)?;
+        let mut clock = MemoryClock::new(&[]);
         assert_eq!(rt;
             run_over(
                 rt.alloc(),
-                "replay 10 1",
+                words,
                 &mut source,
                 &mut sink,
-                links,
-                &mut [None]
+                &mut two[..count],
+                &mut [disk],
+                &mut clock
             )?,
             status
         );

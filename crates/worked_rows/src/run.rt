@@ -1,6 +1,6 @@
 use allocator_app::{Status, run};
-use disk_model::FileDisk;
-use outside::{MemoryClock, MemoryLink, Sink, Source};
+use disk_model::MemoryDisk;
+use outside::{Clock, MemoryClock, MemoryLink, Sink, Source};
 use std::alloc::{AllocError, Global};
 
 /// Runs the program with these words, which single spaces separate, without links and disks.
@@ -10,22 +10,23 @@ pub(crate) fn run_words<S: Source, K: Sink>(
     source: &mut S,
     sink: &mut K,
 ) -> Result<Status, AllocError> {
-    run_over(alloc, text, source, sink, &mut [], &mut [])
+    let mut clock = MemoryClock::new(&[]);
+    run_over(alloc, text, source, sink, &mut [], &mut [], &mut clock)
 }
 
-/// Runs the program with these words, over these links and disks.
-pub(crate) fn run_over<S: Source, K: Sink>(
+/// Runs the program with these words, over these links, these disks and this clock.
+pub(crate) fn run_over<S: Source, K: Sink, C: Clock>(
     alloc: Global,
     text: &str,
     source: &mut S,
     sink: &mut K,
     links: &mut [MemoryLink<'_>],
-    disks: &mut [Option<FileDisk>],
+    disks: &mut [Option<MemoryDisk>],
+    clock: &mut C,
 ) -> Result<Status, AllocError> {
     let mut words = Vec::new(alloc);
     for word in text.split_whitespace() {
         words.push(String::from_str(alloc, word)?)?;
     }
-    let mut clock = MemoryClock::new(&[]);
-    Ok(run(alloc, &words, source, sink, links, disks, &mut clock))
+    Ok(run(alloc, &words, source, sink, links, disks, clock))
 }
