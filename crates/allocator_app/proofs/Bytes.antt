@@ -2,7 +2,7 @@
 use Rattle.std.proofs.Common.{◌≡◌, ℕ, zero, suc, ◌+◌, ◌-◌, ◌≤◌, ◌<◌, true, false, nat_lt, List, [], ◌++◌, length, take, drop, sym, ◌∙◌, ap, arith, append_assoc, take-append-drop, length-drop}
 use Rattle.std.specs.Prelude.{slice_range}
 use Rattle.std.proofs.Math.Seq.{take-add}
-use Rattle.std.proofs.lemmas.List.{length-take-le}
+use Rattle.std.proofs.lemmas.List.{length-take, length-take-le}
 use Rattle.std.proofs.lemmas.Bool.Decides.{nat_tests}
 use Rattle.std.specs.declared.option.Option.{Option}
 use Rattle.std.specs.Io.KnownBytes.{Appends, Consumes, IsAtEnd}
@@ -42,4 +42,5 @@ read_more left_before left_now bytes waiting size count front long room fits con
       some = some_came count (drop size bytes) (omega arith);
       none = λ t. ap (λ k. take k (drop size bytes)) (none_came count t);
       ended = λ t. consumed.1 (none_came count t) (omega arith);
+      fits = let low = length-take (size + count - 0) bytes in omega (arith, low, fits);
     }

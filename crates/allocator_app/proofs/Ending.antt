@@ -16,7 +16,8 @@ use Rattle.world_parts.specs.Promise.{KeepsItsWord}
 use Rattle.world_parts.specs.Report.{end_lines, row_lines}
 use Rattle.allocator_app.specs.InPart.{IsReadInPart, IsWrittenInPart}
 use Rattle.allocator_app.specs.Nodes.{IsRunBy, RunsNodes}
-use Rattle.allocator_app.specs.Report.{IsReport, IsReplayed, IsToTheEnd}
+use Rattle.allocator_app.specs.NoFurther.{ReadsNoFurther}
+use Rattle.allocator_app.specs.Report.{IsReport, IsReplayed, IsToTheEnd, Says}
 use Rattle.allocator_app.specs.Rows.{Ends, IsReplayedBy, IsTold}
 use Rattle.allocator_app.specs.Soaking.{IsSoakedBy, Soaks}
 use Rattle.allocator_app.specs.Words.{AreGiven, AreNone, AsksForNodes, AsksForRows, HasObjects, IsAsked, IsNode, IsPlan, IsReplay, IsSoak, IsSound}
@@ -24,7 +25,7 @@ use Rattle.allocator_app.specs.declared.plans.Plan.{Plan}
 use Rattle.allocator_app.specs.declared.plans.Plan.TheVariants.{Replay, Node, Soak}
 use Rattle.program_parts.specs.declared.status.Status.{Status}
 use Rattle.program_parts.specs.declared.status.Status.TheVariants.{Done, Usage, BadRow, Unlawful, ReadFault, WriteFault, Memory, Limit, LinkFault, DiskFault, Damaged}
-use Rattle.allocator_app.proofs.OneReport.{one_report, rows-grow}
+use Rattle.allocator_app.proofs.OneReport.{one_report, rows-grow, same_end}
 
 pub sound : (plan : Plan) (words : List (List ℕ)) → IsPlan plan words → IsSound plan
 sound (Replay rows ids) words h = (h.rows_most, h.members)
@@ -244,7 +245,7 @@ asked (Soak seed rounds size) limit nodes words bytes left sink sink_now status 
 -- ---- the answers, each by itself
 
 pub reported : (status : Status) (limit : ℕ) (first : Cluster) (bytes : List ℕ) (left sink sink_now : Option (List ℕ)) →
-    Ends status limit first bytes left sink sink_now → IsToTheEnd status → IsTold status limit first bytes sink sink_now
+    Ends status limit first bytes left sink sink_now → IsToTheEnd status → IsTold status limit first bytes left sink sink_now
 reported Done limit first bytes left sink sink_now ends over = ends
 reported (BadRow row) limit first bytes left sink sink_now ends over = ends
 reported (Unlawful row number) limit first bytes left sink sink_now ends over = ends
@@ -274,6 +275,28 @@ pub has_headline : ((ids : List ℕ) (rows : List Row) → AreMembers ids → La
 has_headline law status plan limit nodes words bytes left sink sink_now planned asks followed over =
     let r = replayed status plan limit nodes words bytes left sink sink_now planned asks followed over in
     (r.0, r.1, r.2, law r.1.ids r.1.told.comes.rows r.1.words_read.members r.1.told.comes.lawful)
+
+-- the status of a report is that of a run to its end
+over : (limit : ℕ) (end : Cluster) (rest last : List ℕ) (status : Status) → Says limit end rest last status → IsToTheEnd status
+over limit end rest last Done says = tt
+over limit end rest last (BadRow row) says = tt
+over limit end rest last (Unlawful row number) says = tt
+over limit end rest last (Limit row) says = tt
+over limit end rest last Usage says = absurd says
+over limit end rest last ReadFault says = absurd says
+over limit end rest last WriteFault says = absurd says
+over limit end rest last Memory says = absurd says
+over limit end rest last (LinkFault id) says = absurd says
+over limit end rest last (DiskFault id) says = absurd says
+over limit end rest last (Damaged id key) says = absurd says
+
+-- a run that comes to a report reads no further than that
+pub no_further : ((a b : Row) (line : List ℕ) → Reads a line → Reads b line → a ≡ b) → (status : Status) (limit : ℕ) (first : Cluster)
+    (bytes report : List ℕ) (left sink sink_now : Option (List ℕ)) → Ends status limit first bytes left sink sink_now →
+    (is : IsReport limit first bytes report status) → ReadsNoFurther is.rest left
+no_further one status limit first bytes report left sink sink_now ends is =
+    let told = reported status limit first bytes left sink sink_now ends (over limit is.end is.rest is.last status is.says) in
+    subst (λ rest. ReadsNoFurther rest left) (same_end one limit first bytes told.report report status status told.is is).0 told.no_further
 
 pub read_part : (status : Status) (limit : ℕ) (first : Cluster) (bytes : List ℕ) (left sink sink_now : Option (List ℕ)) →
     Ends status limit first bytes left sink sink_now → status ≡ ReadFault → IsReadInPart limit first bytes left sink sink_now

@@ -147,9 +147,10 @@ module _ (one_row : (a b : Row) (line : List ℕ) → Reads a line → Reads b l
       let more = rows-grow (next w row) rows in
       absurd (stuck row reads.0 reads.1 (omega (arith, more, within)) lawful.0)
 
-  pub one_report : (first : Cluster) (bytes report other : List ℕ) (status ending : Status) → IsReport limit first bytes report status →
-      IsReport limit first bytes other ending → (report ≡ other) × (status ≡ ending)
-  one_report first bytes report other status ending p q =
+  -- reports of some bytes take the same rows: what is left behind them, where they lead, and their lines
+  pub same_end : (first : Cluster) (bytes report other : List ℕ) (status ending : Status) (p : IsReport limit first bytes report status)
+      (q : IsReport limit first bytes other ending) → (p.rest ≡ q.rest) × (q.end ≡ p.end) × (q.lines ≡ p.lines)
+  same_end first bytes report other status ending p q =
       let p_end : p.end ≡ after_rows first p.comes.rows = p.comes.leaves in
       let q_end : q.end ≡ after_rows first q.comes.rows = q.comes.leaves in
       let p_says = subst (λ w. Says limit w p.rest p.last status) p_end p.says in
@@ -160,15 +161,22 @@ module _ (one_row : (a b : Row) (line : List ℕ) → Reads a line → Reads b l
       (stuck-at_end (after_rows first q.comes.rows) q.rest q.last ending q_says) in
       let here = after_rows first p.comes.rows in
       let none = none_more here far.0 p.rest q.rest (stuck-at_end here p.rest p.last status p_says) far.1 far.2
-      (subst (λ (w : Cluster). w.rows ≤ limit) far.3 q_within) in
-      let there : after_rows first q.comes.rows ≡ here = far.3 ∙ ap (after_rows here) none.1 in
-      let says : Says limit here p.rest q.last ending =
-      subst (λ b. Says limit here b q.last ending) (sym none.0) (subst (λ s. Says limit s q.rest q.last ending) there q_says) in
-      let same = one_end here p.rest p.last q.last status ending p_says says in
-      let lines : q.lines ≡ p.lines =
-      q.comes.told ∙ far.4 ∙ ap (λ r. row_lines first p.comes.rows ++ row_lines here r) none.1 ∙ append-nil (row_lines first p.comes.rows) ∙ sym p.comes.told in (
-        p.written ∙ ap (λ l. p.lines ++ l) same.0 ∙ sym (ap (λ l. l ++ q.last) lines) ∙ sym q.written,
-        same.1,
+      (subst (λ (w : Cluster). w.rows ≤ limit) far.3 q_within) in (
+        none.0,
+        q_end ∙ far.3 ∙ ap (after_rows here) none.1 ∙ sym p_end,
+        q.comes.told ∙ far.4 ∙ ap (λ r. row_lines first p.comes.rows ++ row_lines here r) none.1 ∙ append-nil (row_lines first p.comes.rows)
+            ∙ sym p.comes.told,
+      )
+
+  pub one_report : (first : Cluster) (bytes report other : List ℕ) (status ending : Status) → IsReport limit first bytes report status →
+      IsReport limit first bytes other ending → (report ≡ other) × (status ≡ ending)
+  one_report first bytes report other status ending p q =
+      let same = same_end first bytes report other status ending p q in
+      let says : Says limit p.end p.rest q.last ending =
+      subst (λ b. Says limit p.end b q.last ending) (sym same.0) (subst (λ w. Says limit w q.rest q.last ending) same.1 q.says) in
+      let last = one_end p.end p.rest p.last q.last status ending p.says says in (
+        p.written ∙ ap (λ l. p.lines ++ l) last.0 ∙ sym (ap (λ l. l ++ q.last) same.2) ∙ sym q.written,
+        last.1,
       )
 
   pub begins_report : (first : Cluster) (bytes report : List ℕ) (status : Status) (sink_before sink_now : Option (List ℕ)) →

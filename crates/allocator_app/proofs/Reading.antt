@@ -102,7 +102,7 @@ waited_on limit rows_before rows_now before now rows all waits = subst (Waits li
 pub read_stopped : (limit : ℕ) → (first w now : Cluster) (bytes waiting filled behind : List ℕ) (left left_now sink sink_before sink_now : Option (List ℕ))
     (output output_now : List ℕ) (rows : Rows) → (rows ≡ Taken → ⊥) → HasRead first w bytes waiting left sink sink_before →
     ReadsMore left left_now waiting filled true → output ≡ [] →
-    TakesRows limit w now filled behind sink_before output sink_now output_now rows → ReadsRows limit first now bytes sink sink_now output_now rows
+    TakesRows limit w now filled behind sink_before output sink_now output_now rows → ReadsRows limit first now bytes left_now sink sink_now output_now rows
 unfolding on
 read_stopped limit first w now bytes waiting filled behind left left_now sink sink_before sink_now output output_now rows not read more none took =
     let went = on first w now bytes waiting filled left left_now sink sink_before read more took.lines took.rest took.goes in
@@ -111,6 +111,13 @@ read_stopped limit first w now bytes waiting filled behind left left_now sink si
       rest = took.rest ++ went.0;
       goes = went.2;
       ends = ends_there limit now took.rest behind went.0 rows not took.stops;
+      no_further = record {
+        read = took.rest;
+        unread = went.0;
+        parts = refl;
+        few = let shorter = took.shorter in let fits = more.fits in omega (arith, shorter, fits);
+        left_is = went.1;
+      };
       written = written_on sink sink_before sink_now output read.lines took.lines none read.written output_now took.written;
     }
 
@@ -146,13 +153,15 @@ kept (Some x) None ahead e h = absurd h
 kept (Some x) (Some y) ahead e h = ap Some h ∙ e
 
 pub read_in_part : (limit : ℕ) → (first w : Cluster) (bytes waiting : List ℕ) (left left_now sink sink_now : Option (List ℕ)) →
-    HasRead first w bytes waiting left sink sink_now → Keeps left left_now → after_line waiting ≡ None → w.rows ≤ limit →
-    IsReadInPart limit first bytes left_now sink sink_now
-read_in_part limit first w bytes waiting left left_now sink sink_now read keeps unended within = record {
+    HasRead first w bytes waiting left sink sink_now → Keeps left left_now → after_line waiting ≡ None → length waiting ≤ 120 →
+    (waiting ≡ []) ⊎ (w.rows < limit) → w.rows ≤ limit → IsReadInPart limit first bytes left_now sink sink_now
+read_in_part limit first w bytes waiting left left_now sink sink_now read keeps unended short another within = record {
   now = w;
   waiting = waiting;
   read = record { ahead = read.ahead; left_is = kept left left_now read.ahead read.left_is keeps; lines = read.lines; goes = read.goes; written = read.written };
   unended = unended;
+  short = short;
+  another = another;
   within = within;
 }
 
@@ -163,18 +172,19 @@ at_end None rest e h = cc
 at_end (Some x) rest e h = let same : x ≡ rest = cc in sym same ∙ h
 
 waits_only : (left left_now : Option (List ℕ)) (ahead waiting filled : List ℕ) → left ≡ Some ahead → ReadsMore left left_now waiting filled false →
-    (ahead ≡ []) × (filled ≡ waiting)
+    (ahead ≡ []) × (filled ≡ waiting) × (left_now ≡ Some [])
 waits_only left left_now ahead waiting filled known more =
     let front = consumed ahead more.came left_now (subst (λ l. Consumes l left_now more.came) known more.taken) in
     let nothing = more.none refl in
     let rest_nothing = at_end left_now front.0 front.1 (more.ended refl) in (
       front.2 ∙ ap (λ v. v ++ front.0) nothing ∙ rest_nothing,
       more.behind ∙ ap (λ v. waiting ++ v) nothing ∙ append-nil waiting,
+      front.1 ∙ ap Some rest_nothing,
     )
 
 pub ended_taken : (limit : ℕ) (first w : Cluster) (bytes waiting filled : List ℕ) (left left_now sink sink_now : Option (List ℕ)) (output : List ℕ) →
     HasRead first w bytes waiting left sink sink_now → ReadsMore left left_now waiting filled false → output ≡ [] → filled ≡ [] →
-    ReadsRows limit first w bytes sink sink_now output Taken
+    ReadsRows limit first w bytes left_now sink sink_now output Taken
 ended_taken limit first w bytes waiting filled left left_now sink sink_now output read more none empty =
     let only = waits_only left left_now read.ahead waiting filled read.left_is more in
     let nothing : waiting ++ read.ahead ≡ [] = ap (λ v. waiting ++ v) only.0 ∙ append-nil waiting ∙ sym only.1 ∙ empty in
@@ -183,13 +193,15 @@ ended_taken limit first w bytes waiting filled left left_now sink sink_now outpu
       rest = [];
       goes = subst (Goes first bytes read.lines w) nothing read.goes;
       ends = refl;
+      no_further = record { read = []; unread = []; parts = refl; few = omega arith; left_is = only.2 };
       written = appends_waiting sink sink_now output read.lines none read.written;
     }
 
 pub ended_unended : (limit : ℕ) (first w : Cluster) (bytes waiting filled : List ℕ) (left left_now sink sink_now : Option (List ℕ)) (output : List ℕ) →
     HasRead first w bytes waiting left sink sink_now → ReadsMore left left_now waiting filled false → output ≡ [] → (filled ≡ [] → ⊥) →
-    after_line waiting ≡ None → (waiting ≡ []) ⊎ (w.rows < limit) → ReadsRows limit first w bytes sink sink_now output NoRow
-ended_unended limit first w bytes waiting filled left left_now sink sink_now output read more none some unended another =
+    after_line waiting ≡ None → length waiting ≤ 120 → (waiting ≡ []) ⊎ (w.rows < limit) →
+    ReadsRows limit first w bytes left_now sink sink_now output NoRow
+ended_unended limit first w bytes waiting filled left left_now sink sink_now output read more none some unended short another =
     let only = waits_only left left_now read.ahead waiting filled read.left_is more in
     let rest : waiting ++ read.ahead ≡ waiting = ap (λ v. waiting ++ v) only.0 ∙ append-nil waiting in
     record {
@@ -203,6 +215,7 @@ ended_unended limit first w bytes waiting filled left left_now sink sink_now out
           bad = λ row next begins. let e : Some next ≡ None = sym begins.ended ∙ unended in cc;
         };
       };
+      no_further = record { read = waiting; unread = []; parts = sym (append-nil waiting); few = omega (arith, short); left_is = only.2 };
       written = appends_waiting sink sink_now output read.lines none read.written;
     }
 
@@ -226,9 +239,10 @@ says limit end rest NoRow ends = (ends, refl, refl)
 says limit end rest (Refused why) ends = (why, ends, refl, refl, refl)
 says limit end rest Full ends = (ends, refl, refl)
 
-pub report_of : (limit : ℕ) (first end : Cluster) (bytes output : List ℕ) (sink sink_now : Option (List ℕ)) (rows : Rows) → end.rows ≤ limit →
-    (read : ReadsRows limit first end bytes sink sink_now output rows) → IsReport limit first bytes (read.lines ++ last_of rows end) (status_of rows end.rows)
-report_of limit first end bytes output sink sink_now rows within read = record {
+pub report_of : (limit : ℕ) (first end : Cluster) (bytes output : List ℕ) (left sink sink_now : Option (List ℕ)) (rows : Rows) → end.rows ≤ limit →
+    (read : ReadsRows limit first end bytes left sink sink_now output rows) →
+    IsReport limit first bytes (read.lines ++ last_of rows end) (status_of rows end.rows)
+report_of limit first end bytes output left sink sink_now rows within read = record {
   end = end;
   rest = read.rest;
   lines = read.lines;
@@ -240,21 +254,22 @@ report_of limit first end bytes output sink sink_now rows within read = record {
 }
 
 -- the report was written, and along its rows each allocator kept its word
-pub told_of : (limit : ℕ) (first end : Cluster) (bytes output : List ℕ) (sink sink_now sink_then : Option (List ℕ)) (rows : Rows) → end.rows ≤ limit →
-    (read : ReadsRows limit first end bytes sink sink_now output rows) → Appends sink sink_then (read.lines ++ last_of rows end) →
-    IsTold (status_of rows end.rows) limit first bytes sink sink_then
+pub told_of : (limit : ℕ) (first end : Cluster) (bytes output : List ℕ) (left sink sink_now sink_then : Option (List ℕ)) (rows : Rows) → end.rows ≤ limit →
+    (read : ReadsRows limit first end bytes left sink sink_now output rows) → Appends sink sink_then (read.lines ++ last_of rows end) →
+    IsTold (status_of rows end.rows) limit first bytes left sink sink_then
 unfolding report_of
-told_of limit first end bytes output sink sink_now sink_then rows within read wrote = record {
+told_of limit first end bytes output left sink sink_now sink_then rows within read wrote = record {
   report = read.lines ++ last_of rows end;
-  is = report_of limit first end bytes output sink sink_now rows within read;
+  is = report_of limit first end bytes output left sink sink_now rows within read;
   kept = read.goes.kept;
+  no_further = read.no_further;
   written = wrote;
 }
 
 -- ---- the statuses of reports
 
 pub ends_told : (limit : ℕ) (first : Cluster) (bytes : List ℕ) (left sink sink_now : Option (List ℕ)) (rows : Rows) (count : ℕ) →
-    IsTold (status_of rows count) limit first bytes sink sink_now → Ends (status_of rows count) limit first bytes left sink sink_now
+    IsTold (status_of rows count) limit first bytes left sink sink_now → Ends (status_of rows count) limit first bytes left sink sink_now
 ends_told limit first bytes left sink sink_now Taken count told = told
 ends_told limit first bytes left sink sink_now NoRow count told = told
 ends_told limit first bytes left sink sink_now (Refused why) count told = told

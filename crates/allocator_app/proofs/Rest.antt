@@ -1,5 +1,5 @@
 -- What the loop over the rows that wait comes to.
-use Rattle.std.proofs.Common.{◌≡◌, ◌++◌, ℕ, List, [], sym, subst, arith}
+use Rattle.std.proofs.Common.{◌≡◌, ◌≤◌, ◌++◌, ℕ, List, [], length, sym, subst, arith}
 use Rattle.std.specs.declared.option.Option.{Option}
 use Rattle.std.specs.Io.KnownBytes.{Appends, append_known}
 use Rattle.outside.specs.declared.pattern.Pattern.{Pattern}
@@ -25,14 +25,14 @@ TakesSome first now waiting rest sink output sink_now output_now =
 
 -- where they stop, the world being as it is
 pub rows_taken : {F : Type 0} (limit : ℕ) (old here new : World F) (waiting rest left : List ℕ) (sink : Option (List ℕ)) (output : List ℕ) (sink_now : Option (List ℕ))
-    (output_now : List ℕ) (rows : Rows) → new ≡ here → Reaches old here (λ first now. TakesSome first now waiting rest sink output sink_now output_now) →
+    (output_now : List ℕ) (rows : Rows) → new ≡ here → length rest ≤ length waiting → Reaches old here (λ first now. TakesSome first now waiting rest sink output sink_now output_now) →
     ((w : Cluster) → StandsFor here w → StopsAt limit w rest left rows) →
     Reaches old new (λ first now. TakesRows limit first now waiting left sink output sink_now output_now rows)
-rows_taken {F} limit old here new waiting rest left sink output sink_now output_now rows same came stops = λ first is.
+rows_taken {F} limit old here new waiting rest left sink output sink_now output_now rows same shorter came stops = λ first is.
     let so_far = came first is in (
       so_far.0,
       subst (λ world. StandsFor world so_far.0) (sym same) so_far.1,
-      record { lines = so_far.2.0; rest = rest; goes = so_far.2.1; stops = stops so_far.0 so_far.1; written = so_far.2.2 },
+      record { lines = so_far.2.0; rest = rest; goes = so_far.2.1; shorter = shorter; stops = stops so_far.0 so_far.1; written = so_far.2.2 },
     )
 
 -- ---- patterns of rows that are read have a byte at least

@@ -1,5 +1,5 @@
 -- What a run leaves where an object of the outside failed.
-use Rattle.std.specs.Prelude.{◌≡◌, ◌≤◌, ℕ, List, ◌++◌, Option, Some, None}
+use Rattle.std.specs.Prelude.{◌≡◌, ◌≤◌, ◌<◌, ◌⊎◌, ℕ, List, [], ◌++◌, length, Option, Some, None}
 use Rattle.std.specs.Io.KnownBytes.{Appends}
 use Rattle.replay_text.specs.Lines.{after_line}
 use Rattle.program_parts.specs.Output.{WritesFront}
@@ -16,12 +16,15 @@ pub record HasRead (first now : Cluster) (bytes waiting : List ℕ) (left sink_b
   pub goes : Goes first bytes lines now (waiting ++ ahead)
   pub written : Appends sink_before sink_now lines
 
--- the source failed: the lines of exactly the rows whose line feeds were read are written
+-- the source failed: the lines of exactly the rows whose line feeds were read are written. The read was needed: what
+-- waits is no whole line, and at most 120 bytes; where no other row may come, nothing waits
 pub record IsReadInPart (limit : ℕ) (first : Cluster) (bytes : List ℕ) (left sink_before sink_now : Option (List ℕ)) : Type 0 where
   pub now : Cluster
   pub waiting : List ℕ
   pub read : HasRead first now bytes waiting left sink_before sink_now
   pub unended : after_line waiting ≡ None
+  pub short : length waiting ≤ 120
+  pub another : (waiting ≡ []) ⊎ (now.rows < limit)
   pub within : now.rows ≤ limit
 
 -- the sink failed: it has a front of the lines of some rows that were taken, or of the whole report

@@ -6,7 +6,7 @@ use Rattle.allocator_app.specs.declared.input.Next.{Next}
 use Rattle.allocator_app.specs.declared.input.Next.TheVariants as next
 use Rattle.replay_text.specs.declared.row.Row.{Row}
 
--- some bytes came from the front of the source; none came only at its end
+-- some bytes came from the front of the source; none came only at its end. No more wait than there is room for
 pub record ReadsMore (left_before left_now : Option (List ℕ)) (before now : List ℕ) (more : Bool) : Type 0 where
   pub came : List ℕ
   pub behind : now ≡ before ++ came
@@ -14,6 +14,7 @@ pub record ReadsMore (left_before left_now : Option (List ℕ)) (before now : Li
   pub some : more ≡ true → came ≡ [] → ⊥
   pub none : more ≡ false → came ≡ []
   pub ended : more ≡ false → IsAtEnd left_now
+  pub fits : length now ≤ 4096
 
 -- the first line feed stands at a place
 pub record IsLineFeed (bytes : List ℕ) (place : ℕ) : Type 0 where

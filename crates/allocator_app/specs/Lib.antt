@@ -1,6 +1,7 @@
 pub mod InPart
 pub mod Input
 pub mod Logs
+pub mod NoFurther
 pub mod Nodes
 pub mod Reaching
 pub mod Report

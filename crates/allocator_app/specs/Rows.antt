@@ -10,6 +10,7 @@ use Rattle.world_parts.specs.Report.{all_logs, end_line}
 use Rattle.allocator_app.specs.declared.plans.Plan.{Plan}
 use Rattle.allocator_app.specs.declared.plans.Plan.TheVariants.{Replay, Node, Soak}
 use Rattle.allocator_app.specs.InPart.{IsReadInPart, IsWrittenInPart}
+use Rattle.allocator_app.specs.NoFurther.{ReadsNoFurther}
 use Rattle.program_parts.specs.Output.{WritesFront}
 use Rattle.allocator_app.specs.Report.{Goes, IsBadRow, IsBeyond, IsRefused, IsReport, bad_row_line, limit_line, unlawful_line}
 use Rattle.allocator_app.specs.declared.rows.Rows.{Rows}
@@ -32,6 +33,7 @@ pub record TakesRows (limit : ℕ) (before now : Cluster) (waiting left : List �
   pub lines : List ℕ
   pub rest : List ℕ
   pub goes : (more : List ℕ) → Goes before (waiting ++ more) lines now (rest ++ more)
+  pub shorter : length rest ≤ length waiting
   pub stops : StopsAt limit now rest left rows
   pub written : Appends (append_known sink_before output_before) (append_known sink_now output_now) lines
 
@@ -85,12 +87,14 @@ logs_before Full w = []
 abbrev pub last_of : Rows → Cluster → List ℕ
 last_of rows w = logs_before rows w ++ last_line_of rows w.rows
 
--- the rows of a schedule were taken, and what they tell was written or waits to be
-pub record ReadsRows (limit : ℕ) (before now : Cluster) (bytes : List ℕ) (sink_before sink_now : Option (List ℕ)) (output : List ℕ) (rows : Rows) : Type 0 where
+-- the rows of a schedule were taken, and what they tell was written or waits to be; the source was read no further
+pub record ReadsRows (limit : ℕ) (before now : Cluster) (bytes : List ℕ)
+    (left sink_before sink_now : Option (List ℕ)) (output : List ℕ) (rows : Rows) : Type 0 where
   pub lines : List ℕ
   pub rest : List ℕ
   pub goes : Goes before bytes lines now rest
   pub ends : EndsAt limit now rest rows
+  pub no_further : ReadsNoFurther rest left
   pub written : Appends sink_before (append_known sink_now output) lines
 
 -- a fault is that of the object whose count rose
@@ -103,19 +107,24 @@ abbrev pub IsInPart : Fault → ℕ → Cluster → List ℕ → Option (List �
 IsInPart Source limit first bytes left sink_before sink_now = IsReadInPart limit first bytes left sink_before sink_now
 IsInPart Sink limit first bytes left sink_before sink_now = IsWrittenInPart limit first bytes sink_before sink_now
 
--- the whole report was written, and along its rows each allocator kept its word
-pub record IsTold (status : Status) (limit : ℕ) (first : Cluster) (bytes : List ℕ) (sink_before sink_now : Option (List ℕ)) : Type 0 where
+-- the whole report was written, along its rows each allocator kept its word, and the source was read no further
+pub record IsTold (status : Status) (limit : ℕ) (first : Cluster) (bytes : List ℕ)
+    (left sink_before sink_now : Option (List ℕ)) : Type 0 where
   pub report : List ℕ
   pub is : IsReport limit first bytes report status
   pub kept : KeepsItsWord first is.comes.rows
+  pub no_further : ReadsNoFurther is.rest left
   pub written : Appends sink_before sink_now report
 
 -- how a run over a schedule of at most so many rows ends, from a world on
 abbrev pub Ends : Status → ℕ → Cluster → List ℕ → Option (List ℕ) → Option (List ℕ) → Option (List ℕ) → Type 0
-Ends Done limit first bytes left sink_before sink_now = IsTold Done limit first bytes sink_before sink_now
-Ends (BadRow row) limit first bytes left sink_before sink_now = IsTold (BadRow row) limit first bytes sink_before sink_now
-Ends (Unlawful row number) limit first bytes left sink_before sink_now = IsTold (Unlawful row number) limit first bytes sink_before sink_now
-Ends (Limit row) limit first bytes left sink_before sink_now = IsTold (Limit row) limit first bytes sink_before sink_now
+Ends Done limit first bytes left sink_before sink_now = IsTold Done limit first bytes left sink_before sink_now
+Ends (BadRow row) limit first bytes left sink_before sink_now =
+    IsTold (BadRow row) limit first bytes left sink_before sink_now
+Ends (Unlawful row number) limit first bytes left sink_before sink_now =
+    IsTold (Unlawful row number) limit first bytes left sink_before sink_now
+Ends (Limit row) limit first bytes left sink_before sink_now =
+    IsTold (Limit row) limit first bytes left sink_before sink_now
 Ends ReadFault limit first bytes left sink_before sink_now = IsReadInPart limit first bytes left sink_before sink_now
 Ends WriteFault limit first bytes left sink_before sink_now = IsWrittenInPart limit first bytes sink_before sink_now
 Ends Memory limit first bytes left sink_before sink_now = Unit {0}

@@ -14,6 +14,7 @@ ghost use Rattle.world_parts.specs.Cluster.{cluster};
 ghost use Rattle.world_parts.specs.Lawful.{Lawful};
 ghost use Rattle.world_parts.specs.Promise.{KeepsItsWord};
 ghost use Rattle.allocator_app.specs.InPart.{IsReadInPart, IsWrittenInPart};
+ghost use Rattle.allocator_app.specs.NoFurther.{ReadsNoFurther};
 ghost use Rattle.allocator_app.specs.Nodes.{IsRunBy, RunsNodes};
 ghost use Rattle.allocator_app.specs.Report.{IsBegun, IsOfNodes, IsReplayed, IsToTheEnd};
 ghost use Rattle.allocator_app.specs.Rows.{IsReplayedBy};
@@ -39,7 +40,8 @@ use world_laws::headline::the_headline;
 /// `replay <rows> <id>..` reads a schedule from the source and writes its report to the sink. A schedule
 /// has one report, and one status that it comes with (`specs/Report.antt`): `Done`, or `BadRow`,
 /// `Unlawful` or `Limit` with the number of the first row that is not taken. The run comes to them unless
-/// something fails, or there is not enough memory to begin with. `ReadFault` and `WriteFault` come only
+/// something fails, or there is not enough memory to begin with. Of the bytes behind the rows that were
+/// taken at most 4,096 are read (`specs/NoFurther.antt`). `ReadFault` and `WriteFault` come only
 /// where the source or the sink failed. Where the source failed, the lines of exactly the rows whose line
 /// feeds were read are written; where the sink failed, it has a front of the report (`specs/InPart.antt`).
 ///
@@ -93,6 +95,10 @@ pub fn run<S: Source, K: Sink, L: Link, D: Disk, C: Clock>(
     // No fault is passed over, and none is tried again.
     ensures no_fault { IsToTheEnd result → (S.faults source.new ≡ S.faults source.old) ×
         (K.faults sink.new ≡ K.faults sink.old) }
+    // Of what comes behind the rows that were taken, no more is read than the run keeps at a time.
+    ensures no_further { (bytes report : List ℕ) → S.left source.old ≡ Some bytes →
+        (is : IsReplayed (map string_bytes words.now) bytes report result) →
+        ReadsNoFurther is.told.rest (S.left source.new) }
     // A schedule has one report; unless something fails or memory is missing, the run comes to it.
     ensures complete { (bytes report : List ℕ) (status : Status) → S.left source.old ≡ Some bytes →
         AreNone links.old disks.old →

@@ -72,7 +72,8 @@ pub(crate) fn taken<F: Fn(Kind, u16) -> Option<u64> + Copy>(world: &World<F>) ->
 }
 
 /// Takes the rows of the source, up to its end or to one that is not taken. All that the complete
-/// lines that were read tell is handed to the sink before the source is read again.
+/// lines that were read tell is handed to the sink before the source is read again, and it is read
+/// only while no whole line waits.
 fn read_rows<F: Fn(Kind, u16) -> Option<u64> + Copy, S: Source, K: Sink>(
     world: &mut World<F>,
     limit: u64,
@@ -88,7 +89,7 @@ fn read_rows<F: Fn(Kind, u16) -> Option<u64> + Copy, S: Source, K: Sink>(
     requires flushed { output.old ≡ [] }
     ensures rows { IfOk result (λ rows. (bytes : List ℕ) → S.left source.old ≡ Some bytes →
         Reaches world.old world.new (λ first now. ReadsRows limit first now bytes
-        (K.written sink.old) (K.written sink.new) output.new rows)) }
+        (S.left source.new) (K.written sink.old) (K.written sink.new) output.new rows)) }
     ensures within { rows_taken world.new ≤ limit }
     ensures cut { IfErr result (λ fault. (bytes : List ℕ) → S.left source.old ≡ Some bytes →
         (first : Cluster) → StandsFor world.old first → IsInPart fault limit first bytes

@@ -1,6 +1,6 @@
 use Rattle.std.proofs.Common.{ℕ, List, length, inl, inr, subst}
 use Rattle.node_turns.specs.WholeRun.{IsWholeRun, after_turns}
-use Rattle.allocator_app.proofs.Ending.{all_lawful, asked, asked_for_nodes, asked_to_soak, comes_to, has_headline, node_plan, nothing_given, read_part, replayed, words_for_nodes, words_for_rows, written_part}
+use Rattle.allocator_app.proofs.Ending.{all_lawful, asked, asked_for_nodes, asked_to_soak, comes_to, has_headline, no_further, node_plan, nothing_given, read_part, replayed, words_for_nodes, words_for_rows, written_part}
 use Rattle.allocator_app.proofs.program.run.Goals as goal
 
 pub returns-clause-report : goal.returns-clause-report
@@ -17,6 +17,11 @@ returns-clause-complete g c = λ bytes report status told none said read write.
     comes_to c.a_line_has_one_row.ensures c.follow.result said.limit said.ids _ bytes report status _ _ _ said.words_read
     (asked c.in-Some.plan said.limit said.ids _ bytes _ _ _ c.follow.result c.in-Some.ensures.some said.words_read (c.follow.ensures.replays bytes told)) said
     (λ is. read (c.follow.ensures.read is)) (λ is. write (c.follow.ensures.write is))
+
+pub returns-clause-no_further : goal.returns-clause-no_further
+returns-clause-no_further g c = λ bytes report told said.
+    no_further c.a_line_has_one_row.ensures c.follow.result said.limit _ bytes report _ _ _
+    (asked c.in-Some.plan said.limit said.ids _ bytes _ _ _ c.follow.result c.in-Some.ensures.some said.words_read (c.follow.ensures.replays bytes told)) said.told
 
 pub returns-clause-finishes : goal.returns-clause-finishes
 returns-clause-finishes g c = λ limit ids bytes rows told none asks reads few lawful read write.

@@ -39,7 +39,7 @@ returns-else-is_empty-clause-rows g c = λ bytes told first is.
       far.0,
       far.1,
       ended_unended _ first far.0 bytes _ _ _ _ _ _ _ far.2 more so_far.flushed (λ empty. true≢false (sym (c.is_empty.ensures.1 empty) ∙ c.if-is_empty.false))
-          so_far.unended (elim so_far.another [ inl h ↦ inl h | inr h ↦ let rows = far.1.rows in inr (omega (arith, h, rows)) ]),
+          so_far.unended so_far.short (elim so_far.another [ inl h ↦ inl h | inr h ↦ let rows = far.1.rows in inr (omega (arith, h, rows)) ]),
     )
 
 -- what was written by then, and what a fault leaves
@@ -50,8 +50,8 @@ returns-in-Err-clause-cut g c = λ bytes told first is.
     let far = so_far.told bytes told first is in
     let within = so_far.room.within in
     let rows = far.1.rows in
-    read_in_part c.args.limit first far.0 bytes c.reading.input _ _ _ _ far.2 c.in-Err.ensures.err so_far.unended
-    (omega (arith, within, rows))
+    read_in_part c.args.limit first far.0 bytes c.reading.input _ _ _ _ far.2 c.in-Err.ensures.err so_far.unended so_far.short
+    (elim so_far.another [ inl h ↦ inl h | inr h ↦ inr (omega (arith, h, rows)) ]) (omega (arith, within, rows))
 
 pub returns-in-Err-take_rows-clause-grew : goal.returns-in-Err-take_rows-clause-grew
 returns-in-Err-take_rows-clause-grew g c = grows-trans _ _ _ c.reading.invariant.grew c.in-Err-take_rows.ensures.grew

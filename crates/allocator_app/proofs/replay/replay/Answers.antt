@@ -19,7 +19,7 @@ returns-in-Ok-end_report-clause-ends g c = λ bytes told.
     let status = c.in-Ok-end_report.ensures.status ∙ ap (status_of rows) count in
     subst (λ s. Ends s c.args.limit first bytes (g.S.Source.left c.read_rows.new.source) (written c.args.sink.now) (written c.end_report.new.sink)) (sym status)
     (ends_told c.args.limit first bytes _ _ _ rows far.0.rows
-    (told_of c.args.limit first far.0 bytes _ _ _ _ rows (omega (arith, within, count)) far.2
+    (told_of c.args.limit first far.0 bytes _ _ _ _ _ rows (omega (arith, within, count)) far.2
     (Appends-trans _ _ _ far.2.lines (last_of rows far.0) far.2.written (c.in-Ok-end_report.ensures.told far.0 far.1).ok)))
 
 -- what the status tells of
@@ -46,7 +46,7 @@ returns-in-Ok-read_rows-clause-ends g c = λ bytes told.
     let within = c.read_rows.ensures.within in
     let count = far.1.rows in
     AtTheEnd (far.2.lines ++ last_of rows far.0) (status_of rows far.0.rows)
-    (report_of c.args.limit first far.0 bytes _ _ _ rows (omega (arith, within, count)) far.2)
+    (report_of c.args.limit first far.0 bytes _ _ _ _ rows (omega (arith, within, count)) far.2)
     (front-behind _ _ _ _ far.2.lines (last_of rows far.0) c.read_rows.ensures.grew far.2.written (c.in-Err.ensures.told far.0 far.1).err)
 
 pub returns-in-Err-Source-clause-ends : goal.returns-in-Err-Source-clause-ends

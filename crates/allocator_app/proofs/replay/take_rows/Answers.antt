@@ -17,6 +17,7 @@ rows-init g c = record {
   accepts = refl;
   kept = refl;
   grows = omega arith;
+  shorter = omega arith;
   some = inr refl;
   grew = grows-refl _;
   came = λ first is. (
@@ -30,18 +31,18 @@ rows-init g c = record {
 
 pub returns-then-is_empty-clause-rows : goal.returns-then-is_empty-clause-rows
 returns-then-is_empty-clause-rows g c =
-    rows_taken c.args.limit c.args.world.now c.rows.world c.rows.world c.args.input.now c.rows.input _ _ _ _ _ _ refl c.rows.invariant.came (λ w is. refl)
+    rows_taken c.args.limit c.args.world.now c.rows.world c.rows.world c.args.input.now c.rows.input _ _ _ _ _ _ refl c.rows.invariant.shorter c.rows.invariant.came (λ w is. refl)
 
 pub returns-then-taken-limit-clause-rows : goal.returns-then-taken-limit-clause-rows
 returns-then-taken-limit-clause-rows g c =
-    rows_taken c.args.limit c.args.world.now c.rows.world c.rows.world c.args.input.now c.rows.input _ _ _ _ _ _ refl c.rows.invariant.came
+    rows_taken c.args.limit c.args.world.now c.rows.world c.rows.world c.args.input.now c.rows.input _ _ _ _ _ _ refl c.rows.invariant.shorter c.rows.invariant.came
     (λ w is more. beyond c.args.limit w c.rows.input more
     (let rows = is.rows in let count = c.taken.ensures in let full = c.if-taken-limit.true in grind (arith, nat_tests, rows, count, full))
     (λ empty. true≢false (sym (c.is_empty.ensures.1 empty) ∙ c.if-is_empty.false)))
 
 pub returns-in-NoRow-clause-rows : goal.returns-in-NoRow-clause-rows
 returns-in-NoRow-clause-rows g c =
-    rows_taken c.args.limit c.args.world.now c.rows.world c.rows.world c.args.input.now c.rows.input _ _ _ _ _ _ refl c.rows.invariant.came
+    rows_taken c.args.limit c.args.world.now c.rows.world c.rows.world c.args.input.now c.rows.input _ _ _ _ _ _ refl c.rows.invariant.shorter c.rows.invariant.came
     (λ w is more. bad-row c.args.limit w _
     (let rows = is.rows in let count = c.taken.ensures in let low = c.if-taken-limit.false in let within = c.rows.invariant.room.within in
     grind (arith, nat_tests, rows, count, low, within))
@@ -49,13 +50,13 @@ returns-in-NoRow-clause-rows g c =
 
 pub returns-in-Incomplete-clause-rows : goal.returns-in-Incomplete-clause-rows
 returns-in-Incomplete-clause-rows g c =
-    rows_taken c.args.limit c.args.world.now c.rows.world c.rows.world c.args.input.now c.rows.input _ _ _ _ _ _ refl c.rows.invariant.came
+    rows_taken c.args.limit c.args.world.now c.rows.world c.rows.world c.args.input.now c.rows.input _ _ _ _ _ _ refl c.rows.invariant.shorter c.rows.invariant.came
     (λ w is. sym c.in-Incomplete.ensures.found.0)
 
 pub returns-in-Err-clause-rows : goal.returns-in-Err-clause-rows
 returns-in-Err-clause-rows g c =
     rows_taken c.args.limit c.args.world.now c.rows.world c.row.new.self c.args.input.now c.rows.input _ _ _ _ _ _ (c.in-Err.ensures.unchanged refl)
-    c.rows.invariant.came
+    c.rows.invariant.shorter c.rows.invariant.came
     (λ w is more. refused-row c.args.limit w c.in-Row.row c.in-Err.why c.rows.input _ more c.in-Row.ensures.found
     (let rows = is.rows in let count = c.taken.ensures in let low = c.if-taken-limit.false in let within = c.rows.invariant.room.within in
     grind (arith, nat_tests, rows, count, low, within))
@@ -76,6 +77,7 @@ rows-preserved g c =
       accepts = c.in-Ok.ensures.accepts ∙ so_far.accepts;
       kept = c.in_ok-line.ensures.kept ∙ so_far.kept;
       grows = omega (arith, so_far.grows, taken);
+      shorter = omega (arith, so_far.shorter, c.in-Row.ensures.found.shorter);
       some = inl (omega (arith, so_far.grows, taken));
       grew = grows-trans _ _ _ so_far.grew c.in_ok-line.ensures.told.grew;
       came = λ first is.

@@ -15,6 +15,7 @@ invariant-rows g l =
       accepts : accepts l.world ≡ accepts l.fn.world;
       kept : faults l.sink ≡ faults l.fn.sink;
       grows : rows_taken l.fn.world ≤ rows_taken l.world;
+      shorter : length l.input ≤ length l.fn.input;
       some : (rows_taken l.fn.world < rows_taken l.world) ⊎ (l.input ≡ l.fn.input);
       grew : Grows (written l.fn.sink) (written l.sink);
       came : Reaches l.fn.world l.world (λ first now.
