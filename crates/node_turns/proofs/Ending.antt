@@ -32,13 +32,14 @@ pub an_item : {A : Type 0} (xs : List A) (i : ℕ) → i < length xs → A
 an_item [] i within = absurd (omega (arith, within))
 an_item (x ∷ xs) i within = x
 
+pub are_whole : {D F : Type 0} {disk : Ghosts D} (ids : List ℕ) (disks : List (Option D)) (runners : List (Runner D F disk)) → AreOpened runners disks ids →
+    (i : ℕ) (before : D) → i < length runners → slice_index_or disks i None ≡ Some before → IsWhole disk before
+are_whole ids disks runners opened i before within was told =
+    let one = opened i (an_item runners i within) within in
+    let finds = (one.opens before was).finds in ((one.opens before was).found, finds.state told)
+
 module _ {D F : Type 0} {disk : Ghosts D} {L : Type 0} (faults : L → ℕ) (ids : List ℕ) (disks_old disks_new : List (Option D)) (links_old links_new : List L)
     (runners : List (Runner D F disk)) where
-  are_whole : AreOpened runners disks_old ids → (i : ℕ) (before : D) → i < length runners → slice_index_or disks_old i None ≡ Some before → IsWhole disk before
-  are_whole opened i before within was told =
-      let one = opened i (an_item runners i within) within in
-      let finds = (one.opens before was).finds in ((one.opens before was).found, finds.state told)
-
   pub refused_ends : (fault : Fault) → links_new ≡ links_old → AreOpened runners disks_old ids → IsSome (slice_index_or disks_old (length runners) None) →
       WasRefused disk ids disks_old disks_new (length runners) fault → EndsRun faults ids disks_old disks_new links_old links_new runners fault
   refused_ends (Link id) links opened was why =
@@ -62,7 +63,7 @@ module _ {D F : Type 0} {disk : Ghosts D} {L : Type 0} (faults : L → ℕ) (ids
           within = why.within;
           id_is = sym (why.refused.cause old.0 new.0 old.1 new.1).0;
           damaged = λ before is told. (why.refused.cause before new.0 is new.1).1 told;
-          whole = are_whole opened;
+          whole = are_whole ids disks_old runners opened;
         },
         links,
       )
@@ -71,12 +72,15 @@ module _ {D F : Type 0} {disk : Ghosts D} {L : Type 0} (faults : L → ℕ) (ids
   pub turn_ends : (opened : List (Runner D F disk)) (fault : Fault) → AreOpened opened disks_old ids → length opened ≡ length ids → length runners ≡ length opened →
       EndsTurn faults opened runners links_old links_new fault → EndsRun faults ids disks_old disks_new links_old links_new runners fault
   turn_ends opened (Link id) are all count (place, within, own, rose) =
-      let some = an_item opened place within in record {
-        place = place;
-        within = omega (arith, all, within);
-        id_is = sym (are place some within).id_is ∙ own some;
-        rose = rose.rose;
-      }
+      let some = an_item opened place within in (
+        record {
+          place = place;
+          within = omega (arith, all, within);
+          id_is = sym (are place some within).id_is ∙ own some;
+          rose = rose.rose;
+        },
+        count ∙ all,
+      )
   turn_ends opened (Disk id) are all count (place, within, own, rose) = λ last stopped.
       let some = an_item opened place within in
       let now : place < length runners = omega (arith, count, within) in

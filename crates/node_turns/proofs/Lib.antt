@@ -1,7 +1,12 @@
+pub mod Cut
+pub mod CutRun
 pub mod Ending
 pub mod Kept
 pub mod Lists
 pub mod Opened
+pub mod Parts
+pub mod Refusing
+pub mod Sent
 pub mod Together
 pub mod Turning
 pub mod WholeRun

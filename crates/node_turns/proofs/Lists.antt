@@ -1,7 +1,7 @@
 -- Facts of each place of a list, where one place changes or one is added.
 use Rattle.std.proofs.Common.{◌≡◌, ℕ, zero, suc, ◌<◌, List, [], ◌∷◌, ◌++◌, length, inl, inr, refl, arith}
 use Rattle.raft_model.specs.Lists.{In}
-use Rattle.std.specs.Prelude.{Result, Ok, Err, OnOk, slice_index_or, slice_set}
+use Rattle.std.specs.Prelude.{Result, Ok, Err, OnErr, OnOk, slice_index_or, slice_set}
 
 pub all_pushed : {A : Type 0} (P : ℕ → A → Type 0) (xs : List A) (x : A) → ((i : ℕ) (d : A) → i < length xs → P i (slice_index_or xs i d)) → P (length xs) x →
     (i : ℕ) (d : A) → i < length (xs ++ x ∷ []) → P i (slice_index_or (xs ++ x ∷ []) i d)
@@ -30,6 +30,10 @@ module _ {T E : Type 0} where
   pub on_ok_always : {A : Type 0} (result : Result T E) → A → OnOk result A
   on_ok_always (Ok value) holds = holds
   on_ok_always (Err error) holds = tt
+
+  pub on_err : {A B : Type 0} (result : Result T E) → (A → B) → OnErr result A → OnErr result B
+  on_err (Ok value) goes holds = tt
+  on_err (Err error) goes holds = goes holds
 
   pub at_ok : {A : Type 0} (result : Result T E) (value : T) → OnOk result A → result ≡ Ok value → A
   at_ok (Ok other) value holds is = holds

@@ -95,10 +95,10 @@ ends_later {disk = disk} faults a b c k l m (Disk id) nodes links each (place, w
 ends_later faults a b c k l m (Damaged id key) nodes links each why = why
 
 -- a value after a set at a place, here and elsewhere
-set_here : {A : Type 0} (xs : List A) (k i : ℕ) (x d : A) → i ≡ k → k < length xs → x ≡ slice_index_or (slice_set xs k x) i d
+pub set_here : {A : Type 0} (xs : List A) (k i : ℕ) (x d : A) → i ≡ k → k < length xs → x ≡ slice_index_or (slice_set xs k x) i d
 set_here xs k i x d same within = sym (ap (λ j. slice_index_or (slice_set xs k x) j d) same ∙ get_or-set_same xs k x d within)
 
-set_elsewhere : {A : Type 0} (xs : List A) (k i : ℕ) (x d : A) → (i ≡ k → ⊥) → slice_index_or xs i d ≡ slice_index_or (slice_set xs k x) i d
+pub set_elsewhere : {A : Type 0} (xs : List A) (k i : ℕ) (x d : A) → (i ≡ k → ⊥) → slice_index_or xs i d ≡ slice_index_or (slice_set xs k x) i d
 set_elsewhere xs k i x d other = sym (get_or-set_other xs k i x d other)
 
 module _ {D F : Type 0} {disk : Ghosts D} {L : Type 0} (runners : List (Runner D F disk)) (links : List L) (place : ℕ)

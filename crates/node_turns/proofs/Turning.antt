@@ -1,5 +1,5 @@
 -- What a link told, and the line of a step.
-use Rattle.std.proofs.Common.{◌≡◌, ℕ, List, ap, ◌∙◌}
+use Rattle.std.proofs.Common.{◌≡◌, ℕ, List, refl, ap, ◌∙◌}
 use Rattle.std.specs.Prelude.{Option, Some, None, Ok}
 use Rattle.outside.specs.Contents.{WhereTold}
 use Rattle.outside.specs.Readings.{Reads, next_reading, readings_behind}
@@ -20,6 +20,13 @@ received item None new items told is = absurd (cc (is))
 received item (Some before) None items told is = absurd told
 received item (Some before) (Some after) items told is =
     let same : before ≡ items = cc (is) in (told.0 ∙ ap next_item same, ap Some (told.1 ∙ ap items_behind same))
+
+-- a call that failed changed nothing
+pub unchanged : {A : Type 0} (old new : Option A) → WhereTold (λ a b. b ≡ a) old new → new ≡ old
+unchanged None None told = refl
+unchanged None (Some new) told = absurd told
+unchanged (Some old) None told = absurd told
+unchanged (Some old) (Some new) told = ap Some told
 
 -- what the code shows is what the server shows
 pub told_same : (m n : ℕ) (a b : View) (seen : Seen) (sent : List Sent) (sight : Sight) → m ≡ n → a ≡ b → seen ≡ sight.seen → sent ≡ sents sight.going →

@@ -38,7 +38,7 @@ same_store a b is =
 -- an opening leaves what is read of the state as it was
 module _ {D : Type 0} {disk : Ghosts D} (one_state : (image : List ℕ) (a b : Stored) → StandsForState image a → StandsForState image b → a ≡ b)
     (same : (state : Stored) (count : ℕ) → IsReadAs (after_puts (take count (opening_puts state)) state) state) where
-  opened_store : (before : D) (durable : Durable D disk) (state : Stored) → OpensTo before durable → TellsState disk before state →
+  pub opened_store : (before : D) (durable : Durable D disk) (state : Stored) → OpensTo before durable → TellsState disk before state →
       store_of (durable_state durable) ≡ store_of state
   opened_store before durable state opens told =
       let found = opens.found in
@@ -93,7 +93,7 @@ module _ {D F L : Type 0} {disk : Ghosts D} (coming : L → Option (List Receive
     (durable : (store : Durable D disk) → durable_fault store ≡ None → disk.tells (durable_disk store) ≡ true →
     AlwaysStandsForState (disk.contents (durable_disk store)) (durable_state store)) where
   -- the disk of an allocator that was stopped
-  holds_store : (runner : Runner D F disk) (all : Together) (i : ℕ) (after : D) → StandsFor runner.server (all.running i).timed →
+  pub holds_store : (runner : Runner D F disk) (all : Together) (i : ℕ) (after : D) → StandsFor runner.server (all.running i).timed →
       disk.tells (runner_disk runner) ≡ true → runner_disk runner ≡ after → HoldsStore disk after (all.running i).timed.plain.store
   holds_store runner all i after is told same = subst (λ d. HoldsStore disk d (all.running i).timed.plain.store) same (record {
     tells = told;

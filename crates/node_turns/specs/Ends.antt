@@ -8,6 +8,12 @@ use Rattle.node_turns.specs.Report.{damaged_line, disk_fault_line, link_fault_li
 use Rattle.node_turns.specs.declared.fault.Fault.{Fault}
 use Rattle.node_turns.specs.declared.fault.Fault.TheVariants.{Link, Disk, Damaged}
 
+-- the node that it ends at
+abbrev pub fault_id : Fault → ℕ
+fault_id (Link id) = id
+fault_id (Disk id) = id
+fault_id (Damaged id key) = id
+
 abbrev pub fault_status : Fault → Status
 fault_status (Link id) = LinkFault id
 fault_status (Disk id) = DiskFault id

@@ -1,7 +1,10 @@
+pub mod Cut
+pub mod CutRun
 pub mod Ends
 pub mod Frames
 pub mod Kept
 pub mod Opening
+pub mod Puts
 pub mod Report
 pub mod Run
 pub mod Runners

@@ -36,6 +36,18 @@ pub record DiskRose {D : Type 0} (faults : D → ℕ) (ids : List ℕ) (old new 
   pub id_is : slice_index ids place ≡ id
   pub rose : (before after : D) → slice_index_or old place None ≡ Some before → slice_index_or new place None ≡ Some after → Rose (faults before) (faults after)
 
+-- no link, and no disk, counted a fault
+abbrev pub NoLinkRose : {L : Type 0} → (L → ℕ) → List ℕ → List L → List L → Type 0
+NoLinkRose faults ids old new = (id : ℕ) → LinkRose faults ids old new id → ⊥
+
+abbrev pub NoDiskRose : {D : Type 0} → (D → ℕ) → List ℕ → List (Option D) → List (Option D) → Type 0
+NoDiskRose faults ids old new = (id : ℕ) → DiskRose faults ids old new id → ⊥
+
+-- the disks that were handed in tell what they hold
+abbrev pub DisksTell : {D : Type 0} → Ghosts D → List (Option D) → Type 0
+DisksTell {D = D} disk old = (i : ℕ) (before : D) → slice_index_or old i None ≡ Some before →
+    disk.tells before ≡ true
+
 -- what was handed in stands for a state, where it tells what it holds
 abbrev pub IsWhole : {D : Type 0} → Ghosts D → D → Type 0
 IsWhole disk before = disk.tells before ≡ true → (state : Stored) × StandsForState (disk.contents before).seen state
@@ -47,3 +59,7 @@ pub record IsDamagedDisk {D : Type 0} (disk : Ghosts D) (ids : List ℕ) (old : 
   pub id_is : slice_index ids place ≡ id
   pub damaged : (before : D) → slice_index_or old place None ≡ Some before → disk.tells before ≡ true → IsDamagedAt (disk.contents before).seen key
   pub whole : (i : ℕ) (before : D) → i < place → slice_index_or old i None ≡ Some before → IsWhole disk before
+
+-- none of them is
+abbrev pub NoDamagedDisk : {D : Type 0} → Ghosts D → List ℕ → List (Option D) → Type 0
+NoDamagedDisk disk ids old = (id key : ℕ) → IsDamagedDisk disk ids old id key → ⊥

@@ -10,9 +10,13 @@ pub record Together : Type 0 where
   pub readings : List ℕ
   pub lines : List (List ℕ)
 
--- the allocator at a place takes its turn, at the next reading
+-- the allocator at a place, whose turn it is
+abbrev pub turning_at : ℕ → Together → Turning
+turning_at place all = record { running = all.running place; lines = all.lines }
+
+-- it takes its turn, at the next reading
 abbrev pub turned : ℕ → Together → Turning
-turned place all = turn (next_reading all.readings) (record { running = all.running place; lines = all.lines })
+turned place all = turn (next_reading all.readings) (turning_at place all)
 
 abbrev pub after_turn : ℕ → Turning → Together → Together
 after_turn place done all = record {

@@ -4,8 +4,8 @@
 //! (`specs/Turn.antt`) is a step at the clock, the next item of the allocator's link, and the next frame
 //! of its queue. What all of them do together is a definition over the servers in time of
 //! `server_parts`: `specs/Opening.antt` says what they begin as, `specs/Turns.antt` how their turns come
-//! one after the other, `specs/Report.antt` what is written, and `specs/WholeRun.antt` what a run to its
-//! end leaves on links and disks.
+//! one after the other, `specs/Report.antt` what is written, `specs/WholeRun.antt` what a run to its end
+//! leaves on links and disks, and `specs/CutRun.antt` what one leaves that was cut off.
 #![tactic(auto)]
 
 mod fault;

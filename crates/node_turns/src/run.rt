@@ -1,16 +1,20 @@
-ghost use Rattle.std.specs.Prelude.{◌≡◌, ◌<◌, ◌≤◌, ℕ, List, [], None, Ok, Err, IsSome, OnOk, length, slice_index_or};
+ghost use Rattle.std.specs.Prelude.{◌≡◌, ◌<◌, ◌≤◌, ◌⊎◌, ℕ, List, [], length, slice_index_or};
+ghost use Rattle.std.specs.Prelude.{None, Ok, Err, IfErr, IsSome, OnOk};
 ghost use Rattle.std.specs.Io.KnownBytes.{Appends};
 ghost use Rattle.outside.specs.Faults.{Rose};
 ghost use Rattle.server_parts.specs.Accepted as accepted;
 ghost use Rattle.transfer_rx.specs.Acceptance.{AnswersByRows, first_signature};
 ghost use Rattle.transfer_rx.specs.Memory.{ReceiverFitsInMemory};
 ghost use Rattle.world_parts.specs.Cluster.{AreMembers};
-ghost use Rattle.node_turns.specs.Opening.{Given};
+ghost use Rattle.node_turns.specs.Cut.{IsCut};
+ghost use Rattle.node_turns.specs.CutRun.{EndsAt, IsCutRun};
+ghost use Rattle.node_turns.specs.Opening.{Given, opened};
 ghost use Rattle.node_turns.specs.Report.{damaged_line, disk_fault_line, link_fault_line, report};
 ghost use Rattle.node_turns.specs.Run.{AreTelling, HasRun};
 ghost use Rattle.node_turns.specs.Runners.{accepts, runners_of};
 ghost use Rattle.node_turns.specs.Stands.{Stand};
 ghost use Rattle.node_turns.specs.Status.{DiskRose, IsDamagedDisk, IsEndStatus, IsStatus, LinkRose};
+ghost use Rattle.node_turns.specs.Status.{DisksTell, NoDamagedDisk, NoDiskRose, NoLinkRose};
 ghost use Rattle.node_turns.specs.Steps.{Keeps, steps_made};
 ghost use Rattle.node_turns.specs.WholeRun.{IsWholeRun, Tell, after_turns};
 ghost use Rattle.node_turns.specs.declared.fault.Fault.TheVariants.{Link as LinkFailed, Disk as DiskFailed, Damaged as IsDamaged};
@@ -31,7 +35,9 @@ use std::alloc::Global;
 ///
 /// `LinkFault`, `DiskFault` and `WriteFault` come only where the link or the disk of that node, or the
 /// sink, counted a fault; `Damaged` where the store of that node is damaged, first at that key, before
-/// any turn. Then one line is all that is written. All memory is taken before anything else: with
+/// any turn. Then one line is all that is written, what was sent is a beginning of what a run to its end
+/// sends, and each store that was opened holds what it then held. Where nothing fails, a damaged store ends
+/// the run so, and without one it comes to `Done`. All memory is taken before anything else: with
 /// `Memory` nothing was touched.
 pub fn node<K: Sink, L: Link, D: Disk, C: Clock>(
     alloc: Global,
@@ -71,13 +77,30 @@ pub fn node<K: Sink, L: Link, D: Disk, C: Clock>(
         IsDamagedDisk D.Disk ids.now disks.old id key × (links.new ≡ links.old) }
     ensures damaged_line { (id key : ℕ) → result ≡ Status.Damaged id key →
         Appends (K.written sink.old) (K.written sink.new) (damaged_line id key) }
+    // Where nothing fails, the first damaged disk ends the run; without one it comes to its end.
+    ensures finishes { NoDamagedDisk D.Disk ids.now disks.old →
+        NoLinkRose L.faults ids.now links.old links.new →
+        NoDiskRose D.faults ids.now disks.old disks.new →
+        (Rose (K.faults sink.old) (K.faults sink.new) → ⊥) →
+        (result ≡ Status.Done) ⊎ (result ≡ Status.Memory) }
+    ensures refuses { (id key : ℕ) → DisksTell D.Disk disks.old →
+        IsDamagedDisk D.Disk ids.now disks.old id key →
+        NoDiskRose D.faults ids.now disks.old disks.new →
+        (Rose (K.faults sink.old) (K.faults sink.new) → ⊥) →
+        (result ≡ Status.Damaged id key) ⊎ (result ≡ Status.Memory) }
     // What they did together is what the definition says.
     ensures done { (given : Given) → Tell L.coming L.sent D.Disk links.old disks.old
         (C.readings clock.old) given → result ≡ Status.Done → IsWholeRun L.coming L.sent D.Disk
         links.new disks.new (C.readings clock.new) (K.written sink.old) (K.written sink.new)
         (length ids.now) turns (after_turns size turns ids.now given) }
+    // And of a run that did not come to its end it says how far it came.
+    ensures cut { (given : Given) (id : ℕ) → Tell L.coming L.sent D.Disk links.old disks.old
+        (C.readings clock.old) given → EndsAt id result → IsCutRun L.sent D.Disk
+        links.new disks.old disks.new size turns ids.now given id }
 {
     a_state_is_durable::<D>();
+    an_image_stands_for_one_state();
+    an_opening_goes_on();
     let Some(mut steps) = LastSteps::new(alloc) else {
         return Status::Memory;
     };
@@ -135,6 +158,10 @@ fn run_all<F: Fn(Kind, u16) -> Option<u64> + Copy, L: Link, D: Disk, C: Clock>(
     ensures stands { OnOk result ((given : Given) → Tell L.coming L.sent D.Disk links.old disks.old
         (C.readings clock.old) given → Stand L.coming L.sent (runners_of runners.new) links.new
         (C.readings clock.new) steps.new (after_turns size turns ids.now given)) }
+    ensures cut { IfErr result (λ fault. (given : Given) → Tell L.coming L.sent D.Disk
+        links.old disks.old (C.readings clock.old) given → IsCut L.sent ids.now
+        (runners_of runners.new) links.old links.new disks.old disks.new
+        (opened size ids.now given) turns fault) }
     ensures tells { OnOk result ((given : Given) → Tell L.coming L.sent D.Disk links.old disks.old
         (C.readings clock.old) given → AreTelling (runners_of runners.new)) }
 {

@@ -18,6 +18,7 @@ ghost use Rattle.transfer_rx.specs.Memory.{ReceiverFitsInMemory};
 ghost use Rattle.replay_text.specs.Report.{told_line};
 ghost use Rattle.world_parts.specs.Telling.{telling_line};
 ghost use Rattle.world_parts.specs.Telling.Telling.{HasStepped};
+ghost use Rattle.node_turns.specs.Puts.{heard_puts, step_puts, turn_puts};
 ghost use Rattle.node_turns.specs.Turn.{Turning, hears, makes_step, sends, turn};
 ghost use Rattle.node_turns.specs.declared.steps.LastSteps.{LastSteps};
 ghost use Rattle.node_turns.specs.declared.fault.Fault.TheVariants.{Link as LinkFailed, Disk as DiskFailed, Damaged as IsDamaged};
@@ -31,6 +32,7 @@ use disk_model::Disk;
 use kv_store::OpenRefused;
 use outside::{Failed, Link};
 use program_parts::Draws;
+use raft_log::laws::a_state_is_durable;
 use replay_text::Told;
 
 /// An allocator that runs, with the words that it is given. It is let go by [`Runner::stop`] alone, so
@@ -42,7 +44,8 @@ pub(crate) struct Runner<D: Disk, F> {
 }
 
 impl<D: Disk, F: Fn(Kind, u16) -> Option<u64> + Copy> Runner<D, F> {
-    ghost use Rattle.alloc_server.specs.Server.{StandsFor, durable_of, event_of};
+    ghost use Rattle.alloc_server.specs.Server.{HasPut, LeavesSome, StandsFor};
+    ghost use Rattle.alloc_server.specs.Server.{durable_of, event_of};
     ghost use Rattle.node_turns.specs.Stands.{IsTurning, Works, closure_of, runner_disk};
     ghost use Rattle.node_turns.specs.Steps.{steps_made};
 
@@ -100,6 +103,11 @@ impl<D: Disk, F: Fn(Kind, u16) -> Option<u64> + Copy> Runner<D, F> {
         ensures turned { OnOk result ((t : Turning) →
             IsTurning self.old (L.coming link.old) (L.sent link.old) steps.old t →
             IsTurning self.new (L.coming link.new) (L.sent link.new) steps.new (turn now t)) }
+        // One that is cut off has sent nothing, and has made some of its puts.
+        ensures unsent { OnErr result (L.sent link.new ≡ L.sent link.old) }
+        ensures leaves { (t : Turning) →
+            IsTurning self.old (L.coming link.old) (L.sent link.old) steps.old t →
+            LeavesSome self.old.server self.new.server (turn_puts now t) }
         ensures id { self.new.id ≡ self.old.id }
         ensures accepts { closure_of self.new ≡ closure_of self.old }
         ensures works { OnOk result (Works self.new) }
@@ -129,6 +137,10 @@ impl<D: Disk, F: Fn(Kind, u16) -> Option<u64> + Copy> Runner<D, F> {
         ensures heard { OnOk result ((t : Turning) →
             IsTurning self.old (L.coming link.old) (L.sent link.old) steps.old t →
             IsTurning self.new (L.coming link.new) (L.sent link.new) steps.new (hears now t)) }
+        ensures sent { L.sent link.new ≡ L.sent link.old }
+        ensures leaves { (t : Turning) →
+            IsTurning self.old (L.coming link.old) (L.sent link.old) steps.old t →
+            LeavesSome self.old.server self.new.server (heard_puts now t) }
         ensures id { self.new.id ≡ self.old.id }
         ensures accepts { closure_of self.new ≡ closure_of self.old }
         ensures works { OnOk result (Works self.old → Works self.new) }
@@ -143,6 +155,8 @@ impl<D: Disk, F: Fn(Kind, u16) -> Option<u64> + Copy> Runner<D, F> {
         ensures disk_later { D.faults (runner_disk self.old) ≤ D.faults (runner_disk self.new) }
         ensures tells { D.tells (runner_disk self.new) ≡ D.tells (runner_disk self.old) }
     {
+        // The law behind the clause `leaves`, where nothing is put.
+        a_state_is_durable::<D>();
         match link.recv() {
             Ok(item) => match event_in(&item, now) {
                 Some(event) => self.step(event, steps),
@@ -161,6 +175,12 @@ impl<D: Disk, F: Fn(Kind, u16) -> Option<u64> + Copy> Runner<D, F> {
         ensures stepped { OnOk result ((t : Turning) (coming : Option (List Received))
             (sent : Option (List RawFrame)) → IsTurning self.old coming sent steps.old t →
             IsTurning self.new coming sent steps.new (makes_step (event_of event) t)) }
+        ensures put { OnOk result ((t : Turning) (coming : Option (List Received))
+            (sent : Option (List RawFrame)) → IsTurning self.old coming sent steps.old t →
+            HasPut self.old.server self.new.server (step_puts (event_of event) t)) }
+        ensures leaves { (t : Turning) (coming : Option (List Received))
+            (sent : Option (List RawFrame)) → IsTurning self.old coming sent steps.old t →
+            LeavesSome self.old.server self.new.server (step_puts (event_of event) t) }
         ensures id { self.new.id ≡ self.old.id }
         ensures accepts { closure_of self.new ≡ closure_of self.old }
         ensures works { OnOk result (Works self.new) }
@@ -185,6 +205,7 @@ impl<D: Disk, F: Fn(Kind, u16) -> Option<u64> + Copy> Runner<D, F> {
         ensures sent { OnOk result ((t : Turning) (steps : LastSteps) →
             IsTurning self.old (L.coming link.old) (L.sent link.old) steps t →
             IsTurning self.new (L.coming link.new) (L.sent link.new) steps (sends t)) }
+        ensures unsent { OnErr result (L.sent link.new ≡ L.sent link.old) }
         ensures id { self.new.id ≡ self.old.id }
         ensures accepts { closure_of self.new ≡ closure_of self.old }
         ensures works { Works self.old → Works self.new }

@@ -42,6 +42,7 @@ pub(crate) struct Runners<D: Disk, F> {
 
 impl<D: Disk, F: Fn(Kind, u16) -> Option<u64> + Copy> Runners<D, F> {
     ghost use Rattle.node_turns.specs.Stands.{AreOpened, AreOpenedAt, IsOpened, IsOpenedAt, Stand, Works, runner_disk};
+    ghost use Rattle.node_turns.specs.Cut.{AreCutTurns};
     ghost use Rattle.node_turns.specs.Run.{AreStopped};
     ghost use Rattle.node_turns.specs.Runners.{accepts, runners_of};
     ghost use Rattle.node_turns.specs.Taking.{AreWorking, EndsTurn, IsRefused, KeepsLinks, KeepsNodes, WasRefused};
@@ -167,6 +168,9 @@ impl<D: Disk, F: Fn(Kind, u16) -> Option<u64> + Copy> Runners<D, F> {
             links.old (C.readings clock.old) steps.old all → Stand L.coming L.sent
             (runners_of self.new) links.new (C.readings clock.new) steps.new
             (all_turns (length (runners_of self.old)) turns all)) }
+        ensures cut { IfErr result (λ fault. (all : Together) →
+            Stand L.coming L.sent (runners_of self.old) links.old (C.readings clock.old)
+            steps.old all → AreCutTurns L.sent (runners_of self.new) links.new turns all fault) }
         ensures nodes { KeepsNodes (runners_of self.old) (runners_of self.new) }
         ensures links { KeepsLinks L.faults links.old links.new }
         ensures failed { IfErr result

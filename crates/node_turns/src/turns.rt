@@ -4,6 +4,7 @@ ghost use Rattle.std.specs.Prelude.{◌≡◌, ◌<◌, ◌≤◌, ◌+◌, ℕ,
 ghost use Rattle.server_parts.specs.Accepted as accepted;
 ghost use Rattle.transfer_rx.specs.Acceptance.{AnswersByRows};
 ghost use Rattle.transfer_rx.specs.Memory.{ReceiverFitsInMemory};
+ghost use Rattle.node_turns.specs.Cut.{IsCutTurn};
 ghost use Rattle.node_turns.specs.Stands.{Stand, closure_of};
 ghost use Rattle.node_turns.specs.Steps.{steps_made};
 ghost use Rattle.node_turns.specs.Taking.{AreWorking, EndsTurn, KeepsLinks, KeepsNodes};
@@ -37,6 +38,9 @@ pub(crate) fn take_turn<D: Disk, F: Fn(Kind, u16) -> Option<u64> + Copy, L: Link
         links.old (C.readings clock.old) steps.old all → Stand L.coming L.sent
         runners.new links.new (C.readings clock.new) steps.new
         (first_turns (length runners.old) all)) }
+    ensures cut { IfErr result (λ fault. (all : Together) → Stand L.coming L.sent runners.old
+        links.old (C.readings clock.old) steps.old all →
+        IsCutTurn L.sent runners.new links.new all fault) }
     ensures nodes { KeepsNodes runners.old runners.new }
     ensures links { KeepsLinks L.faults links.old links.new }
     ensures working { OnOk result (AreWorking runners.new) }

@@ -1,10 +1,13 @@
-use Rattle.std.proofs.Common.{length, ◌∙◌, subst}
+use Rattle.std.proofs.Common.{length, ap, ◌∙◌, subst, inl, inr, arith}
+use Rattle.program_parts.specs.declared.status.Status.{Status}
 use Rattle.node_turns.specs.Runners.{runners_of}
 use Rattle.node_turns.specs.Status.{IsEndStatus}
 use Rattle.node_turns.specs.WholeRun.{after_turns}
 use Rattle.node_turns.specs.declared.fault.Fault.TheVariants.{Link, Disk, Damaged}
+use Rattle.node_turns.proofs.CutRun.{cut_run, ended_at}
 use Rattle.node_turns.proofs.Ending.{are_back, at_err, by_status}
 use Rattle.node_turns.proofs.Lists.{at_ok}
+use Rattle.node_turns.proofs.Refusing.{by_end, not_whole, one_damaged}
 use Rattle.node_turns.proofs.WholeRun.{whole_run}
 use Rattle.node_turns.proofs.run.node.Goals as goal
 
@@ -21,7 +24,7 @@ pub returns-clause-places : goal.returns-clause-places
 returns-clause-places g c = c.stop.ensures.stopped.places ∙ c.run_all-ended.ensures.run.places
 
 pub returns-clause-link_fault : goal.returns-clause-link_fault
-returns-clause-link_fault g c = λ id is. at_err _ c.run_all-ended.result (Link id) c.run_all-ended.ensures.run.failed (c.finish.ensures.link id is).0
+returns-clause-link_fault g c = λ id is. (at_err _ c.run_all-ended.result (Link id) c.run_all-ended.ensures.run.failed (c.finish.ensures.link id is).0).0
 
 pub returns-clause-disk_fault : goal.returns-clause-disk_fault
 returns-clause-disk_fault g c = λ id is.
@@ -49,3 +52,44 @@ returns-clause-done g c = λ given tell is.
     (g.C.Clock.readings ended.new.clock) (g.K.Sink.written c.args.sink.now) (g.K.Sink.written c.finish.new.sink) ended.new.steps (length c.args.ids.now) c.args.turns all
     (at_ok ended.result tt ended.ensures.all ok) c.requires.links stand (at_ok ended.result tt ended.ensures.tells ok given tell) c.stop.ensures.stopped
     (c.finish.ensures.done all.lines stand.lines is).1
+
+pub returns-clause-finishes : goal.returns-clause-finishes
+returns-clause-finishes g c = λ none links disks sink.
+    let does = c.finish.ensures in
+    let failed = c.run_all-ended.ensures.run.failed in
+    elim (by_end c.finish.result does.kinds (λ is. sink (does.write_fault is))
+    (λ id is. disks id (at_err _ c.run_all-ended.result (Disk id) failed (does.disk id is).0 c.stop.new.disks c.stop.ensures.stopped))) [
+      | inl done ↦ inl done
+      | inr (inl fault) ↦ absurd (links fault.0 (at_err _ c.run_all-ended.result (Link fault.0) failed (does.link fault.0 fault.1).0).0)
+      | inr (inr fault) ↦ absurd (none fault.0 fault.1 (at_err _ c.run_all-ended.result (Damaged fault.0 fault.1) failed (does.damaged fault.0 fault.1 fault.2).0).0)
+    ]
+
+pub returns-clause-refuses : goal.returns-clause-refuses
+returns-clause-refuses g c = λ id key tell is disks sink.
+    let does = c.finish.ensures in
+    let ended = c.run_all-ended in
+    let run = ended.ensures.run in
+    let law = c.an_image_stands_for_one_state.ensures in
+    let whole = not_whole g.D.Disk c.args.ids.now c.args.disks.now c.requires.present law.damaged law.either tell id key is in
+    let within = is.within in
+    elim (by_end c.finish.result does.kinds (λ is. sink (does.write_fault is))
+    (λ id is. disks id (at_err _ ended.result (Disk id) run.failed (does.disk id is).0 c.stop.new.disks c.stop.ensures.stopped))) [
+      | inl done ↦ let all = at_ok ended.result tt ended.ensures.all (does.ended done) in
+          absurd (whole (λ before was. run.whole is.place before (omega (arith, all, within)) was))
+      | inr (inl fault) ↦ let all = (at_err _ ended.result (Link fault.0) run.failed (does.link fault.0 fault.1).0).1 in
+          absurd (whole (λ before was. run.whole is.place before (omega (arith, all, within)) was))
+      | inr (inr fault) ↦
+          let other = (at_err _ ended.result (Damaged fault.0 fault.1) run.failed (does.damaged fault.0 fault.1 fault.2).0).0 in
+          let same = one_damaged g.D.Disk c.args.ids.now c.args.disks.now c.requires.present law.damaged law.either tell id key fault.0 fault.1 is other in
+          inl (fault.2 ∙ ap (λ k. Status.Damaged fault.0 k) same.1 ∙ ap (λ n. Status.Damaged n key) same.0)
+    ]
+
+pub returns-clause-cut : goal.returns-clause-cut
+returns-clause-cut g c = λ given id tell at.
+    let ended = c.run_all-ended in
+    let does = c.finish.ensures in
+    let found = ended_at ended.result c.finish.result id at (λ node is. (does.link node is).0) (λ node is. (does.disk node is).0) (λ node key is. (does.damaged node key is).0) in
+    cut_run g.L.Link.coming g.L.Link.sent c.a_state_is_durable.ensures c.an_image_stands_for_one_state.ensures.state c.an_opening_goes_on.ensures.same
+    c.args.size c.args.turns c.args.ids.now (runners_of ended.new.runners) c.args.links.now ended.new.links c.args.disks.now ended.new.disks c.stop.new.disks
+    (g.C.Clock.readings c.args.clock.now) given c.requires.links c.requires.present tell c.stop.ensures.stopped found.0 id found.2
+    (at_err _ ended.result found.0 ended.ensures.cut found.1 given tell)

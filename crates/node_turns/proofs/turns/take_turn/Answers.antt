@@ -1,11 +1,15 @@
-use Rattle.std.proofs.Common.{◌≡◌, suc, ◌+◌, ◌<◌, length, ap, sym, ◌∙◌, subst, arith}
+use Rattle.std.proofs.Common.{◌≡◌, suc, ◌+◌, ◌<◌, length, length-set, refl, ap, sym, ◌∙◌, subst, arith}
 use Rattle.std.specs.Prelude.{Err, slice_index_or, slice_set}
 use Rattle.outside.specs.Readings.{next_reading}
+use Rattle.alloc_server.specs.Server.{LeavesSome}
+use Rattle.node_turns.specs.Puts.{turn_puts}
 use Rattle.node_turns.specs.Stands.{IsTurning, Stand, Works, runner_disk}
 use Rattle.node_turns.specs.Turn.{Turning, turn}
-use Rattle.node_turns.specs.Turns.{first_turns}
+use Rattle.node_turns.specs.Turns.{first_turns, turning_at}
+use Rattle.node_turns.specs.declared.runner.Runner.{Runner}
+use Rattle.node_turns.proofs.Cut.{at_node, cut_at}
 use Rattle.node_turns.proofs.Lists.{all_set}
-use Rattle.node_turns.proofs.Together.{are_running, ends_turn, keeps_links, keeps_nodes, links_kept, nodes_kept, rose_before}
+use Rattle.node_turns.proofs.Together.{are_running, ends_turn, keeps_links, keeps_nodes, links_kept, nodes_kept, rose_before, set_here}
 use Rattle.node_turns.proofs.Turning.{reads}
 use Rattle.node_turns.proofs.turns.take_turn.Goals as goal
 
@@ -201,3 +205,39 @@ returns-in-Err-clause-failed g c =
           (nodes.each place before some first).later why.1,
     ))
     (λ node key is. c.in-Err.ensures.sound node key (ap Err is))
+
+pub returns-in-Err-clause-cut : goal.returns-in-Err-clause-cut
+returns-in-Err-clause-cut g c = λ all is.
+    let so_far = c.loop-place.invariant in
+    let place = c.loop-place.place in
+    let low = c.loop-place-test.true in
+    let runners = c.loop-place.runners in
+    let links = c.loop-place.links in
+    let node_count = so_far.nodes.count in
+    let link_count = so_far.links.count in
+    let each = c.requires.each in
+    let first : place < length c.args.runners.now = omega (arith, low, node_count) in
+    let here : place < length runners = omega (arith, first, node_count) in
+    let there : place < length links = omega (arith, first, link_count, each) in
+    let some = c.index-runners-place.result in
+    let some_link = c.index-links-place.result in
+    let runner = c.turn.new.self in
+    let link = c.turn.new.link in
+    let far = so_far.turned all is in
+    let before = first_turns place all in
+    let read = reads c.now-now.result (g.C.Clock.readings c.loop-place.clock) (g.C.Clock.readings c.now-now.new.self) before.readings c.now-now.ensures far.readings_are in
+    let t = turning_at place before in
+    let leaves = c.turn.ensures.leaves t (record { running = far.each place some some_link here; lines = far.lines }) in
+    let size = length-set runners place runner in
+    record {
+      place = place;
+      within = omega (arith, here, size);
+      id_is = λ r. sym (ap (λ (x : Runner g.row.D.Denot g.row.F.Denot g.D.Disk). x.id) (set_here runners place place runner r refl here)) ∙ c.turn.ensures.id
+          ∙ sym (at_node c.in-Err.fault (slice_index_or runners place some).id
+          (λ node e. (c.in-Err.ensures.link_failed node (ap Err e)).0)
+          (λ node e. (c.in-Err.ensures.disk_failed node (so_far.working place some here) (ap Err e)).0)
+          (λ node key e. c.in-Err.ensures.sound node key (ap Err e)));
+      cut = cut_at runners links place runner some link some_link here there g.L.Link.coming g.L.Link.sent (g.C.Clock.readings c.loop-place.clock) c.loop-place.steps before far
+          c.in-Err.ensures.unsent c.turn.ensures.tells
+          (subst (λ m. LeavesSome (slice_index_or runners place some).server runner.server (turn_puts m t)) read.0 leaves);
+    }

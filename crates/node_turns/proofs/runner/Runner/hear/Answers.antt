@@ -1,11 +1,13 @@
 use Rattle.std.proofs.Common.{◌≡◌, ap, ◌∙◌, sym, subst}
 use Rattle.std.specs.Prelude.{Some, None}
-use Rattle.alloc_server.specs.Server.{event_of}
+use Rattle.alloc_server.specs.Server.{LeavesSome, durable_of, event_of}
 use Rattle.outside.specs.Traffic.{items_behind, next_item}
 use Rattle.node_turns.specs.Frames.{event_in}
+use Rattle.node_turns.specs.Puts.{heard_puts, taken_puts}
 use Rattle.node_turns.specs.Stands.{IsTurning}
 use Rattle.node_turns.specs.Turn.{takes}
 use Rattle.node_turns.proofs.Lists.{on_ok}
+use Rattle.node_turns.proofs.Parts.{leaves_at_once}
 use Rattle.node_turns.proofs.Turning.{received}
 use Rattle.node_turns.proofs.runner.Runner.hear.Goals as goal
 
@@ -48,3 +50,23 @@ returns-in-None-clause-heard g c = λ t is.
       };
       lines = is.lines;
     })
+
+pub returns-in-Some-clause-leaves : goal.returns-in-Some-clause-leaves
+returns-in-Some-clause-leaves g c = λ t is.
+    let coming = g.L.Link.coming in
+    let sent = g.L.Link.sent in
+    let told = received c.in-Ok.item (coming c.args.link.now) (coming c.recv.new.self) t.running.coming c.in-Ok.ensures.items is.running.coming_is in
+    let event : event_in c.args.now (next_item t.running.coming) ≡ Some (event_of c.in-Some.event) =
+    ap (event_in c.args.now) (sym told.0) ∙ sym c.in-Some.ensures in
+    subst (λ e. LeavesSome c.args.self.now.server c.step.new.self.server (taken_puts e t)) (sym event)
+    (c.step.ensures.leaves t (coming c.args.link.now) (sent c.args.link.now) is)
+
+pub returns-in-None-clause-leaves : goal.returns-in-None-clause-leaves
+returns-in-None-clause-leaves g c = λ t is.
+    leaves_at_once c.args.self.now.server (heard_puts c.args.now t)
+    (c.a_state_is_durable.ensures (durable_of c.args.self.now.server) is.running.server.works)
+
+pub returns-in-Err-clause-leaves : goal.returns-in-Err-clause-leaves
+returns-in-Err-clause-leaves g c = λ t is.
+    leaves_at_once c.args.self.now.server (heard_puts c.args.now t)
+    (c.a_state_is_durable.ensures (durable_of c.args.self.now.server) is.running.server.works)

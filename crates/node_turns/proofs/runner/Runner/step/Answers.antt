@@ -3,7 +3,7 @@ use Rattle.std.specs.Prelude.{Ok}
 use Rattle.server_parts.specs.Step.{step as step_of}
 use Rattle.server_parts.specs.TimedServer.{view_of}
 use Rattle.world_parts.specs.Telling.{telling_line}
-use Rattle.alloc_server.specs.Server.{StepsTo, event_of}
+use Rattle.alloc_server.specs.Server.{HasPut, LeavesSome, StepsTo, event_of}
 use Rattle.node_turns.specs.Steps.{Keeps}
 use Rattle.node_turns.proofs.Turning.{told_same}
 use Rattle.node_turns.proofs.runner.Runner.step.Goals as goal
@@ -28,3 +28,24 @@ returns-in-Ok-clause-stepped g c = λ t coming sent is.
       };
       lines = subst (λ l. Keeps c.push.new.self (t.lines ++ l ∷ [])) line (c.push.ensures.keeps t.lines is.lines);
     }
+
+pub returns-in-Ok-clause-put : goal.returns-in-Ok-clause-put
+returns-in-Ok-clause-put g c = λ t coming sent is.
+    let count = is.lines.made in
+    let at : c.next_number.result ≡ suc (length t.lines) = omega (arith, c.next_number.ensures, count) in
+    subst (λ n. HasPut c.args.self.now.server c.step.new.self (step_of t.running.timed n (event_of c.args.event)).going.puts) at
+    (c.in-Ok.ensures.steps t.running.timed is.running.server).put
+
+pub returns-in-Ok-clause-leaves : goal.returns-in-Ok-clause-leaves
+returns-in-Ok-clause-leaves g c = λ t coming sent is.
+    let count = is.lines.made in
+    let at : c.next_number.result ≡ suc (length t.lines) = omega (arith, c.next_number.ensures, count) in
+    subst (λ n. LeavesSome c.args.self.now.server c.step.new.self (step_of t.running.timed n (event_of c.args.event)).going.puts) at
+    (c.in-Ok.ensures.steps t.running.timed is.running.server).leaves
+
+pub returns-in-Err-clause-leaves : goal.returns-in-Err-clause-leaves
+returns-in-Err-clause-leaves g c = λ t coming sent is.
+    let count = is.lines.made in
+    let at : c.next_number.result ≡ suc (length t.lines) = omega (arith, c.next_number.ensures, count) in
+    subst (λ n. LeavesSome c.args.self.now.server c.step.new.self (step_of t.running.timed n (event_of c.args.event)).going.puts) at
+    (c.in-Err.ensures.steps t.running.timed is.running.server).leaves

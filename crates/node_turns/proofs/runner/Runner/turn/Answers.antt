@@ -1,9 +1,12 @@
 use Rattle.std.proofs.Common.{ap, ◌∙◌, subst}
+use Rattle.alloc_server.specs.Server.{LeavesSome}
 use Rattle.program_parts.specs.Draws.{moved, word_at}
 use Rattle.server_parts.specs.Step.{Tick}
+use Rattle.node_turns.specs.Puts.{heard_puts, step_puts, tick_puts, turn_puts}
 use Rattle.node_turns.specs.Stands.{IsTurning}
-use Rattle.node_turns.specs.Turn.{hears, makes_step, turn}
-use Rattle.node_turns.proofs.Lists.{on_ok, on_ok_always}
+use Rattle.node_turns.specs.Turn.{hears, makes_step, ticks, turn}
+use Rattle.node_turns.proofs.Lists.{on_err, on_ok, on_ok_always}
+use Rattle.node_turns.proofs.Parts.{leaves_first, leaves_of_disk, next_word, turn_leaves}
 use Rattle.node_turns.proofs.runner.Runner.turn.Goals as goal
 
 pub returns-clause-turned : goal.returns-clause-turned
@@ -11,22 +14,50 @@ unfolding turn
 returns-clause-turned g c = on_ok c.send.result (λ sends t is.
     let coming = g.L.Link.coming c.args.link.now in
     let sent = g.L.Link.sent c.args.link.now in
-    let state = c.word-word.ensures.moved ∙ ap moved is.running.draws in
-    let word = c.word-word.ensures.word ∙ ap word_at state in
+    let word = c.word-word.ensures.word ∙ ap word_at (c.word-word.ensures.moved ∙ ap moved is.running.draws) in
     let before = record t { running = record t.running { draws = moved t.running.draws } } in
-    let stepped = c.in_ok-step.ensures.stepped before coming sent (record {
-      running = record {
-        id = is.running.id;
-        server = is.running.server;
-        draws = state;
-        coming_is = is.running.coming_is;
-        sent_is = is.running.sent_is;
-      };
-      lines = is.lines;
-    }) in
+    let stepped = c.in_ok-step.ensures.stepped before coming sent (next_word is c.word-word.ensures.moved) in
     let ticked = subst (λ w. IsTurning c.step.new.self coming sent c.step.new.steps (makes_step (Tick c.args.now w) before)) word stepped in
     let ticked_to = makes_step (Tick c.args.now (word_at (moved t.running.draws))) before in
     sends (hears c.args.now ticked_to) c.hear.new.steps (c.in_ok-hear.ensures.heard ticked_to ticked)) c.send.ensures.sent
 
 pub returns-clause-works : goal.returns-clause-works
 returns-clause-works g c = on_ok_always c.send.result (c.send.ensures.works (c.in_ok-hear.ensures.works c.in_ok-step.ensures.works))
+
+pub returns-clause-unsent : goal.returns-clause-unsent
+returns-clause-unsent g c = on_err c.send.result (λ same. same ∙ c.hear.ensures.sent) c.send.ensures.unsent
+
+pub returns-in_err-step-clause-leaves : goal.returns-in_err-step-clause-leaves
+unfolding turn_puts
+returns-in_err-step-clause-leaves g c = λ t is.
+    let coming = g.L.Link.coming c.args.link.now in
+    let sent = g.L.Link.sent c.args.link.now in
+    let word = c.word-word.ensures.word ∙ ap word_at (c.word-word.ensures.moved ∙ ap moved is.running.draws) in
+    let before = record t { running = record t.running { draws = moved t.running.draws } } in
+    let old = c.args.self.now.server in
+    let leaves = subst (λ w. LeavesSome old c.step.new.self.server (step_puts (Tick c.args.now w) t)) word
+    (c.step.ensures.leaves before coming sent (next_word is c.word-word.ensures.moved)) in
+    leaves_first old (tick_puts c.args.now t) (heard_puts c.args.now (ticks c.args.now t)) c.step.new.self.server leaves
+
+pub returns-in_err-hear-clause-leaves : goal.returns-in_err-hear-clause-leaves
+returns-in_err-hear-clause-leaves g c = λ t is.
+    let coming = g.L.Link.coming c.args.link.now in
+    let sent = g.L.Link.sent c.args.link.now in
+    let word = c.word-word.ensures.word ∙ ap word_at (c.word-word.ensures.moved ∙ ap moved is.running.draws) in
+    let before = record t { running = record t.running { draws = moved t.running.draws } } in
+    let begun = next_word is c.word-word.ensures.moved in
+    turn_leaves c.args.self.now.server c.step.new.self.server c.hear.new.self.server c.args.now c.word-word.result t word (c.in_ok-step.ensures.put before coming sent begun)
+    c.step.ensures.tells (c.hear.ensures.leaves (ticks c.args.now t)
+    (subst (λ w. IsTurning c.step.new.self coming sent c.step.new.steps (makes_step (Tick c.args.now w) before)) word (c.in_ok-step.ensures.stepped before coming sent begun)))
+
+pub returns-clause-leaves : goal.returns-clause-leaves
+returns-clause-leaves g c = λ t is.
+    let coming = g.L.Link.coming c.args.link.now in
+    let sent = g.L.Link.sent c.args.link.now in
+    let word = c.word-word.ensures.word ∙ ap word_at (c.word-word.ensures.moved ∙ ap moved is.running.draws) in
+    let before = record t { running = record t.running { draws = moved t.running.draws } } in
+    let begun = next_word is c.word-word.ensures.moved in
+    let leaves = turn_leaves c.args.self.now.server c.step.new.self.server c.hear.new.self.server c.args.now c.word-word.result t word (c.in_ok-step.ensures.put before coming sent begun)
+    c.step.ensures.tells (c.hear.ensures.leaves (ticks c.args.now t)
+    (subst (λ w. IsTurning c.step.new.self coming sent c.step.new.steps (makes_step (Tick c.args.now w) before)) word (c.in_ok-step.ensures.stepped before coming sent begun))) in
+    leaves_of_disk c.args.self.now.server c.hear.new.self.server c.send.new.self.server (turn_puts c.args.now t) c.send.ensures.disk leaves

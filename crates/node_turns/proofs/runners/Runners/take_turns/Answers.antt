@@ -1,6 +1,7 @@
 use Rattle.std.proofs.Common.{◌≡◌, suc, ◌+◌, ◌<◌, ◌++◌, ℕ, List, length, take, drop, append-nil, ap, sym, ◌∙◌, subst, refl, arith}
 use Rattle.std.proofs.lemmas.List.{drop_all, take_all}
 use Rattle.std.specs.Prelude.{slice_index_or}
+use Rattle.node_turns.specs.Cut.{IsCutTurn}
 use Rattle.node_turns.specs.Runners.{runners_of}
 use Rattle.node_turns.specs.Stands.{Stand, closure_of}
 use Rattle.node_turns.specs.Taking.{AreWorking, EndsTurn, KeepsNodes}
@@ -134,3 +135,26 @@ returns-clause-turned g c = λ all is.
     let end : c.turns.taken ≡ c.args.turns = omega (arith, some, high) in
     subst (λ n. Stand g.L.Link.coming g.L.Link.sent (runners_of c.turns.self) c.turns.links (g.C.Clock.readings c.turns.clock) c.turns.steps
     (all_turns (length (runners_of c.args.self.now)) n all)) end (so_far.turned all is)
+
+pub returns-in-Err-clause-cut : goal.returns-in-Err-clause-cut
+returns-in-Err-clause-cut g c = λ all is.
+    let so_far = c.turns.invariant in
+    let value = c.as_mut_slice.ensures.value in
+    let items = runners_of c.turns.self in
+    let new = c.take_turn.new.runners in
+    let nodes = subst (λ l. KeepsNodes l new) value c.take_turn.ensures.nodes in
+    let len = c.as_mut_slice.ensures.len in
+    let sizes = ap length value in
+    let list = take c.turns.self.list.len (new ++ drop (length new) items) in
+    let same = whole c.turns.self.list.len items new (omega (arith, len, sizes)) nodes.count in
+    let before = runners_of c.args.self.now in
+    let by_then = all_turns (length before) c.turns.taken all in
+    let cut = c.in-Err.ensures.cut by_then
+    (subst (λ l. Stand g.L.Link.coming g.L.Link.sent l c.turns.links (g.C.Clock.readings c.turns.clock) c.turns.steps by_then) (sym value) (so_far.turned all is)) in
+    let count : length before ≡ length list = sym (ap length same ∙ nodes.count ∙ so_far.nodes.count) in
+    record {
+      taken = c.turns.taken;
+      fewer = c.turns-test.true;
+      turn = subst (λ n. IsCutTurn g.L.Link.sent list c.take_turn.new.links (all_turns n c.turns.taken all) c.in-Err.fault) count
+          (subst (λ l. IsCutTurn g.L.Link.sent l c.take_turn.new.links by_then c.in-Err.fault) (sym same) cut);
+    }

@@ -1,0 +1,126 @@
+-- A run that was cut off: from the allocators to what is left of links and disks.
+use Rattle.std.proofs.Common.{◌≡◌, ℕ, ◌<◌, List, length, take, true, refl, sym, ap, ◌∙◌, subst, inl, inr, arith}
+use Rattle.std.specs.Prelude.{Option, Some, None, IsNone, IsSome, Result, Err, slice_index_or, ⊤}
+use Rattle.disk_model.specs.declared.disk.Disk.{Ghosts}
+use Rattle.outside.specs.Readings.{next_reading}
+use Rattle.outside.specs.declared.received.RawFrame.{RawFrame}
+use Rattle.outside.specs.declared.received.Received.{Received}
+use Rattle.program_parts.specs.declared.status.Status.{Status}
+use Rattle.program_parts.specs.declared.status.Status.TheVariants.{Done, Usage, BadRow, Unlawful, ReadFault, WriteFault, Memory, Limit, LinkFault, DiskFault, Damaged as DamagedStore}
+use Rattle.raft_core.specs.StoredPuts.{store_of}
+use Rattle.raft_log.specs.declared.durable.Durable.{Durable}
+use Rattle.raft_log.specs.DurableViews.{durable_disk, durable_fault, durable_state}
+use Rattle.raft_log.specs.Opening.{IsReadAs}
+use Rattle.raft_log.specs.Rules.{AlwaysStandsForState, StandsForState}
+use Rattle.raft_log.specs.Stored.{Stored, after_puts, opening_puts}
+use Rattle.alloc_server.specs.Server.{durable_of, fault_of}
+use Rattle.node_turns.specs.Cut.{IsCut, IsCutOpening, IsCutTurning}
+use Rattle.node_turns.specs.CutRun.{EndsAt, HoldsStoreInPart, IsCutInOpening, IsCutInTurns, IsCutRun}
+use Rattle.node_turns.specs.Ends.{fault_id}
+use Rattle.node_turns.specs.Opening.{Given, opened}
+use Rattle.node_turns.specs.Puts.{turn_puts}
+use Rattle.node_turns.specs.Run.{AreStopped}
+use Rattle.node_turns.specs.Turns.{Together, all_turns, first_turns, turning_at}
+use Rattle.node_turns.specs.WholeRun.{HoldsStore, Tell}
+use Rattle.node_turns.specs.declared.fault.Fault.{Fault}
+use Rattle.node_turns.specs.declared.fault.Fault.TheVariants.{Link, Disk, Damaged}
+use Rattle.node_turns.specs.declared.runner.Runner.{Runner}
+use Rattle.node_turns.proofs.Ending.{an_item, some_same, some_value}
+use Rattle.node_turns.proofs.Sent.{all_begin, cut_begins}
+use Rattle.node_turns.proofs.WholeRun.{holds_store, opened_store}
+
+-- the fault that a status comes from
+pub ended_at : (ended : Result ⊤ Fault) (status : Status) (id : ℕ) → EndsAt id status → ((node : ℕ) → status ≡ LinkFault node → ended ≡ Err (Link node)) →
+    ((node : ℕ) → status ≡ DiskFault node → ended ≡ Err (Disk node)) → ((node key : ℕ) → status ≡ DamagedStore node key → ended ≡ Err (Damaged node key)) →
+    (fault : Fault) × (ended ≡ Err fault) × (fault_id fault ≡ id)
+ended_at ended Done id at link disk damaged = absurd at
+ended_at ended Usage id at link disk damaged = absurd at
+ended_at ended (BadRow row) id at link disk damaged = absurd at
+ended_at ended (Unlawful row number) id at link disk damaged = absurd at
+ended_at ended ReadFault id at link disk damaged = absurd at
+ended_at ended WriteFault id at link disk damaged = absurd at
+ended_at ended Memory id at link disk damaged = absurd at
+ended_at ended (Limit row) id at link disk damaged = absurd at
+ended_at ended (LinkFault node) id at link disk damaged = (Link node, link node refl, at)
+ended_at ended (DiskFault node) id at link disk damaged = (Disk node, disk node refl, at)
+ended_at ended (DamagedStore node key) id at link disk damaged = (Damaged node key, damaged node key refl, at)
+
+none_is : {A : Type 0} (o : Option A) → IsNone o → o ≡ None
+none_is None is = refl
+none_is (Some x) is = absurd (cc (is))
+
+module _ {D F L : Type 0} {disk : Ghosts D} (coming : L → Option (List Received)) (sent : L → Option (List RawFrame))
+    (durable : (store : Durable D disk) → durable_fault store ≡ None → disk.tells (durable_disk store) ≡ true →
+    AlwaysStandsForState (disk.contents (durable_disk store)) (durable_state store))
+    (one_state : (image : List ℕ) (a b : Stored) → StandsForState image a → StandsForState image b → a ≡ b)
+    (reads_same : (state : Stored) (count : ℕ) → IsReadAs (after_puts (take count (opening_puts state)) state) state)
+    (size turns : ℕ) (ids : List ℕ) (runners : List (Runner D F disk)) (links_old links : List L) (disks_old disks last : List (Option D))
+    (readings : Option (List ℕ)) (given : Given) (each : length links_old ≡ length ids) (there : (i : ℕ) → i < length ids → IsSome (slice_index_or disks_old i None))
+    (tell : Tell coming sent disk links_old disks_old readings given) (stopped : AreStopped runners disks last) where
+  in_opening : (fault : Fault) → IsCutOpening sent ids runners links_old links disks_old disks fault →
+      IsCutInOpening sent disk links last (length ids) disks_old given (length runners)
+  in_opening fault cut =
+      let within = cut.within in record {
+        sent_is = λ i link low. ap (λ l. sent (slice_index_or l i link)) cut.untouched ∙ tell.sent_is i link (omega (arith, each, low));
+        stored_is = λ i after low is.
+            let runner = slice_index_or runners i (an_item runners i low) in
+            let one = cut.opened i (an_item runners i low) low in
+            let taken = some_value (slice_index_or disks_old i None) (there i (omega (arith, within, low))) in
+            let held = tell.stored_is i taken.0 taken.1 in
+            let told = one.tells taken.0 taken.1 ∙ held.tells in
+            subst (λ d. HoldsStore disk d (store_of (given.stored i))) (some_same (sym (stopped.stopped i (an_item runners i low) low) ∙ is)) (record {
+              tells = told;
+              state = durable_state (durable_of runner.server);
+              stands = durable (durable_of runner.server) (runner.server.kept ∙ none_is (fault_of runner.server) one.works) told;
+              store_is = opened_store one_state reads_same taken.0 (durable_of runner.server) (given.stored i) (one.opens taken.0 taken.1) held;
+            });
+        others = λ i high. stopped.others i (omega (arith, high)) ∙ cut.behind i high;
+      }
+
+  in_turns : (first : Together) (fault : Fault) (cut : IsCutTurning sent ids runners links_old links disks_old disks first turns fault) →
+      IsCutInTurns sent disk links last (length ids) first turns cut.cut.turn.place
+  in_turns first fault cut =
+      let turn = cut.cut.turn in
+      let all = cut.all in
+      let before = first_turns turn.place (all_turns (length runners) cut.cut.taken first) in
+      subst (λ n. IsCutInTurns sent disk links last n first turns turn.place) all (record {
+        taken = cut.cut.taken;
+        fewer = cut.cut.fewer;
+        turn = record {
+          sent_is = turn.cut.sent_is;
+          stored_is = λ i after low other is.
+              let some = an_item runners i low in
+              holds_store coming sent durable (slice_index_or runners i some) before i after (turn.cut.others i some low other) (cut.telling i some low)
+              (some_same (sym (stopped.stopped i some low) ∙ is));
+          part_is = λ after is.
+              let some = an_item runners turn.place turn.within in
+              subst (λ d. HoldsStoreInPart disk d (before.running turn.place).timed.plain.store (turn_puts (next_reading before.readings) (turning_at turn.place before)))
+              (some_same (sym (stopped.stopped turn.place some turn.within) ∙ is)) (turn.cut.part some (cut.telling turn.place some turn.within));
+        };
+      })
+
+  pub cut_run : (fault : Fault) (id : ℕ) → fault_id fault ≡ id → IsCut sent ids runners links_old links disks_old disks (opened size ids given) turns fault →
+      IsCutRun sent disk links disks_old last size turns ids given id
+  cut_run fault id of (inl cut) =
+      let opening = in_opening fault cut in record {
+        place = length runners;
+        within = cut.within;
+        id_is = cut.id_is ∙ of;
+        begins = λ i link low. (given.sent i, opening.sent_is i link low, all_begin (length ids) turns (opened size ids given) i);
+        cut = inl opening;
+      }
+  cut_run fault id of (inr cut) =
+      let turning = in_turns (opened size ids given) fault cut in
+      let turn = cut.cut.turn in
+      let all = cut.all in
+      let low = turn.within in
+      let within : turn.place < length ids = omega (arith, all, low) in
+      record {
+        place = turn.place;
+        within = within;
+        id_is = (let some = an_item runners turn.place low in sym (cut.ids_are turn.place some low) ∙ turn.id_is some ∙ of);
+        begins = λ i link inside.
+            let before = first_turns turn.place (all_turns (length ids) turning.taken (opened size ids given)) in
+            ((before.running i).sent, turning.turn.sent_is i link inside, cut_begins (length ids) turning.taken turns turn.place (opened size ids given) i within turning.fewer);
+        cut = inr turning;
+      }

@@ -1,0 +1,76 @@
+-- The puts of a turn: where the first of its steps was cut off, and where the second was.
+use Rattle.std.proofs.Common.{◌≡◌, ℕ, List, [], ◌∷◌, ◌++◌, true, subst, ap, ◌∙◌, inl, inr}
+use Rattle.std.specs.Prelude.{Option}
+use Rattle.disk_model.specs.declared.disk.Disk.{Ghosts}
+use Rattle.disk_model.specs.Contents.{MayLeave}
+use Rattle.outside.specs.declared.received.RawFrame.{RawFrame}
+use Rattle.outside.specs.declared.received.Received.{Received}
+use Rattle.program_parts.specs.Draws.{moved, word_at}
+use Rattle.raft_core.specs.StoredPuts.{Noted, stored_put, stored_puts}
+use Rattle.raft_log.specs.DurableViews.{durable_state}
+use Rattle.raft_log.specs.Rules.{AlwaysStandsForState, StandsForState}
+use Rattle.raft_log.specs.Stored.{AfterSome, Put, Stored, after_put, after_puts}
+use Rattle.server_parts.specs.Step.{Tick}
+use Rattle.alloc_server.specs.declared.server.Server.{Server}
+use Rattle.alloc_server.specs.Server.{HasPut, LeavesSome, disk_of, durable_of}
+use Rattle.node_turns.specs.Puts.{heard_puts, step_puts, tick_puts, turn_puts}
+use Rattle.node_turns.specs.Stands.{IsTurning}
+use Rattle.node_turns.specs.Turn.{Turning, ticks}
+use Rattle.node_turns.specs.declared.runner.Runner.{Runner}
+use Rattle.node_turns.specs.declared.steps.LastSteps.{LastSteps}
+
+-- after none of them
+at_once : (fact : Stored → Type 0) (puts : List Put) (s : Stored) → fact s → AfterSome fact puts s
+at_once fact [] s here = here
+at_once fact (put ∷ puts) s here = inl here
+
+of_first : (fact : Stored → Type 0) (xs ys : List Noted) (s : Stored) → AfterSome fact (stored_puts xs s) s → AfterSome fact (stored_puts (xs ++ ys) s) s
+of_first fact [] ys s here = at_once fact (stored_puts ys s) s here
+of_first fact (x ∷ xs) ys s (inl here) = inl here
+of_first fact (x ∷ xs) ys s (inr there) = inr (of_first fact xs ys (after_put (stored_put x s) s) there)
+
+of_second : (fact : Stored → Type 0) (xs ys : List Noted) (s : Stored) →
+    (let after = after_puts (stored_puts xs s) s in AfterSome fact (stored_puts ys after) after) → AfterSome fact (stored_puts (xs ++ ys) s) s
+of_second fact [] ys s there = there
+of_second fact (x ∷ xs) ys s there = inr (of_second fact xs ys (after_put (stored_put x s) s) there)
+
+module _ {D F : Type 0} {disk : Ghosts D} (old : Server D F disk) where
+  -- nothing was put yet
+  pub leaves_at_once : (puts : List Noted) → (disk.tells (disk_of old) ≡ true → AlwaysStandsForState (disk.contents (disk_of old)) (durable_state (durable_of old)))
+      → LeavesSome old old puts
+  leaves_at_once puts durable = λ told image left. let s = durable_state (durable_of old) in at_once (StandsForState image) (stored_puts puts s) s (durable told image left)
+
+  module _ (xs ys : List Noted) where
+    pub leaves_first : (new : Server D F disk) → LeavesSome old new xs → LeavesSome old new (xs ++ ys)
+    leaves_first new leaves = λ told image left. of_first (StandsForState image) xs ys (durable_state (durable_of old)) (leaves told image left)
+
+    pub leaves_second : (mid new : Server D F disk) → HasPut old mid xs → disk.tells (disk_of mid) ≡ disk.tells (disk_of old) → LeavesSome mid new ys → LeavesSome old new (xs ++ ys)
+    leaves_second mid new put tells leaves = λ told image left.
+        let s = durable_state (durable_of old) in
+        of_second (StandsForState image) xs ys s (subst (λ m. AfterSome (StandsForState image) (stored_puts ys m) m) put.state (leaves (tells ∙ told) image left))
+
+  -- of the disk alone is this said
+  pub leaves_of_disk : (mid new : Server D F disk) (puts : List Noted) → disk_of new ≡ disk_of mid → LeavesSome old mid puts → LeavesSome old new puts
+  leaves_of_disk mid new puts same leaves = λ told image left. leaves told image (subst (λ d. MayLeave (disk.contents d) image) same left)
+
+  -- a turn whose first step was put, and whose second one was made as far as it came
+  pub turn_leaves : (mid new : Server D F disk) (moment word : ℕ) (t : Turning) → word ≡ word_at (moved t.running.draws) → HasPut old mid (step_puts (Tick moment word) t) →
+      disk.tells (disk_of mid) ≡ disk.tells (disk_of old) → LeavesSome mid new (heard_puts moment (ticks moment t)) → LeavesSome old new (turn_puts moment t)
+  unfolding turn_puts
+  turn_leaves mid new moment word t is put tells leaves =
+      leaves_second (tick_puts moment t) (heard_puts moment (ticks moment t)) mid new (subst (λ w. HasPut old mid (step_puts (Tick moment w) t)) is put) tells leaves
+
+-- the one whose turn it is takes its next word
+pub next_word : {D F : Type 0} {disk : Ghosts D} {runner : Runner D F disk} {coming : Option (List Received)} {sent : Option (List RawFrame)} {steps : LastSteps}
+    {t : Turning} {draws : ℕ} → IsTurning runner coming sent steps t → draws ≡ moved runner.draws →
+    IsTurning (record runner { draws = draws }) coming sent steps (record t { running = record t.running { draws = moved t.running.draws } })
+next_word is next = record {
+  running = record {
+    id = is.running.id;
+    server = is.running.server;
+    draws = next ∙ ap moved is.running.draws;
+    coming_is = is.running.coming_is;
+    sent_is = is.running.sent_is;
+  };
+  lines = is.lines;
+}

@@ -1,0 +1,63 @@
+-- A turn that was cut off, by a call of a link or a disk that failed.
+use Rattle.std.specs.Prelude.{◌≡◌, ℕ, ◌<◌, ◌⊎◌, List, length, Option, Some, None, true}
+use Rattle.std.specs.Prelude.{slice_index, slice_index_or}
+use Rattle.disk_model.specs.declared.disk.Disk.{Ghosts}
+use Rattle.outside.specs.declared.received.RawFrame.{RawFrame}
+use Rattle.outside.specs.Readings.{next_reading}
+use Rattle.alloc_server.specs.Server.{StandsFor}
+use Rattle.node_turns.specs.CutRun.{HoldsStoreInPart}
+use Rattle.node_turns.specs.Ends.{fault_id}
+use Rattle.node_turns.specs.Puts.{turn_puts}
+use Rattle.node_turns.specs.Run.{AreTelling}
+use Rattle.node_turns.specs.Stands.{AreOpened, runner_disk}
+use Rattle.node_turns.specs.Taking.{IsOf}
+use Rattle.node_turns.specs.Turns.{Together, all_turns, first_turns, turning_at}
+use Rattle.node_turns.specs.declared.fault.Fault.{Fault}
+use Rattle.node_turns.specs.declared.runner.Runner.{Runner}
+
+module _ {D F : Type 0} {disk : Ghosts D} {L : Type 0} (sent : L → Option (List RawFrame))
+    (runners : List (Runner D F disk)) (links : List L) where
+  -- of the one at a place, when all stood like this: no frame was sent in it, and the first of its puts were made
+  pub record IsCutAt (before : Together) (place : ℕ) : Type 0 where
+    pub sent_is : (i : ℕ) (link : L) → i < length runners →
+        sent (slice_index_or links i link) ≡ Some (before.running i).sent
+    pub others : (i : ℕ) (runner : Runner D F disk) → i < length runners → (i ≡ place → ⊥) →
+        StandsFor (slice_index_or runners i runner).server (before.running i).timed
+    pub part : (runner : Runner D F disk) → let after = runner_disk (slice_index_or runners place runner) in
+        disk.tells after ≡ true → HoldsStoreInPart disk after (before.running place).timed.plain.store
+        (turn_puts (next_reading before.readings) (turning_at place before))
+
+  -- those before it had taken their turn
+  pub record IsCutTurn (all : Together) (fault : Fault) : Type 0 where
+    pub place : ℕ
+    pub within : place < length runners
+    pub id_is : IsOf runners place (fault_id fault)
+    pub cut : IsCutAt (first_turns place all) place
+
+  -- and all had taken some turns
+  pub record AreCutTurns (turns : ℕ) (all : Together) (fault : Fault) : Type 0 where
+    pub taken : ℕ
+    pub fewer : taken < turns
+    pub turn : IsCutTurn (all_turns (length runners) taken all) fault
+
+module _ {D F : Type 0} {disk : Ghosts D} {L : Type 0} (sent : L → Option (List RawFrame)) (ids : List ℕ)
+    (runners : List (Runner D F disk)) (links_old links : List L) (disks_old disks : List (Option D)) where
+  -- a run that was cut off at the opening of the next one: those so far were opened, and no link was touched
+  pub record IsCutOpening (fault : Fault) : Type 0 where
+    pub within : length runners < length ids
+    pub id_is : slice_index ids (length runners) ≡ fault_id fault
+    pub untouched : links ≡ links_old
+    pub opened : AreOpened runners disks_old ids
+    pub behind : (i : ℕ) → length runners < i → slice_index_or disks i None ≡ slice_index_or disks_old i None
+
+  -- one that was cut off in a turn, when all were opened as these
+  pub record IsCutTurning (first : Together) (turns : ℕ) (fault : Fault) : Type 0 where
+    pub all : length runners ≡ length ids
+    pub ids_are : (i : ℕ) (runner : Runner D F disk) → i < length runners →
+        (slice_index_or runners i runner).id ≡ slice_index ids i
+    pub telling : AreTelling runners
+    pub cut : AreCutTurns sent runners links turns first fault
+
+  -- one or the other
+  abbrev pub IsCut : Together → ℕ → Fault → Type 0
+  IsCut first turns fault = IsCutOpening fault ⊎ IsCutTurning first turns fault

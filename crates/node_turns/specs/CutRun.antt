@@ -1,0 +1,75 @@
+-- A run that did not come to its end, where links, disks and the clock tell what they have: at the opening of a node,
+-- or in one of its turns, a call of its link or its disk failed, or its store is damaged.
+use Rattle.std.specs.Prelude.{◌≡◌, ℕ, ◌<◌, ◌⊎◌, List, length, Option, Some, None, true}
+use Rattle.std.specs.Prelude.{slice_index, slice_index_or}
+use Rattle.can_frame.specs.Log.{IsPrefix}
+use Rattle.disk_model.specs.declared.disk.Disk.{Ghosts}
+use Rattle.disk_model.specs.Contents.{MayLeave}
+use Rattle.outside.specs.declared.received.RawFrame.{RawFrame}
+use Rattle.outside.specs.Readings.{next_reading}
+use Rattle.raft_core.specs.StoredPuts.{Noted, store_of, stored_puts}
+use Rattle.raft_log.specs.Rules.{StandsForState}
+use Rattle.raft_log.specs.Stored.{AfterSome, Stored}
+use Rattle.raft_model.specs.Server.{Store}
+use Rattle.program_parts.specs.declared.status.Status.{Status}
+use Rattle.program_parts.specs.declared.status.Status.TheVariants.{Damaged, DiskFault, LinkFault}
+use Rattle.node_turns.specs.Opening.{Given, opened}
+use Rattle.node_turns.specs.Puts.{turn_puts}
+use Rattle.node_turns.specs.Turns.{Together, all_turns, first_turns, turning_at}
+use Rattle.node_turns.specs.WholeRun.{HoldsStore, after_turns}
+
+-- the status of a run that ended at this node
+abbrev pub EndsAt : ℕ → Status → Type 0
+EndsAt id (LinkFault node) = node ≡ id
+EndsAt id (DiskFault node) = node ≡ id
+EndsAt id (Damaged node key) = node ≡ id
+EndsAt id _ = ⊥
+
+-- the disk tells what it holds, and whatever a stop leaves of it stands for a state that is read as this store, after
+-- some of the first of these puts
+pub record HoldsStoreInPart {D : Type 0} (disk : Ghosts D) (after : D) (store : Store)
+    (puts : List Noted) : Type 0 where
+  pub tells : disk.tells after ≡ true
+  pub state : Stored
+  pub store_is : store_of state ≡ store
+  pub stands : (image : List ℕ) → MayLeave (disk.contents after) image →
+      AfterSome (StandsForState image) (stored_puts puts state) state
+
+module _ {L D : Type 0} (sent : L → Option (List RawFrame)) (disk : Ghosts D) (links : List L)
+    (disks : List (Option D)) (count : ℕ) where
+  -- at the opening of the one at a place: nothing was sent, the disks before it hold what they held when they were
+  -- handed in, and those behind it are as they were
+  pub record IsCutInOpening (disks_old : List (Option D)) (given : Given) (place : ℕ) : Type 0 where
+    pub sent_is : (i : ℕ) (link : L) → i < count → sent (slice_index_or links i link) ≡ Some (given.sent i)
+    pub stored_is : (i : ℕ) (after : D) → i < place → slice_index_or disks i None ≡ Some after →
+        HoldsStore disk after (store_of (given.stored i))
+    pub others : (i : ℕ) → place < i → slice_index_or disks i None ≡ slice_index_or disks_old i None
+
+  -- in the turn of the one at a place, when all stood like this: no frame was sent in it, and the first of its puts
+  -- were made; the disks of the others hold their stores
+  pub record IsCutAtTurn (before : Together) (place : ℕ) : Type 0 where
+    pub sent_is : (i : ℕ) (link : L) → i < count →
+        sent (slice_index_or links i link) ≡ Some (before.running i).sent
+    pub stored_is : (i : ℕ) (after : D) → i < count → (i ≡ place → ⊥) →
+        slice_index_or disks i None ≡ Some after → HoldsStore disk after (before.running i).timed.plain.store
+    pub part_is : (after : D) → slice_index_or disks place None ≡ Some after →
+        HoldsStoreInPart disk after (before.running place).timed.plain.store
+        (turn_puts (next_reading before.readings) (turning_at place before))
+
+  -- all had taken so many turns, and those before the place one more
+  pub record IsCutInTurns (first : Together) (turns place : ℕ) : Type 0 where
+    pub taken : ℕ
+    pub fewer : taken < turns
+    pub turn : IsCutAtTurn (first_turns place (all_turns count taken first)) place
+
+-- it ended at the node with this ID; what each link was sent is a beginning of what it is sent in a run to its end
+pub record IsCutRun {L D : Type 0} (sent : L → Option (List RawFrame)) (disk : Ghosts D) (links : List L)
+    (disks_old disks : List (Option D)) (size turns : ℕ) (ids : List ℕ) (given : Given) (id : ℕ) : Type 0 where
+  pub place : ℕ
+  pub within : place < length ids
+  pub id_is : slice_index ids place ≡ id
+  pub begins : (i : ℕ) (link : L) → i < length ids → (frames : List RawFrame) ×
+      (sent (slice_index_or links i link) ≡ Some frames) ×
+      IsPrefix frames ((after_turns size turns ids given).running i).sent
+  pub cut : IsCutInOpening sent disk links disks (length ids) disks_old given place ⊎
+      IsCutInTurns sent disk links disks (length ids) (opened size ids given) turns place

@@ -1,0 +1,28 @@
+-- What the steps of a turn put, in order.
+use Rattle.std.specs.Prelude.{ℕ, suc, List, [], ◌++◌, length, Option, Some, None}
+use Rattle.outside.specs.Traffic.{next_item}
+use Rattle.program_parts.specs.Draws.{moved, word_at}
+use Rattle.raft_core.specs.StoredPuts.{Noted}
+use Rattle.server_parts.specs.Step.{Event, Tick, step}
+use Rattle.node_turns.specs.Frames.{event_in}
+use Rattle.node_turns.specs.Turn.{Turning, ticks}
+
+-- the next step
+abbrev pub step_puts : Event → Turning → List Noted
+step_puts event t = (step t.running.timed (suc (length t.lines)) event).going.puts
+
+-- the step at its clock
+abbrev pub tick_puts : ℕ → Turning → List Noted
+tick_puts moment t = step_puts (Tick moment (word_at (moved t.running.draws))) t
+
+abbrev pub taken_puts : Option Event → Turning → List Noted
+taken_puts None t = []
+taken_puts (Some event) t = step_puts event t
+
+-- the step of the next item of its link, if it makes one
+abbrev pub heard_puts : ℕ → Turning → List Noted
+heard_puts moment t = taken_puts (event_in moment (next_item t.running.coming)) t
+
+-- both
+unfoldable pub turn_puts : ℕ → Turning → List Noted
+turn_puts moment t = tick_puts moment t ++ heard_puts moment (ticks moment t)
