@@ -146,14 +146,20 @@ of_nodes faults disk plan size base turns ids links_old links_new disks_old disk
     subst (λ p. IsRunBy faults disk p links_old links_new disks_old disks_new sink sink_now status) (sym is)
     (subst (λ l. RunsNodes faults disk l links_old links_new disks_old disks_new sink sink_now status) same runs)
 
-pub size_of_node : {a b c x y z : ℕ} {d w : ArrayVec ℕ} → Node a b c d ≡ Node x y z w → a ≡ x
+size_of_node : {a b c x y z : ℕ} {d w : ArrayVec ℕ} → Node a b c d ≡ Node x y z w → a ≡ x
 size_of_node e = cc
 
-pub turns_of_node : {a b c x y z : ℕ} {d w : ArrayVec ℕ} → Node a b c d ≡ Node x y z w → c ≡ z
+turns_of_node : {a b c x y z : ℕ} {d w : ArrayVec ℕ} → Node a b c d ≡ Node x y z w → c ≡ z
 turns_of_node e = cc
 
-pub ids_of_node : {a b c x y z : ℕ} {d w : ArrayVec ℕ} → Node a b c d ≡ Node x y z w → d ≡ w
+ids_of_node : {a b c x y z : ℕ} {d w : ArrayVec ℕ} → Node a b c d ≡ Node x y z w → d ≡ w
 ids_of_node e = cc
+
+-- what holds of the parts of a plan, its IDs lent as a list
+pub as_planned : {a b c x y z : ℕ} {d w : ArrayVec ℕ} (P : ℕ → ℕ → List ℕ → Type 0) (list : List ℕ) → Node a b c d ≡ Node x y z w → list ≡ d.items
+    → P a c list → P x z w.items
+as_planned {c = c} {x = x} {z = z} P list same is holds =
+    subst (λ l. P x z l) (is ∙ ap (λ v. v.items) (ids_of_node same)) (subst (λ n. P x n list) (turns_of_node same) (subst (λ n. P n c list) (size_of_node same) holds))
 
 -- the plan is that of the words
 pub record IsNodePlan (plan : Plan) (size turns : ℕ) (ids : List ℕ) : Type 0 where
@@ -182,6 +188,13 @@ node_plan (Node count port times nodes) size base turns ids words planned asks =
     }
 node_plan (Soak seed rounds count) size base turns ids words planned asks = absurd (node_or_soak size base turns ids seed rounds count words asks planned)
 
+-- and so of what the words ask for
+pub as_asked : {plan : Plan} {size turns : ℕ} {ids : List ℕ} (P : ℕ → ℕ → List ℕ → Type 0) (planned : IsNodePlan plan size turns ids)
+    → P planned.count planned.times planned.nodes.items → P size turns ids
+as_asked {size = size} {turns = turns} P planned holds =
+    subst (λ l. P size turns l) planned.same_ids (subst (λ n. P size n planned.nodes.items) planned.same_turns
+    (subst (λ n. P n planned.times planned.nodes.items) planned.same_size holds))
+
 pub words_for_nodes : (plan : Plan) (words : List (List ℕ)) → IsPlan plan words → AsksForNodes plan
     → (size base turns : ℕ) × (ids : List ℕ) × IsNode size base turns ids words
 words_for_nodes (Replay rows ids) words planned asks = absurd asks
@@ -204,6 +217,14 @@ pub nothing_given : {L D : Type 0} (plan : Plan) (words : List (List ℕ)) (link
 nothing_given (Replay rows ids) words links disks planned asks has none = asks
 nothing_given (Node size base turns ids) words links disks planned asks has none = some_given ids.items links disks planned.members.some has none
 nothing_given (Soak seed rounds size) words links disks planned asks has none = asks
+
+-- what the words of nodes need is what the plan needs
+pub has_nodes : {L D : Type 0} (plan : Plan) (size base turns : ℕ) (ids : List ℕ) (words : List (List ℕ)) (links : List L) (disks : List (Option D))
+    → IsPlan plan words → IsNode size base turns ids words → AreGiven ids links disks → HasObjects plan links disks
+has_nodes (Replay rows nodes) size base turns ids words links disks planned asks given = absurd (replay_or_node rows nodes.items size base turns ids words planned asks)
+has_nodes (Node count port times nodes) size base turns ids words links disks planned asks given =
+    subst (λ l. AreGiven l links disks) (sym (same_nodes count port times size base turns nodes.items ids words planned asks)) given
+has_nodes (Soak seed rounds count) size base turns ids words links disks planned asks given = absurd (node_or_soak size base turns ids seed rounds count words asks planned)
 
 -- all plans of some words need the same objects
 pub same_objects : {L D : Type 0} (p q : Plan) (words : List (List ℕ)) (links : List L) (disks : List (Option D)) → IsPlan p words → IsPlan q words

@@ -1,7 +1,10 @@
 ghost use Rattle.std.specs.Prelude.{◌≡◌, ◌≤◌, ◌↔◌, ◌⊎◌, ℕ, List, [], Some, length, map, string_bytes, IsTrue};
 ghost use Rattle.std.specs.Io.KnownBytes.{Appends};
 ghost use Rattle.arrayvec.specs.ArrayVec.{ArrayVec};
+ghost use Rattle.node_turns.specs.CutRun.{EndsAt, IsCutRun};
 ghost use Rattle.node_turns.specs.Opening.{Given};
+ghost use Rattle.node_turns.specs.Status.{DisksTell, IsDamagedDisk};
+ghost use Rattle.node_turns.specs.Status.{NoDamagedDisk, NoDiskRose, NoLinkRose};
 ghost use Rattle.node_turns.specs.WholeRun.{IsWholeRun, Tell, after_turns};
 ghost use Rattle.outside.specs.Faults.{Rose};
 ghost use Rattle.program_parts.specs.Output.{WritesFront};
@@ -53,7 +56,10 @@ use world_laws::headline::the_headline;
 /// is there again at the end. With `Done` what was sent, written and stored is exactly what the members do over
 /// what came on the links and what the clock read (`WholeRun` of `node_turns`). `LinkFault` and `DiskFault` come only where the link or the disk of that node
 /// failed, `Damaged` where the store of that node is damaged, first at that key, and those before it are
-/// not; then one line is written, and with `Damaged` no frame came or went.
+/// not; then one line is written, and with `Damaged` no frame came or went. With each of the three what was
+/// sent is a beginning of what a run to its end sends, and each store that was opened holds what it then
+/// held (`CutRun` of `node_turns`). Where nothing fails, a damaged store ends the run so, and without one
+/// it comes to `Done`, unless there is not enough memory to begin with.
 ///
 /// For the others neither links nor disks are handed in; with other words or objects the status is `Usage`.
 /// With `Usage` and `Memory` nothing is touched.
@@ -150,6 +156,25 @@ pub fn run<S: Source, K: Sink, L: Link, D: Disk, C: Clock>(
         result ≡ Status.Done → IsWholeRun L.coming L.sent D.Disk links.new disks.new
         (C.readings clock.new) (K.written sink.old) (K.written sink.new) (length ids) turns
         (after_turns size turns ids given) }
+    // And of a run that did not come to its end it says how far it came.
+    ensures nodes_cut { (size base turns id : ℕ) (ids : List ℕ) (given : Given) →
+        IsNode size base turns ids (map string_bytes words.now) → AreGiven ids links.old disks.old →
+        Tell L.coming L.sent D.Disk links.old disks.old (C.readings clock.old) given →
+        EndsAt id result → IsCutRun L.sent D.Disk links.new disks.old disks.new
+        size turns ids given id }
+    // Where nothing fails, the first damaged disk ends their run; without one it comes to its end.
+    ensures nodes_finish { (size base turns : ℕ) (ids : List ℕ) →
+        IsNode size base turns ids (map string_bytes words.now) → AreGiven ids links.old disks.old →
+        NoDamagedDisk D.Disk ids disks.old → NoLinkRose L.faults ids links.old links.new →
+        NoDiskRose D.faults ids disks.old disks.new →
+        (Rose (K.faults sink.old) (K.faults sink.new) → ⊥) →
+        (result ≡ Status.Done) ⊎ (result ≡ Status.Memory) }
+    ensures nodes_refuse { (size base turns id key : ℕ) (ids : List ℕ) →
+        IsNode size base turns ids (map string_bytes words.now) → AreGiven ids links.old disks.old →
+        DisksTell D.Disk disks.old → IsDamagedDisk D.Disk ids disks.old id key →
+        NoDiskRose D.faults ids disks.old disks.new →
+        (Rose (K.faults sink.old) (K.faults sink.new) → ⊥) →
+        (result ≡ Status.Damaged id key) ⊎ (result ≡ Status.Memory) }
     ensures nodes_alone { IsOfNodes result → (size base turns : ℕ) × (ids : List ℕ) ×
         IsNode size base turns ids (map string_bytes words.now) }
     ensures unread { ((limit : ℕ) (nodes : List ℕ) →
@@ -226,6 +251,23 @@ fn follow<S: Source, K: Sink, L: Link, D: Disk, C: Clock>(
         result ≡ Status.Done → IsWholeRun L.coming L.sent D.Disk links.new disks.new
         (C.readings clock.new) (K.written sink.old) (K.written sink.new) (length ids.items) turns
         (after_turns size turns ids.items given) }
+    ensures nodes_cut { (size base turns id : ℕ) (ids : ArrayVec ℕ) (given : Given) →
+        plan ≡ Plan.Node size base turns ids →
+        Tell L.coming L.sent D.Disk links.old disks.old (C.readings clock.old) given →
+        EndsAt id result → IsCutRun L.sent D.Disk links.new disks.old disks.new
+        size turns ids.items given id }
+    ensures nodes_finish { (size base turns : ℕ) (ids : ArrayVec ℕ) →
+        plan ≡ Plan.Node size base turns ids → NoDamagedDisk D.Disk ids.items disks.old →
+        NoLinkRose L.faults ids.items links.old links.new →
+        NoDiskRose D.faults ids.items disks.old disks.new →
+        (Rose (K.faults sink.old) (K.faults sink.new) → ⊥) →
+        (result ≡ Status.Done) ⊎ (result ≡ Status.Memory) }
+    ensures nodes_refuse { (size base turns id key : ℕ) (ids : ArrayVec ℕ) →
+        plan ≡ Plan.Node size base turns ids → DisksTell D.Disk disks.old →
+        IsDamagedDisk D.Disk ids.items disks.old id key →
+        NoDiskRose D.faults ids.items disks.old disks.new →
+        (Rose (K.faults sink.old) (K.faults sink.new) → ⊥) →
+        (result ≡ Status.Damaged id key) ⊎ (result ≡ Status.Memory) }
     ensures nodes_alone { IsOfNodes result → AsksForNodes plan }
     ensures unread { AsksForRows plan ⊎ (source.new ≡ source.old) }
     ensures objects { AsksForNodes plan ⊎ ((links.new ≡ links.old) × (disks.new ≡ disks.old) ×

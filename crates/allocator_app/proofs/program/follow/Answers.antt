@@ -1,6 +1,10 @@
-use Rattle.std.proofs.Common.{ℕ, List, length, ap, sym, subst, ◌∙◌}
+use Rattle.std.proofs.Common.{◌≡◌, ◌⊎◌, length, sym, ◌∙◌}
+use Rattle.outside.specs.Faults.{Rose}
+use Rattle.program_parts.specs.declared.status.Status.TheVariants.{Damaged, Done, Memory}
+use Rattle.node_turns.specs.Status.{DisksTell, IsDamagedDisk, NoDamagedDisk, NoDiskRose, NoLinkRose}
+use Rattle.node_turns.specs.CutRun.{IsCutRun}
 use Rattle.node_turns.specs.WholeRun.{IsWholeRun, after_turns}
-use Rattle.allocator_app.proofs.Ending.{ids_of_node, of_nodes, size_of_node, turns_of_node}
+use Rattle.allocator_app.proofs.Ending.{as_planned, of_nodes}
 use Rattle.allocator_app.proofs.program.follow.Goals as goal
 
 pub returns-in-Node-clause-nodes : goal.returns-in-Node-clause-nodes
@@ -16,9 +20,25 @@ returns-in-Node-clause-nodes g c = let runs = c.node.ensures in
 
 pub returns-in-Node-clause-nodes_whole : goal.returns-in-Node-clause-nodes_whole
 returns-in-Node-clause-nodes_whole g c = λ size base turns ids given is tells done.
-    let same = sym c.in-Node.is ∙ is in
-    let list = c.deref-in-Node.ensures.0 ∙ ap (λ v. v.items) (ids_of_node same) in
-    let Whole = λ (count times : ℕ) (nodes : List ℕ). IsWholeRun g.L.Link.coming g.L.Link.sent g.D.Disk c.node.new.links c.node.new.disks
-    (g.C.Clock.readings c.node.new.clock) (g.K.Sink.written c.args.sink.now) (g.K.Sink.written c.node.new.sink) (length nodes) times (after_turns count times nodes given) in
-    subst (λ l. Whole size turns l) list (subst (λ n. Whole size n c.deref-in-Node.result.now) (turns_of_node same)
-    (subst (λ n. Whole n c.in-Node.turns c.deref-in-Node.result.now) (size_of_node same) (c.node.ensures.done given tells done)))
+    as_planned (λ count times nodes. IsWholeRun g.L.Link.coming g.L.Link.sent g.D.Disk c.node.new.links c.node.new.disks
+    (g.C.Clock.readings c.node.new.clock) (g.K.Sink.written c.args.sink.now) (g.K.Sink.written c.node.new.sink) (length nodes) times (after_turns count times nodes given))
+    c.deref-in-Node.result.now (sym c.in-Node.is ∙ is) c.deref-in-Node.ensures.0 (c.node.ensures.done given tells done)
+
+pub returns-in-Node-clause-nodes_finish : goal.returns-in-Node-clause-nodes_finish
+returns-in-Node-clause-nodes_finish g c = λ size base turns ids is.
+    as_planned (λ count times nodes. NoDamagedDisk g.D.Disk nodes c.args.disks.now →
+    NoLinkRose g.L.Link.faults nodes c.args.links.now c.node.new.links → NoDiskRose g.D.Disk.faults nodes c.args.disks.now c.node.new.disks →
+    (Rose (g.K.Sink.faults c.args.sink.now) (g.K.Sink.faults c.node.new.sink) → ⊥) → (c.node.result ≡ Done) ⊎ (c.node.result ≡ Memory))
+    c.deref-in-Node.result.now (sym c.in-Node.is ∙ is) c.deref-in-Node.ensures.0 c.node.ensures.finishes
+
+pub returns-in-Node-clause-nodes_refuse : goal.returns-in-Node-clause-nodes_refuse
+returns-in-Node-clause-nodes_refuse g c = λ size base turns id key ids is.
+    as_planned (λ count times nodes. DisksTell g.D.Disk c.args.disks.now → IsDamagedDisk g.D.Disk nodes c.args.disks.now id key →
+    NoDiskRose g.D.Disk.faults nodes c.args.disks.now c.node.new.disks →
+    (Rose (g.K.Sink.faults c.args.sink.now) (g.K.Sink.faults c.node.new.sink) → ⊥) → (c.node.result ≡ Damaged id key) ⊎ (c.node.result ≡ Memory))
+    c.deref-in-Node.result.now (sym c.in-Node.is ∙ is) c.deref-in-Node.ensures.0 (c.node.ensures.refuses id key)
+
+pub returns-in-Node-clause-nodes_cut : goal.returns-in-Node-clause-nodes_cut
+returns-in-Node-clause-nodes_cut g c = λ size base turns id ids given is tells at.
+    as_planned (λ count times nodes. IsCutRun g.L.Link.sent g.D.Disk c.node.new.links c.args.disks.now c.node.new.disks count times nodes given id)
+    c.deref-in-Node.result.now (sym c.in-Node.is ∙ is) c.deref-in-Node.ensures.0 (c.node.ensures.cut given id tells at)

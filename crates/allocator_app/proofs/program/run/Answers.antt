@@ -1,6 +1,10 @@
-use Rattle.std.proofs.Common.{ℕ, List, length, inl, inr, subst}
+use Rattle.std.proofs.Common.{◌≡◌, ◌⊎◌, length, inl, inr}
+use Rattle.outside.specs.Faults.{Rose}
+use Rattle.program_parts.specs.declared.status.Status.TheVariants.{Damaged, Done, Memory}
+use Rattle.node_turns.specs.Status.{DisksTell, IsDamagedDisk, NoDamagedDisk, NoDiskRose, NoLinkRose}
+use Rattle.node_turns.specs.CutRun.{IsCutRun}
 use Rattle.node_turns.specs.WholeRun.{IsWholeRun, after_turns}
-use Rattle.allocator_app.proofs.Ending.{all_lawful, asked, asked_for_nodes, asked_to_soak, comes_to, has_headline, no_further, node_plan, nothing_given, read_part, replayed, words_for_nodes, words_for_rows, written_part}
+use Rattle.allocator_app.proofs.Ending.{all_lawful, as_asked, asked, asked_for_nodes, asked_to_soak, comes_to, has_headline, no_further, node_plan, nothing_given, read_part, replayed, words_for_nodes, words_for_rows, written_part}
 use Rattle.allocator_app.proofs.program.run.Goals as goal
 
 pub returns-clause-report : goal.returns-clause-report
@@ -72,8 +76,28 @@ returns-clause-objects g c = λ none. elim c.follow.ensures.objects [
 pub returns-clause-nodes_whole : goal.returns-clause-nodes_whole
 returns-clause-nodes_whole g c = λ size base turns ids given asks objects tells done.
     let plan = node_plan c.in-Some.plan size base turns ids _ c.in-Some.ensures.some asks in
-    let whole = c.follow.ensures.nodes_whole plan.count plan.port plan.times plan.nodes given plan.is tells done in
-    let Whole = λ (count times : ℕ) (nodes : List ℕ). IsWholeRun g.L.Link.coming g.L.Link.sent g.D.Disk c.follow.new.links c.follow.new.disks
-    (g.C.Clock.readings c.follow.new.clock) (g.K.Sink.written c.args.sink.now) (g.K.Sink.written c.follow.new.sink) (length nodes) times (after_turns count times nodes given) in
-    subst (λ l. Whole size turns l) plan.same_ids (subst (λ n. Whole size n plan.nodes.items) plan.same_turns
-    (subst (λ n. Whole n plan.times plan.nodes.items) plan.same_size whole))
+    as_asked (λ count times nodes. IsWholeRun g.L.Link.coming g.L.Link.sent g.D.Disk c.follow.new.links c.follow.new.disks
+    (g.C.Clock.readings c.follow.new.clock) (g.K.Sink.written c.args.sink.now) (g.K.Sink.written c.follow.new.sink) (length nodes) times (after_turns count times nodes given))
+    plan (c.follow.ensures.nodes_whole plan.count plan.port plan.times plan.nodes given plan.is tells done)
+
+pub returns-clause-nodes_finish : goal.returns-clause-nodes_finish
+returns-clause-nodes_finish g c = λ size base turns ids asks objects.
+    let plan = node_plan c.in-Some.plan size base turns ids _ c.in-Some.ensures.some asks in
+    as_asked (λ count times nodes. NoDamagedDisk g.D.Disk nodes c.args.disks.now →
+    NoLinkRose g.L.Link.faults nodes c.args.links.now c.follow.new.links → NoDiskRose g.D.Disk.faults nodes c.args.disks.now c.follow.new.disks →
+    (Rose (g.K.Sink.faults c.args.sink.now) (g.K.Sink.faults c.follow.new.sink) → ⊥) → (c.follow.result ≡ Done) ⊎ (c.follow.result ≡ Memory))
+    plan (c.follow.ensures.nodes_finish plan.count plan.port plan.times plan.nodes plan.is)
+
+pub returns-clause-nodes_refuse : goal.returns-clause-nodes_refuse
+returns-clause-nodes_refuse g c = λ size base turns id key ids asks objects.
+    let plan = node_plan c.in-Some.plan size base turns ids _ c.in-Some.ensures.some asks in
+    as_asked (λ count times nodes. DisksTell g.D.Disk c.args.disks.now → IsDamagedDisk g.D.Disk nodes c.args.disks.now id key →
+    NoDiskRose g.D.Disk.faults nodes c.args.disks.now c.follow.new.disks →
+    (Rose (g.K.Sink.faults c.args.sink.now) (g.K.Sink.faults c.follow.new.sink) → ⊥) → (c.follow.result ≡ Damaged id key) ⊎ (c.follow.result ≡ Memory))
+    plan (c.follow.ensures.nodes_refuse plan.count plan.port plan.times id key plan.nodes plan.is)
+
+pub returns-clause-nodes_cut : goal.returns-clause-nodes_cut
+returns-clause-nodes_cut g c = λ size base turns id ids given asks objects tells at.
+    let plan = node_plan c.in-Some.plan size base turns ids _ c.in-Some.ensures.some asks in
+    as_asked (λ count times nodes. IsCutRun g.L.Link.sent g.D.Disk c.follow.new.links c.args.disks.now c.follow.new.disks count times nodes given id)
+    plan (c.follow.ensures.nodes_cut plan.count plan.port plan.times id plan.nodes given plan.is tells at)
