@@ -1,6 +1,6 @@
 -- A run that was cut off: from the allocators to what is left of links and disks.
 use Rattle.std.proofs.Common.{◌≡◌, ℕ, ◌<◌, List, length, take, true, refl, sym, ap, ◌∙◌, subst, inl, inr, arith}
-use Rattle.std.specs.Prelude.{Option, Some, None, IsNone, IsSome, Result, Err, slice_index_or, ⊤}
+use Rattle.std.specs.Prelude.{Option, Some, None, IsNone, IsSome, Result, Err, slice_index, slice_index_or, ⊤}
 use Rattle.disk_model.specs.declared.disk.Disk.{Ghosts}
 use Rattle.outside.specs.Readings.{next_reading}
 use Rattle.outside.specs.declared.received.RawFrame.{RawFrame}
@@ -10,18 +10,19 @@ use Rattle.program_parts.specs.declared.status.Status.TheVariants.{Done, Usage, 
 use Rattle.raft_core.specs.StoredPuts.{store_of}
 use Rattle.raft_log.specs.declared.durable.Durable.{Durable}
 use Rattle.raft_log.specs.DurableViews.{durable_disk, durable_fault, durable_state}
-use Rattle.raft_log.specs.Opening.{IsReadAs}
+use Rattle.raft_log.specs.Opening.{FailsToOpen, IsReadAs}
 use Rattle.raft_log.specs.Rules.{AlwaysStandsForState, StandsForState}
-use Rattle.raft_log.specs.Stored.{Stored, after_puts, opening_puts}
+use Rattle.raft_log.specs.Stored.{AfterSome, Stored, after_puts, opening_puts}
 use Rattle.alloc_server.specs.Server.{durable_of, fault_of}
 use Rattle.node_turns.specs.Cut.{IsCut, IsCutOpening, IsCutTurning}
-use Rattle.node_turns.specs.CutRun.{EndsAt, HoldsStoreInPart, IsCutInOpening, IsCutInTurns, IsCutRun}
+use Rattle.node_turns.specs.CutRun.{EndsAt, HoldsOpeningInPart, HoldsStoreInPart, IsCutInOpening, IsCutInTurns, IsCutRun}
 use Rattle.node_turns.specs.Ends.{fault_id}
 use Rattle.node_turns.specs.Opening.{Given, opened}
 use Rattle.node_turns.specs.Puts.{turn_puts}
 use Rattle.node_turns.specs.Run.{AreStopped}
+use Rattle.node_turns.specs.Taking.{HasCause}
 use Rattle.node_turns.specs.Turns.{Together, all_turns, first_turns, turning_at}
-use Rattle.node_turns.specs.WholeRun.{HoldsStore, Tell}
+use Rattle.node_turns.specs.WholeRun.{HoldsStore, Tell, TellsState}
 use Rattle.node_turns.specs.declared.fault.Fault.{Fault}
 use Rattle.node_turns.specs.declared.fault.Fault.TheVariants.{Link, Disk, Damaged}
 use Rattle.node_turns.specs.declared.runner.Runner.{Runner}
@@ -49,6 +50,23 @@ none_is : {A : Type 0} (o : Option A) → IsNone o → o ≡ None
 none_is None is = refl
 none_is (Some x) is = absurd (cc (is))
 
+-- a disk that was refused
+module _ {D : Type 0} (disk : Ghosts D) (one_state : (image : List ℕ) (a b : Stored) → StandsForState image a → StandsForState image b → a ≡ b)
+    (before after : D) (id : ℕ) (state : Stored) (same : disk.tells after ≡ disk.tells before) (held : TellsState disk before state) where
+  after_failed : FailsToOpen disk before after → HoldsOpeningInPart disk before after state
+  after_failed (inl unread) = record { tells = same ∙ held.tells; stands = inl (unread.images held.tells) }
+  after_failed (inr part) =
+      let found = one_state (disk.contents before).seen part.found state (part.finds.state held.tells) held.stands in
+      record {
+        tells = same ∙ held.tells;
+        stands = inr (λ image may. subst (λ s. AfterSome (StandsForState image) (opening_puts s) s) found (part.images held.tells image may));
+      }
+
+  after_refused : (fault : Fault) → HasCause disk before after id fault → HoldsOpeningInPart disk before after state
+  after_refused (Link node) why = absurd why
+  after_refused (Disk node) why = after_failed why.2
+  after_refused (Damaged node key) why = record { tells = same ∙ held.tells; stands = inl (why.2 held.tells) }
+
 module _ {D F L : Type 0} {disk : Ghosts D} (coming : L → Option (List Received)) (sent : L → Option (List RawFrame))
     (durable : (store : Durable D disk) → durable_fault store ≡ None → disk.tells (durable_disk store) ≡ true →
     AlwaysStandsForState (disk.contents (durable_disk store)) (durable_state store))
@@ -74,6 +92,11 @@ module _ {D F L : Type 0} {disk : Ghosts D} (coming : L → Option (List Receive
               stands = durable (durable_of runner.server) (runner.server.kept ∙ none_is (fault_of runner.server) one.works) told;
               store_is = opened_store one_state reads_same taken.0 (durable_of runner.server) (given.stored i) (one.opens taken.0 taken.1) held;
             });
+        part_is = λ before after was is.
+            let place = length runners in
+            let now = sym (stopped.others place (omega arith)) ∙ is in
+            after_refused disk one_state before after (slice_index ids place) (given.stored place) (cut.refused.tells before after was now)
+            (tell.stored_is place before was) fault (cut.refused.cause before after was now);
         others = λ i high. stopped.others i (omega (arith, high)) ∙ cut.behind i high;
       }
 

@@ -10,7 +10,7 @@ use Rattle.node_turns.specs.Ends.{fault_id}
 use Rattle.node_turns.specs.Puts.{turn_puts}
 use Rattle.node_turns.specs.Run.{AreTelling}
 use Rattle.node_turns.specs.Stands.{AreOpened, runner_disk}
-use Rattle.node_turns.specs.Taking.{IsOf}
+use Rattle.node_turns.specs.Taking.{IsOf, IsRefused}
 use Rattle.node_turns.specs.Turns.{Together, all_turns, first_turns, turning_at}
 use Rattle.node_turns.specs.declared.fault.Fault.{Fault}
 use Rattle.node_turns.specs.declared.runner.Runner.{Runner}
@@ -42,12 +42,15 @@ module _ {D F : Type 0} {disk : Ghosts D} {L : Type 0} (sent : L → Option (Lis
 
 module _ {D F : Type 0} {disk : Ghosts D} {L : Type 0} (sent : L → Option (List RawFrame)) (ids : List ℕ)
     (runners : List (Runner D F disk)) (links_old links : List L) (disks_old disks : List (Option D)) where
-  -- a run that was cut off at the opening of the next one: those so far were opened, and no link was touched
+  -- a run that was cut off at the opening of the next one: those so far were opened, its disk is back, and no link was
+  -- touched
   pub record IsCutOpening (fault : Fault) : Type 0 where
     pub within : length runners < length ids
     pub id_is : slice_index ids (length runners) ≡ fault_id fault
     pub untouched : links ≡ links_old
     pub opened : AreOpened runners disks_old ids
+    pub refused : let place = length runners in IsRefused disk (slice_index_or disks_old place None)
+        (slice_index_or disks place None) (slice_index ids place) fault
     pub behind : (i : ℕ) → length runners < i → slice_index_or disks i None ≡ slice_index_or disks_old i None
 
   -- one that was cut off in a turn, when all were opened as these

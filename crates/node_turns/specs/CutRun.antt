@@ -4,12 +4,12 @@ use Rattle.std.specs.Prelude.{◌≡◌, ℕ, ◌<◌, ◌⊎◌, List, length, 
 use Rattle.std.specs.Prelude.{slice_index, slice_index_or}
 use Rattle.can_frame.specs.Log.{IsPrefix}
 use Rattle.disk_model.specs.declared.disk.Disk.{Ghosts}
-use Rattle.disk_model.specs.Contents.{MayLeave}
+use Rattle.disk_model.specs.Contents.{AddsNoImage, MayLeave}
 use Rattle.outside.specs.declared.received.RawFrame.{RawFrame}
 use Rattle.outside.specs.Readings.{next_reading}
 use Rattle.raft_core.specs.StoredPuts.{Noted, store_of, stored_puts}
 use Rattle.raft_log.specs.Rules.{StandsForState}
-use Rattle.raft_log.specs.Stored.{AfterSome, Stored}
+use Rattle.raft_log.specs.Stored.{AfterSome, Stored, opening_puts}
 use Rattle.raft_model.specs.Server.{Store}
 use Rattle.program_parts.specs.declared.status.Status.{Status}
 use Rattle.program_parts.specs.declared.status.Status.TheVariants.{Damaged, DiskFault, LinkFault}
@@ -35,14 +35,24 @@ pub record HoldsStoreInPart {D : Type 0} (disk : Ghosts D) (after : D) (store : 
   pub stands : (image : List ℕ) → MayLeave (disk.contents after) image →
       AfterSome (StandsForState image) (stored_puts puts state) state
 
+-- the disk tells what it holds: a stop leaves no image of it that it could not leave before, or whatever a stop leaves
+-- stands for this state after some of the first of the puts that an opening makes
+pub record HoldsOpeningInPart {D : Type 0} (disk : Ghosts D) (before after : D) (state : Stored) : Type 0 where
+  pub tells : disk.tells after ≡ true
+  pub stands : AddsNoImage (disk.contents before) (disk.contents after) ⊎
+      ((image : List ℕ) → MayLeave (disk.contents after) image →
+      AfterSome (StandsForState image) (opening_puts state) state)
+
 module _ {L D : Type 0} (sent : L → Option (List RawFrame)) (disk : Ghosts D) (links : List L)
     (disks : List (Option D)) (count : ℕ) where
   -- at the opening of the one at a place: nothing was sent, the disks before it hold what they held when they were
-  -- handed in, and those behind it are as they were
+  -- handed in, its own is as a part of its opening leaves it, and those behind it are as they were
   pub record IsCutInOpening (disks_old : List (Option D)) (given : Given) (place : ℕ) : Type 0 where
     pub sent_is : (i : ℕ) (link : L) → i < count → sent (slice_index_or links i link) ≡ Some (given.sent i)
     pub stored_is : (i : ℕ) (after : D) → i < place → slice_index_or disks i None ≡ Some after →
         HoldsStore disk after (store_of (given.stored i))
+    pub part_is : (before after : D) → slice_index_or disks_old place None ≡ Some before →
+        slice_index_or disks place None ≡ Some after → HoldsOpeningInPart disk before after (given.stored place)
     pub others : (i : ℕ) → place < i → slice_index_or disks i None ≡ slice_index_or disks_old i None
 
   -- in the turn of the one at a place, when all stood like this: no frame was sent in it, and the first of its puts

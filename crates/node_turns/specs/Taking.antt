@@ -1,21 +1,27 @@
 -- What openings and turns come to, and why they end.
 use Rattle.std.specs.Prelude.{◌≡◌, ℕ, ◌<◌, ◌≤◌, List, length, Option, Some, None, IsSome, slice_index, slice_index_or, true}
+use Rattle.disk_model.specs.Contents.{AddsNoImage}
 use Rattle.disk_model.specs.declared.disk.Disk.{Ghosts}
 use Rattle.outside.specs.Faults.{Rose}
+use Rattle.raft_log.specs.Opening.{FailsToOpen}
 use Rattle.raft_log.specs.Rules.{IsDamagedAt}
 use Rattle.node_turns.specs.Stands.{Works, closure_of, runner_disk}
 use Rattle.node_turns.specs.declared.fault.Fault.{Fault}
 use Rattle.node_turns.specs.declared.fault.Fault.TheVariants.{Link, Disk, Damaged}
 use Rattle.node_turns.specs.declared.runner.Runner.{Runner}
 
--- why a disk was refused, which is there again
+-- why a disk was refused, which is there again, and what it holds then
 abbrev pub HasCause : {D : Type 0} → Ghosts D → D → D → ℕ → Fault → Type 0
 HasCause disk before after id (Link node) = ⊥
-HasCause disk before after id (Disk node) = (node ≡ id) × Rose (disk.faults before) (disk.faults after)
-HasCause disk before after id (Damaged node key) = (node ≡ id) × (disk.tells before ≡ true → IsDamagedAt (disk.contents before).seen key)
+HasCause disk before after id (Disk node) = (node ≡ id) × Rose (disk.faults before) (disk.faults after) ×
+    FailsToOpen disk before after
+HasCause disk before after id (Damaged node key) = (node ≡ id) ×
+    (disk.tells before ≡ true → IsDamagedAt (disk.contents before).seen key) ×
+    (disk.tells before ≡ true → AddsNoImage (disk.contents before) (disk.contents after))
 
 pub record IsRefused {D : Type 0} (disk : Ghosts D) (before after : Option D) (id : ℕ) (fault : Fault) : Type 0 where
   pub later : (old new : D) → before ≡ Some old → after ≡ Some new → disk.faults old ≤ disk.faults new
+  pub tells : (old new : D) → before ≡ Some old → after ≡ Some new → disk.tells new ≡ disk.tells old
   pub cause : (old new : D) → before ≡ Some old → after ≡ Some new → HasCause disk old new id fault
 
 -- the count of faults rose of the link at a place

@@ -1,6 +1,7 @@
 //! One allocator that runs.
 
 ghost use Rattle.std.specs.Prelude.{◌≡◌, ◌<◌, ◌≤◌, ◌+◌, ℕ, List, Option, Some, None, IfOk, IfErr, OnOk, OnErr, IsErr, true};
+ghost use Rattle.disk_model.specs.Contents.{AddsNoImage};
 ghost use Rattle.outside.specs.Faults.{Rose};
 ghost use Rattle.outside.specs.declared.received.RawFrame.{RawFrame};
 ghost use Rattle.outside.specs.declared.received.Received.{Received};
@@ -9,7 +10,7 @@ ghost use Rattle.kv_store.specs.declared.fault.OpenFault.TheVariants.{Fault as D
 ghost use Rattle.program_parts.specs.Draws.{moved, word_at};
 ghost use Rattle.raft_core.specs.StoredPuts.{store_of};
 ghost use Rattle.raft_log.specs.DurableViews.{durable_state};
-ghost use Rattle.raft_log.specs.Opening.{OpensTo};
+ghost use Rattle.raft_log.specs.Opening.{FailsToOpen, OpensTo};
 ghost use Rattle.raft_log.specs.Rules.{IsDamagedAt};
 ghost use Rattle.server_parts.specs.Accepted as accepted;
 ghost use Rattle.server_parts.specs.TimedServer.{opening};
@@ -78,6 +79,12 @@ impl<D: Disk, F: Fn(Kind, u16) -> Option<u64> + Copy> Runner<D, F> {
             D.tells disk ≡ true → IsDamagedAt (D.contents disk).seen key) }
         ensures fault { IfErr result (λ refused. (fault : StoreFault) →
             refused.why ≡ DiskFault fault → Rose (D.faults disk) (D.faults refused.disk)) }
+        // What the refused disk holds.
+        ensures damaged_images { IfErr result (λ refused. (key : ℕ) → refused.why ≡ Damaged key →
+            D.tells disk ≡ true → AddsNoImage (D.contents disk) (D.contents refused.disk)) }
+        ensures failed { IfErr result (λ refused. (fault : StoreFault) →
+            refused.why ≡ DiskFault fault → FailsToOpen D.Disk disk refused.disk) }
+        ensures refused_tells { IfErr result (λ refused. D.tells refused.disk ≡ D.tells disk) }
         ensures refused_later { IfErr result (λ refused. D.faults disk ≤ D.faults refused.disk) }
     {
         let mut draws = Draws::new(u64::from(id));

@@ -35,6 +35,7 @@ returns-in-Err g c =
             id_is = of_refused g.D.Disk old.0 new.0 _ c.in-Err.fault (why.refused.cause old.0 new.0 old.1 new.1);
             untouched = refl;
             opened = opened.opened;
+            refused = why.refused;
             behind = opened.behind;
           });
       tells = tt;

@@ -33,4 +33,4 @@ returns-in-Err-clause-refused g c = λ fault is.
     let refused = c.in-Err.refused in
     let why : fault ≡ c.refusal.result = cc (is) in
     is_refused g.D.Disk c.args.id c.in-Some.disk refused.disk c.args.place.now fault refused.why c.in-Some.ensures.value (why ∙ c.refusal.ensures)
-    c.in-Err.ensures.refused_later c.in-Err.ensures.damaged c.in-Err.ensures.fault
+    c.in-Err.ensures.refused_later c.in-Err.ensures.refused_tells c.in-Err.ensures.damaged c.in-Err.ensures.damaged_images c.in-Err.ensures.fault c.in-Err.ensures.failed
