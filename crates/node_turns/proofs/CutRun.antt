@@ -15,11 +15,12 @@ use Rattle.raft_log.specs.Rules.{AlwaysStandsForState, StandsForState}
 use Rattle.raft_log.specs.Stored.{AfterSome, Stored, after_puts, opening_puts}
 use Rattle.alloc_server.specs.Server.{durable_of, fault_of}
 use Rattle.node_turns.specs.Cut.{IsCut, IsCutOpening, IsCutTurning}
-use Rattle.node_turns.specs.CutRun.{EndsAt, HoldsOpeningInPart, HoldsStoreInPart, IsCutInOpening, IsCutInTurns, IsCutRun}
+use Rattle.node_turns.specs.CutRun.{EndsAt, HoldsOpeningInPart, HoldsStoreInPart, IsCutInOpening, IsCutInTurns, IsCutRun, IsLeftDamaged}
 use Rattle.node_turns.specs.Ends.{fault_id}
 use Rattle.node_turns.specs.Opening.{Given, opened}
 use Rattle.node_turns.specs.Puts.{turn_puts}
 use Rattle.node_turns.specs.Run.{AreStopped}
+use Rattle.node_turns.specs.Stands.{AreOpened}
 use Rattle.node_turns.specs.Taking.{HasCause}
 use Rattle.node_turns.specs.Turns.{Together, all_turns, first_turns, turning_at}
 use Rattle.node_turns.specs.WholeRun.{HoldsStore, Tell, TellsState}
@@ -67,6 +68,43 @@ module _ {D : Type 0} (disk : Ghosts D) (one_state : (image : List ℕ) (a b : S
   after_refused (Disk node) why = after_failed why.2
   after_refused (Damaged node key) why = record { tells = same ∙ held.tells; stands = inl (why.2 held.tells) }
 
+module _ {D F : Type 0} {disk : Ghosts D}
+    (durable : (store : Durable D disk) → durable_fault store ≡ None → disk.tells (durable_disk store) ≡ true →
+    AlwaysStandsForState (disk.contents (durable_disk store)) (durable_state store))
+    (one_state : (image : List ℕ) (a b : Stored) → StandsForState image a → StandsForState image b → a ≡ b)
+    (reads_same : (state : Stored) (count : ℕ) → IsReadAs (after_puts (take count (opening_puts state)) state) state)
+    (ids : List ℕ) (runners : List (Runner D F disk)) (disks_old disks last : List (Option D)) (stopped : AreStopped runners disks last) where
+  -- the disk of one that was opened
+  opened_holds : AreOpened runners disks_old ids → (i : ℕ) (before after : D) (state : Stored) → i < length runners →
+      slice_index_or disks_old i None ≡ Some before → slice_index_or last i None ≡ Some after → TellsState disk before state →
+      HoldsStore disk after (store_of state)
+  opened_holds are i before after state low was is held =
+      let some = an_item runners i low in
+      let runner = slice_index_or runners i some in
+      let one = are i some low in
+      let told = one.tells before was ∙ held.tells in
+      subst (λ d. HoldsStore disk d (store_of state)) (some_same (sym (stopped.stopped i some low) ∙ is)) (record {
+        tells = told;
+        state = durable_state (durable_of runner.server);
+        stands = durable (durable_of runner.server) (runner.server.kept ∙ none_is (fault_of runner.server) one.works) told;
+        store_is = opened_store one_state reads_same before (durable_of runner.server) state (one.opens before was) held;
+      })
+
+  pub left_damaged : {L : Type 0} (sent : L → Option (List RawFrame)) (links_old links : List L) (id key : ℕ) →
+      IsCutOpening sent ids runners links_old links disks_old disks (Damaged id key) → IsLeftDamaged disk ids disks_old last id
+  left_damaged sent links_old links id key cut = record {
+    place = length runners;
+    within = cut.within;
+    id_is = cut.id_is;
+    left = λ before after was is told.
+        let now = sym (stopped.others (length runners) (omega arith)) ∙ is in (
+          cut.refused.tells before after was now ∙ told,
+          (cut.refused.cause before after was now).2 told,
+        );
+    stored_is = opened_holds cut.opened;
+    others = λ i high. stopped.others i (omega (arith, high)) ∙ cut.behind i high;
+  }
+
 module _ {D F L : Type 0} {disk : Ghosts D} (coming : L → Option (List Received)) (sent : L → Option (List RawFrame))
     (durable : (store : Durable D disk) → durable_fault store ≡ None → disk.tells (durable_disk store) ≡ true →
     AlwaysStandsForState (disk.contents (durable_disk store)) (durable_state store))
@@ -81,17 +119,9 @@ module _ {D F L : Type 0} {disk : Ghosts D} (coming : L → Option (List Receive
       let within = cut.within in record {
         sent_is = λ i link low. ap (λ l. sent (slice_index_or l i link)) cut.untouched ∙ tell.sent_is i link (omega (arith, each, low));
         stored_is = λ i after low is.
-            let runner = slice_index_or runners i (an_item runners i low) in
-            let one = cut.opened i (an_item runners i low) low in
             let taken = some_value (slice_index_or disks_old i None) (there i (omega (arith, within, low))) in
-            let held = tell.stored_is i taken.0 taken.1 in
-            let told = one.tells taken.0 taken.1 ∙ held.tells in
-            subst (λ d. HoldsStore disk d (store_of (given.stored i))) (some_same (sym (stopped.stopped i (an_item runners i low) low) ∙ is)) (record {
-              tells = told;
-              state = durable_state (durable_of runner.server);
-              stands = durable (durable_of runner.server) (runner.server.kept ∙ none_is (fault_of runner.server) one.works) told;
-              store_is = opened_store one_state reads_same taken.0 (durable_of runner.server) (given.stored i) (one.opens taken.0 taken.1) held;
-            });
+            opened_holds durable one_state reads_same ids runners disks_old disks last stopped cut.opened i taken.0 after (given.stored i) low taken.1 is
+            (tell.stored_is i taken.0 taken.1);
         part_is = λ before after was is.
             let place = length runners in
             let now = sym (stopped.others place (omega arith)) ∙ is in

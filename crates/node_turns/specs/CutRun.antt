@@ -16,7 +16,7 @@ use Rattle.program_parts.specs.declared.status.Status.TheVariants.{Damaged, Disk
 use Rattle.node_turns.specs.Opening.{Given, opened}
 use Rattle.node_turns.specs.Puts.{turn_puts}
 use Rattle.node_turns.specs.Turns.{Together, all_turns, first_turns, turning_at}
-use Rattle.node_turns.specs.WholeRun.{HoldsStore, after_turns}
+use Rattle.node_turns.specs.WholeRun.{HoldsStore, TellsState, after_turns}
 
 -- the status of a run that ended at this node
 abbrev pub EndsAt : ℕ → Status → Type 0
@@ -83,3 +83,19 @@ pub record IsCutRun {L D : Type 0} (sent : L → Option (List RawFrame)) (disk :
       IsPrefix frames ((after_turns size turns ids given).running i).sent
   pub cut : IsCutInOpening sent disk links disks (length ids) disks_old given place ⊎
       IsCutInTurns sent disk links disks (length ids) (opened size ids given) turns place
+
+-- it ended at the damaged store of the node with this ID: where its disk tells what it holds, a stop leaves no image of
+-- it that it could not leave before; the disks before it, where they stood for a state, hold what they held when they
+-- were handed in, and those behind it are as they were
+pub record IsLeftDamaged {D : Type 0} (disk : Ghosts D) (ids : List ℕ) (disks_old disks : List (Option D))
+    (id : ℕ) : Type 0 where
+  pub place : ℕ
+  pub within : place < length ids
+  pub id_is : slice_index ids place ≡ id
+  pub left : (before after : D) → slice_index_or disks_old place None ≡ Some before →
+      slice_index_or disks place None ≡ Some after → disk.tells before ≡ true →
+      (disk.tells after ≡ true) × AddsNoImage (disk.contents before) (disk.contents after)
+  pub stored_is : (i : ℕ) (before after : D) (state : Stored) → i < place →
+      slice_index_or disks_old i None ≡ Some before → slice_index_or disks i None ≡ Some after →
+      TellsState disk before state → HoldsStore disk after (store_of state)
+  pub others : (i : ℕ) → place < i → slice_index_or disks i None ≡ slice_index_or disks_old i None

@@ -6,8 +6,8 @@ ghost use Rattle.server_parts.specs.Accepted as accepted;
 ghost use Rattle.transfer_rx.specs.Acceptance.{AnswersByRows, first_signature};
 ghost use Rattle.transfer_rx.specs.Memory.{ReceiverFitsInMemory};
 ghost use Rattle.world_parts.specs.Cluster.{AreMembers};
-ghost use Rattle.node_turns.specs.Cut.{IsCut};
-ghost use Rattle.node_turns.specs.CutRun.{EndsAt, IsCutRun};
+ghost use Rattle.node_turns.specs.Cut.{IsCut, IsCutOpening};
+ghost use Rattle.node_turns.specs.CutRun.{EndsAt, IsCutRun, IsLeftDamaged};
 ghost use Rattle.node_turns.specs.Opening.{Given, opened};
 ghost use Rattle.node_turns.specs.Report.{damaged_line, disk_fault_line, link_fault_line, report};
 ghost use Rattle.node_turns.specs.Run.{AreTelling, HasRun};
@@ -77,6 +77,8 @@ pub fn node<K: Sink, L: Link, D: Disk, C: Clock>(
         IsDamagedDisk D.Disk ids.now disks.old id key × (links.new ≡ links.old) }
     ensures damaged_line { (id key : ℕ) → result ≡ Status.Damaged id key →
         Appends (K.written sink.old) (K.written sink.new) (damaged_line id key) }
+    ensures damaged_left { (id key : ℕ) → result ≡ Status.Damaged id key →
+        IsLeftDamaged D.Disk ids.now disks.old disks.new id }
     // Where nothing fails, the first damaged disk ends the run; without one it comes to its end.
     ensures finishes { NoDamagedDisk D.Disk ids.now disks.old →
         NoLinkRose L.faults ids.now links.old links.new →
@@ -162,6 +164,8 @@ fn run_all<F: Fn(Kind, u16) -> Option<u64> + Copy, L: Link, D: Disk, C: Clock>(
         links.old disks.old (C.readings clock.old) given → IsCut L.sent ids.now
         (runners_of runners.new) links.old links.new disks.old disks.new
         (opened size ids.now given) turns fault) }
+    ensures damaged { (id key : ℕ) → result ≡ Err (IsDamaged id key) → IsCutOpening L.sent ids.now
+        (runners_of runners.new) links.old links.new disks.old disks.new (IsDamaged id key) }
     ensures tells { OnOk result ((given : Given) → Tell L.coming L.sent D.Disk links.old disks.old
         (C.readings clock.old) given → AreTelling (runners_of runners.new)) }
 {

@@ -4,7 +4,7 @@ use Rattle.node_turns.specs.Runners.{runners_of}
 use Rattle.node_turns.specs.Status.{IsEndStatus}
 use Rattle.node_turns.specs.WholeRun.{after_turns}
 use Rattle.node_turns.specs.declared.fault.Fault.TheVariants.{Link, Disk, Damaged}
-use Rattle.node_turns.proofs.CutRun.{cut_run, ended_at}
+use Rattle.node_turns.proofs.CutRun.{cut_run, ended_at, left_damaged}
 use Rattle.node_turns.proofs.Ending.{are_back, at_err, by_status}
 use Rattle.node_turns.proofs.Lists.{at_ok}
 use Rattle.node_turns.proofs.Refusing.{by_end, not_whole, one_damaged}
@@ -41,6 +41,13 @@ returns-clause-disk_line g c = λ id is. (c.finish.ensures.disk id is).1
 
 pub returns-clause-damaged_line : goal.returns-clause-damaged_line
 returns-clause-damaged_line g c = λ id key is. (c.finish.ensures.damaged id key is).1
+
+pub returns-clause-damaged_left : goal.returns-clause-damaged_left
+returns-clause-damaged_left g c = λ id key is.
+    let ended = c.run_all-ended in
+    left_damaged c.a_state_is_durable.ensures c.an_image_stands_for_one_state.ensures.state c.an_opening_goes_on.ensures.same c.args.ids.now
+    (runners_of ended.new.runners) c.args.disks.now ended.new.disks c.stop.new.disks c.stop.ensures.stopped g.L.Link.sent c.args.links.now ended.new.links id key
+    (ended.ensures.damaged id key (c.finish.ensures.damaged id key is).0)
 
 pub returns-clause-done : goal.returns-clause-done
 returns-clause-done g c = λ given tell is.

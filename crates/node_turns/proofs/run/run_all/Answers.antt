@@ -1,12 +1,15 @@
 use Rattle.std.proofs.Common.{◌<◌, length, refl, inl, inr, ◌∙◌, subst, arith}
-use Rattle.std.specs.Prelude.{None, slice_index_or}
+use Rattle.std.specs.Prelude.{None, Err, slice_index_or}
+use Rattle.node_turns.specs.Cut.{IsCutOpening}
 use Rattle.node_turns.specs.Opening.{Given, opened as opened_of}
 use Rattle.node_turns.specs.Runners.{runners_of}
 use Rattle.node_turns.specs.Stands.{Stand}
 use Rattle.node_turns.specs.Turns.{all_turns}
 use Rattle.node_turns.specs.WholeRun.{Tell}
+use Rattle.node_turns.specs.declared.fault.Fault.{Fault}
+use Rattle.node_turns.specs.declared.fault.Fault.TheVariants.{Damaged}
 use Rattle.node_turns.proofs.Cut.{of_refused}
-use Rattle.node_turns.proofs.Ending.{are_whole, if_err, past, refused_ends, some_value, turn_ends}
+use Rattle.node_turns.proofs.Ending.{are_whole, at_err, if_err, past, refused_ends, some_value, turn_ends}
 use Rattle.node_turns.proofs.Lists.{on_ok, on_ok_always}
 use Rattle.node_turns.proofs.WholeRun.{all_opened, all_telling}
 use Rattle.node_turns.proofs.run.run_all.Goals as goal
@@ -17,6 +20,18 @@ returns-in-Err g c =
     let why = opened.refused c.in-Err.fault refl in
     let within = why.within in
     let present = c.requires.present _ within in
+    let old = some_value (slice_index_or c.args.disks.now (length (runners_of c.open_all.new.self)) None) present in
+    let new = some_value (slice_index_or c.open_all.new.disks (length (runners_of c.open_all.new.self)) None) why.there in
+    let Cuts = λ (fault : Fault).
+    IsCutOpening g.L.Link.sent c.args.ids.now (runners_of c.open_all.new.self) c.args.links.now c.args.links.now c.args.disks.now c.open_all.new.disks fault in
+    let cut : Cuts c.in-Err.fault = record {
+      within = within;
+      id_is = of_refused g.D.Disk old.0 new.0 _ c.in-Err.fault (why.refused.cause old.0 new.0 old.1 new.1);
+      untouched = refl;
+      opened = opened.opened;
+      refused = why.refused;
+      behind = opened.behind;
+    } in
     record {
       run = record {
         count = opened.count;
@@ -27,17 +42,8 @@ returns-in-Err g c =
       };
       all = tt;
       stands = tt;
-      cut = λ given tell.
-          let old = some_value (slice_index_or c.args.disks.now (length (runners_of c.open_all.new.self)) None) present in
-          let new = some_value (slice_index_or c.open_all.new.disks (length (runners_of c.open_all.new.self)) None) why.there in
-          inl (record {
-            within = within;
-            id_is = of_refused g.D.Disk old.0 new.0 _ c.in-Err.fault (why.refused.cause old.0 new.0 old.1 new.1);
-            untouched = refl;
-            opened = opened.opened;
-            refused = why.refused;
-            behind = opened.behind;
-          });
+      cut = λ given tell. inl cut;
+      damaged = λ id key is. at_err Cuts (Err c.in-Err.fault) (Damaged id key) cut is;
       tells = tt;
     }
 
@@ -78,5 +84,6 @@ returns-in-Ok g c =
         telling = telling given tell;
         cut = goes (opened_of c.args.size c.args.ids.now given) (stand given tell);
       })) turned.cut;
+      damaged = λ id key is. absurd (at_err _ c.take_turns.result (Damaged id key) turned.failed is);
       tells = on_ok_always c.take_turns.result telling;
     }
