@@ -3,29 +3,18 @@ use Rattle.std.proofs.Common.{◌≡◌, ◌≢◌, ℕ, ◌+◌, ◌-◌, ◌*�
 use Rattle.std.specs.Prelude.{IfSome, Option, None, Some}
 use Rattle.std.specs.Int.{to_le_bytes, w64}
 use Rattle.std.proofs.lemmas.Bool.{ne_eqb}
-use Rattle.std.proofs.lemmas.Bool.Decides.{eqb_tells, leb_tells}
-use Rattle.std.proofs.lemmas.List.{drop-take, get_or-replicate, get_or-set_other, get_or-set_same, get_or_past, length-replicate}
+use Rattle.std.proofs.lemmas.Bool.Decides.{eqb_tells}
+use Rattle.std.proofs.lemmas.List.{drop-take, get_or-set_other, get_or-set_same}
 use Rattle.can_frame.specs.TransferCrc.{crc_of, transfer_crc}
 use Rattle.transfer_rx.specs.declared.key.Key.{Key}
 use Rattle.transfer_rx.specs.declared.progress.Found.{Found}
 use Rattle.transfer_rx.specs.declared.progress.Progress.{Progress}
 use Rattle.transfer_rx.specs.Crcs.{HasCrc, HasOwnCrc, HaveCrcs, HaveCrcsOf, IsUnder}
 use Rattle.transfer_rx.specs.Filled.{Fills, emptied}
-
-abbrev no_progress : Option Progress
-no_progress = None
+use Rattle.transfer_rx.proofs.Places.{nothing_there}
 
 pub none_yet : (S : ℕ) (chains : List (List ℕ)) (signature_of : Key → Option ℕ) → HaveCrcs signature_of (replicate S None) chains
-none_yet S chains signature_of = λ place there e signature is some. elim (leb_tells (1 + place) S) [
-  | inl within ↦
-      let l = within.1 in
-      let none : get_or (replicate S no_progress) place None ≡ None = get_or-replicate S place no_progress None (omega arith) in absurd cc
-  | inr beyond ↦
-      let l = beyond.1 in
-      let none : get_or (replicate S no_progress) place None ≡ None =
-      get_or_past (replicate S no_progress) place None (omega (arith, length-replicate {A = Option Progress} S None)) in
-      absurd cc
-]
+none_yet S chains signature_of = λ place there e signature is some. let none = nothing_there S place in absurd cc
 
 pub nothing_taken : (signature_of : Key → Option ℕ) (p : Progress) (chain : List ℕ) → p.taken ≡ 0 → HasOwnCrc signature_of p chain
 nothing_taken signature_of p chain none = λ signature is some. absurd (omega arith)

@@ -1,4 +1,5 @@
 pub mod Acceptance
+pub mod Ages
 pub mod Arrangement
 pub mod Assembly
 pub mod Blocks
@@ -15,6 +16,7 @@ pub mod Found
 pub mod InTurn
 pub mod Lengths
 pub mod Marks
+pub mod OpenEnds
 pub mod Origin
 pub mod Places
 pub mod Pointwise

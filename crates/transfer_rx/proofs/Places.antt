@@ -3,8 +3,8 @@ use Rattle.std.proofs.Common.{◌≡◌, ℕ, ◌-◌, ◌≢◌, ◌≤◌, ◌
 use Rattle.std.specs.Prelude.{IfSome}
 use Rattle.std.proofs.lemmas.Bool.{cases_Bool, le-leb, lt-leb}
 use Rattle.std.proofs.Math.ListN.{get_or-map}
-use Rattle.std.proofs.lemmas.List.{length-map, length-set, get_or-set_same, get_or-set_other, get_or-replicate, length-replicate}
-use Rattle.std.proofs.lemmas.Bool.Decides.{eqb_tells}
+use Rattle.std.proofs.lemmas.List.{length-map, length-set, get_or-set_same, get_or-set_other, get_or-replicate, get_or_past, length-replicate}
+use Rattle.std.proofs.lemmas.Bool.Decides.{eqb_tells, leb_tells}
 use Rattle.transfer_rx.specs.declared.progress.Progress.{Progress}
 use Rattle.transfer_rx.specs.Sessions.{Session, is_recent}
 use Rattle.transfer_rx.specs.Progress.{IsProgressOf, IsProgressAt}
@@ -13,7 +13,7 @@ use Rattle.transfer_rx.specs.Places.{Places, KeepPlaces, kept, left}
 pub left-by_place : (now : ℕ) (places : Places) (i : ℕ) → get_or (left now places) i None ≡ kept now (get_or places i None)
 left-by_place now places i = get_or-map (kept now) places i None
 
-kept_recent : (now : ℕ) (session : Session) (moment : ℕ) → moment ≡ session.moment → now - moment ≤ 2000 →
+pub kept_recent : (now : ℕ) (session : Session) (moment : ℕ) → moment ≡ session.moment → now - moment ≤ 2000 →
     kept now (Some session) ≡ Some session
 kept_recent now session moment e h =
     let t : nat_le (now - session.moment) 2000 ≡ true = le-leb _ _ (subst (λ m. now - m ≤ 2000) e h) in rw t refl
@@ -105,18 +105,26 @@ pub left_twice : (now : ℕ) (places : Places) → left now (left now places) �
 left_twice now [] = refl
 left_twice now (o ∷ places) = λ i. kept_twice now o i ∷ left_twice now places i
 
-abbrev no_progress : Option Progress
+abbrev pub no_progress : Option Progress
 no_progress = None
 
 abbrev no_session : Option Session
 no_session = None
+
+pub nothing_there : (places i : ℕ) → get_or (replicate places no_progress) i None ≡ None
+nothing_there places i = elim (leb_tells (1 + i) places) [
+  | inl within ↦ let l = within.1 in get_or-replicate places i no_progress None (omega arith)
+  | inr beyond ↦
+      let l = beyond.1 in
+      get_or_past (replicate places no_progress) i None (omega (arith, length-replicate {A = Option Progress} places None))
+]
 
 pub all_free : (places : ℕ) (bytes : List (List ℕ)) → KeepPlaces (replicate places None) bytes (replicate places None)
 all_free places bytes = record {
   size = length-replicate {A = Option Session} places None ∙ sym (length-replicate {A = Option Progress} places None);
   each = λ place l.
       let lt : place < places = omega (arith, length-replicate {A = Option Progress} places None) in
-      let code : get_or (replicate places no_progress) place None ≡ None = get_or-replicate places place None None lt in
+      let code = nothing_there places place in
       let there : get_or (replicate places no_session) place None ≡ None = get_or-replicate places place None None lt in
       rw (code, there) tt;
 }

@@ -1,4 +1,5 @@
 pub mod Acceptance
+pub mod Ages
 pub mod Chains
 pub mod Crcs
 pub mod Filled

@@ -28,6 +28,7 @@ impl<const S: usize, const N: usize> Sessions<S, N> {
             HaveCrcs signature_of self.old.progress self.old.pool →
             HaveCrcs signature_of self.new.progress self.new.pool }
     {
+        self.oldest = self.oldest.min(progress.moment);
         set_place(&mut self.progress, &mut self.pool, place, progress);
     }
 
@@ -61,6 +62,7 @@ impl<const S: usize, const N: usize> Sessions<S, N> {
     {
         let grown = progress.grown(mark, now, signature, more);
         let cut = progress.cut_off(now);
+        self.oldest = self.oldest.min(now);
         add_frame(
             &mut self.progress,
             &mut self.pool,

@@ -11,8 +11,8 @@ ghost use Rattle.transfer_rx.specs.Turns.{GoesOn};
 ghost use Rattle.transfer_rx.specs.Verdicts.{IfPart, says};
 ghost use Rattle.transfer_rx.specs.declared.verdict.TheConstants.{LONGEST};
 
+use crate::age::unless_old;
 use crate::progress::Found;
-use crate::search::unless_old;
 use crate::sessions::Sessions;
 use crate::standard::FRAME_BYTES;
 use crate::verdict::{
@@ -117,6 +117,9 @@ impl<const S: usize, const N: usize> Sessions<S, N> {
             IsFree N (left now places) result }
     {
         let mut free = self.pool.free();
+        if self.has_none_old(now) {
+            return free;
+        }
         for place in 0..S {
             free += self.old_blocks_at(place, now);
         }

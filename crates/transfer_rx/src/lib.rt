@@ -19,6 +19,7 @@
 #![tactic(auto)]
 
 mod accept;
+mod age;
 mod change;
 mod judge;
 mod key;

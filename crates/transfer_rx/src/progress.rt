@@ -93,6 +93,7 @@ impl Progress {
     /// At a cut the session waits for the next transfer.
     pub fn cut_off(self, now: u64) -> Progress
         ensures none { result.taken ≡ 0 }
+        ensures moment { result.moment ≡ now }
         ensures keeps { (bytes after : List ℕ) (session : Session) →
             IsProgressOf self bytes session → IsProgressOf result after (cut_off now session) }
     {
@@ -104,6 +105,7 @@ impl Progress {
         requires { expected < 32 }
         ensures key { result.key ≡ self.key }
         ensures none { result.taken ≡ 0 }
+        ensures moment { result.moment ≡ moment }
         ensures keeps { (bytes : List ℕ) →
             IsProgressOf result bytes
             (record {
@@ -131,6 +133,7 @@ impl Progress {
         requires seven { length more.now ≡ 7 }
         ensures key { result.key ≡ self.key }
         ensures taken { result.taken ≡ self.taken + 1 }
+        ensures moment { result.moment ≡ now }
         ensures crc { (chain : List ℕ) → length chain ≡ 7 * self.taken →
             HasCrc signature self chain → HasCrc signature result (chain ++ more.now) }
         ensures keeps { (bytes after : List ℕ) (session : Session) (piece : Piece) →

@@ -91,6 +91,9 @@ impl<F: Fn(Kind, u16) -> Option<u64> + Copy, const S: usize, const N: usize> Rec
             delivered (answer (setting_of self.now) sessions (arrival_of frame.now mark now)) }
         ensures ranges { IfSome result IsInRange }
     {
+        if !frame.tail().end {
+            return None;
+        }
         let wanted = match self.wanted(frame) {
             Ok(wanted) => wanted,
             Err(_) => return None,

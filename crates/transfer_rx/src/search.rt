@@ -6,10 +6,10 @@ ghost use Rattle.transfer_rx.specs.Places.{Arranged, IsSearchResult, IsSessionOf
 ghost use Rattle.transfer_rx.specs.Sessions.{Session, session_for, session_of};
 ghost use Rattle.transfer_rx.specs.Progress.{IsProgressAt};
 
+use crate::age::unless_old;
 use crate::key::Key;
 use crate::progress::{Found, Progress};
 use crate::sessions::Sessions;
-use crate::standard::TRANSFER_TIMEOUT;
 use can_frame::{Tail, Why};
 
 impl<const S: usize, const N: usize> Sessions<S, N> {
@@ -129,16 +129,5 @@ fn is_of_key(there: &Option<Progress>, key: Key) -> bool
     match there {
         Some(progress) => progress.key == key,
         None => false,
-    }
-}
-
-pub fn unless_old(progress: Option<Progress>, now: u64) -> Option<Progress>
-    ensures kept { (bytes : List ℕ) (there : Option Session) → IsProgressAt progress bytes there →
-        IsProgressAt result bytes (kept now there) }
-    ensures same { IfSome result (λ p. progress ≡ Some p) }
-{
-    match progress {
-        Some(it) if now.saturating_sub(it.moment) <= TRANSFER_TIMEOUT => Some(it),
-        _ => None,
     }
 }

@@ -1,7 +1,9 @@
 ghost use Rattle.std.specs.Prelude.{◌≡◌, ℕ, ◌<◌, ◌≤◌, ◌+◌, ◌*◌, List, [], length, get_or, set, Some, None, Option};
+ghost use Rattle.std.proofs.Props.{props};
 ghost use Rattle.can_frame.specs.Identifier.{IsIdentifier};
 ghost use Rattle.can_frame.specs.Piece.{piece_of};
 ghost use Rattle.transfer_rx.specs.declared.key.Key.{Key};
+ghost use Rattle.transfer_rx.specs.Ages.{AreSince};
 ghost use Rattle.transfer_rx.specs.Crcs.{HaveCrcs, HaveCrcsOf, IsTurnUnder, IsUnder};
 ghost use Rattle.transfer_rx.specs.Filled.{AreFilled, Fills, HasRoomFor, IsFree};
 ghost use Rattle.transfer_rx.specs.Keys.{key_of};
@@ -18,7 +20,6 @@ ghost use Rattle.transfer_rx.specs.Verdicts.{IfPart, says};
 use crate::accept::Wanted;
 use crate::key::Key;
 use crate::progress::{Found, Progress};
-use crate::search::unless_old;
 use crate::transfer::{Took, Transfer};
 use crate::turn::Turn;
 use crate::verdict::Verdict;
@@ -30,10 +31,14 @@ use can_frame::{Frame, Mark, Why};
 pub struct Sessions<const S: usize, const N: usize> {
     pub progress: [Option<Progress>; S],
     pub pool: BlockPool<N, S>,
+
+    /// No session took its last frame before this moment, in ms.
+    pub oldest: u64,
     pub ghost few: { S ≤ 1024 },
     pub ghost blocks: { N ≤ 1024 },
     pub ghost chains: { length pool ≡ S },
     pub ghost filled: { AreFilled progress pool },
+    pub ghost since: { AreSince oldest progress } by { Prim.hlevel props },
 }
 
 impl<const S: usize, const N: usize> Sessions<S, N> {
@@ -47,6 +52,7 @@ impl<const S: usize, const N: usize> Sessions<S, N> {
         Sessions {
             progress: [None; S],
             pool: BlockPool::new(),
+            oldest: u64::MAX,
         }
     }
 
@@ -182,23 +188,6 @@ impl<const S: usize, const N: usize> Sessions<S, N> {
                 self.put(found.place, found.progress.cut_off(now));
                 Took::Dropped(why)
             }
-        }
-    }
-
-    /// Forgets the sessions that are too old. Their blocks are free again.
-    pub fn forget(&mut self, now: u64)
-        ensures places { (places : Places) → KeepPlaces self.old.progress self.old.pool places →
-            KeepPlaces self.new.progress self.new.pool (left now places) }
-        ensures crcs { (signature_of : Key → Option ℕ) →
-            HaveCrcs signature_of self.old.progress self.old.pool →
-            HaveCrcs signature_of self.new.progress self.new.pool }
-    {
-        for place in 0..S {
-            if self.progress[place].is_none() {
-                continue;
-            }
-            let progress = unless_old(self.progress[place], now);
-            self.keep(place, progress);
         }
     }
 }

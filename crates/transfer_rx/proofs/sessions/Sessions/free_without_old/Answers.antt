@@ -1,6 +1,7 @@
-use Rattle.std.proofs.Common.{◌≡◌, length, sym, ◌∙◌, ap, arith, rules}
+use Rattle.std.proofs.Common.{◌≡◌, length, sym, ◌∙◌, ap, arith, rules, subst}
 use Rattle.std.specs.List.{sum_by}
 use Rattle.std.proofs.lemmas.List.{length-map, take_all}
+use Rattle.transfer_rx.specs.Filled.{IsFree}
 use Rattle.transfer_rx.specs.Places.{blocks_at, kept, left}
 use Rattle.transfer_rx.proofs.Blocks.{more}
 use Rattle.transfer_rx.proofs.Filled.{same_blocks}
@@ -35,3 +36,10 @@ returns-clause-free g c = λ places s.
     let all = ap (sum_by blocks_at) (take_all c.loop-place.place (left c.args.now places) (omega (arith, s.size))) in
     let rest = ap (sum_by blocks_at) (take_all c.loop-place.place places (omega (arith, s.size))) in
     omega (arith, c.loop-place.invariant.old places s)
+
+pub returns-then-has_none_old-clause-free : goal.returns-then-has_none_old-clause-free
+returns-then-has_none_old-clause-free g c = λ places s.
+    let size : length c.args.self.now.progress ≡ g.row.S = search rules in
+    let used = same_blocks c.args.self.now.progress c.args.self.now.pool places s c.args.self.now.filled (c.args.self.now.chains ∙ sym size) in
+    subst (λ there. IsFree g.row.N there c.free-free.result) (sym (c.has_none_old.ensures c.if-has_none_old.true places s))
+    (omega (arith, c.free-free.ensures.free))

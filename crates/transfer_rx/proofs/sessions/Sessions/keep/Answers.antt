@@ -1,4 +1,5 @@
 use Rattle.std.proofs.Common.{◌≡◌, [], None, get_or, length, ◌∙◌, arith, rules}
+use Rattle.transfer_rx.proofs.Ages.{kept_since, set_since}
 use Rattle.transfer_rx.proofs.Filled.{kept_length, same_place, set_filled}
 use Rattle.transfer_rx.proofs.sessions.Sessions.keep.Goals as goal
 
@@ -16,6 +17,11 @@ invariant_of-self g c =
           (kept_length c.args.progress (get_or c.args.self.now.pool c.args.place []) (get_or c.keep_at.new.pool c.args.place [])
           (get_or c.args.self.now.progress c.args.place None) (c.args.self.now.filled c.args.place (omega (arith, c.requires.place))) c.requires.same
           (same_place c.args.progress c.keep_at.new.pool c.args.self.now.pool c.args.place c.keep_at.ensures.same) c.keep_at.ensures.empty));
+      since =
+          rw c.keep_at.ensures.kept
+          (set_since c.args.self.now.oldest c.args.self.now.progress c.args.place c.args.progress (omega (arith, c.requires.place)) c.args.self.now.since
+          (kept_since c.args.self.now.oldest c.args.progress (get_or c.args.self.now.progress c.args.place None) c.requires.same
+          (c.args.self.now.since c.args.place)));
     }
 
 pub returns-clause-kept : goal.returns-clause-kept

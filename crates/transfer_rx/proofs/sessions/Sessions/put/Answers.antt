@@ -1,5 +1,6 @@
 use Rattle.std.proofs.Common.{◌≡◌, length, Some, ◌∙◌, ap, arith, rules}
 use Rattle.transfer_rx.specs.Filled.{emptied}
+use Rattle.transfer_rx.proofs.Ages.{earlier, set_since}
 use Rattle.transfer_rx.proofs.Crcs.{emptied_own, set_crcs}
 use Rattle.transfer_rx.proofs.Filled.{emptied_keeps, emptied_other, exact, length-emptied, set_filled}
 use Rattle.transfer_rx.proofs.Places.{set_stands}
@@ -18,6 +19,10 @@ invariant_of-self g c =
           (set_filled c.args.self.now.progress pool (emptied c.args.progress.taken c.args.place pool) c.args.place (Some c.args.progress) c.args.self.now.filled
           (omega arith) (emptied_other c.args.progress.taken c.args.place pool)
           (exact c.args.progress c.args.place pool (omega (arith, c.args.self.now.chains)) c.requires.filled));
+      since =
+          rw c.set_place.ensures.kept
+          (set_since c.min-self.result c.args.self.now.progress c.args.place (Some c.args.progress) (omega arith)
+          (earlier c.args.self.now.oldest c.min-self.result c.args.self.now.progress (omega arith) c.args.self.now.since) (omega arith));
     }
 
 pub returns-clause-session : goal.returns-clause-session

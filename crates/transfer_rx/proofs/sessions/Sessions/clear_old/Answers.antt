@@ -3,7 +3,7 @@ use Rattle.std.proofs.lemmas.List.{get_or-set_other, get_or_default, length-set}
 use Rattle.transfer_rx.specs.Progress.{IsProgressAt}
 use Rattle.transfer_rx.proofs.Crcs.{kept_crcs, same_there}
 use Rattle.transfer_rx.proofs.Places.{all_left, one_more_kept}
-use Rattle.transfer_rx.proofs.sessions.Sessions.forget.Goals as goal
+use Rattle.transfer_rx.proofs.sessions.Sessions.clear_old.Goals as goal
 
 pub loop-place-preserved : goal.loop-place-preserved
 loop-place-preserved g c =

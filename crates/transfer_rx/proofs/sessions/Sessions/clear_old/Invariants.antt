@@ -3,7 +3,7 @@ use Rattle.transfer_rx.specs.declared.key.Key.{Key}
 use Rattle.transfer_rx.specs.Crcs.{HaveCrcs}
 use Rattle.transfer_rx.specs.Places.{Places, KeepPlaces, kept}
 use Rattle.transfer_rx.specs.Progress.{IsProgressAt}
-use Rattle.transfer_rx.proofs.sessions.Sessions.forget.Given as goal
+use Rattle.transfer_rx.proofs.sessions.Sessions.clear_old.Given as goal
 
 -- the places before this one are done, the others are as they were
 abbrev pub invariant-loop-place : goal.invariant-loop-place
