@@ -1,4 +1,5 @@
 pub mod Cutting
+pub mod Frames
 pub mod Logs
 pub mod Long
 pub mod Numbers

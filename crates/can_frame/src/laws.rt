@@ -3,6 +3,7 @@
 
 ghost use Rattle.std.specs.Prelude.{◌≡◌, ◌≢◌, ◌⊎◌, ◌↔◌, ◌*◌, ◌/◌, ◌<◌, ◌≤◌, ◌^◌, ℕ, suc, true, false, Some, List, [], ◌∷◌, ◌++◌, length, sum, take, drop, get_or, slice_index_or};
 ghost use Rattle.can_frame.specs.declared.entry.Entry.{Entry};
+ghost use Rattle.can_frame.specs.declared.frame.Frame.{Frame};
 ghost use Rattle.can_frame.specs.declared.identifier.Ident.{Ident};
 ghost use Rattle.can_frame.specs.declared.tail.Tail.{Tail};
 ghost use Rattle.can_frame.specs.Identifier.{Spells, IsIdentifier, identifier_number, identifier_of};
@@ -27,6 +28,11 @@ pub fn identifiers_both_ways()
 pub fn tails_both_ways()
     ensures read_again { (tail : Tail) → tail.id < 32 → tail_of (tail_byte tail) ≡ tail }
     ensures written_again { (byte : ℕ) → byte < 256 → tail_byte (tail_of byte) ≡ byte }
+{}
+
+/// A frame is its identifier and its bytes: what it keeps beside them are facts.
+pub fn frames_are_their_parts()
+    ensures { (a b : Frame) → a.id ≡ b.id → a.bytes.items ≡ b.bytes.items → a ≡ b }
 {}
 
 /// Each frame of a cutting: seven bytes from seven times its place on, but for the last, which has
