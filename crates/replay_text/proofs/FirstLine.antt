@@ -6,8 +6,6 @@ use Rattle.std.proofs.lemmas.List.Elements.{All-head, All-tail}
 use Rattle.replay_text.specs.declared.row.Row.{Row}
 use Rattle.replay_text.specs.Lines.{BeginsWith, NoRowBegins, ReadsRows, after_line, first_line}
 use Rattle.replay_text.specs.Schedule.{Reads}
-use Rattle.replay_text.specs.Words.{words}
-use Rattle.replay_text.proofs.OneRow.{one_row}
 use Rattle.replay_text.proofs.Spelled.{no_line_feed, short_line}
 
 abbrev IsOneLine : List ℕ → Type 0
@@ -66,21 +64,25 @@ ReadsRows-append (row ∷ a) b bytes middle rest first second =
 pub NoRowBegins-nil : NoRowBegins []
 NoRowBegins-nil row rest begun = let ended = begun.ended in cc
 
+-- of `a_line_has_one_row`
+abbrev ALineHasOneRow : Type 0
+ALineHasOneRow = (a b : Row) (line : List ℕ) → Reads a line → Reads b line → a ≡ b
+
 -- what a row leaves is determined
-one_step : (a b : Row) (bytes next after : List ℕ) → BeginsWith a bytes next → BeginsWith b bytes after → (a ≡ b) × (next ≡ after)
-one_step a b bytes next after first second =
+one_step : ALineHasOneRow → (a b : Row) (bytes next after : List ℕ) → BeginsWith a bytes next → BeginsWith b bytes after → (a ≡ b) × (next ≡ after)
+one_step one_row a b bytes next after first second =
     let x = first.ended in
     let y = second.ended in
-    (one_row a b (words (first_line bytes)) first.reads second.reads, cc)
+    (one_row a b (first_line bytes) first.reads second.reads, cc)
 
-pub ReadsRows-one_way : (a b : List Row) (bytes rest other : List ℕ) → ReadsRows a bytes rest → ReadsRows b bytes other
+pub ReadsRows-one_way : ALineHasOneRow → (a b : List Row) (bytes rest other : List ℕ) → ReadsRows a bytes rest → ReadsRows b bytes other
     → NoRowBegins rest → NoRowBegins other → (a ≡ b) × (rest ≡ other)
-ReadsRows-one_way [] [] bytes rest other first second none stops = (refl, sym first ∙ second)
-ReadsRows-one_way [] (row ∷ b) bytes rest other first second none stops = absurd (none row second.0 (rw (← first) second.1))
-ReadsRows-one_way (row ∷ a) [] bytes rest other first second none stops = absurd (stops row first.0 (rw (← second) first.1))
-ReadsRows-one_way (row ∷ a) (row' ∷ b) bytes rest other first second none stops =
-    let step = one_step row row' bytes first.0 second.0 first.1 second.1 in
-    let more = ReadsRows-one_way a b first.0 rest other first.2 (rw step.1 second.2) none stops in
+ReadsRows-one_way one_row [] [] bytes rest other first second none stops = (refl, sym first ∙ second)
+ReadsRows-one_way one_row [] (row ∷ b) bytes rest other first second none stops = absurd (none row second.0 (rw (← first) second.1))
+ReadsRows-one_way one_row (row ∷ a) [] bytes rest other first second none stops = absurd (stops row first.0 (rw (← second) first.1))
+ReadsRows-one_way one_row (row ∷ a) (row' ∷ b) bytes rest other first second none stops =
+    let step = one_step one_row row row' bytes first.0 second.0 first.1 second.1 in
+    let more = ReadsRows-one_way one_row a b first.0 rest other first.2 (rw step.1 second.2) none stops in
     let same = step.0 in
     let rows = more.0 in
     (cc, more.1)

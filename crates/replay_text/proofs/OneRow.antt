@@ -13,7 +13,6 @@ use Rattle.replay_text.specs.declared.row.Row.{Row}
 use Rattle.replay_text.specs.declared.row.Row.TheVariants.{Open, Tick, Rx, Send, Ext, Crash, Fault}
 use Rattle.replay_text.specs.Schedule.{ReadsWords, Spells, SpellsPattern}
 use Rattle.replay_text.specs.Words.{IsHex, identifier_bytes}
-use Rattle.replay_text.proofs.Frames.{same_frame}
 use Rattle.replay_text.proofs.Numbers.{length-decoded}
 
 one_number : (m n : ℕ) → m < 2 ^ 64 → n < 2 ^ 64 → decimal m ≡ decimal n → m ≡ n
@@ -27,9 +26,13 @@ one_identifier : (m n : ℕ) → m < 2 ^ 32 → n < 2 ^ 32 → identifier_bytes 
 one_identifier m n small less same =
     sym (from_be_bytes-to_be_bytes_4 m small) ∙ ap (from_be_bytes w32) same ∙ from_be_bytes-to_be_bytes_4 n less
 
-one_frame : (a b : Frame) (id bytes : List ℕ) → IsHex (identifier_bytes a.id) id → IsHex (identifier_bytes b.id) id
+-- of `frames_are_their_parts`
+abbrev pub FramesAreTheirParts : Type 0
+FramesAreTheirParts = (a b : Frame) → a.id ≡ b.id → a.bytes.items ≡ b.bytes.items → a ≡ b
+
+one_frame : FramesAreTheirParts → (a b : Frame) (id bytes : List ℕ) → IsHex (identifier_bytes a.id) id → IsHex (identifier_bytes b.id) id
     → IsHex a.bytes.items bytes → IsHex b.bytes.items bytes → a ≡ b
-one_frame a b id bytes x y v w =
+one_frame same_frame a b id bytes x y v w =
     let narrow = a.narrow in
     let less = b.narrow in
     same_frame a b (one_identifier a.id b.id (omega arith) (omega arith) (one_list _ _ id x y)) (one_list _ _ bytes v w)
@@ -81,36 +84,36 @@ one_name a b line x y =
     let second = (name_first b line y).1 in
     cc
 
-pub one_row : (a b : Row) (line : List (List ℕ)) → ReadsWords a line → ReadsWords b line → a ≡ b
-one_row (Open n ms word) (Open n' ms' word') line x y =
+pub one_row : FramesAreTheirParts → (a b : Row) (line : List (List ℕ)) → ReadsWords a line → ReadsWords b line → a ≡ b
+one_row same_frame (Open n ms word) (Open n' ms' word') line x y =
     let same = sym x.spelled ∙ y.spelled in
     let e : n ≡ n' = one_number n n' (omega (arith, x.fields)) (omega (arith, y.fields)) (cc same) in
     let f : ms ≡ ms' = one_number ms ms' (omega (arith, x.fields)) (omega (arith, y.fields)) (cc same) in
     let g : word ≡ word' = one_number word word' (omega (arith, x.fields)) (omega (arith, y.fields)) (cc same) in
     cc
-one_row (Tick n ms word) (Tick n' ms' word') line x y =
+one_row same_frame (Tick n ms word) (Tick n' ms' word') line x y =
     let same = sym x.spelled ∙ y.spelled in
     let e : n ≡ n' = one_number n n' (omega (arith, x.fields)) (omega (arith, y.fields)) (cc same) in
     let f : ms ≡ ms' = one_number ms ms' (omega (arith, x.fields)) (omega (arith, y.fields)) (cc same) in
     let g : word ≡ word' = one_number word word' (omega (arith, x.fields)) (omega (arith, y.fields)) (cc same) in
     cc
-one_row (Rx n k ms) (Rx n' k' ms') line x y =
+one_row same_frame (Rx n k ms) (Rx n' k' ms') line x y =
     let same = sym x.spelled ∙ y.spelled in
     let e : n ≡ n' = one_number n n' (omega (arith, x.fields)) (omega (arith, y.fields)) (cc same) in
     let f : k ≡ k' = one_number k k' (omega (arith, x.fields)) (omega (arith, y.fields)) (cc same) in
     let g : ms ≡ ms' = one_number ms ms' (omega (arith, x.fields)) (omega (arith, y.fields)) (cc same) in
     cc
-one_row (Send n) (Send n') line x y =
+one_row same_frame (Send n) (Send n') line x y =
     let same = sym x.spelled ∙ y.spelled in
     ap Send (one_number n n' (omega (arith, x.fields)) (omega (arith, y.fields)) (cc same))
-one_row (Ext frame) (Ext frame') line x y =
+one_row same_frame (Ext frame) (Ext frame') line x y =
     let p = x.spelled in
     let q = y.spelled in
     let same = sym p.2 ∙ q.2 in
     let id : p.0 ≡ q.0 = cc same in
     let bytes : p.1 ≡ q.1 = cc same in
-    ap Ext (one_frame frame frame' p.0 p.1 p.3 (rw id q.3) p.4 (rw bytes q.4))
-one_row (Crash n calls pattern) (Crash n' calls' pattern') line x y =
+    ap Ext (one_frame same_frame frame frame' p.0 p.1 p.3 (rw id q.3) p.4 (rw bytes q.4))
+one_row same_frame (Crash n calls pattern) (Crash n' calls' pattern') line x y =
     let p = x.spelled in
     let q = y.spelled in
     let same = sym p.1 ∙ q.1 in
@@ -119,9 +122,9 @@ one_row (Crash n calls pattern) (Crash n' calls' pattern') line x y =
     let word : p.0 ≡ q.0 = cc same in
     let g : pattern ≡ pattern' = one_pattern pattern pattern' p.0 p.2 (rw word q.2) in
     cc
-one_row (Fault n call) (Fault n' call') line x y =
+one_row same_frame (Fault n call) (Fault n' call') line x y =
     let same = sym x.spelled ∙ y.spelled in
     let e : n ≡ n' = one_number n n' (omega (arith, x.fields)) (omega (arith, y.fields)) (cc same) in
     let f : call ≡ call' = one_number call call' (omega (arith, x.fields)) (omega (arith, y.fields)) (cc same) in
     cc
-one_row a b line x y = let letter = ap first_letter (one_name a b line x.spelled y.spelled) in absurd (omega arith)
+one_row same_frame a b line x y = let letter = ap first_letter (one_name a b line x.spelled y.spelled) in absurd (omega arith)

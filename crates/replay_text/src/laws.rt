@@ -5,10 +5,14 @@ ghost use Rattle.replay_text.specs.declared.row.Row.{Row};
 ghost use Rattle.replay_text.specs.Schedule.{IsRow, Reads, row_text};
 ghost use Rattle.replay_text.specs.Lines.{BeginsWith, NoRowBegins, ReadsRows};
 
+use can_frame::laws::frames_are_their_parts;
+
 /// A line reads as at most one row.
 pub fn a_line_has_one_row()
     ensures { (a b : Row) (line : List ℕ) → Reads a line → Reads b line → a ≡ b }
-{}
+{
+    frames_are_their_parts();
+}
 
 /// The text of a row reads as that row.
 pub fn a_row_is_read_again()
@@ -48,4 +52,6 @@ pub fn rows_are_read_in_one_way()
         ReadsRows b bytes other
         → NoRowBegins rest → NoRowBegins other → (a ≡ b) × (rest ≡ other) }
     ensures at_the_end { NoRowBegins [] }
-{}
+{
+    a_line_has_one_row();
+}

@@ -13,6 +13,7 @@ use crate::word::{
     two_words,
 };
 use can_frame::Frame;
+use can_frame::laws::frames_are_their_parts;
 use outside::Pattern;
 
 /// The last moment, in milliseconds.
@@ -111,6 +112,7 @@ fn read_frame(id: &[u8], bytes: &[u8]) -> Option<Frame>
     ensures only { (frame : FrameValue) → IsHex (identifier_bytes frame.id) id.now →
         IsHex frame.bytes.items bytes.now → result ≡ Some frame }
 {
+    frames_are_their_parts();
     let id = read_identifier(id)?;
     let bytes = read_bytes::<8>(bytes)?;
     match Frame::from_parts(id, &bytes) {

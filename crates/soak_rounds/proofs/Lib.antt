@@ -1,6 +1,6 @@
 pub mod Counting
 pub mod Faultless
-pub mod Frames
+pub mod Requests
 pub mod Growing
 pub mod Leading
 pub mod Members

@@ -3,6 +3,7 @@ ghost use Rattle.soak_rounds.specs.Requests.{frame_of, request};
 
 use arrayvec::ArrayVec;
 use can_frame::Frame;
+use can_frame::laws::frames_are_their_parts;
 
 /// The identifier of a request for a node ID: a message of type 1 from a node without an ID.
 const IDENTIFIER: u32 = 0x1e00_0500;
@@ -22,13 +23,13 @@ pub(crate) fn request(number: u64) -> Frame
 }
 
 /// The frame of these bytes.
-#[tactic(auto, using(crate::proofs::Frames::is_frame_of))]
 fn frame(bytes: &[u8]) -> Frame
     requires filled { 0 < length bytes.now }
     requires short { length bytes.now ≤ 8 }
     ensures { (filled : 0 < length bytes.now) (short : length bytes.now ≤ 8) →
         result ≡ frame_of bytes.now filled short }
 {
+    frames_are_their_parts();
     let mut kept = ArrayVec::new();
     match kept.try_extend_from_slice(bytes) {
         Ok(()) => Frame {

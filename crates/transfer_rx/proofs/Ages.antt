@@ -1,5 +1,5 @@
 -- Sessions of which none is older than a moment.
-use Rattle.std.proofs.Common.{◌≡◌, ℕ, ◌-◌, ◌<◌, ◌≤◌, List, [], length, get_or, set, Option, Some, None, refl, sym, ◌∙◌, subst, arith, inl, inr, replicate}
+use Rattle.std.proofs.Common.{◌≡◌, ℕ, ◌-◌, ◌<◌, ◌≤◌, List, [], length, get_or, set, Option, Some, None, refl, sym, ◌∙◌, subst, arith, inl, inr}
 use Rattle.std.specs.Prelude.{IfSome}
 use Rattle.std.proofs.lemmas.Bool.Decides.{eqb_tells}
 use Rattle.std.proofs.lemmas.List.{ext_get_or, get_or-set_other, get_or-set_same, length-map}
@@ -8,7 +8,7 @@ use Rattle.transfer_rx.specs.Ages.{AreSince, IsSince}
 use Rattle.transfer_rx.specs.Places.{Places, KeepPlaces, kept, left}
 use Rattle.transfer_rx.specs.Progress.{IsProgressAt}
 use Rattle.transfer_rx.specs.Sessions.{Session}
-use Rattle.transfer_rx.proofs.Places.{kept_recent, left-by_place, nothing_there}
+use Rattle.transfer_rx.proofs.Places.{kept_recent, left-by_place}
 
 earlier_there : (moment before : ℕ) (o : Option Progress) → before ≤ moment → IsSince moment o → IsSince before o
 earlier_there moment before None h s = tt
@@ -46,6 +46,3 @@ all_stay now oldest progress bytes places recent s keeps =
     let inside : i < length progress = omega (arith, length-map places (kept now), keeps.size) in
     left-by_place now places i
     ∙ stays now oldest (get_or progress i None) (get_or bytes i []) (get_or places i None) recent (s i) (keeps.each i inside))
-
-pub none_since : (moment places : ℕ) → AreSince moment (replicate places None)
-none_since moment places = λ i. subst (IsSince moment) (sym (nothing_there places i)) tt

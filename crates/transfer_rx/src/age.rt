@@ -1,6 +1,6 @@
 //! Which sessions are too old, and are forgotten.
 
-ghost use Rattle.std.specs.Prelude.{◌≡◌, ℕ, true, List, [], get_or, Some, None, IfSome, Option};
+ghost use Rattle.std.specs.Prelude.{◌≡◌, ◌↔◌, ◌-◌, ◌≤◌, ℕ, true, List, [], get_or, Some, None, IfSome, Option};
 ghost use Rattle.transfer_rx.specs.declared.key.Key.{Key};
 ghost use Rattle.transfer_rx.specs.Ages.{AreSince};
 ghost use Rattle.transfer_rx.specs.Crcs.{HaveCrcs};
@@ -30,7 +30,8 @@ impl<const S: usize, const N: usize> Sessions<S, N> {
 
     /// Whether even the oldest session is not too old.
     pub fn has_none_old(&self, now: u64) -> bool
-        ensures { result ≡ true → (places : Places) →
+        ensures exact { result ≡ true ↔ (now - self.now.oldest ≤ 2000) }
+        ensures places { result ≡ true → (places : Places) →
             KeepPlaces self.now.progress self.now.pool places → left now places ≡ places }
     {
         now.saturating_sub(self.oldest) <= TRANSFER_TIMEOUT

@@ -1,6 +1,6 @@
 use Rattle.std.proofs.Common.{◌≡◌, Some, ap, ◌∙◌, arith, length}
 use Rattle.replay_text.specs.Words.{IsHex}
-use Rattle.replay_text.proofs.Frames.{not_refused, one_value, same_frame}
+use Rattle.replay_text.proofs.Frames.{not_refused, one_value}
 use Rattle.replay_text.proofs.Numbers.{length-decoded}
 use Rattle.replay_text.proofs.schedule.read_frame.Goals as goal
 
@@ -15,7 +15,7 @@ returns-in-Ok-clause-only c = λ frame id_read bytes_read.
     let id = one_value _ _ _ c.in_ok-id.was (c.read_identifier.ensures.only frame.id (omega arith) id_read) in
     let bytes = one_value _ _ _ c.in_ok-bytes.was (c.read_bytes.ensures.only frame.bytes (omega arith) bytes_read) in
     let kept = c.in-Ok.ensures.ok in
-    ap Some (same_frame c.in-Ok.frame frame (kept.0 ∙ id) (kept.1 ∙ c.deref.ensures.0 ∙ ap (λ v. v.items) bytes))
+    ap Some (c.frames_are_their_parts.ensures c.in-Ok.frame frame (kept.0 ∙ id) (kept.1 ∙ c.deref.ensures.0 ∙ ap (λ v. v.items) bytes))
 
 pub returns-in-Err-clause-only : goal.returns-in-Err-clause-only
 returns-in-Err-clause-only c = λ frame id_read bytes_read.

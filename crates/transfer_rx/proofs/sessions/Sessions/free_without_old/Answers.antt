@@ -41,5 +41,5 @@ pub returns-then-has_none_old-clause-free : goal.returns-then-has_none_old-claus
 returns-then-has_none_old-clause-free g c = λ places s.
     let size : length c.args.self.now.progress ≡ g.row.S = search rules in
     let used = same_blocks c.args.self.now.progress c.args.self.now.pool places s c.args.self.now.filled (c.args.self.now.chains ∙ sym size) in
-    subst (λ there. IsFree g.row.N there c.free-free.result) (sym (c.has_none_old.ensures c.if-has_none_old.true places s))
+    subst (λ there. IsFree g.row.N there c.free-free.result) (sym (c.has_none_old.ensures.places c.if-has_none_old.true places s))
     (omega (arith, c.free-free.ensures.free))
