@@ -8,6 +8,9 @@ use Rattle.raft_core.specs.StoredPuts.{DoesPuts, KeepsFaults, Noted}
 -- the puts of a call go on those before it; where one failed, later ones are not made
 pub record PutsGoOn (D : Type 0) (disk : Ghosts D) : Type 0 where
   pub nothing : (durable : Durable D disk) → DoesPuts [] durable durable None
-  pub joined : (xs ys : List Noted) (old mid new : Durable D disk) (failed : Option Fault) → DoesPuts xs old mid None → DoesPuts ys mid new failed → DoesPuts (xs ++ ys) old new failed
-  pub cut_off : (xs ys : List Noted) (old new : Durable D disk) (fault : Fault) → DoesPuts xs old new (Some fault) → DoesPuts (xs ++ ys) old new (Some fault)
-  pub faults : (old mid new : Durable D disk) (failed : Option Fault) → KeepsFaults old mid None → KeepsFaults mid new failed → KeepsFaults old new failed
+  pub joined : (xs ys : List Noted) (old mid new : Durable D disk) (failed : Option Fault) →
+      DoesPuts xs old mid None → DoesPuts ys mid new failed → DoesPuts (xs ++ ys) old new failed
+  pub cut_off : (xs ys : List Noted) (old new : Durable D disk) (fault : Fault) →
+      DoesPuts xs old new (Some fault) → DoesPuts (xs ++ ys) old new (Some fault)
+  pub faults : (old mid new : Durable D disk) (failed : Option Fault) → KeepsFaults old mid None →
+      KeepsFaults mid new failed → KeepsFaults old new failed

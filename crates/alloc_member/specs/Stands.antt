@@ -50,19 +50,22 @@ pub record IsReady {D : Type 0} {disk : Ghosts D} (member : Member D disk) : Typ
   pub fits : Fits member.raft (durable_state member.durable)
 
 -- the member is in a step that has gone so far, from what was stored at its beginning
-pub record IsGoing {D : Type 0} {disk : Ghosts D} (start : Durable D disk) (member : Member D disk) (offered : Offered) (g : Going) : Type 0 where
+pub record IsGoing {D : Type 0} {disk : Ghosts D} (start : Durable D disk) (member : Member D disk)
+    (offered : Offered) (g : Going) : Type 0 where
   pub stands : StandsFor member g.timed
   pub sent : offered.sent.items ≡ sents g
   pub given : offered.answers.items ≡ pairs g
   pub puts : DoesPuts g.puts start member.durable None
 
 -- the step goes on to here, up to the first put that fails
-pub record GoesTo {D : Type 0} {disk : Ghosts D} (start : Durable D disk) (member : Member D disk) (offered : Offered) (g : Going) (failed : Option Fault) : Type 0 where
+pub record GoesTo {D : Type 0} {disk : Ghosts D} (start : Durable D disk) (member : Member D disk)
+    (offered : Offered) (g : Going) (failed : Option Fault) : Type 0 where
   pub puts : DoesPuts g.puts start member.durable failed
   pub going : failed ≡ None → IsGoing start member offered g
 
 -- it goes on to here, and tells what it saw
-pub record SeesTo {D : Type 0} {disk : Ghosts D} (start : Durable D disk) (member : Member D disk) (offered : Offered) (sight : Sight) (result : Result Seen Fault) : Type 0 where
+pub record SeesTo {D : Type 0} {disk : Ghosts D} (start : Durable D disk) (member : Member D disk)
+    (offered : Offered) (sight : Sight) (result : Result Seen Fault) : Type 0 where
   pub goes : GoesTo start member offered sight.going (result_err result)
   pub seen : IfOk result (λ seen. seen ≡ sight.seen)
 
@@ -85,14 +88,17 @@ module _ {D : Type 0} {disk : Ghosts D} (old new : Member D disk) (before after 
 
   -- one whose puts may fail
   abbrev pub GoesUpTo : (Going → Going) → Option Fault → Type 0
-  GoesUpTo part failed = (start : Durable D disk) (g : Going) → IsGoing start old before g → GoesTo start new after (part g) failed
+  GoesUpTo part failed = (start : Durable D disk) (g : Going) → IsGoing start old before g →
+      GoesTo start new after (part g) failed
 
   -- one that sees something: without puts, and with puts that may fail
   abbrev pub SeesOn : (Going → Sight) → Seen → Type 0
-  SeesOn part seen = (start : Durable D disk) (g : Going) → IsGoing start old before g → IsGoing start new after (part g).going × (seen ≡ (part g).seen)
+  SeesOn part seen = (start : Durable D disk) (g : Going) → IsGoing start old before g →
+      IsGoing start new after (part g).going × (seen ≡ (part g).seen)
 
   abbrev pub SeesUpTo : (Going → Sight) → Result Seen Fault → Type 0
-  SeesUpTo part result = (start : Durable D disk) (g : Going) → IsGoing start old before g → SeesTo start new after (part g) result
+  SeesUpTo part result = (start : Durable D disk) (g : Going) → IsGoing start old before g →
+      SeesTo start new after (part g) result
 
 -- at most so many transfers and pairs more are listed, in the same step
 pub record ListsUpTo (sent given : ℕ) (before after : Offered) : Type 0 where

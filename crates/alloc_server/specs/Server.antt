@@ -70,18 +70,25 @@ module _ {D F : Type 0} {disk : Ghosts D} where
 
   -- a stop at any moment of a step that makes these puts leaves the state after some of the first of them
   abbrev pub LeavesSome : Server D F disk → Server D F disk → List Noted → Type 0
-  LeavesSome old new puts = disk.tells (disk_of old) ≡ true → (image : List ℕ) → MayLeave (disk.contents (disk_of new)) image →
-      AfterSome (StandsForState image) (stored_puts puts (durable_state (durable_of old))) (durable_state (durable_of old))
+  LeavesSome old new puts = disk.tells (disk_of old) ≡ true → (image : List ℕ) →
+      MayLeave (disk.contents (disk_of new)) image →
+      AfterSome (StandsForState image) (stored_puts puts (durable_state (durable_of old)))
+      (durable_state (durable_of old))
 
   -- the device calls of these puts were made, up to the first that failed
   abbrev pub MakesCalls : {T : Type 0} → Server D F disk → Server D F disk → List Noted → Result T Fault → Type 0
-  MakesCalls old new puts result = Makes disk.does (device_calls (stored_puts puts (durable_state (durable_of old))) (durable_state (durable_of old)) (durable_copies (durable_of old)))
+  MakesCalls old new puts result = Makes disk.does
+      (device_calls (stored_puts puts (durable_state (durable_of old)))
+      (durable_state (durable_of old)) (durable_copies (durable_of old)))
       (is_ok result) (disk_of old) (disk_of new)
 
   -- a step that finishes has made them: what is stored then, and which copies are chosen
   pub record HasPut (old new : Server D F disk) (puts : List Noted) : Type 0 where
-    pub state : durable_state (durable_of new) ≡ after_puts (stored_puts puts (durable_state (durable_of old))) (durable_state (durable_of old))
-    pub copies : durable_copies (durable_of new) ≡ copies_after (stored_puts puts (durable_state (durable_of old))) (durable_state (durable_of old)) (durable_copies (durable_of old))
+    pub state : durable_state (durable_of new)
+        ≡ after_puts (stored_puts puts (durable_state (durable_of old))) (durable_state (durable_of old))
+    pub copies : durable_copies (durable_of new)
+        ≡ copies_after (stored_puts puts (durable_state (durable_of old)))
+        (durable_state (durable_of old)) (durable_copies (durable_of old))
 
   -- what a step does that is this of the timed server
   pub record StepsTo (old new : Server D F disk) (sight : Sight) (result : Result Outcome Fault) : Type 0 where
@@ -93,10 +100,13 @@ module _ {D F : Type 0} {disk : Ghosts D} where
     pub made : MakesCalls old new sight.going.puts result
     pub put : OnOk result (HasPut old new sight.going.puts)
     -- and all else that the store says of its puts: each that was tried was allowed
-    pub puts : MakesPuts (stored_puts sight.going.puts (durable_state (durable_of old))) (durable_of old) (durable_of new) (is_ok result)
+    pub puts : MakesPuts (stored_puts sight.going.puts (durable_state (durable_of old)))
+        (durable_of old) (durable_of new) (is_ok result)
 
 -- what a step has come to: the member and its receiver, what was listed, what it saw
-pub record ComesTo {D F : Type 0} {disk : Ghosts D} (start : Durable D disk) (t : Timed) (after : Member D disk) (r : Receiver F 160 128) (offered : Offered) (sight : Sight) (result : Result Seen Fault) : Type 0 where
+pub record ComesTo {D F : Type 0} {disk : Ghosts D} (start : Durable D disk) (t : Timed)
+    (after : Member D disk) (r : Receiver F 160 128) (offered : Offered) (sight : Sight)
+    (result : Result Seen Fault) : Type 0 where
   pub sees : member.SeesTo start after offered sight result
   pub sessions : receiver.HasSessions r sight.going.timed.sessions
   pub me : sight.going.timed.me ≡ t.me

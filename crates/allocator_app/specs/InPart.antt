@@ -9,7 +9,8 @@ use Rattle.program_parts.specs.declared.status.Status.{Status}
 
 -- so far: some of the schedule's bytes were read, and all that their rows tell was written; some bytes
 -- behind these rows were read too and wait, and the others are left in the source
-pub record HasRead (first now : Cluster) (bytes waiting : List ℕ) (left sink_before sink_now : Option (List ℕ)) : Type 0 where
+pub record HasRead (first now : Cluster) (bytes waiting : List ℕ)
+    (left sink_before sink_now : Option (List ℕ)) : Type 0 where
   pub ahead : List ℕ
   pub left_is : left ≡ Some ahead
   pub lines : List ℕ
@@ -18,7 +19,8 @@ pub record HasRead (first now : Cluster) (bytes waiting : List ℕ) (left sink_b
 
 -- the source failed: the lines of exactly the rows whose line feeds were read are written. The read was needed: what
 -- waits is no whole line, and at most 120 bytes; where no other row may come, nothing waits
-pub record IsReadInPart (limit : ℕ) (first : Cluster) (bytes : List ℕ) (left sink_before sink_now : Option (List ℕ)) : Type 0 where
+pub record IsReadInPart (limit : ℕ) (first : Cluster) (bytes : List ℕ)
+    (left sink_before sink_now : Option (List ℕ)) : Type 0 where
   pub now : Cluster
   pub waiting : List ℕ
   pub read : HasRead first now bytes waiting left sink_before sink_now
@@ -28,7 +30,8 @@ pub record IsReadInPart (limit : ℕ) (first : Cluster) (bytes : List ℕ) (left
   pub within : now.rows ≤ limit
 
 -- the sink failed: it has a front of the lines of some rows that were taken, or of the whole report
-pub data IsWrittenInPart (limit : ℕ) (first : Cluster) (bytes : List ℕ) (sink_before sink_now : Option (List ℕ)) : Type 0 where
+pub data IsWrittenInPart (limit : ℕ) (first : Cluster) (bytes : List ℕ)
+    (sink_before sink_now : Option (List ℕ)) : Type 0 where
   InRows : (now : Cluster) (lines rest : List ℕ) → Comes first bytes lines now rest → now.rows ≤ limit →
       WritesFront sink_before sink_now lines → IsWrittenInPart limit first bytes sink_before sink_now
   AtTheEnd : (report : List ℕ) (status : Status) → IsReport limit first bytes report status →

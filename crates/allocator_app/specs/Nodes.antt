@@ -9,9 +9,10 @@ use Rattle.allocator_app.specs.declared.plans.Plan.TheVariants.{Replay, Node, So
 use Rattle.program_parts.specs.declared.status.Status.{Status}
 use Rattle.program_parts.specs.declared.status.Status.TheVariants.{Damaged, DiskFault, LinkFault}
 
--- each disk is put back, and a status comes from its cause; with those of a link, a disk or a store one line is written, and
--- with the last nothing came or was sent
-pub record RunsNodes {L D : Type 0} (link_faults : L → ℕ) (disk : Ghosts D) (ids : List ℕ) (links_old links_new : List L)
+-- each disk is put back, and a status comes from its cause; with those of a link, a disk or a store one line is
+-- written, and with the last nothing came or was sent
+pub record RunsNodes {L D : Type 0} (link_faults : L → ℕ) (disk : Ghosts D) (ids : List ℕ)
+    (links_old links_new : List L)
     (disks_old disks_new : List (Option D)) (sink_before sink_now : Option (List ℕ)) (status : Status) : Type 0 where
   pub kinds : IsStatus status
   pub places : length disks_new ≡ length disks_old
@@ -21,12 +22,15 @@ pub record RunsNodes {L D : Type 0} (link_faults : L → ℕ) (disk : Ghosts D) 
   pub disk_fault : (id : ℕ) → status ≡ DiskFault id
       → DiskRose disk.faults ids disks_old disks_new id × Appends sink_before sink_now (disk_fault_line id)
   pub damaged : (id key : ℕ) → status ≡ Damaged id key
-      → IsDamagedDisk disk ids disks_old id key × (links_new ≡ links_old) × Appends sink_before sink_now (damaged_line id key)
+      → IsDamagedDisk disk ids disks_old id key × (links_new ≡ links_old)
+      × Appends sink_before sink_now (damaged_line id key)
 
 -- a plan to run nodes was followed so
-abbrev pub IsRunBy : {L D : Type 0} → (L → ℕ) → Ghosts D → Plan → List L → List L → List (Option D) → List (Option D) → Option (List ℕ)
+abbrev pub IsRunBy : {L D : Type 0} → (L → ℕ) → Ghosts D → Plan → List L → List L → List (Option D) →
+    List (Option D) → Option (List ℕ)
     → Option (List ℕ) → Status → Type 0
 IsRunBy faults disk (Replay rows ids) links_old links_new disks_old disks_new sink_before sink_now status = Unit {0}
 IsRunBy faults disk (Node size base turns ids) links_old links_new disks_old disks_new sink_before sink_now status =
     RunsNodes faults disk ids.items links_old links_new disks_old disks_new sink_before sink_now status
-IsRunBy faults disk (Soak seed rounds size) links_old links_new disks_old disks_new sink_before sink_now status = Unit {0}
+IsRunBy faults disk (Soak seed rounds size) links_old links_new disks_old disks_new sink_before sink_now status =
+    Unit {0}

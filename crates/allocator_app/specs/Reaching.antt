@@ -7,7 +7,8 @@ use Rattle.world_parts.specs.Cluster.{Cluster}
 module _ {F : Type 0} where
   -- for whatever cluster the world stood for, it now stands for one that is reached from it
   abbrev pub Reaches : World F → World F → (Cluster → Cluster → Type 0) → Type 0
-  Reaches before now IsReached = (first : Cluster) → StandsFor before first → (last : Cluster) × StandsFor now last × IsReached first last
+  Reaches before now IsReached = (first : Cluster) → StandsFor before first → (last : Cluster)
+      × StandsFor now last × IsReached first last
 
   -- at most so many rows were taken, and the bus has room for a frame of each of the others
   pub record HasRoom (limit : ℕ) (world : World F) : Type 0 where

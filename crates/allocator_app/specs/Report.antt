@@ -11,7 +11,8 @@ use Rattle.allocator_app.specs.Words.{IsReplay}
 use Rattle.program_parts.specs.declared.status.Status.{Status}
 use Rattle.program_parts.specs.declared.status.Status.TheVariants.{Done, Usage, BadRow, Unlawful as IsUnlawful, Limit, LinkFault, DiskFault, Damaged}
 
--- lawful rows were taken from the front of the bytes, up to a world and the rest of the bytes, and these lines tell of them
+-- lawful rows were taken from the front of the bytes, up to a world and the rest of the bytes, and these lines tell
+-- of them
 pub record Comes (first : Cluster) (bytes lines : List ℕ) (now : Cluster) (rest : List ℕ) : Type 0 where
   pub rows : List Row
   pub reads : ReadsRows rows bytes rest
@@ -26,7 +27,8 @@ pub record Goes (first : Cluster) (bytes lines : List ℕ) (now : Cluster) (rest
 
 -- ---- how a schedule ends behind the rows that were taken
 
--- the next row may still come, and the bytes are none: no line feed ends them, their line is too long, or no row has this line
+-- the next row may still come, and the bytes are none: no line feed ends them, their line is too long, or no row
+-- has this line
 pub record IsBadRow (limit : ℕ) (w : Cluster) (rest : List ℕ) : Type 0 where
   pub within : w.rows < limit
   pub bad : BeginsWithNoRow rest
@@ -57,11 +59,13 @@ limit_line row = codes "limit " ++ decimal row ++ codes "\n"
 
 -- ---- what a run says of a schedule
 
--- all its bytes are rows that were taken; or the rows before the next one were, and the last line tells its number, and why
+-- all its bytes are rows that were taken; or the rows before the next one were, and the last line tells its number,
+-- and why
 abbrev pub Says : ℕ → Cluster → List ℕ → List ℕ → Status → Type 0
 Says limit w rest last Done = (rest ≡ []) × (last ≡ end_lines w)
 Says limit w rest last (BadRow row) = IsBadRow limit w rest × (row ≡ w.rows + 1) × (last ≡ bad_row_line row)
-Says limit w rest last (IsUnlawful row number) = (why : Unlawful) × IsRefused limit w rest why × (row ≡ w.rows + 1) × (number ≡ number_of why)
+Says limit w rest last (IsUnlawful row number) = (why : Unlawful) × IsRefused limit w rest why
+    × (row ≡ w.rows + 1) × (number ≡ number_of why)
     × (last ≡ unlawful_line row number)
 Says limit w rest last (Limit row) = IsBeyond limit w rest × (row ≡ w.rows + 1) × (last ≡ limit_line row)
 Says limit w rest last _ = ⊥

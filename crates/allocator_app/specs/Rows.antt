@@ -20,7 +20,8 @@ use Rattle.allocator_app.specs.declared.rows.Fault.TheVariants.{Source, Sink}
 use Rattle.program_parts.specs.declared.status.Status.{Status}
 use Rattle.program_parts.specs.declared.status.Status.TheVariants.{Done, Usage, BadRow, Unlawful, ReadFault, WriteFault, Memory, Limit, LinkFault, DiskFault, Damaged}
 
--- where the rows that wait end: all were taken but the beginning of a line; or the next one is not taken, whatever comes behind
+-- where the rows that wait end: all were taken but the beginning of a line; or the next one is not taken, whatever
+-- comes behind
 abbrev pub StopsAt : ℕ → Cluster → List ℕ → List ℕ → Rows → Type 0
 StopsAt limit w rest waiting Taken = rest ≡ waiting
 StopsAt limit w rest waiting NoRow = (more : List ℕ) → IsBadRow limit w (rest ++ more)
@@ -28,7 +29,8 @@ StopsAt limit w rest waiting (Refused why) = (more : List ℕ) → IsRefused lim
 StopsAt limit w rest waiting Full = (more : List ℕ) → IsBeyond limit w (rest ++ more)
 
 -- rows were taken of those that wait, and what they tell was written or waits to be
-pub record TakesRows (limit : ℕ) (before now : Cluster) (waiting left : List ℕ) (sink_before : Option (List ℕ)) (output_before : List ℕ)
+pub record TakesRows (limit : ℕ) (before now : Cluster) (waiting left : List ℕ)
+    (sink_before : Option (List ℕ)) (output_before : List ℕ)
     (sink_now : Option (List ℕ)) (output_now : List ℕ) (rows : Rows) : Type 0 where
   pub lines : List ℕ
   pub rest : List ℕ
@@ -45,8 +47,8 @@ pub record BreaksOff (before now : Cluster) (waiting : List ℕ) (sink_before : 
   pub goes : (more : List ℕ) → Goes before (waiting ++ more) lines now (rest ++ more)
   pub written : WritesFront sink_before sink_now (output_before ++ lines)
 
--- where all rows were taken, less than a line waits, and only where another row may come; there was a row, or the same waits
--- as before
+-- where all rows were taken, less than a line waits, and only where another row may come; there was a row, or the
+-- same waits as before
 pub record WaitsOn (limit rows_before rows_now : ℕ) (before now : List ℕ) : Type 0 where
   pub short : length now ≤ 120
   pub unended : after_line now ≡ None
@@ -135,6 +137,7 @@ Ends (Damaged id key) limit first bytes left sink_before sink_now = ⊥
 
 -- a plan to replay was followed so
 abbrev pub IsReplayedBy : Plan → List ℕ → Option (List ℕ) → Option (List ℕ) → Option (List ℕ) → Status → Type 0
-IsReplayedBy (Replay rows ids) bytes left sink_before sink_now status = Ends status rows (cluster ids.items) bytes left sink_before sink_now
+IsReplayedBy (Replay rows ids) bytes left sink_before sink_now status =
+    Ends status rows (cluster ids.items) bytes left sink_before sink_now
 IsReplayedBy (Node size base turns ids) bytes left sink_before sink_now status = Unit {0}
 IsReplayedBy (Soak seed rounds size) bytes left sink_before sink_now status = Unit {0}

@@ -11,8 +11,8 @@ pub record IsReplay (rows : ℕ) (ids : List ℕ) (words : List (List ℕ)) : Ty
   pub rows_most : rows ≤ 1000000
   pub members : AreMembers ids
 
--- the words `node <size> <base> <turns> <id>..`: how many members the cluster has, the port that their ports are counted from, how
--- many turns are taken, and which members run here
+-- the words `node <size> <base> <turns> <id>..`: how many members the cluster has, the port that their ports are
+-- counted from, how many turns are taken, and which members run here
 pub record IsNode (size base turns : ℕ) (ids : List ℕ) (words : List (List ℕ)) : Type 0 where
   pub spelled : words ≡ codes "node" ∷ decimal size ∷ decimal base ∷ decimal turns ∷ map decimal ids
   pub size_most : size ≤ 5

@@ -51,15 +51,16 @@ use world_laws::headline::the_headline;
 /// `soak <seed> <rounds> <size>` makes its rows from the seed, and writes what they came to in six lines
 /// (`Rounds` and `Counts` of `soak_rounds`).
 ///
-/// `node <size> <base> <turns> <id>..` runs these members of a cluster over the links and the disks that are
-/// handed in, one of each for a member, in their order, and writes what the last 256 steps told. Each disk
-/// is there again at the end. With `Done` what was sent, written and stored is exactly what the members do over
-/// what came on the links and what the clock read (`WholeRun` of `node_turns`). `LinkFault` and `DiskFault` come only where the link or the disk of that node
-/// failed, `Damaged` where the store of that node is damaged, first at that key, and those before it are
-/// not; then one line is written, and with `Damaged` no frame came or went. With each of the three what was
-/// sent is a beginning of what a run to its end sends, and each store that was opened holds what it then
-/// held (`CutRun` of `node_turns`). Where nothing fails, a damaged store ends the run so, and without one
-/// it comes to `Done`, unless there is not enough memory to begin with.
+/// `node <size> <base> <turns> <id>..` runs these members of a cluster over the links and the disks that
+/// are handed in, one of each for a member, in their order, and writes what the last 256 steps told. Each
+/// disk is there again at the end. With `Done` what was sent, written and stored is exactly what the
+/// members do over what came on the links and what the clock read (`WholeRun` of `node_turns`). `LinkFault`
+/// and `DiskFault` come only where the link or the disk of that node failed, `Damaged` where the store of
+/// that node is damaged, first at that key, and those before it are not; then one line is written, and with
+/// `Damaged` no frame came or went. With each of the three what was sent is a beginning of what a run to
+/// its end sends, and each store that was opened holds what it then held (`CutRun` of `node_turns`). Where
+/// nothing fails, a damaged store ends the run so, and without one it comes to `Done`, unless there is not
+/// enough memory to begin with.
 ///
 /// For the others neither links nor disks are handed in; with other words or objects the status is `Usage`.
 /// With `Usage` and `Memory` nothing is touched.

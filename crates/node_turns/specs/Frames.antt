@@ -12,7 +12,12 @@ is_frame raw = nat_le raw.len 8 && (nat_lt raw.id 536870912 && nat_lt 0 raw.len)
 
 -- it comes to the allocator at a moment: the data bytes alone, with a mark of zeros
 abbrev pub receipt : ℕ → RawFrame → Event
-receipt moment raw = Rx (record { id = raw.id; bytes = take raw.len raw.bytes; mark = record { step = 0; re = 0; place = 0 }; moment = moment })
+receipt moment raw = Rx (record {
+  id = raw.id;
+  bytes = take raw.len raw.bytes;
+  mark = record { step = 0; re = 0; place = 0 };
+  moment = moment;
+})
 
 -- what the next item of a link leads to, if to anything
 abbrev pub event_in : ℕ → Received → Option Event
@@ -22,4 +27,8 @@ event_in moment Nothing = None
 
 -- a frame of the queue as it is sent: zeros stand behind its bytes
 abbrev pub raw_of : Queued → RawFrame
-raw_of frame = record { id = frame.id; len = length frame.bytes; bytes = frame.bytes ++ replicate (8 - length frame.bytes) 0 }
+raw_of frame = record {
+  id = frame.id;
+  len = length frame.bytes;
+  bytes = frame.bytes ++ replicate (8 - length frame.bytes) 0;
+}

@@ -27,7 +27,8 @@ readings_after (suc count) readings = readings_behind (readings_after count read
 abbrev pub opened_at : ℕ → List ℕ → Given → ℕ → Running
 opened_at size ids given place = let id = slice_index ids place in let state = moved id in record {
   id = id;
-  timed = opening id size (store_of (given.stored place)) (next_reading (readings_after place given.readings)) (word_at state);
+  timed = opening id size (store_of (given.stored place))
+      (next_reading (readings_after place given.readings)) (word_at state);
   draws = state;
   coming = given.coming place;
   sent = given.sent place;

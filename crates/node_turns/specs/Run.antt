@@ -10,7 +10,8 @@ use Rattle.node_turns.specs.declared.runner.Runner.{Runner}
 module _ {D F : Type 0} {disk : Ghosts D} where
   -- they were stopped, and each disk is at its place; the others stay
   pub record AreStopped (runners : List (Runner D F disk)) (old new : List (Option D)) : Type 0 where
-    pub stopped : (i : ℕ) (runner : Runner D F disk) → i < length runners → slice_index_or new i None ≡ Some (runner_disk (slice_index_or runners i runner))
+    pub stopped : (i : ℕ) (runner : Runner D F disk) → i < length runners →
+        slice_index_or new i None ≡ Some (runner_disk (slice_index_or runners i runner))
     pub others : (i : ℕ) → length runners ≤ i → slice_index_or new i None ≡ slice_index_or old i None
     pub places : length new ≡ length old
 
@@ -21,7 +22,8 @@ module _ {D F : Type 0} {disk : Ghosts D} where
 
   -- why a run ended before its last turn; a link was touched once all were opened, and of the disks this is said as
   -- they are once the allocators are stopped
-  abbrev pub EndsRun : {L : Type 0} → (L → ℕ) → List ℕ → List (Option D) → List (Option D) → List L → List L → List (Runner D F disk) → Fault → Type 0
+  abbrev pub EndsRun : {L : Type 0} → (L → ℕ) → List ℕ → List (Option D) → List (Option D) → List L →
+      List L → List (Runner D F disk) → Fault → Type 0
   EndsRun faults ids disks_old disks_new links_old links_new runners (Link id) =
       LinkRose faults ids links_old links_new id × (length runners ≡ length ids)
   EndsRun faults ids disks_old disks_new links_old links_new runners (Disk id) =
@@ -30,7 +32,8 @@ module _ {D F : Type 0} {disk : Ghosts D} where
       IsDamagedDisk disk ids disks_old id key × (links_new ≡ links_old)
 
   -- some were opened, on the disks at their places, which stood for a state, and the other disks are there
-  pub record HasRun {L : Type 0} (faults : L → ℕ) (ids : List ℕ) (disks_old disks_new : List (Option D)) (links_old links_new : List L)
+  pub record HasRun {L : Type 0} (faults : L → ℕ) (ids : List ℕ)
+      (disks_old disks_new : List (Option D)) (links_old links_new : List L)
       (runners : List (Runner D F disk)) (result : Result ⊤ Fault) : Type 0 where
     pub count : length runners ≤ length ids
     pub places : length disks_new ≡ length disks_old

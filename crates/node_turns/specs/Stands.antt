@@ -39,7 +39,9 @@ module _ {D F : Type 0} {disk : Ghosts D} where
 
   -- at this moment, with its first word and with what it has stored
   abbrev pub IsOpenedAt : ℕ → Runner D F disk → ℕ → Type 0
-  IsOpenedAt size runner moment = StandsFor runner.server (opening runner.id size (store_of (durable_state (durable_of runner.server))) moment (word_at runner.draws))
+  IsOpenedAt size runner moment = StandsFor runner.server
+      (opening runner.id size (store_of (durable_state (durable_of runner.server)))
+      moment (word_at runner.draws))
 
   -- the first of these nodes were opened, each on the disk at its place
   abbrev pub AreOpened : List (Runner D F disk) → List (Option D) → List ℕ → Type 0
@@ -52,7 +54,8 @@ module _ {D F : Type 0} {disk : Ghosts D} where
       → IsOpenedAt size (slice_index_or runners i runner) (next_reading (readings_after i readings))
 
   -- it is this one, on a link that tells these items and frames
-  pub record IsRunning (runner : Runner D F disk) (coming : Option (List Received)) (sent : Option (List RawFrame)) (r : Running) : Type 0 where
+  pub record IsRunning (runner : Runner D F disk) (coming : Option (List Received))
+      (sent : Option (List RawFrame)) (r : Running) : Type 0 where
     pub id : runner.id ≡ r.id
     pub server : StandsFor runner.server r.timed
     pub draws : runner.draws ≡ r.draws
@@ -60,18 +63,22 @@ module _ {D F : Type 0} {disk : Ghosts D} where
     pub sent_is : sent ≡ Some r.sent
 
   -- and these steps were made
-  pub record IsTurning (runner : Runner D F disk) (coming : Option (List Received)) (sent : Option (List RawFrame)) (steps : LastSteps) (t : Turning) : Type 0 where
+  pub record IsTurning (runner : Runner D F disk) (coming : Option (List Received))
+      (sent : Option (List RawFrame)) (steps : LastSteps) (t : Turning) : Type 0 where
     pub running : IsRunning runner coming sent t.running
     pub lines : Keeps steps t.lines
 
   -- each is the one at its place, on the link there
-  abbrev pub AreRunning : {L : Type 0} → (L → Option (List Received)) → (L → Option (List RawFrame)) → List (Runner D F disk) → List L
+  abbrev pub AreRunning : {L : Type 0} → (L → Option (List Received)) → (L → Option (List RawFrame)) →
+      List (Runner D F disk) → List L
       → (ℕ → Running) → Type 0
   AreRunning {L} coming sent runners links running = (i : ℕ) (runner : Runner D F disk) (link : L) → i < length runners
-      → IsRunning (slice_index_or runners i runner) (coming (slice_index_or links i link)) (sent (slice_index_or links i link)) (running i)
+      → IsRunning (slice_index_or runners i runner) (coming (slice_index_or links i link))
+      (sent (slice_index_or links i link)) (running i)
 
   -- all of them, on links and a clock that tell what they have
-  pub record Stand {L : Type 0} (coming : L → Option (List Received)) (sent : L → Option (List RawFrame)) (runners : List (Runner D F disk)) (links : List L)
+  pub record Stand {L : Type 0} (coming : L → Option (List Received))
+      (sent : L → Option (List RawFrame)) (runners : List (Runner D F disk)) (links : List L)
       (readings : Option (List ℕ)) (steps : LastSteps) (all : Together) : Type 0 where
     pub each : AreRunning coming sent runners links all.running
     pub readings_are : readings ≡ Some all.readings

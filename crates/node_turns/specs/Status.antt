@@ -27,14 +27,16 @@ pub record LinkRose {L : Type 0} (faults : L → ℕ) (ids : List ℕ) (old new 
   pub place : ℕ
   pub within : place < length ids
   pub id_is : slice_index ids place ≡ id
-  pub rose : (before after : L) → Rose (faults (slice_index_or old place before)) (faults (slice_index_or new place after))
+  pub rose : (before after : L) → Rose (faults (slice_index_or old place before))
+      (faults (slice_index_or new place after))
 
 -- the count of faults of the disk of this node rose
 pub record DiskRose {D : Type 0} (faults : D → ℕ) (ids : List ℕ) (old new : List (Option D)) (id : ℕ) : Type 0 where
   pub place : ℕ
   pub within : place < length ids
   pub id_is : slice_index ids place ≡ id
-  pub rose : (before after : D) → slice_index_or old place None ≡ Some before → slice_index_or new place None ≡ Some after → Rose (faults before) (faults after)
+  pub rose : (before after : D) → slice_index_or old place None ≡ Some before →
+      slice_index_or new place None ≡ Some after → Rose (faults before) (faults after)
 
 -- no link, and no disk, counted a fault
 abbrev pub NoLinkRose : {L : Type 0} → (L → ℕ) → List ℕ → List L → List L → Type 0
@@ -53,11 +55,13 @@ abbrev pub IsWhole : {D : Type 0} → Ghosts D → D → Type 0
 IsWhole disk before = disk.tells before ≡ true → (state : Stored) × StandsForState (disk.contents before).seen state
 
 -- the disk that was handed in for this node is damaged, first at this key, and those before it are not
-pub record IsDamagedDisk {D : Type 0} (disk : Ghosts D) (ids : List ℕ) (old : List (Option D)) (id key : ℕ) : Type 0 where
+pub record IsDamagedDisk {D : Type 0} (disk : Ghosts D) (ids : List ℕ) (old : List (Option D))
+    (id key : ℕ) : Type 0 where
   pub place : ℕ
   pub within : place < length ids
   pub id_is : slice_index ids place ≡ id
-  pub damaged : (before : D) → slice_index_or old place None ≡ Some before → disk.tells before ≡ true → IsDamagedAt (disk.contents before).seen key
+  pub damaged : (before : D) → slice_index_or old place None ≡ Some before → disk.tells before ≡ true →
+      IsDamagedAt (disk.contents before).seen key
   pub whole : (i : ℕ) (before : D) → i < place → slice_index_or old i None ≡ Some before → IsWhole disk before
 
 -- none of them is

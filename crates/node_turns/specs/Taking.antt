@@ -26,7 +26,8 @@ pub record IsRefused {D : Type 0} (disk : Ghosts D) (before after : Option D) (i
 
 -- the count of faults rose of the link at a place
 pub record LinkRoseAt {L : Type 0} (faults : L → ℕ) (old new : List L) (place : ℕ) : Type 0 where
-  pub rose : (before after : L) → Rose (faults (slice_index_or old place before)) (faults (slice_index_or new place after))
+  pub rose : (before after : L) → Rose (faults (slice_index_or old place before))
+      (faults (slice_index_or new place after))
 
 module _ {D F : Type 0} {disk : Ghosts D} where
   abbrev pub AreWorking : List (Runner D F disk) → Type 0
@@ -41,28 +42,37 @@ module _ {D F : Type 0} {disk : Ghosts D} where
 
   pub record KeepsNodes (old new : List (Runner D F disk)) : Type 0 where
     pub count : length new ≡ length old
-    pub each : (i : ℕ) (before after : Runner D F disk) → i < length old → KeepsNode (slice_index_or old i before) (slice_index_or new i after)
+    pub each : (i : ℕ) (before after : Runner D F disk) → i < length old →
+        KeepsNode (slice_index_or old i before) (slice_index_or new i after)
 
   -- the count of faults rose of the disk of the allocator at a place
   pub record DiskRoseAt (old new : List (Runner D F disk)) (place : ℕ) : Type 0 where
-    pub rose : (before after : Runner D F disk) → Rose (disk.faults (runner_disk (slice_index_or old place before))) (disk.faults (runner_disk (slice_index_or new place after)))
+    pub rose : (before after : Runner D F disk) →
+        Rose (disk.faults (runner_disk (slice_index_or old place before)))
+        (disk.faults (runner_disk (slice_index_or new place after)))
 
   abbrev pub IsOf : List (Runner D F disk) → ℕ → ℕ → Type 0
   IsOf runners place id = (runner : Runner D F disk) → (slice_index_or runners place runner).id ≡ id
 
   -- why a turn was not taken to its end
-  abbrev pub EndsTurn : {L : Type 0} → (L → ℕ) → List (Runner D F disk) → List (Runner D F disk) → List L → List L → Fault → Type 0
-  EndsTurn faults old new links_old links_new (Link id) = (place : ℕ) × (place < length old) × IsOf old place id × LinkRoseAt faults links_old links_new place
-  EndsTurn faults old new links_old links_new (Disk id) = (place : ℕ) × (place < length old) × IsOf old place id × DiskRoseAt old new place
+  abbrev pub EndsTurn : {L : Type 0} → (L → ℕ) → List (Runner D F disk) → List (Runner D F disk) →
+      List L → List L → Fault → Type 0
+  EndsTurn faults old new links_old links_new (Link id) = (place : ℕ) × (place < length old)
+      × IsOf old place id × LinkRoseAt faults links_old links_new place
+  EndsTurn faults old new links_old links_new (Disk id) = (place : ℕ) × (place < length old)
+      × IsOf old place id × DiskRoseAt old new place
   EndsTurn faults old new links_old links_new (Damaged id key) = ⊥
 
 -- no link counts fewer faults
 pub record KeepsLinks {L : Type 0} (faults : L → ℕ) (old new : List L) : Type 0 where
   pub count : length new ≡ length old
-  pub later : (i : ℕ) (before after : L) → i < length old → faults (slice_index_or old i before) ≤ faults (slice_index_or new i after)
+  pub later : (i : ℕ) (before after : L) → i < length old →
+      faults (slice_index_or old i before) ≤ faults (slice_index_or new i after)
 
 -- a disk of those that were handed in was refused, and is there again, as are all behind it
-pub record WasRefused {D : Type 0} (disk : Ghosts D) (ids : List ℕ) (old new : List (Option D)) (place : ℕ) (fault : Fault) : Type 0 where
+pub record WasRefused {D : Type 0} (disk : Ghosts D) (ids : List ℕ) (old new : List (Option D))
+    (place : ℕ) (fault : Fault) : Type 0 where
   pub within : place < length ids
-  pub refused : IsRefused disk (slice_index_or old place None) (slice_index_or new place None) (slice_index ids place) fault
+  pub refused : IsRefused disk (slice_index_or old place None) (slice_index_or new place None)
+      (slice_index ids place) fault
   pub there : IsSome (slice_index_or new place None)

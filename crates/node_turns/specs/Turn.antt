@@ -1,4 +1,5 @@
--- One turn of an allocator on its link: a step at its clock, the next item of its link, and the next frame of its queue.
+-- One turn of an allocator on its link: a step at its clock, the next item of its link, and the next frame of its
+-- queue.
 use Rattle.std.specs.Prelude.{ℕ, suc, List, [], ◌∷◌, ◌++◌, length, Option, Some, None}
 use Rattle.outside.specs.declared.received.RawFrame.{RawFrame}
 use Rattle.outside.specs.declared.received.Received.{Received}
@@ -52,11 +53,17 @@ takes (Some event) t = makes_step event t
 
 -- the next item of its link is taken, and a step is made of it where it is a frame
 abbrev pub hears : ℕ → Turning → Turning
-hears moment t = takes (event_in moment (next_item t.running.coming)) (record t { running = record t.running { coming = items_behind t.running.coming } })
+hears moment t = takes (event_in moment (next_item t.running.coming))
+    (record t { running = record t.running { coming = items_behind t.running.coming } })
 
 abbrev pub sends_out : Option Queued → Turning → Turning
 sends_out None t = t
-sends_out (Some frame) t = record t { running = record t.running { timed = popped t.running.timed; sent = t.running.sent ++ raw_of frame ∷ [] } }
+sends_out (Some frame) t = record t {
+  running = record t.running {
+    timed = popped t.running.timed;
+    sent = t.running.sent ++ raw_of frame ∷ [];
+  };
+}
 
 -- the next frame of its queue is sent, if there is one
 abbrev pub sends : Turning → Turning

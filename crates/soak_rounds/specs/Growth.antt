@@ -4,8 +4,9 @@ use Rattle.soak_rounds.specs.Rounds.{Soak}
 use Rattle.soak_rounds.specs.declared.turn.Turn.{Turn}
 use Rattle.soak_rounds.specs.declared.turn.Turn.TheVariants.{Open, Tick, Hear, Send}
 
--- so many frames at the most, and so many rows. Of rows there are far less than the numbers that bound them: a member's turn
--- has 2^33 at the most, two for each frame of a bus that takes less than 2^32, and a round less than 2^38.
+-- so many frames at the most, and so many rows. Of rows there are far less than the numbers that bound them: a
+-- member's turn has 2^33 at the most, two for each frame of a bus that takes less than 2^32, and a round less than
+-- 2^38.
 pub record Grows (sent given : ℕ) (old new : Soak) : Type 0 where
   pub frames : length new.world.frames ≤ length old.world.frames + sent
   pub rows : new.world.rows ≤ old.world.rows + given

@@ -13,9 +13,9 @@ frame_of bytes filled short = record {
   short = short;
 }
 
--- No node ID is wished for. The unique ID is 14 bytes 0x5a, and the number of the device in two bytes, high byte first: the
--- first request has the first part flag and bytes 0 to 5, the second bytes 6 to 11, the third bytes 12 to 15. Each of them
--- is one frame, with transfer ID 0.
+-- No node ID is wished for. The unique ID is 14 bytes 0x5a, and the number of the device in two bytes, high byte
+-- first: the first request has the first part flag and bytes 0 to 5, the second bytes 6 to 11, the third bytes 12
+-- to 15. Each of them is one frame, with transfer ID 0.
 abbrev pub first_request : Frame
 first_request = frame_of (1 ∷ 0x5a ∷ 0x5a ∷ 0x5a ∷ 0x5a ∷ 0x5a ∷ 0x5a ∷ 0xc0 ∷ []) (lit< tt) (lit≤ tt)
 

@@ -90,8 +90,8 @@ fn a_write_that_fails_leaves_a_front_of_the_report(rt: HostRuntime) -> Result<()
     Ok(())
 }
 
-/// The whole schedule comes with one read, its lines go with one write, and the end with another: the read and the write
-/// that fails, and the write that takes nothing.
+/// The whole schedule comes with one read, its lines go with one write, and the end with another: the read
+/// and the write that fails, and the write that takes nothing.
 #[test]
 fn whole_pieces_fail_in_turn(rt: HostRuntime) -> Result<(), Fail> {
     let schedule = schedule(rt.alloc())?;
