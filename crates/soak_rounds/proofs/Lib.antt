@@ -1,7 +1,7 @@
 pub mod Counting
 pub mod Faultless
-pub mod Requests
 pub mod Growing
 pub mod Leading
 pub mod Members
 pub mod Standing
+pub mod WhichRequest

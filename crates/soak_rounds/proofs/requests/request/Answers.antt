@@ -1,5 +1,5 @@
 use Rattle.std.proofs.Common.{◌∙◌, sym, lit<, lit≤}
-use Rattle.soak_rounds.proofs.Requests.{is_first, is_second, is_third}
+use Rattle.soak_rounds.proofs.WhichRequest.{is_first, is_second, is_third}
 use Rattle.soak_rounds.proofs.requests.request.Goals as goal
 
 pub returns-then-number-eq0 : goal.returns-then-number-eq0
