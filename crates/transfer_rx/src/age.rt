@@ -1,6 +1,6 @@
 //! Which sessions are too old, and are forgotten.
 
-ghost use Rattle.std.specs.Prelude.{◌≡◌, ◌↔◌, ◌-◌, ◌≤◌, ℕ, true, List, [], get_or, Some, None, IfSome, Option};
+ghost use Rattle.std.specs.Prelude.{◌≡◌, ◌↔◌, ◌-◌, ◌≤◌, ℕ, true, List, Some, None, IfSome, Option};
 ghost use Rattle.transfer_rx.specs.declared.key.Key.{Key};
 ghost use Rattle.transfer_rx.specs.Ages.{AreSince};
 ghost use Rattle.transfer_rx.specs.Crcs.{HaveCrcs};
