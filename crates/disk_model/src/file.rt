@@ -1,5 +1,5 @@
-ghost use Rattle.std.specs.Prelude.{◌≡◌, ℕ, true, false, OnOk};
-ghost use Rattle.outside.specs.Faults.{HasCause};
+ghost use Rattle.std.specs.Prelude.{◌≡◌, ℕ, false, IfOk, OnOk, if◌then◌else◌};
+ghost use Rattle.outside.specs.Faults.{HasCause, counted, one_more};
 
 use crate::{Disk, IMAGE};
 use outside::Failed;
@@ -30,7 +30,9 @@ impl FileDisk {
     /// It fails, and changes nothing, where the file has another length, is locked, is a folder or may
     /// not be read and written, where a missing one cannot be made, as in a missing folder or on a full
     /// device, and where a sync fails.
-    pub fn open<R: Files<File = File>>(rt: &R, path: &str) -> Result<FileDisk, Failed> {
+    pub fn open<R: Files<File = File>>(rt: &R, path: &str) -> Result<FileDisk, Failed>
+        ensures { IfOk result (λ disk. disk.faults ≡ 0) }
+    {
         match OpenOptions::new().read(true).write(true).open(rt, path) {
             Ok(file) if is_free(&file) && has_size(&file) && is_kept(rt, &file, path) => {
                 Ok(FileDisk { file, faults: 0 })
@@ -41,7 +43,9 @@ impl FileDisk {
     }
 
     /// Makes the file. Where that fails it is taken away again.
-    fn make<R: Files<File = File>>(rt: &R, path: &str) -> Result<FileDisk, Failed> {
+    fn make<R: Files<File = File>>(rt: &R, path: &str) -> Result<FileDisk, Failed>
+        ensures { IfOk result (λ disk. disk.faults ≡ 0) }
+    {
         let Ok(file) = File::create_new(rt, path) else {
             return Err(Failed);
         };
@@ -57,6 +61,7 @@ impl FileDisk {
     fn answer<E: Drop>(&mut self, done: Result<(), E>) -> Result<(), Failed>
         ensures cause { HasCause self.old.faults self.new.faults result }
         ensures no_fault { OnOk result (self.new.faults ≡ self.old.faults) }
+        ensures faults { self.new.faults ≡ counted result self.old.faults }
     {
         match done {
             Ok(()) => Ok(()),
@@ -99,18 +104,18 @@ fn is_kept<R: Files<File = File>>(rt: &R, file: &File, path: &str) -> bool {
 
 impl Disk for FileDisk {
     ghost use Rattle.disk_model.specs.Contents.{untold};
-    ghost use Rattle.std.proofs.Common.{refl};
     ghost use Rattle.std.proofs.lemmas.Bool.{false≢true};
 
     ghost tells = { λ d. false };
 
     ghost contents = { λ d. untold };
 
-    ghost does = { λ old call ok new. ok ≡ true → new.faults ≡ old.faults };
+    ghost does = { λ old call ok new.
+        new.faults ≡ (if ok then old.faults else one_more old.faults) };
 
     ghost faults = { λ d. d.faults };
 
-    ghost counts = { λ old new call done. done refl };
+    ghost counts = { λ old new call done. done };
 
     ghost sound = { λ d told. absurd (false≢true told) };
 

@@ -103,7 +103,9 @@ pub struct StdSource<R> {
 
 impl<R: Read> StdSource<R> {
     /// A source of what this reader gives. No fault is counted yet.
-    pub fn new(reader: R) -> StdSource<R> {
+    pub fn new(reader: R) -> StdSource<R>
+        ensures { result.faults ≡ 0 }
+    {
         StdSource { reader, faults: 0 }
     }
 }
@@ -113,7 +115,14 @@ impl<R: Read> Source for StdSource<R> {
 
     ghost faults = { λ s. s.faults };
 
-    fn read(&mut self, buf: &mut [u8]) -> Result<usize, Failed> {
+    fn read(&mut self, buf: &mut [u8]) -> Result<usize, Failed>
+        ensures bound { ReadsAtMost result buf.new }
+        ensures bytes { ReadConsumes None None result buf.new }
+        ensures tells { TellsAsBefore {A = List ℕ} None None }
+        ensures cause { HasCause self.old.faults self.new.faults result }
+        ensures kept { OnOk result (self.new.faults ≡ self.old.faults) }
+        ensures faults { self.new.faults ≡ counted result self.old.faults }
+    {
         match self.reader.read(buf) {
             Ok(count) => Ok(count),
             Err(_) => {

@@ -36,6 +36,7 @@ impl Output {
     pub fn line<K: Sink>(&mut self, sink: &mut K, line: &[u8]) -> Result<(), Failed>
         requires { length line.now ≤ 400 }
         ensures told { Writes (K.written sink.old) self.old (K.written sink.new) self.new line.now result }
+        ensures unchanged { OnErr result (self.new ≡ self.old) }
         ensures cause { HasCause (K.faults sink.old) (K.faults sink.new) result }
         ensures kept { OnOk result (K.faults sink.new ≡ K.faults sink.old) }
     {
@@ -50,6 +51,7 @@ impl Output {
     pub fn last<K: Sink>(&mut self, sink: &mut K, line: &[u8]) -> Result<(), Failed>
         requires { length line.now ≤ 400 }
         ensures told { WritesLast (K.written sink.old) self.old (K.written sink.new) line.now result }
+        ensures none_waits { OnOk result (self.new ≡ []) }
         ensures cause { HasCause (K.faults sink.old) (K.faults sink.new) result }
         ensures kept { OnOk result (K.faults sink.new ≡ K.faults sink.old) }
     {
@@ -62,6 +64,7 @@ impl Output {
         ensures ok { OnOk result (Appends (K.written sink.old) (K.written sink.new) self.old) }
         ensures none_waits { OnOk result (self.new ≡ []) }
         ensures err { OnErr result (WritesFront (K.written sink.old) (K.written sink.new) self.old) }
+        ensures unchanged { OnErr result (self.new ≡ self.old) }
         ensures cause { HasCause (K.faults sink.old) (K.faults sink.new) result }
         ensures kept { OnOk result (K.faults sink.new ≡ K.faults sink.old) }
     {

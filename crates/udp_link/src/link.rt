@@ -1,5 +1,7 @@
-ghost use Rattle.std.specs.Prelude.{◌≡◌, ◌≤◌, ◌+◌, ◌<◌, ℕ, None};
-ghost use Rattle.outside.specs.Faults.{Rose};
+ghost use Rattle.std.specs.Prelude.{◌≡◌, ◌≤◌, ◌+◌, ◌<◌, ℕ, List, None, IfOk, OnOk};
+ghost use Rattle.outside.specs.Contents.{WhereTold};
+ghost use Rattle.outside.specs.Faults.{HasCause, counted, one_more};
+ghost use Rattle.outside.specs.Traffic.{Receives, Sends};
 
 use crate::datagram::{MOST, datagram_of, frame_of};
 use outside::{Failed, Link, RawFrame, Received};
@@ -29,6 +31,9 @@ impl UdpLink {
     pub fn open<R: Net>(rt: &R, base: u16, id: u8) -> Result<UdpLink, Failed>
         requires ports { base + 125 < 65536 }
         requires member { id ≤ 125 }
+        ensures base { IfOk result (λ link. link.base ≡ base) }
+        ensures id { IfOk result (λ link. link.id ≡ id) }
+        ensures faults { IfOk result (λ link. link.faults ≡ 0) }
     {
         let Ok(socket) = UdpSocket::bind(rt, (Ipv4Addr::LOCALHOST, base + u16::from(id))) else {
             return Err(Failed);
@@ -47,7 +52,9 @@ impl UdpLink {
     /// Counts a call that failed.
     fn fault(&mut self) -> Failed
         ensures later { self.old.faults ≤ self.new.faults }
-        ensures rose { Rose self.old.faults self.new.faults }
+        ensures faults { self.new.faults ≡ one_more self.old.faults }
+        ensures base { self.new.base ≡ self.old.base }
+        ensures id { self.new.id ≡ self.old.id }
     {
         self.faults = self.faults.saturating_add(1);
         Failed
@@ -102,14 +109,28 @@ impl Link for UdpLink {
 
     ghost faults = { λ l. l.faults };
 
-    fn recv(&mut self) -> Result<Received, Failed> {
+    fn recv(&mut self) -> Result<Received, Failed>
+        ensures items { WhereTold {A = List Received} (Receives result) None None }
+        ensures cause { HasCause self.old.faults self.new.faults result }
+        ensures kept { OnOk result (self.new.faults ≡ self.old.faults) }
+        ensures faults { self.new.faults ≡ counted result self.old.faults }
+        ensures base { self.new.base ≡ self.old.base }
+        ensures id { self.new.id ≡ self.old.id }
+    {
         match self.received() {
             Some(received) => Ok(received),
             None => Err(self.fault()),
         }
     }
 
-    fn send(&mut self, frame: &RawFrame) -> Result<(), Failed> {
+    fn send(&mut self, frame: &RawFrame) -> Result<(), Failed>
+        ensures frames { WhereTold {A = List RawFrame} (Sends frame.now result) None None }
+        ensures cause { HasCause self.old.faults self.new.faults result }
+        ensures kept { OnOk result (self.new.faults ≡ self.old.faults) }
+        ensures faults { self.new.faults ≡ counted result self.old.faults }
+        ensures base { self.new.base ≡ self.old.base }
+        ensures id { self.new.id ≡ self.old.id }
+    {
         if self.send_to_others(&datagram_of(frame)) {
             Ok(())
         } else {
