@@ -4,6 +4,7 @@ pub mod Ending
 pub mod Entries
 pub mod Lines
 pub mod Logs
+pub mod Neither
 pub mod OneReport
 pub mod Reading
 pub mod Rest

@@ -98,6 +98,12 @@ IsToTheEnd (IsUnlawful row number) = Unit {0}
 IsToTheEnd (Limit row) = Unit {0}
 IsToTheEnd _ = ⊥
 
+-- the status of a run that neither the source nor the sink ended
+abbrev pub IsOfNeither : Status → Type 0
+IsOfNeither ReadFault = ⊥
+IsOfNeither WriteFault = ⊥
+IsOfNeither _ = Unit {0}
+
 -- the report of a schedule of at most so many rows, from a world on, and the status that it comes with
 pub record IsReport (limit : ℕ) (first : Cluster) (bytes report : List ℕ) (status : Status) : Type 0 where
   pub end : Cluster

@@ -2,7 +2,9 @@ ghost use Rattle.std.specs.Prelude.{◌≡◌, ◌≤◌, ◌↔◌, ◌⊎◌, 
 ghost use Rattle.std.specs.Io.KnownBytes.{Appends};
 ghost use Rattle.arrayvec.specs.ArrayVec.{ArrayVec};
 ghost use Rattle.node_turns.specs.CutRun.{EndsAt, IsCutRun};
+ghost use Rattle.node_turns.specs.InPart as nodes;
 ghost use Rattle.node_turns.specs.Opening.{Given};
+ghost use Rattle.node_turns.specs.Report.{report};
 ghost use Rattle.node_turns.specs.Status.{DisksTell, IsDamagedDisk};
 ghost use Rattle.node_turns.specs.Status.{NoDamagedDisk, NoDiskRose, NoLinkRose};
 ghost use Rattle.node_turns.specs.WholeRun.{IsWholeRun, Tell, after_turns};
@@ -19,7 +21,7 @@ ghost use Rattle.world_parts.specs.Promise.{KeepsItsWord};
 ghost use Rattle.allocator_app.specs.InPart.{IsReadInPart, IsWrittenInPart};
 ghost use Rattle.allocator_app.specs.NoFurther.{ReadsNoFurther};
 ghost use Rattle.allocator_app.specs.Nodes.{IsRunBy, RunsNodes};
-ghost use Rattle.allocator_app.specs.Report.{IsBegun, IsOfNodes, IsReplayed, IsToTheEnd};
+ghost use Rattle.allocator_app.specs.Report.{IsBegun, IsOfNeither, IsOfNodes, IsReplayed, IsToTheEnd};
 ghost use Rattle.allocator_app.specs.Rows.{IsReplayedBy};
 ghost use Rattle.allocator_app.specs.Soaking.{IsSoakedBy};
 ghost use Rattle.allocator_app.specs.Words.{AreAbsent, AreGiven, AreNone, ArePresent, AsksForNodes, AsksForRows, HasObjects};
@@ -100,7 +102,7 @@ pub fn run<S: Source, K: Sink, L: Link, D: Disk, C: Clock>(
         Appends (K.written sink.old) (K.written sink.new) report ×
         HasHeadline is.ids is.told.comes.rows }
     // No fault is passed over, and none is tried again.
-    ensures no_fault { IsToTheEnd result → (S.faults source.new ≡ S.faults source.old) ×
+    ensures no_fault { IsOfNeither result → (S.faults source.new ≡ S.faults source.old) ×
         (K.faults sink.new ≡ K.faults sink.old) }
     // Of what comes behind the rows that were taken, no more is read than the run keeps at a time.
     ensures no_further { (bytes report : List ℕ) → S.left source.old ≡ Some bytes →
@@ -157,12 +159,19 @@ pub fn run<S: Source, K: Sink, L: Link, D: Disk, C: Clock>(
         result ≡ Status.Done → IsWholeRun L.coming L.sent D.Disk links.new disks.new
         (C.readings clock.new) (K.written sink.old) (K.written sink.new) (length ids) turns
         (after_turns size turns ids given) }
+    // A sink that failed has a front of what a run writes that ends so.
+    ensures nodes_in_part { (size base turns : ℕ) (ids : List ℕ) (given : Given) →
+        IsNode size base turns ids (map string_bytes words.now) → AreGiven ids links.old disks.old →
+        Tell L.coming L.sent D.Disk links.old disks.old (C.readings clock.old) given →
+        result ≡ Status.WriteFault → nodes.IsWrittenInPart L.faults D.Disk ids links.old links.new
+        disks.old disks.new (K.written sink.old) (K.written sink.new)
+        (report turns (after_turns size turns ids given).lines) }
     // And of a run that did not come to its end it says how far it came.
     ensures nodes_cut { (size base turns id : ℕ) (ids : List ℕ) (given : Given) →
         IsNode size base turns ids (map string_bytes words.now) → AreGiven ids links.old disks.old →
         Tell L.coming L.sent D.Disk links.old disks.old (C.readings clock.old) given →
-        EndsAt id result → IsCutRun L.sent D.Disk links.new disks.old disks.new
-        size turns ids given id }
+        EndsAt id result → IsCutRun L.coming L.sent D.Disk links.old links.new disks.old disks.new
+        (C.readings clock.new) size turns ids given id }
     // Where nothing fails, the first damaged disk ends their run; without one it comes to its end.
     ensures nodes_finish { (size base turns : ℕ) (ids : List ℕ) →
         IsNode size base turns ids (map string_bytes words.now) → AreGiven ids links.old disks.old →
@@ -252,11 +261,17 @@ fn follow<S: Source, K: Sink, L: Link, D: Disk, C: Clock>(
         result ≡ Status.Done → IsWholeRun L.coming L.sent D.Disk links.new disks.new
         (C.readings clock.new) (K.written sink.old) (K.written sink.new) (length ids.items) turns
         (after_turns size turns ids.items given) }
+    ensures nodes_in_part { (size base turns : ℕ) (ids : ArrayVec ℕ) (given : Given) →
+        plan ≡ Plan.Node size base turns ids →
+        Tell L.coming L.sent D.Disk links.old disks.old (C.readings clock.old) given →
+        result ≡ Status.WriteFault → nodes.IsWrittenInPart L.faults D.Disk ids.items
+        links.old links.new disks.old disks.new (K.written sink.old) (K.written sink.new)
+        (report turns (after_turns size turns ids.items given).lines) }
     ensures nodes_cut { (size base turns id : ℕ) (ids : ArrayVec ℕ) (given : Given) →
         plan ≡ Plan.Node size base turns ids →
         Tell L.coming L.sent D.Disk links.old disks.old (C.readings clock.old) given →
-        EndsAt id result → IsCutRun L.sent D.Disk links.new disks.old disks.new
-        size turns ids.items given id }
+        EndsAt id result → IsCutRun L.coming L.sent D.Disk links.old links.new disks.old disks.new
+        (C.readings clock.new) size turns ids.items given id }
     ensures nodes_finish { (size base turns : ℕ) (ids : ArrayVec ℕ) →
         plan ≡ Plan.Node size base turns ids → NoDamagedDisk D.Disk ids.items disks.old →
         NoLinkRose L.faults ids.items links.old links.new →
@@ -279,7 +294,7 @@ fn follow<S: Source, K: Sink, L: Link, D: Disk, C: Clock>(
     ensures read { result ≡ Status.ReadFault → Rose (S.faults source.old) (S.faults source.new) }
     ensures write { result ≡ Status.WriteFault → Rose (K.faults sink.old) (K.faults sink.new) }
     ensures begun { IsBegun result }
-    ensures kept { IsToTheEnd result → (S.faults source.new ≡ S.faults source.old) ×
+    ensures kept { IsOfNeither result → (S.faults source.new ≡ S.faults source.old) ×
         (K.faults sink.new ≡ K.faults sink.old) }
 {
     match plan {

@@ -3,14 +3,14 @@ use Rattle.std.proofs.Common.{◌≡◌, ℕ, ◌<◌, List, length, length-set,
 use Rattle.std.proofs.lemmas.Bool.Decides.{eqb_tells}
 use Rattle.std.specs.Prelude.{Option, Some, slice_index_or, slice_set}
 use Rattle.disk_model.specs.declared.disk.Disk.{Ghosts}
-use Rattle.outside.specs.Readings.{next_reading}
+use Rattle.outside.specs.Readings.{next_reading, readings_behind}
 use Rattle.outside.specs.declared.received.RawFrame.{RawFrame}
 use Rattle.outside.specs.declared.received.Received.{Received}
 use Rattle.raft_log.specs.DurableViews.{durable_state}
 use Rattle.alloc_server.specs.Server.{LeavesSome, StandsFor, durable_of}
 use Rattle.node_turns.specs.Cut.{IsCutAt}
 use Rattle.node_turns.specs.Ends.{fault_id}
-use Rattle.node_turns.specs.CutRun.{HoldsStoreInPart}
+use Rattle.node_turns.specs.CutRun.{HoldsStoreInPart, TakesAtMostOne}
 use Rattle.node_turns.specs.Puts.{turn_puts}
 use Rattle.node_turns.specs.Stands.{Stand, runner_disk}
 use Rattle.node_turns.specs.Taking.{HasCause}
@@ -26,11 +26,17 @@ module _ {D F : Type 0} {disk : Ghosts D} {L : Type 0} (runners : List (Runner D
     (runner some : Runner D F disk) (link some_link : L) (here : place < length runners) (there : place < length links)
     (coming : L → Option (List Received)) (sent : L → Option (List RawFrame)) (readings : Option (List ℕ)) (steps : LastSteps) (before : Together)
     (stand : Stand coming sent runners links readings steps before) where
-  pub cut_at : sent link ≡ sent (slice_index_or links place some_link) →
+  pub cut_at : (now : Option (List ℕ)) → now ≡ Some (readings_behind before.readings) → TakesAtMostOne (before.running place).coming (coming link) →
+      sent link ≡ sent (slice_index_or links place some_link) →
       disk.tells (runner_disk runner) ≡ disk.tells (runner_disk (slice_index_or runners place some)) →
       LeavesSome (slice_index_or runners place some).server runner.server (turn_puts (next_reading before.readings) (turning_at place before)) →
-      IsCutAt sent (slice_set runners place runner) (slice_set links place link) before place
-  cut_at unsent tells leaves = record {
+      IsCutAt coming sent (slice_set runners place runner) (slice_set links place link) now before place
+  cut_at now read taken unsent tells leaves = record {
+    readings_are = read;
+    coming_is = λ i l low other.
+        let within : i < length runners = (let size = length-set runners place runner in omega (arith, size, low)) in
+        subst (λ x. coming x ≡ Some (before.running i).coming) (set_elsewhere links place i link l other) (stand.each i some l within).coming_is;
+    own_is = λ l. subst (λ x. TakesAtMostOne (before.running place).coming (coming x)) (set_here links place place link l refl there) taken;
     sent_is = λ i l low.
         let within : i < length runners = (let size = length-set runners place runner in omega (arith, size, low)) in
         elim (eqb_tells i place) [

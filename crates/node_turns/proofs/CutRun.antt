@@ -15,7 +15,7 @@ use Rattle.raft_log.specs.Rules.{AlwaysStandsForState, StandsForState}
 use Rattle.raft_log.specs.Stored.{AfterSome, Stored, after_puts, opening_puts}
 use Rattle.alloc_server.specs.Server.{durable_of, fault_of}
 use Rattle.node_turns.specs.Cut.{IsCut, IsCutOpening, IsCutTurning}
-use Rattle.node_turns.specs.CutRun.{EndsAt, HoldsOpeningInPart, HoldsStoreInPart, IsCutInOpening, IsCutInTurns, IsCutRun, IsLeftDamaged}
+use Rattle.node_turns.specs.CutRun.{EndsAt, HoldsOpeningInPart, HoldsStoreInPart, IsCutInOpening, IsCutInTurns, IsCutRun, IsLeft, IsLeftDamaged, IsLeftUnopened, KeepsImages, KeepsOrOpens}
 use Rattle.node_turns.specs.Ends.{fault_id}
 use Rattle.node_turns.specs.Opening.{Given, opened}
 use Rattle.node_turns.specs.Puts.{turn_puts}
@@ -68,6 +68,10 @@ module _ {D : Type 0} (disk : Ghosts D) (one_state : (image : List ℕ) (a b : S
   after_refused (Disk node) why = after_failed why.2
   after_refused (Damaged node key) why = record { tells = same ∙ held.tells; stands = inl (why.2 held.tells) }
 
+unopened : {D : Type 0} {disk : Ghosts D} (before after : D) → disk.tells before ≡ true → FailsToOpen disk before after → KeepsOrOpens disk before after
+unopened before after told (inl unread) = inl (unread.images told)
+unopened before after told (inr part) = inr (part.found, part.finds.state told, part.images told)
+
 module _ {D F : Type 0} {disk : Ghosts D}
     (durable : (store : Durable D disk) → durable_fault store ≡ None → disk.tells (durable_disk store) ≡ true →
     AlwaysStandsForState (disk.contents (durable_disk store)) (durable_state store))
@@ -90,20 +94,35 @@ module _ {D F : Type 0} {disk : Ghosts D}
         store_is = opened_store one_state reads_same before (durable_of runner.server) state (one.opens before was) held;
       })
 
-  pub left_damaged : {L : Type 0} (sent : L → Option (List RawFrame)) (links_old links : List L) (id key : ℕ) →
-      IsCutOpening sent ids runners links_old links disks_old disks (Damaged id key) → IsLeftDamaged disk ids disks_old last id
-  left_damaged sent links_old links id key cut = record {
-    place = length runners;
-    within = cut.within;
-    id_is = cut.id_is;
-    left = λ before after was is told.
-        let now = sym (stopped.others (length runners) (omega arith)) ∙ is in (
-          cut.refused.tells before after was now ∙ told,
-          (cut.refused.cause before after was now).2 told,
-        );
-    stored_is = opened_holds cut.opened;
-    others = λ i high. stopped.others i (omega (arith, high)) ∙ cut.behind i high;
-  }
+  -- and of one that was refused, what its cause says
+  module _ {L : Type 0} (coming : L → Option (List Received)) (sent : L → Option (List RawFrame)) (links_old links : List L) (readings_old readings : Option (List ℕ))
+      (fault : Fault) (cut : IsCutOpening coming sent ids runners links_old links disks_old disks readings_old readings fault) where
+    left_so : (Holds : D → D → Type 0) → ((before after : D) → disk.tells before ≡ true → HasCause disk before after (slice_index ids (length runners)) fault → Holds before after) →
+        IsLeft disk ids disks_old last (fault_id fault) Holds
+    left_so Holds by_cause = record {
+      place = length runners;
+      within = cut.within;
+      id_is = cut.id_is;
+      left = λ before after was is told.
+          let now = sym (stopped.others (length runners) (omega arith)) ∙ is in (
+            cut.refused.tells before after was now ∙ told,
+            by_cause before after told (cut.refused.cause before after was now),
+          );
+      stored_is = opened_holds cut.opened;
+      others = λ i high. stopped.others i (omega (arith, high)) ∙ cut.behind i high;
+    }
+
+  pub left_damaged : {L : Type 0} (coming : L → Option (List Received)) (sent : L → Option (List RawFrame)) (links_old links : List L)
+      (readings_old readings : Option (List ℕ)) (id key : ℕ) →
+      IsCutOpening coming sent ids runners links_old links disks_old disks readings_old readings (Damaged id key) → IsLeftDamaged disk ids disks_old last id
+  left_damaged coming sent links_old links readings_old readings id key cut =
+      left_so coming sent links_old links readings_old readings (Damaged id key) cut (KeepsImages disk) (λ before after told why. why.2 told)
+
+  pub left_unopened : {L : Type 0} (coming : L → Option (List Received)) (sent : L → Option (List RawFrame)) (links_old links : List L)
+      (readings_old readings : Option (List ℕ)) (id : ℕ) →
+      IsCutOpening coming sent ids runners links_old links disks_old disks readings_old readings (Disk id) → IsLeftUnopened disk ids disks_old last id
+  left_unopened coming sent links_old links readings_old readings id cut =
+      left_so coming sent links_old links readings_old readings (Disk id) cut (KeepsOrOpens disk) (λ before after told why. unopened before after told why.2)
 
 module _ {D F L : Type 0} {disk : Ghosts D} (coming : L → Option (List Received)) (sent : L → Option (List RawFrame))
     (durable : (store : Durable D disk) → durable_fault store ≡ None → disk.tells (durable_disk store) ≡ true →
@@ -111,13 +130,14 @@ module _ {D F L : Type 0} {disk : Ghosts D} (coming : L → Option (List Receive
     (one_state : (image : List ℕ) (a b : Stored) → StandsForState image a → StandsForState image b → a ≡ b)
     (reads_same : (state : Stored) (count : ℕ) → IsReadAs (after_puts (take count (opening_puts state)) state) state)
     (size turns : ℕ) (ids : List ℕ) (runners : List (Runner D F disk)) (links_old links : List L) (disks_old disks last : List (Option D))
-    (readings : Option (List ℕ)) (given : Given) (each : length links_old ≡ length ids) (there : (i : ℕ) → i < length ids → IsSome (slice_index_or disks_old i None))
+    (readings now : Option (List ℕ)) (given : Given) (each : length links_old ≡ length ids) (there : (i : ℕ) → i < length ids → IsSome (slice_index_or disks_old i None))
     (tell : Tell coming sent disk links_old disks_old readings given) (stopped : AreStopped runners disks last) where
-  in_opening : (fault : Fault) → IsCutOpening sent ids runners links_old links disks_old disks fault →
-      IsCutInOpening sent disk links last (length ids) disks_old given (length runners)
+  in_opening : (fault : Fault) → IsCutOpening coming sent ids runners links_old links disks_old disks readings now fault →
+      IsCutInOpening coming sent disk links last now (length ids) links_old disks_old given (length runners)
   in_opening fault cut =
       let within = cut.within in record {
-        sent_is = λ i link low. ap (λ l. sent (slice_index_or l i link)) cut.untouched ∙ tell.sent_is i link (omega (arith, each, low));
+        untouched = cut.untouched;
+        readings_are = cut.readings_are given.readings tell.readings_are;
         stored_is = λ i after low is.
             let taken = some_value (slice_index_or disks_old i None) (there i (omega (arith, within, low))) in
             opened_holds durable one_state reads_same ids runners disks_old disks last stopped cut.opened i taken.0 after (given.stored i) low taken.1 is
@@ -130,16 +150,19 @@ module _ {D F L : Type 0} {disk : Ghosts D} (coming : L → Option (List Receive
         others = λ i high. stopped.others i (omega (arith, high)) ∙ cut.behind i high;
       }
 
-  in_turns : (first : Together) (fault : Fault) (cut : IsCutTurning sent ids runners links_old links disks_old disks first turns fault) →
-      IsCutInTurns sent disk links last (length ids) first turns cut.cut.turn.place
+  in_turns : (first : Together) (fault : Fault) (cut : IsCutTurning coming sent ids runners links_old links disks_old disks readings now first turns fault) →
+      IsCutInTurns coming sent disk links last now (length ids) first turns cut.cut.turn.place
   in_turns first fault cut =
       let turn = cut.cut.turn in
       let all = cut.all in
       let before = first_turns turn.place (all_turns (length runners) cut.cut.taken first) in
-      subst (λ n. IsCutInTurns sent disk links last n first turns turn.place) all (record {
+      subst (λ n. IsCutInTurns coming sent disk links last now n first turns turn.place) all (record {
         taken = cut.cut.taken;
         fewer = cut.cut.fewer;
         turn = record {
+          readings_are = turn.cut.readings_are;
+          coming_is = turn.cut.coming_is;
+          own_is = turn.cut.own_is;
           sent_is = turn.cut.sent_is;
           stored_is = λ i after low other is.
               let some = an_item runners i low in
@@ -152,14 +175,16 @@ module _ {D F L : Type 0} {disk : Ghosts D} (coming : L → Option (List Receive
         };
       })
 
-  pub cut_run : (fault : Fault) (id : ℕ) → fault_id fault ≡ id → IsCut sent ids runners links_old links disks_old disks (opened size ids given) turns fault →
-      IsCutRun sent disk links disks_old last size turns ids given id
+  pub cut_run : (fault : Fault) (id : ℕ) → fault_id fault ≡ id →
+      IsCut coming sent ids runners links_old links disks_old disks readings now (opened size ids given) turns fault →
+      IsCutRun coming sent disk links_old links disks_old last now size turns ids given id
   cut_run fault id of (inl cut) =
       let opening = in_opening fault cut in record {
         place = length runners;
         within = cut.within;
         id_is = cut.id_is ∙ of;
-        begins = λ i link low. (given.sent i, opening.sent_is i link low, all_begin (length ids) turns (opened size ids given) i);
+        begins = λ i link low.
+            (given.sent i, ap (λ l. sent (slice_index_or l i link)) cut.untouched ∙ tell.sent_is i link (omega (arith, each, low)), all_begin (length ids) turns (opened size ids given) i);
         cut = inl opening;
       }
   cut_run fault id of (inr cut) =

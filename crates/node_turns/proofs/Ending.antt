@@ -66,6 +66,7 @@ module _ {D F : Type 0} {disk : Ghosts D} {L : Type 0} (faults : L → ℕ) (ids
           whole = are_whole ids disks_old runners opened;
         },
         links,
+        why.within,
       )
 
   -- from the allocators as they were opened, to what a turn made of them

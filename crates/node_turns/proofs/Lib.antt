@@ -1,10 +1,12 @@
 pub mod Cut
 pub mod CutRun
 pub mod Ending
+pub mod InPart
 pub mod Kept
 pub mod Lists
 pub mod Opened
 pub mod Parts
+pub mod Quiet
 pub mod Refusing
 pub mod Sent
 pub mod Together

@@ -1,12 +1,14 @@
 -- A turn that was cut off, by a call of a link or a disk that failed.
-use Rattle.std.specs.Prelude.{◌≡◌, ℕ, ◌<◌, ◌⊎◌, List, length, Option, Some, None, true}
+use Rattle.std.specs.Prelude.{◌≡◌, ℕ, suc, ◌<◌, ◌⊎◌, List, length, Option, Some, None, true}
 use Rattle.std.specs.Prelude.{slice_index, slice_index_or}
 use Rattle.disk_model.specs.declared.disk.Disk.{Ghosts}
 use Rattle.outside.specs.declared.received.RawFrame.{RawFrame}
-use Rattle.outside.specs.Readings.{next_reading}
+use Rattle.outside.specs.declared.received.Received.{Received}
+use Rattle.outside.specs.Readings.{next_reading, readings_behind}
 use Rattle.alloc_server.specs.Server.{StandsFor}
-use Rattle.node_turns.specs.CutRun.{HoldsStoreInPart}
+use Rattle.node_turns.specs.CutRun.{HoldsStoreInPart, TakesAtMostOne}
 use Rattle.node_turns.specs.Ends.{fault_id}
+use Rattle.node_turns.specs.Opening.{readings_after}
 use Rattle.node_turns.specs.Puts.{turn_puts}
 use Rattle.node_turns.specs.Run.{AreTelling}
 use Rattle.node_turns.specs.Stands.{AreOpened, runner_disk}
@@ -15,10 +17,16 @@ use Rattle.node_turns.specs.Turns.{Together, all_turns, first_turns, turning_at}
 use Rattle.node_turns.specs.declared.fault.Fault.{Fault}
 use Rattle.node_turns.specs.declared.runner.Runner.{Runner}
 
-module _ {D F : Type 0} {disk : Ghosts D} {L : Type 0} (sent : L → Option (List RawFrame))
-    (runners : List (Runner D F disk)) (links : List L) where
-  -- of the one at a place, when all stood like this: no frame was sent in it, and the first of its puts were made
+module _ {D F : Type 0} {disk : Ghosts D} {L : Type 0} (coming : L → Option (List Received))
+    (sent : L → Option (List RawFrame)) (runners : List (Runner D F disk)) (links : List L)
+    (readings : Option (List ℕ)) where
+  -- of the one at a place, when all stood like this: no frame was sent in it, its clock was read, at most one item was
+  -- taken from its link, and the first of its puts were made
   pub record IsCutAt (before : Together) (place : ℕ) : Type 0 where
+    pub readings_are : readings ≡ Some (readings_behind before.readings)
+    pub coming_is : (i : ℕ) (link : L) → i < length runners → (i ≡ place → ⊥) →
+        coming (slice_index_or links i link) ≡ Some (before.running i).coming
+    pub own_is : (link : L) → TakesAtMostOne (before.running place).coming (coming (slice_index_or links place link))
     pub sent_is : (i : ℕ) (link : L) → i < length runners →
         sent (slice_index_or links i link) ≡ Some (before.running i).sent
     pub others : (i : ℕ) (runner : Runner D F disk) → i < length runners → (i ≡ place → ⊥) →
@@ -40,14 +48,17 @@ module _ {D F : Type 0} {disk : Ghosts D} {L : Type 0} (sent : L → Option (Lis
     pub fewer : taken < turns
     pub turn : IsCutTurn (all_turns (length runners) taken all) fault
 
-module _ {D F : Type 0} {disk : Ghosts D} {L : Type 0} (sent : L → Option (List RawFrame)) (ids : List ℕ)
-    (runners : List (Runner D F disk)) (links_old links : List L) (disks_old disks : List (Option D)) where
+module _ {D F : Type 0} {disk : Ghosts D} {L : Type 0} (coming : L → Option (List Received))
+    (sent : L → Option (List RawFrame)) (ids : List ℕ) (runners : List (Runner D F disk)) (links_old links : List L)
+    (disks_old disks : List (Option D)) (readings_old readings : Option (List ℕ)) where
   -- a run that was cut off at the opening of the next one: those so far were opened, its disk is back, and no link was
   -- touched
   pub record IsCutOpening (fault : Fault) : Type 0 where
     pub within : length runners < length ids
     pub id_is : slice_index ids (length runners) ≡ fault_id fault
     pub untouched : links ≡ links_old
+    pub readings_are : (told : List ℕ) → readings_old ≡ Some told →
+        readings ≡ Some (readings_after (suc (length runners)) told)
     pub opened : AreOpened runners disks_old ids
     pub refused : let place = length runners in IsRefused disk (slice_index_or disks_old place None)
         (slice_index_or disks place None) (slice_index ids place) fault
@@ -59,7 +70,7 @@ module _ {D F : Type 0} {disk : Ghosts D} {L : Type 0} (sent : L → Option (Lis
     pub ids_are : (i : ℕ) (runner : Runner D F disk) → i < length runners →
         (slice_index_or runners i runner).id ≡ slice_index ids i
     pub telling : AreTelling runners
-    pub cut : AreCutTurns sent runners links turns first fault
+    pub cut : AreCutTurns coming sent runners links readings turns first fault
 
   -- one or the other
   abbrev pub IsCut : Together → ℕ → Fault → Type 0

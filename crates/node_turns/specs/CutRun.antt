@@ -1,19 +1,21 @@
 -- A run that did not come to its end, where links, disks and the clock tell what they have: at the opening of a node,
 -- or in one of its turns, a call of its link or its disk failed, or its store is damaged.
-use Rattle.std.specs.Prelude.{◌≡◌, ℕ, ◌<◌, ◌⊎◌, List, length, Option, Some, None, true}
+use Rattle.std.specs.Prelude.{◌≡◌, ℕ, suc, ◌<◌, ◌⊎◌, List, length, Option, Some, None, true}
 use Rattle.std.specs.Prelude.{slice_index, slice_index_or}
 use Rattle.can_frame.specs.Log.{IsPrefix}
 use Rattle.disk_model.specs.declared.disk.Disk.{Ghosts}
 use Rattle.disk_model.specs.Contents.{AddsNoImage, MayLeave}
 use Rattle.outside.specs.declared.received.RawFrame.{RawFrame}
-use Rattle.outside.specs.Readings.{next_reading}
+use Rattle.outside.specs.declared.received.Received.{Received}
+use Rattle.outside.specs.Readings.{next_reading, readings_behind}
+use Rattle.outside.specs.Traffic.{items_behind}
 use Rattle.raft_core.specs.StoredPuts.{Noted, store_of, stored_puts}
 use Rattle.raft_log.specs.Rules.{StandsForState}
 use Rattle.raft_log.specs.Stored.{AfterSome, Stored, opening_puts}
 use Rattle.raft_model.specs.Server.{Store}
 use Rattle.program_parts.specs.declared.status.Status.{Status}
 use Rattle.program_parts.specs.declared.status.Status.TheVariants.{Damaged, DiskFault, LinkFault}
-use Rattle.node_turns.specs.Opening.{Given, opened}
+use Rattle.node_turns.specs.Opening.{Given, opened, readings_after}
 use Rattle.node_turns.specs.Puts.{turn_puts}
 use Rattle.node_turns.specs.Turns.{Together, all_turns, first_turns, turning_at}
 use Rattle.node_turns.specs.WholeRun.{HoldsStore, TellsState, after_turns}
@@ -43,21 +45,30 @@ pub record HoldsOpeningInPart {D : Type 0} (disk : Ghosts D) (before after : D) 
       ((image : List ℕ) → MayLeave (disk.contents after) image →
       AfterSome (StandsForState image) (opening_puts state) state)
 
-module _ {L D : Type 0} (sent : L → Option (List RawFrame)) (disk : Ghosts D) (links : List L)
-    (disks : List (Option D)) (count : ℕ) where
-  -- at the opening of the one at a place: nothing was sent, the disks before it hold what they held when they were
+-- the next item that comes on a link was taken, or not yet
+abbrev pub TakesAtMostOne : List Received → Option (List Received) → Type 0
+TakesAtMostOne items left = (left ≡ Some items) ⊎ (left ≡ Some (items_behind items))
+
+module _ {L D : Type 0} (coming : L → Option (List Received)) (sent : L → Option (List RawFrame)) (disk : Ghosts D)
+    (links : List L) (disks : List (Option D)) (readings : Option (List ℕ)) (count : ℕ) where
+  -- at the opening of the one at a place: no link was touched, the disks before it hold what they held when they were
   -- handed in, its own is as a part of its opening leaves it, and those behind it are as they were
-  pub record IsCutInOpening (disks_old : List (Option D)) (given : Given) (place : ℕ) : Type 0 where
-    pub sent_is : (i : ℕ) (link : L) → i < count → sent (slice_index_or links i link) ≡ Some (given.sent i)
+  pub record IsCutInOpening (links_old : List L) (disks_old : List (Option D)) (given : Given) (place : ℕ) : Type 0 where
+    pub untouched : links ≡ links_old
+    pub readings_are : readings ≡ Some (readings_after (suc place) given.readings)
     pub stored_is : (i : ℕ) (after : D) → i < place → slice_index_or disks i None ≡ Some after →
         HoldsStore disk after (store_of (given.stored i))
     pub part_is : (before after : D) → slice_index_or disks_old place None ≡ Some before →
         slice_index_or disks place None ≡ Some after → HoldsOpeningInPart disk before after (given.stored place)
     pub others : (i : ℕ) → place < i → slice_index_or disks i None ≡ slice_index_or disks_old i None
 
-  -- in the turn of the one at a place, when all stood like this: no frame was sent in it, and the first of its puts
-  -- were made; the disks of the others hold their stores
+  -- in the turn of the one at a place, when all stood like this: no frame was sent in it, its clock was read, at most
+  -- one item was taken from its link, and the first of its puts were made; the disks of the others hold their stores
   pub record IsCutAtTurn (before : Together) (place : ℕ) : Type 0 where
+    pub readings_are : readings ≡ Some (readings_behind before.readings)
+    pub coming_is : (i : ℕ) (link : L) → i < count → (i ≡ place → ⊥) →
+        coming (slice_index_or links i link) ≡ Some (before.running i).coming
+    pub own_is : (link : L) → TakesAtMostOne (before.running place).coming (coming (slice_index_or links place link))
     pub sent_is : (i : ℕ) (link : L) → i < count →
         sent (slice_index_or links i link) ≡ Some (before.running i).sent
     pub stored_is : (i : ℕ) (after : D) → i < count → (i ≡ place → ⊥) →
@@ -73,29 +84,49 @@ module _ {L D : Type 0} (sent : L → Option (List RawFrame)) (disk : Ghosts D) 
     pub turn : IsCutAtTurn (first_turns place (all_turns count taken first)) place
 
 -- it ended at the node with this ID; what each link was sent is a beginning of what it is sent in a run to its end
-pub record IsCutRun {L D : Type 0} (sent : L → Option (List RawFrame)) (disk : Ghosts D) (links : List L)
-    (disks_old disks : List (Option D)) (size turns : ℕ) (ids : List ℕ) (given : Given) (id : ℕ) : Type 0 where
+pub record IsCutRun {L D : Type 0} (coming : L → Option (List Received)) (sent : L → Option (List RawFrame))
+    (disk : Ghosts D) (links_old links : List L) (disks_old disks : List (Option D)) (readings : Option (List ℕ))
+    (size turns : ℕ) (ids : List ℕ) (given : Given) (id : ℕ) : Type 0 where
   pub place : ℕ
   pub within : place < length ids
   pub id_is : slice_index ids place ≡ id
   pub begins : (i : ℕ) (link : L) → i < length ids → (frames : List RawFrame) ×
       (sent (slice_index_or links i link) ≡ Some frames) ×
       IsPrefix frames ((after_turns size turns ids given).running i).sent
-  pub cut : IsCutInOpening sent disk links disks (length ids) disks_old given place ⊎
-      IsCutInTurns sent disk links disks (length ids) (opened size ids given) turns place
+  pub cut : IsCutInOpening coming sent disk links disks readings (length ids) links_old disks_old given place ⊎
+      IsCutInTurns coming sent disk links disks readings (length ids) (opened size ids given) turns place
 
--- it ended at the damaged store of the node with this ID: where its disk tells what it holds, a stop leaves no image of
--- it that it could not leave before; the disks before it, where they stood for a state, hold what they held when they
--- were handed in, and those behind it are as they were
-pub record IsLeftDamaged {D : Type 0} (disk : Ghosts D) (ids : List ℕ) (disks_old disks : List (Option D))
-    (id : ℕ) : Type 0 where
+-- it ended at the opening of the node with this ID: where its disk tells what it holds, this holds of it; the disks
+-- before it, where they stood for a state, hold what they held when they were handed in, and those behind it are as
+-- they were
+pub record IsLeft {D : Type 0} (disk : Ghosts D) (ids : List ℕ) (disks_old disks : List (Option D)) (id : ℕ)
+    (Holds : D → D → Type 0) : Type 0 where
   pub place : ℕ
   pub within : place < length ids
   pub id_is : slice_index ids place ≡ id
   pub left : (before after : D) → slice_index_or disks_old place None ≡ Some before →
       slice_index_or disks place None ≡ Some after → disk.tells before ≡ true →
-      (disk.tells after ≡ true) × AddsNoImage (disk.contents before) (disk.contents after)
+      (disk.tells after ≡ true) × Holds before after
   pub stored_is : (i : ℕ) (before after : D) (state : Stored) → i < place →
       slice_index_or disks_old i None ≡ Some before → slice_index_or disks i None ≡ Some after →
       TellsState disk before state → HoldsStore disk after (store_of state)
   pub others : (i : ℕ) → place < i → slice_index_or disks i None ≡ slice_index_or disks_old i None
+
+-- a stop leaves no image of its disk that it could not leave before
+abbrev pub KeepsImages : {D : Type 0} → Ghosts D → D → D → Type 0
+KeepsImages disk before after = AddsNoImage (disk.contents before) (disk.contents after)
+
+-- or the disk stood for a state, and a stop leaves that state after some of the first puts of an opening
+abbrev pub KeepsOrOpens : {D : Type 0} → Ghosts D → D → D → Type 0
+KeepsOrOpens disk before after = KeepsImages disk before after ⊎ ((state : Stored) ×
+    StandsForState (disk.contents before).seen state ×
+    ((image : List ℕ) → MayLeave (disk.contents after) image →
+    AfterSome (StandsForState image) (opening_puts state) state))
+
+-- its store is damaged
+abbrev pub IsLeftDamaged : {D : Type 0} → Ghosts D → List ℕ → List (Option D) → List (Option D) → ℕ → Type 0
+IsLeftDamaged disk ids disks_old disks id = IsLeft disk ids disks_old disks id (KeepsImages disk)
+
+-- its disk failed
+abbrev pub IsLeftUnopened : {D : Type 0} → Ghosts D → List ℕ → List (Option D) → List (Option D) → ℕ → Type 0
+IsLeftUnopened disk ids disks_old disks id = IsLeft disk ids disks_old disks id (KeepsOrOpens disk)

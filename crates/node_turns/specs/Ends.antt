@@ -1,9 +1,9 @@
 -- How a run ends before its last turn.
-use Rattle.std.specs.Prelude.{ℕ, List}
+use Rattle.std.specs.Prelude.{ℕ, List, Result, Ok, Err, ⊤}
 use Rattle.kv_store.specs.declared.fault.OpenFault.{OpenFault}
 use Rattle.kv_store.specs.declared.fault.OpenFault.TheVariants.{Fault as DiskFailed, Damaged as DamagedAt}
 use Rattle.program_parts.specs.declared.status.Status.{Status}
-use Rattle.program_parts.specs.declared.status.Status.TheVariants.{LinkFault, DiskFault, Damaged as IsDamaged}
+use Rattle.program_parts.specs.declared.status.Status.TheVariants.{Done, LinkFault, DiskFault, Damaged as IsDamaged}
 use Rattle.node_turns.specs.Report.{damaged_line, disk_fault_line, link_fault_line}
 use Rattle.node_turns.specs.declared.fault.Fault.{Fault}
 use Rattle.node_turns.specs.declared.fault.Fault.TheVariants.{Link, Disk, Damaged}
@@ -18,6 +18,10 @@ abbrev pub fault_status : Fault → Status
 fault_status (Link id) = LinkFault id
 fault_status (Disk id) = DiskFault id
 fault_status (Damaged id key) = IsDamaged id key
+
+abbrev pub end_status : Result ⊤ Fault → Status
+end_status (Ok done) = Done
+end_status (Err fault) = fault_status fault
 
 abbrev pub fault_line : Fault → List ℕ
 fault_line (Link id) = link_fault_line id

@@ -2,9 +2,11 @@ pub mod Cut
 pub mod CutRun
 pub mod Ends
 pub mod Frames
+pub mod InPart
 pub mod Kept
 pub mod Opening
 pub mod Puts
+pub mod Quiet
 pub mod Report
 pub mod Run
 pub mod Runners

@@ -29,7 +29,7 @@ module _ {D F : Type 0} {disk : Ghosts D} where
   EndsRun faults ids disks_old disks_new links_old links_new runners (Disk id) =
       (last : List (Option D)) → AreStopped runners disks_new last → DiskRose disk.faults ids disks_old last id
   EndsRun faults ids disks_old disks_new links_old links_new runners (Damaged id key) =
-      IsDamagedDisk disk ids disks_old id key × (links_new ≡ links_old)
+      IsDamagedDisk disk ids disks_old id key × (links_new ≡ links_old) × (length runners < length ids)
 
   -- some were opened, on the disks at their places, which stood for a state, and the other disks are there
   pub record HasRun {L : Type 0} (faults : L → ℕ) (ids : List ℕ)

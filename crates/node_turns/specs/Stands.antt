@@ -8,7 +8,7 @@ use Rattle.program_parts.specs.Draws.{moved, word_at}
 use Rattle.raft_core.specs.StoredPuts.{store_of}
 use Rattle.raft_log.specs.DurableViews.{durable_state}
 use Rattle.raft_log.specs.Opening.{OpensTo}
-use Rattle.server_parts.specs.TimedServer.{opening}
+use Rattle.server_parts.specs.TimedServer.{Timed, opening}
 use Rattle.alloc_server.specs.Server.{StandsFor, accepts, disk_of, durable_of, fault_of}
 use Rattle.node_turns.specs.Opening.{readings_after}
 use Rattle.node_turns.specs.Turn.{Running, Turning}
@@ -28,6 +28,14 @@ module _ {D F : Type 0} {disk : Ghosts D} where
   abbrev pub Works : Runner D F disk → Type 0
   Works runner = IsNone (fault_of runner.server)
 
+  -- its server stands for one in time
+  abbrev pub IsStanding : Runner D F disk → Type 0
+  IsStanding runner = (t : Timed) × StandsFor runner.server t
+
+  abbrev pub AreStanding : List (Runner D F disk) → Type 0
+  AreStanding runners = (i : ℕ) (runner : Runner D F disk) → i < length runners
+      → IsStanding (slice_index_or runners i runner)
+
   -- a disk was taken and opened, in a cluster of a size, for a node ID
   pub record IsOpened (runner : Runner D F disk) (before : Option D) (id : ℕ) : Type 0 where
     pub id_is : runner.id ≡ id
@@ -36,6 +44,7 @@ module _ {D F : Type 0} {disk : Ghosts D} where
     pub later : (taken : D) → before ≡ Some taken → disk.faults taken ≤ disk.faults (runner_disk runner)
     pub tells : (taken : D) → before ≡ Some taken → disk.tells (runner_disk runner) ≡ disk.tells taken
     pub works : Works runner
+    pub standing : IsStanding runner
 
   -- at this moment, with its first word and with what it has stored
   abbrev pub IsOpenedAt : ℕ → Runner D F disk → ℕ → Type 0

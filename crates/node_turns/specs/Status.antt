@@ -54,6 +54,10 @@ DisksTell {D = D} disk old = (i : ℕ) (before : D) → slice_index_or old i Non
 abbrev pub IsWhole : {D : Type 0} → Ghosts D → D → Type 0
 IsWhole disk before = disk.tells before ≡ true → (state : Stored) × StandsForState (disk.contents before).seen state
 
+abbrev pub AreWhole : {D : Type 0} → Ghosts D → List ℕ → List (Option D) → Type 0
+AreWhole {D = D} disk ids old = (i : ℕ) (before : D) → i < length ids → slice_index_or old i None ≡ Some before →
+    IsWhole disk before
+
 -- the disk that was handed in for this node is damaged, first at this key, and those before it are not
 pub record IsDamagedDisk {D : Type 0} (disk : Ghosts D) (ids : List ℕ) (old : List (Option D))
     (id key : ℕ) : Type 0 where

@@ -1,7 +1,9 @@
 -- What openings and turns come to, and why they end.
 use Rattle.std.specs.Prelude.{◌≡◌, ℕ, ◌<◌, ◌≤◌, List, length, Option, Some, None, IsSome, slice_index, slice_index_or, true}
 use Rattle.disk_model.specs.Contents.{AddsNoImage}
+use Rattle.disk_model.specs.Device.{Makes}
 use Rattle.disk_model.specs.declared.disk.Disk.{Ghosts}
+use Rattle.kv_store.specs.Image.{open_calls}
 use Rattle.outside.specs.Faults.{Rose}
 use Rattle.raft_log.specs.Opening.{FailsToOpen}
 use Rattle.raft_log.specs.Rules.{IsDamagedAt}
@@ -17,7 +19,8 @@ HasCause disk before after id (Disk node) = (node ≡ id) × Rose (disk.faults b
     FailsToOpen disk before after
 HasCause disk before after id (Damaged node key) = (node ≡ id) ×
     (disk.tells before ≡ true → IsDamagedAt (disk.contents before).seen key) ×
-    (disk.tells before ≡ true → AddsNoImage (disk.contents before) (disk.contents after))
+    (disk.tells before ≡ true → AddsNoImage (disk.contents before) (disk.contents after)) ×
+    Makes disk.does open_calls true before after
 
 pub record IsRefused {D : Type 0} (disk : Ghosts D) (before after : Option D) (id : ℕ) (fault : Fault) : Type 0 where
   pub later : (old new : D) → before ≡ Some old → after ≡ Some new → disk.faults old ≤ disk.faults new

@@ -2,18 +2,22 @@ ghost use Rattle.std.specs.Prelude.{◌≡◌, ◌<◌, ◌≤◌, ◌⊎◌, �
 ghost use Rattle.std.specs.Prelude.{None, Ok, Err, IfErr, IsSome, OnOk};
 ghost use Rattle.std.specs.Io.KnownBytes.{Appends};
 ghost use Rattle.outside.specs.Faults.{Rose};
+ghost use Rattle.program_parts.specs.Output.{WritesFront};
 ghost use Rattle.server_parts.specs.Accepted as accepted;
 ghost use Rattle.transfer_rx.specs.Acceptance.{AnswersByRows, first_signature};
 ghost use Rattle.transfer_rx.specs.Memory.{ReceiverFitsInMemory};
 ghost use Rattle.world_parts.specs.Cluster.{AreMembers};
 ghost use Rattle.node_turns.specs.Cut.{IsCut, IsCutOpening};
-ghost use Rattle.node_turns.specs.CutRun.{EndsAt, IsCutRun, IsLeftDamaged};
+ghost use Rattle.node_turns.specs.CutRun.{EndsAt, IsCutRun, IsLeftDamaged, IsLeftUnopened};
 ghost use Rattle.node_turns.specs.Opening.{Given, opened};
+ghost use Rattle.node_turns.specs.Ends.{end_status, fault_line};
+ghost use Rattle.node_turns.specs.InPart.{IsWrittenInPart};
+ghost use Rattle.node_turns.specs.Quiet.{CountNoOther, RunQuietly};
 ghost use Rattle.node_turns.specs.Report.{damaged_line, disk_fault_line, link_fault_line, report};
 ghost use Rattle.node_turns.specs.Run.{AreTelling, HasRun};
 ghost use Rattle.node_turns.specs.Runners.{accepts, runners_of};
 ghost use Rattle.node_turns.specs.Stands.{Stand};
-ghost use Rattle.node_turns.specs.Status.{DiskRose, IsDamagedDisk, IsEndStatus, IsStatus, LinkRose};
+ghost use Rattle.node_turns.specs.Status.{AreWhole, DiskRose, IsDamagedDisk, IsEndStatus, IsStatus, LinkRose};
 ghost use Rattle.node_turns.specs.Status.{DisksTell, NoDamagedDisk, NoDiskRose, NoLinkRose};
 ghost use Rattle.node_turns.specs.Steps.{Keeps, steps_made};
 ghost use Rattle.node_turns.specs.WholeRun.{IsWholeRun, Tell, after_turns};
@@ -24,6 +28,7 @@ use crate::runners::Runners;
 use crate::steps::LastSteps;
 use can_frame::Kind;
 use disk_model::Disk;
+use disk_model::laws::calls_that_succeed_count_no_fault;
 use outside::{Clock, Failed, Link, Sink};
 use program_parts::{Output, Status};
 use raft_log::laws::{a_state_is_durable, an_image_stands_for_one_state, an_opening_goes_on};
@@ -63,7 +68,11 @@ pub fn node<K: Sink, L: Link, D: Disk, C: Clock>(
     ensures places { length disks.new ≡ length disks.old }
     ensures write_fault { result ≡ Status.WriteFault →
         Rose (K.faults sink.old) (K.faults sink.new) }
-    ensures kept { result ≡ Status.Done → K.faults sink.new ≡ K.faults sink.old }
+    // No fault is passed over: with any other status the counts of the sink, of the links and of the
+    // disks stay, but for the one of the link or the disk that the status names.
+    ensures kept { (result ≡ Status.WriteFault) ⊎ (K.faults sink.new ≡ K.faults sink.old) }
+    ensures quiet { (result ≡ Status.WriteFault) ⊎ CountNoOther L.faults D.faults ids.now
+        links.old links.new disks.old disks.new result }
     ensures link_fault { (id : ℕ) → result ≡ Status.LinkFault id →
         LinkRose L.faults ids.now links.old links.new id }
     ensures link_line { (id : ℕ) → result ≡ Status.LinkFault id →
@@ -79,6 +88,10 @@ pub fn node<K: Sink, L: Link, D: Disk, C: Clock>(
         Appends (K.written sink.old) (K.written sink.new) (damaged_line id key) }
     ensures damaged_left { (id key : ℕ) → result ≡ Status.Damaged id key →
         IsLeftDamaged D.Disk ids.now disks.old disks.new id }
+    // Where a disk is damaged, a disk that fails does so in an opening.
+    ensures unopened { (id : ℕ) → result ≡ Status.DiskFault id →
+        AreWhole D.Disk ids.now disks.old ⊎
+        (IsLeftUnopened D.Disk ids.now disks.old disks.new id × (links.new ≡ links.old)) }
     // Where nothing fails, the first damaged disk ends the run; without one it comes to its end.
     ensures finishes { NoDamagedDisk D.Disk ids.now disks.old →
         NoLinkRose L.faults ids.now links.old links.new →
@@ -95,10 +108,15 @@ pub fn node<K: Sink, L: Link, D: Disk, C: Clock>(
         (C.readings clock.old) given → result ≡ Status.Done → IsWholeRun L.coming L.sent D.Disk
         links.new disks.new (C.readings clock.new) (K.written sink.old) (K.written sink.new)
         (length ids.now) turns (after_turns size turns ids.now given) }
+    // A sink that failed has a front of what a run writes that ends so.
+    ensures in_part { (given : Given) → Tell L.coming L.sent D.Disk links.old disks.old
+        (C.readings clock.old) given → result ≡ Status.WriteFault → IsWrittenInPart L.faults D.Disk
+        ids.now links.old links.new disks.old disks.new (K.written sink.old) (K.written sink.new)
+        (report turns (after_turns size turns ids.now given).lines) }
     // And of a run that did not come to its end it says how far it came.
     ensures cut { (given : Given) (id : ℕ) → Tell L.coming L.sent D.Disk links.old disks.old
-        (C.readings clock.old) given → EndsAt id result → IsCutRun L.sent D.Disk
-        links.new disks.old disks.new size turns ids.now given id }
+        (C.readings clock.old) given → EndsAt id result → IsCutRun L.coming L.sent D.Disk
+        links.old links.new disks.old disks.new (C.readings clock.new) size turns ids.now given id }
 {
     a_state_is_durable::<D>();
     an_image_stands_for_one_state();
@@ -161,14 +179,18 @@ fn run_all<F: Fn(Kind, u16) -> Option<u64> + Copy, L: Link, D: Disk, C: Clock>(
         (C.readings clock.old) given → Stand L.coming L.sent (runners_of runners.new) links.new
         (C.readings clock.new) steps.new (after_turns size turns ids.now given)) }
     ensures cut { IfErr result (λ fault. (given : Given) → Tell L.coming L.sent D.Disk
-        links.old disks.old (C.readings clock.old) given → IsCut L.sent ids.now
-        (runners_of runners.new) links.old links.new disks.old disks.new
-        (opened size ids.now given) turns fault) }
-    ensures damaged { (id key : ℕ) → result ≡ Err (IsDamaged id key) → IsCutOpening L.sent ids.now
-        (runners_of runners.new) links.old links.new disks.old disks.new (IsDamaged id key) }
+        links.old disks.old (C.readings clock.old) given → IsCut L.coming L.sent ids.now
+        (runners_of runners.new) links.old links.new disks.old disks.new (C.readings clock.old)
+        (C.readings clock.new) (opened size ids.now given) turns fault) }
+    ensures unopened { IfErr result (λ fault. (length (runners_of runners.new) ≡ length ids.now) ⊎
+        IsCutOpening L.coming L.sent ids.now (runners_of runners.new) links.old links.new
+        disks.old disks.new (C.readings clock.old) (C.readings clock.new) fault) }
     ensures tells { OnOk result ((given : Given) → Tell L.coming L.sent D.Disk links.old disks.old
         (C.readings clock.old) given → AreTelling (runners_of runners.new)) }
+    ensures quiet { RunQuietly L.faults ids.now disks.old disks.new links.old links.new
+        (runners_of runners.new) result }
 {
+    calls_that_succeed_count_no_fault::<D>();
     an_image_stands_for_one_state();
     an_opening_goes_on();
     match runners.open_all(size, ids, disks, clock) {
@@ -189,10 +211,16 @@ fn finish<K: Sink>(ended: Result<(), Fault>, turns: u64, steps: LastSteps, sink:
     ensures damaged { (id key : ℕ) → result ≡ Status.Damaged id key →
         (ended ≡ Err (IsDamaged id key)) ×
         Appends (K.written sink.old) (K.written sink.new) (damaged_line id key) }
-    ensures kept { result ≡ Status.Done → K.faults sink.new ≡ K.faults sink.old }
+    ensures end { (result ≡ Status.WriteFault) ⊎ (result ≡ end_status ended) }
+    ensures kept { (result ≡ Status.WriteFault) ⊎ (K.faults sink.new ≡ K.faults sink.old) }
     ensures ended { result ≡ Status.Done → ended ≡ Ok tt }
     ensures done { (lines : List (List ℕ)) → Keeps steps lines → result ≡ Status.Done →
         (ended ≡ Ok tt) × Appends (K.written sink.old) (K.written sink.new) (report turns lines) }
+    ensures report_in_part { result ≡ Status.WriteFault → OnOk ended ((lines : List (List ℕ)) →
+        Keeps steps lines →
+        WritesFront (K.written sink.old) (K.written sink.new) (report turns lines)) }
+    ensures line_in_part { result ≡ Status.WriteFault → IfErr ended (λ fault.
+        WritesFront (K.written sink.old) (K.written sink.new) (fault_line fault)) }
 {
     match ended {
         Ok(()) => match steps.write(turns, sink) {

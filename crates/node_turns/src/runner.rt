@@ -2,9 +2,11 @@
 
 ghost use Rattle.std.specs.Prelude.{◌≡◌, ◌<◌, ◌≤◌, ◌+◌, ℕ, List, Option, Some, None, IfOk, IfErr, OnOk, OnErr, IsErr, true};
 ghost use Rattle.disk_model.specs.Contents.{AddsNoImage};
+ghost use Rattle.disk_model.specs.Device.{Makes};
 ghost use Rattle.outside.specs.Faults.{Rose};
 ghost use Rattle.outside.specs.declared.received.RawFrame.{RawFrame};
 ghost use Rattle.outside.specs.declared.received.Received.{Received};
+ghost use Rattle.kv_store.specs.Image.{open_calls};
 ghost use Rattle.kv_store.specs.declared.fault.Fault.{Fault as StoreFault};
 ghost use Rattle.kv_store.specs.declared.fault.OpenFault.TheVariants.{Fault as DiskFault, Damaged};
 ghost use Rattle.program_parts.specs.Draws.{moved, word_at};
@@ -30,6 +32,7 @@ use crate::steps::LastSteps;
 use alloc_server::{Event, Outcome, Server, View, accept_rows};
 use can_frame::Kind;
 use disk_model::Disk;
+use disk_model::laws::calls_that_succeed_count_no_fault;
 use kv_store::OpenRefused;
 use outside::{Failed, Link};
 use program_parts::Draws;
@@ -47,7 +50,8 @@ pub(crate) struct Runner<D: Disk, F> {
 impl<D: Disk, F: Fn(Kind, u16) -> Option<u64> + Copy> Runner<D, F> {
     ghost use Rattle.alloc_server.specs.Server.{HasPut, LeavesSome, StandsFor};
     ghost use Rattle.alloc_server.specs.Server.{durable_of, event_of};
-    ghost use Rattle.node_turns.specs.Stands.{IsTurning, Works, closure_of, runner_disk};
+    ghost use Rattle.node_turns.specs.CutRun.{TakesAtMostOne};
+    ghost use Rattle.node_turns.specs.Stands.{IsStanding, IsTurning, Works, closure_of, runner_disk};
     ghost use Rattle.node_turns.specs.Steps.{steps_made};
 
     /// Opens the server of the node `id`, in a cluster of `size` members, at a moment and with its first
@@ -77,6 +81,8 @@ impl<D: Disk, F: Fn(Kind, u16) -> Option<u64> + Copy> Runner<D, F> {
         ensures tells { IfOk result (λ runner. D.tells (runner_disk runner) ≡ D.tells disk) }
         ensures damaged { IfErr result (λ refused. (key : ℕ) → refused.why ≡ Damaged key →
             D.tells disk ≡ true → IsDamagedAt (D.contents disk).seen key) }
+        ensures damaged_made { IfErr result (λ refused. (key : ℕ) → refused.why ≡ Damaged key →
+            Makes D.does open_calls true disk refused.disk) }
         ensures fault { IfErr result (λ refused. (fault : StoreFault) →
             refused.why ≡ DiskFault fault → Rose (D.faults disk) (D.faults refused.disk)) }
         // What the refused disk holds.
@@ -110,8 +116,12 @@ impl<D: Disk, F: Fn(Kind, u16) -> Option<u64> + Copy> Runner<D, F> {
         ensures turned { OnOk result ((t : Turning) →
             IsTurning self.old (L.coming link.old) (L.sent link.old) steps.old t →
             IsTurning self.new (L.coming link.new) (L.sent link.new) steps.new (turn now t)) }
-        // One that is cut off has sent nothing, and has made some of its puts.
+        // One that is cut off has sent nothing, has taken at most one item, and has made some of its
+        // puts.
         ensures unsent { OnErr result (L.sent link.new ≡ L.sent link.old) }
+        ensures taken { (t : Turning) →
+            IsTurning self.old (L.coming link.old) (L.sent link.old) steps.old t →
+            TakesAtMostOne t.running.coming (L.coming link.new) }
         ensures leaves { (t : Turning) →
             IsTurning self.old (L.coming link.old) (L.sent link.old) steps.old t →
             LeavesSome self.old.server self.new.server (turn_puts now t) }
@@ -128,6 +138,11 @@ impl<D: Disk, F: Fn(Kind, u16) -> Option<u64> + Copy> Runner<D, F> {
         ensures link_later { L.faults link.old ≤ L.faults link.new }
         ensures disk_later { D.faults (runner_disk self.old) ≤ D.faults (runner_disk self.new) }
         ensures tells { D.tells (runner_disk self.new) ≡ D.tells (runner_disk self.old) }
+        ensures standing { OnOk result (IsStanding self.old → IsStanding self.new) }
+        ensures link_quiet { (result ≡ Err (LinkFailed self.old.id) → ⊥) →
+            L.faults link.new ≡ L.faults link.old }
+        ensures disk_quiet { (result ≡ Err (DiskFailed self.old.id) → ⊥) → IsStanding self.old →
+            D.faults (runner_disk self.new) ≡ D.faults (runner_disk self.old) }
     {
         let word = self.draws.word();
         self.step(Event::Tick { now, word }, steps)?;
@@ -145,6 +160,9 @@ impl<D: Disk, F: Fn(Kind, u16) -> Option<u64> + Copy> Runner<D, F> {
             IsTurning self.old (L.coming link.old) (L.sent link.old) steps.old t →
             IsTurning self.new (L.coming link.new) (L.sent link.new) steps.new (hears now t)) }
         ensures sent { L.sent link.new ≡ L.sent link.old }
+        ensures taken { (t : Turning) →
+            IsTurning self.old (L.coming link.old) (L.sent link.old) steps.old t →
+            TakesAtMostOne t.running.coming (L.coming link.new) }
         ensures leaves { (t : Turning) →
             IsTurning self.old (L.coming link.old) (L.sent link.old) steps.old t →
             LeavesSome self.old.server self.new.server (heard_puts now t) }
@@ -161,6 +179,11 @@ impl<D: Disk, F: Fn(Kind, u16) -> Option<u64> + Copy> Runner<D, F> {
         ensures link_later { L.faults link.old ≤ L.faults link.new }
         ensures disk_later { D.faults (runner_disk self.old) ≤ D.faults (runner_disk self.new) }
         ensures tells { D.tells (runner_disk self.new) ≡ D.tells (runner_disk self.old) }
+        ensures standing { OnOk result (IsStanding self.old → IsStanding self.new) }
+        ensures link_quiet { (result ≡ Err (LinkFailed self.old.id) → ⊥) →
+            L.faults link.new ≡ L.faults link.old }
+        ensures disk_quiet { (result ≡ Err (DiskFailed self.old.id) → ⊥) → IsStanding self.old →
+            D.faults (runner_disk self.new) ≡ D.faults (runner_disk self.old) }
     {
         // The law behind the clause `leaves`, where nothing is put.
         a_state_is_durable::<D>();
@@ -197,7 +220,11 @@ impl<D: Disk, F: Fn(Kind, u16) -> Option<u64> + Copy> Runner<D, F> {
             Rose (D.faults (runner_disk self.old)) (D.faults (runner_disk self.new))) }
         ensures disk_later { D.faults (runner_disk self.old) ≤ D.faults (runner_disk self.new) }
         ensures tells { D.tells (runner_disk self.new) ≡ D.tells (runner_disk self.old) }
+        ensures standing { OnOk result (IsStanding self.old → IsStanding self.new) }
+        ensures quiet { OnOk result (IsStanding self.old →
+            D.faults (runner_disk self.new) ≡ D.faults (runner_disk self.old)) }
     {
+        calls_that_succeed_count_no_fault::<D>();
         match self.server.step(event, steps.next_number()) {
             Ok(outcome) => {
                 steps.push(stepped(self.id, self.server.view(), outcome));
@@ -213,6 +240,7 @@ impl<D: Disk, F: Fn(Kind, u16) -> Option<u64> + Copy> Runner<D, F> {
             IsTurning self.old (L.coming link.old) (L.sent link.old) steps t →
             IsTurning self.new (L.coming link.new) (L.sent link.new) steps (sends t)) }
         ensures unsent { OnErr result (L.sent link.new ≡ L.sent link.old) }
+        ensures coming { L.coming link.new ≡ L.coming link.old }
         ensures id { self.new.id ≡ self.old.id }
         ensures accepts { closure_of self.new ≡ closure_of self.old }
         ensures works { Works self.old → Works self.new }
@@ -220,6 +248,8 @@ impl<D: Disk, F: Fn(Kind, u16) -> Option<u64> + Copy> Runner<D, F> {
         ensures cause { OnErr result (Rose (L.faults link.old) (L.faults link.new)) }
         ensures link_later { L.faults link.old ≤ L.faults link.new }
         ensures disk { runner_disk self.new ≡ runner_disk self.old }
+        ensures standing { IsStanding self.old → IsStanding self.new }
+        ensures quiet { OnOk result (L.faults link.new ≡ L.faults link.old) }
     {
         let Some(next) = self.server.pop() else {
             return Ok(());

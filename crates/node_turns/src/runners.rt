@@ -1,6 +1,6 @@
 //! The allocators that run, each on the disk that it was given.
 
-ghost use Rattle.std.specs.Prelude.{◌≡◌, ◌<◌, ◌≤◌, ◌+◌, ◌*◌, ◌++◌, ◌∷◌, [], ℕ, List, Option, Some, None, IfSome, IfErr, IsSome, OnOk, OnErr, Err, length, slice_index, slice_index_or, slice_set, true, vec_capacity};
+ghost use Rattle.std.specs.Prelude.{◌≡◌, suc, ◌<◌, ◌≤◌, ◌+◌, ◌*◌, ◌++◌, ◌∷◌, [], ℕ, List, Option, Some, None, IfSome, IfErr, IsSome, OnOk, OnErr, Err, length, slice_index, slice_index_or, slice_set, true, vec_capacity};
 ghost use Rattle.outside.specs.Faults.{Rose};
 ghost use Rattle.kv_store.specs.declared.fault.Fault.{Fault as StoreFault};
 ghost use Rattle.kv_store.specs.declared.fault.OpenFault.TheVariants.{Fault as DiskFault, Damaged};
@@ -41,7 +41,8 @@ pub(crate) struct Runners<D: Disk, F> {
 }
 
 impl<D: Disk, F: Fn(Kind, u16) -> Option<u64> + Copy> Runners<D, F> {
-    ghost use Rattle.node_turns.specs.Stands.{AreOpened, AreOpenedAt, IsOpened, IsOpenedAt, Stand, Works, runner_disk};
+    ghost use Rattle.node_turns.specs.Quiet.{StayQuiet};
+    ghost use Rattle.node_turns.specs.Stands.{AreStanding, AreOpened, AreOpenedAt, IsOpened, IsOpenedAt, Stand, Works, runner_disk};
     ghost use Rattle.node_turns.specs.Cut.{AreCutTurns};
     ghost use Rattle.node_turns.specs.Run.{AreStopped};
     ghost use Rattle.node_turns.specs.Runners.{accepts, runners_of};
@@ -88,6 +89,8 @@ impl<D: Disk, F: Fn(Kind, u16) -> Option<u64> + Copy> Runners<D, F> {
         ensures moments { (readings : List ℕ) → C.readings clock.old ≡ Some readings → OnOk result (
             (C.readings clock.new ≡ Some (readings_after (length ids.now) readings)) ×
             AreOpenedAt size (runners_of self.new) readings) }
+        ensures clock { OnErr result ((readings : List ℕ) → C.readings clock.old ≡ Some readings →
+            C.readings clock.new ≡ Some (readings_after (suc (length (runners_of self.new))) readings)) }
         ensures accepts { accepts self.new ≡ accepts self.old }
         ensures places { length disks.new ≡ length disks.old }
     {
@@ -170,11 +173,14 @@ impl<D: Disk, F: Fn(Kind, u16) -> Option<u64> + Copy> Runners<D, F> {
             (all_turns (length (runners_of self.old)) turns all)) }
         ensures cut { IfErr result (λ fault. (all : Together) →
             Stand L.coming L.sent (runners_of self.old) links.old (C.readings clock.old)
-            steps.old all → AreCutTurns L.sent (runners_of self.new) links.new turns all fault) }
+            steps.old all → AreCutTurns L.coming L.sent (runners_of self.new) links.new
+            (C.readings clock.new) turns all fault) }
         ensures nodes { KeepsNodes (runners_of self.old) (runners_of self.new) }
         ensures links { KeepsLinks L.faults links.old links.new }
         ensures failed { IfErr result
             (EndsTurn L.faults (runners_of self.old) (runners_of self.new) links.old links.new) }
+        ensures quiet { AreStanding (runners_of self.old) → StayQuiet L.faults
+            (runners_of self.old) (runners_of self.new) links.old links.new result }
     {
         let mut taken = 0;
         'turns: while taken < turns {

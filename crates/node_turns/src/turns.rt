@@ -5,7 +5,8 @@ ghost use Rattle.server_parts.specs.Accepted as accepted;
 ghost use Rattle.transfer_rx.specs.Acceptance.{AnswersByRows};
 ghost use Rattle.transfer_rx.specs.Memory.{ReceiverFitsInMemory};
 ghost use Rattle.node_turns.specs.Cut.{IsCutTurn};
-ghost use Rattle.node_turns.specs.Stands.{Stand, closure_of};
+ghost use Rattle.node_turns.specs.Quiet.{StayQuiet};
+ghost use Rattle.node_turns.specs.Stands.{AreStanding, Stand, closure_of};
 ghost use Rattle.node_turns.specs.Steps.{steps_made};
 ghost use Rattle.node_turns.specs.Taking.{AreWorking, EndsTurn, KeepsLinks, KeepsNodes};
 ghost use Rattle.node_turns.specs.Turns.{Together, first_turns};
@@ -40,13 +41,16 @@ pub(crate) fn take_turn<D: Disk, F: Fn(Kind, u16) -> Option<u64> + Copy, L: Link
         (first_turns (length runners.old) all)) }
     ensures cut { IfErr result (λ fault. (all : Together) → Stand L.coming L.sent runners.old
         links.old (C.readings clock.old) steps.old all →
-        IsCutTurn L.sent runners.new links.new all fault) }
+        IsCutTurn L.coming L.sent runners.new links.new (C.readings clock.new) all fault) }
     ensures nodes { KeepsNodes runners.old runners.new }
     ensures links { KeepsLinks L.faults links.old links.new }
     ensures working { OnOk result (AreWorking runners.new) }
     ensures failed { IfErr result
         (EndsTurn L.faults runners.old runners.new links.old links.new) }
     ensures few { steps_made steps.new ≤ steps_made steps.old + 10 }
+    ensures standing { OnOk result (AreStanding runners.old → AreStanding runners.new) }
+    ensures quiet { AreStanding runners.old →
+        StayQuiet L.faults runners.old runners.new links.old links.new result }
 {
     for place in 0..runners.len() {
         let now = clock.now();

@@ -3,6 +3,8 @@ use Rattle.outside.specs.Faults.{Rose}
 use Rattle.program_parts.specs.declared.status.Status.TheVariants.{Damaged, Done, Memory}
 use Rattle.node_turns.specs.Status.{DisksTell, IsDamagedDisk, NoDamagedDisk, NoDiskRose, NoLinkRose}
 use Rattle.node_turns.specs.CutRun.{IsCutRun}
+use Rattle.node_turns.specs.InPart.{IsWrittenInPart}
+use Rattle.node_turns.specs.Report.{report}
 use Rattle.node_turns.specs.WholeRun.{IsWholeRun, after_turns}
 use Rattle.allocator_app.proofs.Ending.{all_lawful, as_asked, asked, asked_for_nodes, asked_to_soak, comes_to, has_headline, no_further, node_plan, nothing_given, read_part, replayed, words_for_nodes, words_for_rows, written_part}
 use Rattle.allocator_app.proofs.program.run.Goals as goal
@@ -99,5 +101,13 @@ returns-clause-nodes_refuse g c = λ size base turns id key ids asks objects.
 pub returns-clause-nodes_cut : goal.returns-clause-nodes_cut
 returns-clause-nodes_cut g c = λ size base turns id ids given asks objects tells at.
     let plan = node_plan c.in-Some.plan size base turns ids _ c.in-Some.ensures.some asks in
-    as_asked (λ count times nodes. IsCutRun g.L.Link.sent g.D.Disk c.follow.new.links c.args.disks.now c.follow.new.disks count times nodes given id)
+    as_asked (λ count times nodes. IsCutRun g.L.Link.coming g.L.Link.sent g.D.Disk c.args.links.now c.follow.new.links c.args.disks.now c.follow.new.disks
+    (g.C.Clock.readings c.follow.new.clock) count times nodes given id)
     plan (c.follow.ensures.nodes_cut plan.count plan.port plan.times id plan.nodes given plan.is tells at)
+
+pub returns-clause-nodes_in_part : goal.returns-clause-nodes_in_part
+returns-clause-nodes_in_part g c = λ size base turns ids given asks objects tells failed.
+    let plan = node_plan c.in-Some.plan size base turns ids _ c.in-Some.ensures.some asks in
+    as_asked (λ count times nodes. IsWrittenInPart g.L.Link.faults g.D.Disk nodes c.args.links.now c.follow.new.links c.args.disks.now c.follow.new.disks
+    (g.K.Sink.written c.args.sink.now) (g.K.Sink.written c.follow.new.sink) (report times (after_turns count times nodes given).lines))
+    plan (c.follow.ensures.nodes_in_part plan.count plan.port plan.times plan.nodes given plan.is tells failed)

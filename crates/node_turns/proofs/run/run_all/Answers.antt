@@ -1,5 +1,5 @@
 use Rattle.std.proofs.Common.{◌<◌, length, refl, inl, inr, ◌∙◌, subst, arith}
-use Rattle.std.specs.Prelude.{None, Err, slice_index_or}
+use Rattle.std.specs.Prelude.{None, slice_index_or}
 use Rattle.node_turns.specs.Cut.{IsCutOpening}
 use Rattle.node_turns.specs.Opening.{Given, opened as opened_of}
 use Rattle.node_turns.specs.Runners.{runners_of}
@@ -7,10 +7,10 @@ use Rattle.node_turns.specs.Stands.{Stand}
 use Rattle.node_turns.specs.Turns.{all_turns}
 use Rattle.node_turns.specs.WholeRun.{Tell}
 use Rattle.node_turns.specs.declared.fault.Fault.{Fault}
-use Rattle.node_turns.specs.declared.fault.Fault.TheVariants.{Damaged}
 use Rattle.node_turns.proofs.Cut.{of_refused}
-use Rattle.node_turns.proofs.Ending.{are_whole, at_err, if_err, past, refused_ends, some_value, turn_ends}
+use Rattle.node_turns.proofs.Ending.{are_whole, if_err, past, refused_ends, some_value, turn_ends}
 use Rattle.node_turns.proofs.Lists.{on_ok, on_ok_always}
+use Rattle.node_turns.proofs.Quiet.{refused_run, turned_run}
 use Rattle.node_turns.proofs.WholeRun.{all_opened, all_telling}
 use Rattle.node_turns.proofs.run.run_all.Goals as goal
 
@@ -23,11 +23,13 @@ returns-in-Err g c =
     let old = some_value (slice_index_or c.args.disks.now (length (runners_of c.open_all.new.self)) None) present in
     let new = some_value (slice_index_or c.open_all.new.disks (length (runners_of c.open_all.new.self)) None) why.there in
     let Cuts = λ (fault : Fault).
-    IsCutOpening g.L.Link.sent c.args.ids.now (runners_of c.open_all.new.self) c.args.links.now c.args.links.now c.args.disks.now c.open_all.new.disks fault in
+    IsCutOpening g.L.Link.coming g.L.Link.sent c.args.ids.now (runners_of c.open_all.new.self) c.args.links.now c.args.links.now c.args.disks.now c.open_all.new.disks
+    (g.C.Clock.readings c.args.clock.now) (g.C.Clock.readings c.open_all.new.clock) fault in
     let cut : Cuts c.in-Err.fault = record {
       within = within;
       id_is = of_refused g.D.Disk old.0 new.0 _ c.in-Err.fault (why.refused.cause old.0 new.0 old.1 new.1);
       untouched = refl;
+      readings_are = opened.clock;
       opened = opened.opened;
       refused = why.refused;
       behind = opened.behind;
@@ -43,8 +45,10 @@ returns-in-Err g c =
       all = tt;
       stands = tt;
       cut = λ given tell. inl cut;
-      damaged = λ id key is. at_err Cuts (Err c.in-Err.fault) (Damaged id key) cut is;
+      unopened = inr cut;
       tells = tt;
+      quiet = refused_run g.D.Disk g.L.Link.faults c.calls_that_succeed_count_no_fault.ensures c.args.ids.now c.args.disks.now c.open_all.new.disks _ opened.opened
+          c.args.links.now c.in-Err.fault c.requires.links why opened.behind;
     }
 
 pub returns-in-Ok : goal.returns-in-Ok
@@ -84,6 +88,8 @@ returns-in-Ok g c =
         telling = telling given tell;
         cut = goes (opened_of c.args.size c.args.ids.now given) (stand given tell);
       })) turned.cut;
-      damaged = λ id key is. absurd (at_err _ c.take_turns.result (Damaged id key) turned.failed is);
+      unopened = if_err c.take_turns.result (λ fault failed. inl count) turned.failed;
       tells = on_ok_always c.take_turns.result telling;
+      quiet = turned_run g.D.Disk g.L.Link.faults c.calls_that_succeed_count_no_fault.ensures c.args.ids.now c.args.disks.now c.open_all.new.disks _ opened.opened _
+          c.args.links.now c.take_turns.new.links c.take_turns.result opened.all turned.nodes.count (turned.quiet (λ i r low. (opened.opened i r low).standing));
     }

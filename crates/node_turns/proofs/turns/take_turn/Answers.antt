@@ -1,14 +1,16 @@
 use Rattle.std.proofs.Common.{◌≡◌, suc, ◌+◌, ◌<◌, length, length-set, refl, ap, sym, ◌∙◌, subst, arith}
-use Rattle.std.specs.Prelude.{Err, slice_index_or, slice_set}
+use Rattle.std.specs.Prelude.{Ok, Err, slice_index_or, slice_set}
 use Rattle.outside.specs.Readings.{next_reading}
 use Rattle.alloc_server.specs.Server.{LeavesSome}
 use Rattle.node_turns.specs.Puts.{turn_puts}
-use Rattle.node_turns.specs.Stands.{IsTurning, Stand, Works, runner_disk}
+use Rattle.node_turns.specs.Stands.{IsStanding, IsTurning, Stand, Works, runner_disk}
 use Rattle.node_turns.specs.Turn.{Turning, turn}
 use Rattle.node_turns.specs.Turns.{first_turns, turning_at}
+use Rattle.node_turns.specs.declared.fault.Fault.TheVariants.{Link, Disk}
 use Rattle.node_turns.specs.declared.runner.Runner.{Runner}
 use Rattle.node_turns.proofs.Cut.{at_node, cut_at}
 use Rattle.node_turns.proofs.Lists.{all_set}
+use Rattle.node_turns.proofs.Quiet.{quiet_kept, quiet_set}
 use Rattle.node_turns.proofs.Together.{are_running, ends_turn, keeps_links, keeps_nodes, links_kept, nodes_kept, rose_before, set_here}
 use Rattle.node_turns.proofs.Turning.{reads}
 use Rattle.node_turns.proofs.turns.take_turn.Goals as goal
@@ -18,6 +20,8 @@ loop-place-init g c = record {
   nodes = nodes_kept c.args.runners.now;
   links = links_kept g.L.Link.faults c.args.links.now;
   working = c.requires.working;
+  standing = λ all. all;
+  quiet = λ all. quiet_kept g.L.Link.faults c.args.runners.now c.args.links.now c.requires.each;
   few = omega arith;
   turned = λ all is. is;
 }
@@ -78,6 +82,11 @@ loop-place-preserved g c =
           let earlier = kept.later place before some_link first_link in
           let now = c.turn.ensures.link_later in omega (arith, earlier, now));
       working = all_set (λ i r. Works r) runners place runner so_far.working c.in-Ok.ensures.works;
+      standing = λ all. all_set (λ i r. IsStanding r) runners place runner (so_far.standing all) (c.in-Ok.ensures.standing (so_far.standing all place some here));
+      quiet = λ all. let so_quiet = so_far.quiet all in
+          quiet_set runners links place runner link here there c.args.runners.now c.args.links.now faults (Ok tt) so_quiet
+          (λ r before other. c.in-Ok.ensures.link_quiet (λ e. absurd (cc (e))) ∙ so_quiet.links place r before some_link first (λ e. absurd (cc (e))))
+          (λ before other. c.in-Ok.ensures.disk_quiet (λ e. absurd (cc (e))) (so_far.standing all place some here) ∙ so_quiet.disks place before some first (λ e. absurd (cc (e))));
       few = let steps = so_far.few in let now = c.turn.ensures.few in omega (arith, steps, now);
       turned = λ all is.
           let far = so_far.turned all is in
@@ -238,6 +247,29 @@ returns-in-Err-clause-cut g c = λ all is.
           (λ node e. (c.in-Err.ensures.disk_failed node (so_far.working place some here) (ap Err e)).0)
           (λ node key e. c.in-Err.ensures.sound node key (ap Err e)));
       cut = cut_at runners links place runner some link some_link here there g.L.Link.coming g.L.Link.sent (g.C.Clock.readings c.loop-place.clock) c.loop-place.steps before far
-          c.in-Err.ensures.unsent c.turn.ensures.tells
+          (g.C.Clock.readings c.now-now.new.self) read.1 (c.turn.ensures.taken t (record { running = far.each place some some_link here; lines = far.lines })) c.in-Err.ensures.unsent c.turn.ensures.tells
           (subst (λ m. LeavesSome (slice_index_or runners place some).server runner.server (turn_puts m t)) read.0 leaves);
     }
+
+pub returns-in-Err-clause-quiet : goal.returns-in-Err-clause-quiet
+returns-in-Err-clause-quiet g c = λ all.
+    let so_far = c.loop-place.invariant in
+    let so_quiet = so_far.quiet all in
+    let place = c.loop-place.place in
+    let low = c.loop-place-test.true in
+    let runners = c.loop-place.runners in
+    let links = c.loop-place.links in
+    let nodes = so_far.nodes in
+    let node_count = nodes.count in
+    let link_count = so_far.links.count in
+    let each = c.requires.each in
+    let first : place < length c.args.runners.now = omega (arith, low, node_count) in
+    let here : place < length runners = omega (arith, first, node_count) in
+    let there : place < length links = omega (arith, first, link_count, each) in
+    let some = c.index-runners-place.result in
+    let some_link = c.index-links-place.result in
+    let turn = c.in-Err.ensures in
+    quiet_set runners links place c.turn.new.self c.turn.new.link here there c.args.runners.now c.args.links.now g.L.Link.faults (Err c.in-Err.fault) so_quiet
+    (λ r before other. turn.link_quiet (λ e. other (e ∙ ap (λ n. Err (Link n)) (nodes.each place r some first).id)) ∙ so_quiet.links place r before some_link first (λ e. absurd (cc (e))))
+    (λ before other. turn.disk_quiet (λ e. other (e ∙ ap (λ n. Err (Disk n)) (nodes.each place before some first).id)) (so_far.standing all place some here)
+    ∙ so_quiet.disks place before some first (λ e. absurd (cc (e))))

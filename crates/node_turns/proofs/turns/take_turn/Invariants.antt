@@ -1,5 +1,7 @@
 use Rattle.std.proofs.Common.{◌≤◌, ◌+◌, ◌*◌}
-use Rattle.node_turns.specs.Stands.{Stand}
+use Rattle.std.specs.Prelude.{Ok}
+use Rattle.node_turns.specs.Quiet.{StayQuiet}
+use Rattle.node_turns.specs.Stands.{AreStanding, Stand}
 use Rattle.node_turns.specs.Steps.{steps_made}
 use Rattle.node_turns.specs.Taking.{AreWorking, KeepsLinks, KeepsNodes}
 use Rattle.node_turns.specs.Turns.{Together, first_turns}
@@ -15,6 +17,8 @@ invariant-loop-place g l =
       nodes : KeepsNodes l.fn.runners l.runners;
       links : KeepsLinks g.L.Link.faults l.fn.links l.links;
       working : AreWorking l.runners;
+      standing : AreStanding l.fn.runners → AreStanding l.runners;
+      quiet : AreStanding l.fn.runners → StayQuiet g.L.Link.faults l.fn.runners l.runners l.fn.links l.links (Ok tt);
       few : steps_made l.steps ≤ steps_made l.fn.steps + 2 * l.place;
       turned : (all : Together) → Stand coming sent l.fn.runners l.fn.links (readings l.fn.clock) l.fn.steps all →
           Stand coming sent l.runners l.links (readings l.clock) l.steps (first_turns l.place all);

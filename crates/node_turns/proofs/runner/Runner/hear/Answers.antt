@@ -1,4 +1,4 @@
-use Rattle.std.proofs.Common.{◌≡◌, ap, ◌∙◌, sym, subst}
+use Rattle.std.proofs.Common.{◌≡◌, ap, ◌∙◌, sym, subst, inl, inr}
 use Rattle.std.specs.Prelude.{Some, None}
 use Rattle.alloc_server.specs.Server.{LeavesSome, durable_of, event_of}
 use Rattle.outside.specs.Traffic.{items_behind, next_item}
@@ -7,8 +7,10 @@ use Rattle.node_turns.specs.Puts.{heard_puts, taken_puts}
 use Rattle.node_turns.specs.Stands.{IsTurning}
 use Rattle.node_turns.specs.Turn.{takes}
 use Rattle.node_turns.proofs.Lists.{on_ok}
+use Rattle.node_turns.specs.declared.fault.Fault.TheVariants.{Disk}
 use Rattle.node_turns.proofs.Parts.{leaves_at_once}
-use Rattle.node_turns.proofs.Turning.{received}
+use Rattle.node_turns.proofs.Quiet.{unless_failed}
+use Rattle.node_turns.proofs.Turning.{received, unchanged}
 use Rattle.node_turns.proofs.runner.Runner.hear.Goals as goal
 
 pub returns-in-Some-clause-heard : goal.returns-in-Some-clause-heard
@@ -70,3 +72,17 @@ pub returns-in-Err-clause-leaves : goal.returns-in-Err-clause-leaves
 returns-in-Err-clause-leaves g c = λ t is.
     leaves_at_once c.args.self.now.server (heard_puts c.args.now t)
     (c.a_state_is_durable.ensures (durable_of c.args.self.now.server) is.running.server.works)
+
+pub returns-in-Some-clause-disk_quiet : goal.returns-in-Some-clause-disk_quiet
+returns-in-Some-clause-disk_quiet g c = λ other s. unless_failed c.step.result (Disk c.args.self.now.id) c.step.ensures.failed c.step.ensures.quiet other s
+
+pub returns-in-Some-clause-taken : goal.returns-in-Some-clause-taken
+returns-in-Some-clause-taken g c = λ t is.
+    inr (received c.in-Ok.item (g.L.Link.coming c.args.link.now) (g.L.Link.coming c.recv.new.self) t.running.coming c.in-Ok.ensures.items is.running.coming_is).1
+
+pub returns-in-None-clause-taken : goal.returns-in-None-clause-taken
+returns-in-None-clause-taken g c = λ t is.
+    inr (received c.in-Ok.item (g.L.Link.coming c.args.link.now) (g.L.Link.coming c.recv.new.self) t.running.coming c.in-Ok.ensures.items is.running.coming_is).1
+
+pub returns-in-Err-clause-taken : goal.returns-in-Err-clause-taken
+returns-in-Err-clause-taken g c = λ t is. inl (unchanged (g.L.Link.coming c.args.link.now) (g.L.Link.coming c.recv.new.self) c.in-Err.ensures.items ∙ is.running.coming_is)

@@ -49,3 +49,9 @@ returns-in-Err-clause-leaves g c = λ t coming sent is.
     let at : c.next_number.result ≡ suc (length t.lines) = omega (arith, c.next_number.ensures, count) in
     subst (λ n. LeavesSome c.args.self.now.server c.step.new.self (step_of t.running.timed n (event_of c.args.event)).going.puts) at
     (c.in-Err.ensures.steps t.running.timed is.running.server).leaves
+
+pub returns-in-Ok-clause-standing : goal.returns-in-Ok-clause-standing
+returns-in-Ok-clause-standing g c = λ s. (_, (c.in-Ok.ensures.steps s.0 s.1).stands)
+
+pub returns-in-Ok-clause-quiet : goal.returns-in-Ok-clause-quiet
+returns-in-Ok-clause-quiet g c = λ s. c.calls_that_succeed_count_no_fault.ensures _ _ _ (c.in-Ok.ensures.steps s.0 s.1).made

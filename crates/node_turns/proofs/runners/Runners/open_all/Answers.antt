@@ -84,3 +84,12 @@ returns-clause-moments g c = λ readings told.
       far.0 ∙ ap (λ n. Some (readings_after n readings)) all,
       far.1,
     )
+
+pub returns-in-Err-clause-clock : goal.returns-in-Err-clause-clock
+returns-in-Err-clause-clock g c = λ readings told.
+    let so_far = c.loop-place.invariant in
+    let place = c.loop-place.place in
+    let count : length (runners_of c.open_next.new.self) ≡ place = ap length c.in-Err.ensures.stays ∙ so_far.count in
+    let read = reads c.now-now.result (g.C.Clock.readings c.loop-place.clock) (g.C.Clock.readings c.now-now.new.self) (readings_after place readings) c.now-now.ensures
+    (so_far.moments readings told).0 in
+    subst (λ n. g.C.Clock.readings c.now-now.new.self ≡ Some (readings_after (suc n) readings)) (sym count) read.1

@@ -1,11 +1,13 @@
 use Rattle.std.proofs.Common.{◌≡◌, suc, ◌+◌, ◌<◌, ◌++◌, ℕ, List, length, take, drop, append-nil, ap, sym, ◌∙◌, subst, refl, arith}
 use Rattle.std.proofs.lemmas.List.{drop_all, take_all}
-use Rattle.std.specs.Prelude.{slice_index_or}
+use Rattle.std.specs.Prelude.{Ok, Err, slice_index_or}
 use Rattle.node_turns.specs.Cut.{IsCutTurn}
 use Rattle.node_turns.specs.Runners.{runners_of}
-use Rattle.node_turns.specs.Stands.{Stand, closure_of}
+use Rattle.node_turns.specs.Quiet.{StayQuiet}
+use Rattle.node_turns.specs.Stands.{AreStanding, Stand, closure_of}
 use Rattle.node_turns.specs.Taking.{AreWorking, EndsTurn, KeepsNodes}
 use Rattle.node_turns.specs.Turns.{all_turns, first_turns}
+use Rattle.node_turns.proofs.Quiet.{quiet_kept, quiet_then}
 use Rattle.node_turns.proofs.Together.{ends_later, links_kept, links_then, nodes_kept, nodes_then}
 use Rattle.node_turns.proofs.runners.Runners.take_turns.Goals as goal
 
@@ -21,6 +23,8 @@ turns-init g c = record {
   nodes = nodes_kept (runners_of c.args.self.now);
   links = links_kept g.L.Link.faults c.args.links.now;
   working = c.requires.working;
+  standing = λ all. all;
+  quiet = λ all. quiet_kept g.L.Link.faults (runners_of c.args.self.now) c.args.links.now c.requires.each;
   few = let first = c.requires.first in omega (arith, first);
   turned = λ all is. is;
 }
@@ -114,6 +118,13 @@ turns-preserved g c =
       nodes = subst (λ l. KeepsNodes before l) (sym same) (nodes_then before items new so_far.nodes nodes);
       links = links_then g.L.Link.faults c.args.links.now c.turns.links c.take_turn.new.links so_far.links c.take_turn.ensures.links;
       working = subst (λ l. AreWorking l) (sym same) c.in-Ok.ensures.working;
+      standing = λ all. subst (λ l. AreStanding l) (sym same) (c.in-Ok.ensures.standing (subst (λ l. AreStanding l) (sym value) (so_far.standing all)));
+      quiet = λ all.
+          let turn = c.in-Ok.ensures.quiet (subst (λ l. AreStanding l) (sym value) (so_far.standing all)) in
+          let faults = g.L.Link.faults in
+          subst (λ l. StayQuiet faults before l c.args.links.now c.take_turn.new.links (Ok tt)) (sym same)
+          (quiet_then faults before items new c.args.links.now c.turns.links c.take_turn.new.links (Ok tt) so_far.nodes (so_far.quiet all)
+          (subst (λ l. StayQuiet faults l new c.turns.links c.take_turn.new.links (Ok tt)) value turn));
       few = let steps = so_far.few in let more = c.take_turn.ensures.few in omega (arith, steps, more);
       turned = λ all is.
           let far = so_far.turned all is in
@@ -155,6 +166,24 @@ returns-in-Err-clause-cut g c = λ all is.
     record {
       taken = c.turns.taken;
       fewer = c.turns-test.true;
-      turn = subst (λ n. IsCutTurn g.L.Link.sent list c.take_turn.new.links (all_turns n c.turns.taken all) c.in-Err.fault) count
-          (subst (λ l. IsCutTurn g.L.Link.sent l c.take_turn.new.links by_then c.in-Err.fault) (sym same) cut);
+      turn = subst (λ n. IsCutTurn g.L.Link.coming g.L.Link.sent list c.take_turn.new.links (g.C.Clock.readings c.take_turn.new.clock) (all_turns n c.turns.taken all) c.in-Err.fault) count
+          (subst (λ l. IsCutTurn g.L.Link.coming g.L.Link.sent l c.take_turn.new.links (g.C.Clock.readings c.take_turn.new.clock) by_then c.in-Err.fault) (sym same) cut);
     }
+
+pub returns-in-Err-clause-quiet : goal.returns-in-Err-clause-quiet
+returns-in-Err-clause-quiet g c = λ all.
+    let so_far = c.turns.invariant in
+    let value = c.as_mut_slice.ensures.value in
+    let items = runners_of c.turns.self in
+    let new = c.take_turn.new.runners in
+    let nodes = subst (λ l. KeepsNodes l new) value c.take_turn.ensures.nodes in
+    let len = c.as_mut_slice.ensures.len in
+    let sizes = ap length value in
+    let same = whole c.turns.self.list.len items new (omega (arith, len, sizes)) nodes.count in
+    let before = runners_of c.args.self.now in
+    let faults = g.L.Link.faults in
+    let result = Err c.in-Err.fault in
+    let turn = c.in-Err.ensures.quiet (subst (λ l. AreStanding l) (sym value) (so_far.standing all)) in
+    subst (λ l. StayQuiet faults before l c.args.links.now c.take_turn.new.links result) (sym same)
+    (quiet_then faults before items new c.args.links.now c.turns.links c.take_turn.new.links result so_far.nodes (so_far.quiet all)
+    (subst (λ l. StayQuiet faults l new c.turns.links c.take_turn.new.links result) value turn))

@@ -1,6 +1,8 @@
 use Rattle.std.proofs.Common.{◌≡◌, ◌≤◌, ◌*◌, ◌-◌, length}
 use Rattle.node_turns.specs.Runners.{accepts, runners_of}
-use Rattle.node_turns.specs.Stands.{Stand}
+use Rattle.std.specs.Prelude.{Ok}
+use Rattle.node_turns.specs.Quiet.{StayQuiet}
+use Rattle.node_turns.specs.Stands.{AreStanding, Stand}
 use Rattle.node_turns.specs.Steps.{steps_made}
 use Rattle.node_turns.specs.Taking.{AreWorking, KeepsLinks, KeepsNodes}
 use Rattle.node_turns.specs.Turns.{Together, all_turns}
@@ -20,6 +22,8 @@ invariant-turns g l =
       nodes : KeepsNodes before now;
       links : KeepsLinks g.L.Link.faults l.fn.links l.links;
       working : AreWorking now;
+      standing : AreStanding before → AreStanding now;
+      quiet : AreStanding before → StayQuiet g.L.Link.faults before now l.fn.links l.links (Ok tt);
       few : steps_made l.steps ≤ 10 * l.taken;
       turned : (all : Together) → Stand coming sent before l.fn.links (readings l.fn.clock) l.fn.steps all →
           Stand coming sent now l.links (readings l.clock) l.steps (all_turns (length before) l.taken all);
