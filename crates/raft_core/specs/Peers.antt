@@ -34,4 +34,4 @@ asked_under id (Some call) = if call.id == id then Some call.asked else None
 -- no call to any of them waits
 abbrev pub WaitsForNone : List Peer → Type 0
 WaitsForNone peers = (node : ℕ) (none : Peer) →
-  node < length peers → is_some (slice_index_or peers node none).call ≡ false
+    node < length peers → is_some (slice_index_or peers node none).call ≡ false
