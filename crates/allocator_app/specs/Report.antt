@@ -9,7 +9,7 @@ use Rattle.world_parts.specs.Report.{end_lines, row_lines}
 use Rattle.world_parts.specs.declared.unlawful.Unlawful.{Unlawful}
 use Rattle.allocator_app.specs.Words.{IsReplay}
 use Rattle.program_parts.specs.declared.status.Status.{Status}
-use Rattle.program_parts.specs.declared.status.Status.TheVariants.{Done, Usage, BadRow, Unlawful as IsUnlawful, Limit, LinkFault, DiskFault, Damaged}
+use Rattle.program_parts.specs.declared.status.Status.TheVariants.{Done, Usage, BadRow, Unlawful as IsUnlawful, ReadFault, WriteFault, Limit, LinkFault, DiskFault, Damaged}
 
 -- lawful rows were taken from the front of the bytes, up to a world and the rest of the bytes, and these lines tell
 -- of them

@@ -60,9 +60,10 @@ use world_laws::headline::the_headline;
 /// and `DiskFault` come only where the link or the disk of that node failed, `Damaged` where the store of
 /// that node is damaged, first at that key, and those before it are not; then one line is written, and with
 /// `Damaged` no frame came or went. With each of the three what was sent is a beginning of what a run to
-/// its end sends, and each store that was opened holds what it then held (`CutRun` of `node_turns`). Where
-/// nothing fails, a damaged store ends the run so, and without one it comes to `Done`, unless there is not
-/// enough memory to begin with.
+/// its end sends, and each store that was opened holds what it then held (`CutRun` of `node_turns`). But
+/// for `WriteFault` no link and no disk counted a fault that the status does not name. Where nothing fails,
+/// a damaged store ends the run so, and without one it comes to `Done`, unless there is not enough memory
+/// to begin with.
 ///
 /// For the others neither links nor disks are handed in; with other words or objects the status is `Usage`.
 /// With `Usage` and `Memory` nothing is touched.
