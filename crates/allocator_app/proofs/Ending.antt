@@ -324,7 +324,7 @@ pub read_part : (status : Status) (limit : ℕ) (first : Cluster) (bytes : List 
 read_part status limit first bytes left sink sink_now ends is = subst (λ s. Ends s limit first bytes left sink sink_now) is ends
 
 pub written_part : (status : Status) (limit : ℕ) (first : Cluster) (bytes : List ℕ) (left sink sink_now : Option (List ℕ)) →
-    Ends status limit first bytes left sink sink_now → status ≡ WriteFault → IsWrittenInPart limit first bytes sink sink_now
+    Ends status limit first bytes left sink sink_now → status ≡ WriteFault → IsWrittenInPart limit first bytes left sink sink_now
 written_part status limit first bytes left sink sink_now ends is = subst (λ s. Ends s limit first bytes left sink sink_now) is ends
 
 -- a schedule that has a report comes to its status, unless something fails or memory is missing

@@ -179,9 +179,9 @@ module _ (one_row : (a b : Row) (line : List ℕ) → Reads a line → Reads b l
         last.1,
       )
 
-  pub begins_report : (first : Cluster) (bytes report : List ℕ) (status : Status) (sink_before sink_now : Option (List ℕ)) →
-      IsWrittenInPart limit first bytes sink_before sink_now → IsReport limit first bytes report status → WritesFront sink_before sink_now report
-  begins_report first bytes report status sink_before sink_now (InRows now lines rest comes within front) q =
+  pub begins_report : (first : Cluster) (bytes report : List ℕ) (status : Status) (left sink_before sink_now : Option (List ℕ)) →
+      IsWrittenInPart limit first bytes left sink_before sink_now → IsReport limit first bytes report status → WritesFront sink_before sink_now report
+  begins_report first bytes report status left sink_before sink_now (InRows now lines rest comes within front no_further ahead) q =
       let q_end : q.end ≡ after_rows first q.comes.rows = q.comes.leaves in
       let q_says = subst (λ w. Says limit w q.rest q.last status) q_end q.says in
       let far = along first comes.rows q.comes.rows bytes rest q.rest comes.reads comes.lawful (subst (λ (w : Cluster). w.rows ≤ limit) comes.leaves within)
@@ -190,5 +190,5 @@ module _ (one_row : (a b : Row) (line : List ℕ) → Reads a line → Reads b l
       let all : q.lines ≡ lines ++ behind = q.comes.told ∙ far.4 ∙ ap (λ l. l ++ behind) (sym comes.told) in
       subst (WritesFront sink_before sink_now) (sym (q.written ∙ ap (λ l. l ++ q.last) all ∙ append_assoc lines behind q.last))
       (front-of_more sink_before sink_now lines (behind ++ q.last) front)
-  begins_report first bytes report status sink_before sink_now (AtTheEnd other ending told front) q =
+  begins_report first bytes report status left sink_before sink_now (AtTheEnd other ending told front no_further ahead) q =
       subst (WritesFront sink_before sink_now) (one_report first bytes other report ending status told q).0 front

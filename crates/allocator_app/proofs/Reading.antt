@@ -1,11 +1,13 @@
 -- A schedule that is read piece by piece.
-use Rattle.std.proofs.Common.{◌≡◌, ℕ, ◌+◌, ◌-◌, ◌*◌, ◌≤◌, ◌<◌, ◌⊎◌, inl, inr, true, false, List, [], ◌∷◌, ◌++◌, length, Some, None, refl, sym, ap, ◌∙◌, subst, arith, append_assoc, append-nil}
+use Rattle.std.proofs.Common.{◌≡◌, ℕ, ◌+◌, ◌-◌, ◌*◌, ◌≤◌, ◌<◌, ◌⊎◌, inl, inr, Bool, true, false, List, [], ◌∷◌, ◌++◌, length, Some, None, refl, sym, ap, ◌∙◌, subst, arith, append_assoc, append-nil}
 use Rattle.std.specs.declared.option.Option.{Option}
 use Rattle.std.specs.Io.KnownBytes.{Appends, Consumes, IsAtEnd, Keeps, append_known}
+use Rattle.std.proofs.KnownBytes.{Appends-trans}
 use Rattle.replay_text.specs.Lines.{after_line}
-use Rattle.allocator_app.specs.InPart.{HasRead, IsReadInPart, IsWrittenInPart}
-use Rattle.allocator_app.specs.InPart.IsWrittenInPart.{InRows}
+use Rattle.allocator_app.specs.InPart.{HasRead, IsReadInPart, IsWrittenInPart, ReadsAhead}
+use Rattle.allocator_app.specs.InPart.IsWrittenInPart.{InRows, AtTheEnd}
 use Rattle.allocator_app.specs.Input.{ReadsMore}
+use Rattle.allocator_app.specs.NoFurther.{ReadsNoFurther}
 use Rattle.program_parts.specs.Output.{Grows, WritesFront}
 use Rattle.world_parts.specs.Cluster.{Cluster}
 use Rattle.world_parts.specs.Promise.{GivesOnce}
@@ -15,7 +17,7 @@ use Rattle.program_parts.specs.declared.status.Status.TheVariants.{Memory, ReadF
 use Rattle.allocator_app.specs.declared.rows.Rows.{Rows}
 use Rattle.allocator_app.specs.declared.rows.Rows.TheVariants.{Taken, NoRow, Refused, Full}
 use Rattle.allocator_app.proofs.Coming.{goes-join, goes-nil}
-use Rattle.program_parts.proofs.Written.{flushed, front-behind}
+use Rattle.program_parts.proofs.Written.{flushed, front-behind, grows-front, grows-refl, grows-trans}
 
 consumed : (ahead came : List ℕ) (left : Option (List ℕ)) → Consumes (Some ahead) left came →
     (rest : List ℕ) × (left ≡ Some rest) × (ahead ≡ came ++ rest)
@@ -46,6 +48,43 @@ start w once bytes left sink known waiting none same = record {
   written = same;
 }
 
+-- what a read leaves: at most as many bytes wait as the run keeps, behind rows whose lines are all written
+reads_ahead : {some : Bool} (first w : Cluster) (bytes waiting filled : List ℕ) (left left_now sink sink_before sink_now : Option (List ℕ)) →
+    HasRead first w bytes waiting left sink sink_before → ReadsMore left left_now waiting filled some → Grows sink_before sink_now →
+    ReadsAhead first bytes left_now sink sink_now
+reads_ahead first w bytes waiting filled left left_now sink sink_before sink_now read brought grew =
+    let came = brought.came in
+    let front = consumed read.ahead came left_now (subst (λ l. Consumes l left_now came) read.left_is brought.taken) in
+    record {
+      now = w;
+      lines = read.lines;
+      rest = waiting ++ read.ahead;
+      comes = read.goes.comes;
+      more = grew.0;
+      written = Appends-trans sink sink_before sink_now read.lines grew.0 read.written grew.1;
+      no_further = record {
+        read = filled;
+        unread = front.0;
+        parts = ap (λ v. waiting ++ v) front.2 ∙ sym (append_assoc waiting came front.0) ∙ ap (λ v. v ++ front.0) (sym brought.behind);
+        few = brought.fits;
+        left_is = front.1;
+      };
+    }
+
+-- and so while the sink grows
+still_ahead : (first : Cluster) (bytes : List ℕ) (left sink sink_now sink_then : Option (List ℕ)) → ReadsAhead first bytes left sink sink_now →
+    Grows sink_now sink_then → ReadsAhead first bytes left sink sink_then
+still_ahead first bytes left sink sink_now sink_then reads grew = record {
+  now = reads.now;
+  lines = reads.lines;
+  rest = reads.rest;
+  comes = reads.comes;
+  more = reads.more ++ grew.0;
+  written = subst (Appends sink sink_then) (append_assoc reads.lines reads.more grew.0)
+      (Appends-trans sink sink_now sink_then (reads.lines ++ reads.more) grew.0 reads.written grew.1);
+  no_further = reads.no_further;
+}
+
 -- a read and the rows that it brought
 module _ (first w now : Cluster) (bytes waiting filled : List ℕ) (left left_now sink sink_before : Option (List ℕ))
     (read : HasRead first w bytes waiting left sink sink_before) (more : ReadsMore left left_now waiting filled true) where
@@ -60,6 +99,17 @@ module _ (first w now : Cluster) (bytes waiting filled : List ℕ) (left left_no
         front.1,
         goes-join first w now bytes (filled ++ ahead) (rest ++ ahead) read.lines lines (subst (Goes first bytes read.lines w) here read.goes) (comes ahead),
       )
+
+-- behind its rows no more was read than that
+no_more : (rest filled ahead : List ℕ) (left : Option (List ℕ)) → length rest ≤ length filled → length filled ≤ 4096 → left ≡ Some ahead →
+    ReadsNoFurther (rest ++ ahead) left
+no_more rest filled ahead left shorter fits left_is = record {
+  read = rest;
+  unread = ahead;
+  parts = refl;
+  few = omega (arith, shorter, fits);
+  left_is = left_is;
+}
 
 -- all the rows of the read were taken, and what waited was written
 pub read_on : (limit : ℕ) (first w now : Cluster) (bytes waiting filled behind : List ℕ) (left left_now sink sink_before sink_now sink_then : Option (List ℕ))
@@ -101,50 +151,51 @@ waited_on limit rows_before rows_now before now rows all waits = subst (Waits li
 -- a row of the read is not taken
 pub read_stopped : (limit : ℕ) → (first w now : Cluster) (bytes waiting filled behind : List ℕ) (left left_now sink sink_before sink_now : Option (List ℕ))
     (output output_now : List ℕ) (rows : Rows) → (rows ≡ Taken → ⊥) → HasRead first w bytes waiting left sink sink_before →
-    ReadsMore left left_now waiting filled true → output ≡ [] →
+    ReadsMore left left_now waiting filled true → output ≡ [] → Grows sink_before sink_now →
     TakesRows limit w now filled behind sink_before output sink_now output_now rows → ReadsRows limit first now bytes left_now sink sink_now output_now rows
 unfolding on
-read_stopped limit first w now bytes waiting filled behind left left_now sink sink_before sink_now output output_now rows not read more none took =
+read_stopped limit first w now bytes waiting filled behind left left_now sink sink_before sink_now output output_now rows not read more none grew took =
     let went = on first w now bytes waiting filled left left_now sink sink_before read more took.lines took.rest took.goes in
     record {
       lines = read.lines ++ took.lines;
       rest = took.rest ++ went.0;
       goes = went.2;
       ends = ends_there limit now took.rest behind went.0 rows not took.stops;
-      no_further = record {
-        read = took.rest;
-        unread = went.0;
-        parts = refl;
-        few = let shorter = took.shorter in let fits = more.fits in omega (arith, shorter, fits);
-        left_is = went.1;
-      };
+      no_further = no_more took.rest filled went.0 left_now took.shorter more.fits went.1;
       written = written_on sink sink_before sink_now output read.lines took.lines none read.written output_now took.written;
+      ahead = reads_ahead first w bytes waiting filled left left_now sink sink_before sink_now read more grew;
     }
 
 -- the sink fails while the rows of the read are taken
 pub rows_in_part : (limit : ℕ) → (first w now : Cluster) (bytes waiting filled : List ℕ) (left left_now sink sink_before sink_now : Option (List ℕ))
     (output : List ℕ) → HasRead first w bytes waiting left sink sink_before → ReadsMore left left_now waiting filled true → output ≡ [] →
-    Grows sink sink_before → now.rows ≤ limit → BreaksOff w now filled sink_before output sink_now → IsWrittenInPart limit first bytes sink sink_now
+    Grows sink sink_before → now.rows ≤ limit → BreaksOff w now filled sink_before output sink_now → IsWrittenInPart limit first bytes left_now sink sink_now
 unfolding on
 rows_in_part limit first w now bytes waiting filled left left_now sink sink_before sink_now output read more none grew within broke =
     let went = on first w now bytes waiting filled left left_now sink sink_before read more broke.lines broke.rest broke.goes in
     InRows now (read.lines ++ broke.lines) (broke.rest ++ went.0) went.2.comes within
     (front-behind sink sink_before sink_now [] read.lines broke.lines grew (appends_waiting sink sink_before [] read.lines refl read.written)
     (subst (λ o. WritesFront sink_before sink_now (o ++ broke.lines)) none broke.written))
+    (no_more broke.rest filled went.0 left_now broke.shorter more.fits went.1)
+    (reads_ahead first w bytes waiting filled left left_now sink sink_before sink_now read more (grows-front _ _ _ broke.written))
 
 -- the sink fails when what the rows of the read tell is handed to it
 pub flush_in_part : (limit : ℕ) → (first w now : Cluster) (bytes waiting filled behind : List ℕ) (left left_now sink sink_before sink_now sink_then : Option (List ℕ))
     (output output_now : List ℕ) → HasRead first w bytes waiting left sink sink_before → ReadsMore left left_now waiting filled true → output ≡ [] →
-    Grows sink sink_now → now.rows ≤ limit → TakesRows limit w now filled behind sink_before output sink_now output_now Taken →
-    WritesFront sink_now sink_then output_now → IsWrittenInPart limit first bytes sink sink_then
+    Grows sink_before sink_now → now.rows ≤ limit → TakesRows limit w now filled behind sink_before output sink_now output_now Taken →
+    WritesFront sink_now sink_then output_now → IsWrittenInPart limit first bytes left_now sink sink_then
 unfolding on
 flush_in_part limit first w now bytes waiting filled behind left left_now sink sink_before sink_now sink_then output output_now read more none grew within took front =
     let went = on first w now bytes waiting filled left left_now sink sink_before read more took.lines took.rest took.goes in
     let lines = read.lines ++ took.lines in
     InRows now lines (took.rest ++ went.0) went.2.comes within
-    (subst (WritesFront sink sink_then) (append-nil lines) (front-behind sink sink_now sink_then output_now lines [] grew
+    (subst (WritesFront sink sink_then) (append-nil lines) (front-behind sink sink_now sink_then output_now lines []
+    (grows-trans sink sink_before sink_now (read.lines, read.written) grew)
     (written_on sink sink_before sink_now output read.lines took.lines none read.written output_now took.written)
     (subst (WritesFront sink_now sink_then) (sym (append-nil output_now)) front)))
+    (no_more took.rest filled went.0 left_now took.shorter more.fits went.1)
+    (reads_ahead first w bytes waiting filled left left_now sink sink_before sink_then read more
+    (grows-trans sink_before sink_now sink_then grew (grows-front _ _ _ front)))
 
 -- the source fails: it keeps what it has
 kept : (left left_now : Option (List ℕ)) (ahead : List ℕ) → left ≡ Some ahead → Keeps left left_now → left_now ≡ Some ahead
@@ -195,6 +246,7 @@ ended_taken limit first w bytes waiting filled left left_now sink sink_now outpu
       ends = refl;
       no_further = record { read = []; unread = []; parts = refl; few = omega arith; left_is = only.2 };
       written = appends_waiting sink sink_now output read.lines none read.written;
+      ahead = reads_ahead first w bytes waiting filled left left_now sink sink_now sink_now read more (grows-refl sink_now);
     }
 
 pub ended_unended : (limit : ℕ) (first w : Cluster) (bytes waiting filled : List ℕ) (left left_now sink sink_now : Option (List ℕ)) (output : List ℕ) →
@@ -217,6 +269,7 @@ ended_unended limit first w bytes waiting filled left left_now sink sink_now out
       };
       no_further = record { read = waiting; unread = []; parts = sym (append-nil waiting); few = omega (arith, short); left_is = only.2 };
       written = appends_waiting sink sink_now output read.lines none read.written;
+      ahead = reads_ahead first w bytes waiting filled left left_now sink sink_now sink_now read more (grows-refl sink_now);
     }
 
 -- the measure of the reads
@@ -239,7 +292,7 @@ says limit end rest NoRow ends = (ends, refl, refl)
 says limit end rest (Refused why) ends = (why, ends, refl, refl, refl)
 says limit end rest Full ends = (ends, refl, refl)
 
-pub report_of : (limit : ℕ) (first end : Cluster) (bytes output : List ℕ) (left sink sink_now : Option (List ℕ)) (rows : Rows) → end.rows ≤ limit →
+report_of : (limit : ℕ) (first end : Cluster) (bytes output : List ℕ) (left sink sink_now : Option (List ℕ)) (rows : Rows) → end.rows ≤ limit →
     (read : ReadsRows limit first end bytes left sink sink_now output rows) →
     IsReport limit first bytes (read.lines ++ last_of rows end) (status_of rows end.rows)
 report_of limit first end bytes output left sink sink_now rows within read = record {
@@ -265,6 +318,16 @@ told_of limit first end bytes output left sink sink_now sink_then rows within re
   no_further = read.no_further;
   written = wrote;
 }
+
+-- the sink fails while the end of the report is written
+pub end_in_part : (limit : ℕ) (first end : Cluster) (bytes output : List ℕ) (left sink sink_now sink_then : Option (List ℕ)) (rows : Rows) → end.rows ≤ limit →
+    ReadsRows limit first end bytes left sink sink_now output rows → Grows sink sink_now → WritesFront sink_now sink_then (output ++ last_of rows end) →
+    IsWrittenInPart limit first bytes left sink sink_then
+unfolding report_of
+end_in_part limit first end bytes output left sink sink_now sink_then rows within read grew front =
+    AtTheEnd (read.lines ++ last_of rows end) (status_of rows end.rows) (report_of limit first end bytes output left sink sink_now rows within read)
+    (front-behind sink sink_now sink_then output read.lines (last_of rows end) grew read.written front)
+    read.no_further (still_ahead first bytes left sink sink_now sink_then read.ahead (grows-front _ _ _ front))
 
 -- ---- the statuses of reports
 

@@ -3,6 +3,7 @@ use Rattle.std.specs.Prelude.{◌≡◌, ◌≤◌, ◌<◌, ◌⊎◌, ℕ, Lis
 use Rattle.std.specs.Io.KnownBytes.{Appends}
 use Rattle.replay_text.specs.Lines.{after_line}
 use Rattle.program_parts.specs.Output.{WritesFront}
+use Rattle.allocator_app.specs.NoFurther.{ReadsNoFurther}
 use Rattle.allocator_app.specs.Report.{Comes, Goes, IsReport}
 use Rattle.world_parts.specs.Cluster.{Cluster}
 use Rattle.program_parts.specs.declared.status.Status.{Status}
@@ -29,10 +30,24 @@ pub record IsReadInPart (limit : ℕ) (first : Cluster) (bytes : List ℕ)
   pub another : (waiting ≡ []) ⊎ (now.rows < limit)
   pub within : now.rows ≤ limit
 
--- the sink failed: it has a front of the lines of some rows that were taken, or of the whole report
+-- the sink has all lines of some rows, and of the bytes behind these rows no more were read than the run keeps at a
+-- time: it reads no more once a write has failed
+pub record ReadsAhead (first : Cluster) (bytes : List ℕ) (left sink_before sink_now : Option (List ℕ)) : Type 0 where
+  pub now : Cluster
+  pub lines : List ℕ
+  pub rest : List ℕ
+  pub comes : Comes first bytes lines now rest
+  pub more : List ℕ
+  pub written : Appends sink_before sink_now (lines ++ more)
+  pub no_further : ReadsNoFurther rest left
+
+-- the sink failed: it has a front of the lines of some rows that were taken, or of the whole report. The source was
+-- read no further than these rows, nor than those whose lines are all written
 pub data IsWrittenInPart (limit : ℕ) (first : Cluster) (bytes : List ℕ)
-    (sink_before sink_now : Option (List ℕ)) : Type 0 where
+    (left sink_before sink_now : Option (List ℕ)) : Type 0 where
   InRows : (now : Cluster) (lines rest : List ℕ) → Comes first bytes lines now rest → now.rows ≤ limit →
-      WritesFront sink_before sink_now lines → IsWrittenInPart limit first bytes sink_before sink_now
-  AtTheEnd : (report : List ℕ) (status : Status) → IsReport limit first bytes report status →
-      WritesFront sink_before sink_now report → IsWrittenInPart limit first bytes sink_before sink_now
+      WritesFront sink_before sink_now lines → ReadsNoFurther rest left →
+      ReadsAhead first bytes left sink_before sink_now → IsWrittenInPart limit first bytes left sink_before sink_now
+  AtTheEnd : (report : List ℕ) (status : Status) → (is : IsReport limit first bytes report status) →
+      WritesFront sink_before sink_now report → ReadsNoFurther is.rest left →
+      ReadsAhead first bytes left sink_before sink_now → IsWrittenInPart limit first bytes left sink_before sink_now

@@ -9,7 +9,7 @@ use Rattle.world_parts.specs.Promise.{KeepsItsWord}
 use Rattle.world_parts.specs.Report.{all_logs, end_line}
 use Rattle.allocator_app.specs.declared.plans.Plan.{Plan}
 use Rattle.allocator_app.specs.declared.plans.Plan.TheVariants.{Replay, Node, Soak}
-use Rattle.allocator_app.specs.InPart.{IsReadInPart, IsWrittenInPart}
+use Rattle.allocator_app.specs.InPart.{IsReadInPart, IsWrittenInPart, ReadsAhead}
 use Rattle.allocator_app.specs.NoFurther.{ReadsNoFurther}
 use Rattle.program_parts.specs.Output.{WritesFront}
 use Rattle.allocator_app.specs.Report.{Goes, IsBadRow, IsBeyond, IsRefused, IsReport, bad_row_line, limit_line, unlawful_line}
@@ -45,6 +45,7 @@ pub record BreaksOff (before now : Cluster) (waiting : List ℕ) (sink_before : 
   pub lines : List ℕ
   pub rest : List ℕ
   pub goes : (more : List ℕ) → Goes before (waiting ++ more) lines now (rest ++ more)
+  pub shorter : length rest ≤ length waiting
   pub written : WritesFront sink_before sink_now (output_before ++ lines)
 
 -- where all rows were taken, less than a line waits, and only where another row may come; there was a row, or the
@@ -98,6 +99,7 @@ pub record ReadsRows (limit : ℕ) (before now : Cluster) (bytes : List ℕ)
   pub ends : EndsAt limit now rest rows
   pub no_further : ReadsNoFurther rest left
   pub written : Appends sink_before (append_known sink_now output) lines
+  pub ahead : ReadsAhead before bytes left sink_before sink_now
 
 -- a fault is that of the object whose count rose
 abbrev pub IsCausedBy : ℕ → ℕ → ℕ → ℕ → Fault → Type 0
@@ -107,7 +109,7 @@ IsCausedBy source_before source_now sink_before sink_now Sink = Rose sink_before
 -- what it leaves
 abbrev pub IsInPart : Fault → ℕ → Cluster → List ℕ → Option (List ℕ) → Option (List ℕ) → Option (List ℕ) → Type 0
 IsInPart Source limit first bytes left sink_before sink_now = IsReadInPart limit first bytes left sink_before sink_now
-IsInPart Sink limit first bytes left sink_before sink_now = IsWrittenInPart limit first bytes sink_before sink_now
+IsInPart Sink limit first bytes left sink_before sink_now = IsWrittenInPart limit first bytes left sink_before sink_now
 
 -- the whole report was written, along its rows each allocator kept its word, and the source was read no further
 pub record IsTold (status : Status) (limit : ℕ) (first : Cluster) (bytes : List ℕ)
@@ -128,7 +130,7 @@ Ends (Unlawful row number) limit first bytes left sink_before sink_now =
 Ends (Limit row) limit first bytes left sink_before sink_now =
     IsTold (Limit row) limit first bytes left sink_before sink_now
 Ends ReadFault limit first bytes left sink_before sink_now = IsReadInPart limit first bytes left sink_before sink_now
-Ends WriteFault limit first bytes left sink_before sink_now = IsWrittenInPart limit first bytes sink_before sink_now
+Ends WriteFault limit first bytes left sink_before sink_now = IsWrittenInPart limit first bytes left sink_before sink_now
 Ends Memory limit first bytes left sink_before sink_now = Unit {0}
 Ends Usage limit first bytes left sink_before sink_now = ⊥
 Ends (LinkFault id) limit first bytes left sink_before sink_now = ⊥

@@ -21,8 +21,8 @@ pub fn a_schedule_has_one_report()
 /// What a sink has that failed is a front of the schedule's report.
 pub fn what_was_written_begins_the_report()
     ensures { (limit : ℕ) (first : Cluster) (bytes report : List ℕ) (status : Status)
-        (sink_before sink_now : Option (List ℕ)) →
-        IsWrittenInPart limit first bytes sink_before sink_now →
+        (left sink_before sink_now : Option (List ℕ)) →
+        IsWrittenInPart limit first bytes left sink_before sink_now →
         IsReport limit first bytes report status → WritesFront sink_before sink_now report }
 {
     a_line_has_one_row();

@@ -135,7 +135,7 @@ pub fn run<S: Source, K: Sink, L: Link, D: Disk, C: Clock>(
     ensures written_in_part { (limit : ℕ) (nodes bytes : List ℕ) →
         IsReplay limit nodes (map string_bytes words.now) → S.left source.old ≡ Some bytes →
         result ≡ Status.WriteFault → IsWrittenInPart limit (cluster nodes) bytes
-        (K.written sink.old) (K.written sink.new) }
+        (S.left source.new) (K.written sink.old) (K.written sink.new) }
     // A soak writes its lines, and reads nothing; the headline holds along its rows.
     ensures soak { (seed rounds size : ℕ) → IsSoak seed rounds size (map string_bytes words.now) →
         result ≡ Status.Done →

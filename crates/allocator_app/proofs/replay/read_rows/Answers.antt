@@ -78,7 +78,7 @@ returns-then-not-are_taken-clause-rows g c = λ bytes told first is.
       end.0,
       end.1,
       read_stopped c.args.limit first far.0 end.0 bytes _ _ _ _ _ _ _ _ _ _ c.in-Ok.rows
-          (λ all. true≢false (sym (c.are_taken.ensures.1 all) ∙ c.if-not-are_taken.true)) far.2 more so_far.flushed end.2,
+          (λ all. true≢false (sym (c.are_taken.ensures.1 all) ∙ c.if-not-are_taken.true)) far.2 more so_far.flushed c.in-Ok.ensures.grew end.2,
     )
 
 pub returns-then-not-are_taken-clause-grew : goal.returns-then-not-are_taken-clause-grew
@@ -136,5 +136,5 @@ returns-in-Err-flush-clause-cut g c = λ bytes told first is.
     let within = c.in-Ok.ensures.room.within in
     let rows = end.1.rows in
     flush_in_part c.args.limit first far.0 end.0 bytes c.reading.input _ _ _ _ _ _ _ _ _ _ far.2 more so_far.flushed
-    (grows-trans _ _ _ so_far.grew c.in-Ok.ensures.grew) (omega (arith, within, rows))
+    c.in-Ok.ensures.grew (omega (arith, within, rows))
     (took_all c.args.limit far.0 end.0 _ _ _ _ _ _ c.in-Ok.rows all end.2) c.in-Err-flush.ensures.err

@@ -1,11 +1,9 @@
-use Rattle.std.proofs.Common.{◌++◌, sym, ap, ◌∙◌, subst, arith}
+use Rattle.std.proofs.Common.{sym, ap, ◌∙◌, subst, arith}
 use Rattle.std.proofs.KnownBytes.{Appends-trans}
 use Rattle.world_parts.specs.Cluster.{cluster}
-use Rattle.allocator_app.specs.InPart.IsWrittenInPart.{AtTheEnd}
 use Rattle.allocator_app.specs.Report.{IsOfSchedule}
 use Rattle.allocator_app.specs.Rows.{Ends, last_of, status_of}
-use Rattle.allocator_app.proofs.Reading.{ends_told, is_begun, is_no_fault, report_of, told_of}
-use Rattle.program_parts.proofs.Written.{front-behind}
+use Rattle.allocator_app.proofs.Reading.{end_in_part, ends_told, is_begun, is_no_fault, told_of}
 use Rattle.allocator_app.proofs.replay.replay.Goals as goal
 
 pub returns-in-Ok-end_report-clause-ends : goal.returns-in-Ok-end_report-clause-ends
@@ -45,9 +43,8 @@ returns-in-Ok-read_rows-clause-ends g c = λ bytes told.
     let far = c.in-Ok-read_rows.ensures.rows bytes told first c.in-Ok.ensures.stands in
     let within = c.read_rows.ensures.within in
     let count = far.1.rows in
-    AtTheEnd (far.2.lines ++ last_of rows far.0) (status_of rows far.0.rows)
-    (report_of c.args.limit first far.0 bytes _ _ _ _ rows (omega (arith, within, count)) far.2)
-    (front-behind _ _ _ _ far.2.lines (last_of rows far.0) c.read_rows.ensures.grew far.2.written (c.in-Err.ensures.told far.0 far.1).err)
+    end_in_part c.args.limit first far.0 bytes _ _ _ _ _ rows (omega (arith, within, count)) far.2
+    c.read_rows.ensures.grew (c.in-Err.ensures.told far.0 far.1).err
 
 pub returns-in-Err-Source-clause-ends : goal.returns-in-Err-Source-clause-ends
 returns-in-Err-Source-clause-ends g c = λ bytes told.

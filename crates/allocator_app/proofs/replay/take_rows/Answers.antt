@@ -118,6 +118,7 @@ returns-in_err-line-clause-cut g c =
         rest = c.next_row.new.self;
         goes = goes-more first far.0 c.in-Row.row c.in-Ok.told c.args.input.now c.rows.input c.next_row.new.self far.2.0 c.deref.result.now _
             far.2.1 c.in-Row.ensures.found told.0 told.1 (c.logs_give_once.ensures c.rows.world far.0 far.1) (c.in-Ok.ensures.kept far.0 far.1) (c.logs_give_once.ensures c.row.new.self (next far.0 c.in-Row.row) now) (c.taken-in-rows.ensures ∙ c.in-Ok.ensures.taken ∙ ap (λ n. n + 1) rows) line;
+        shorter = omega (arith, so_far.shorter, c.in-Row.ensures.found.shorter);
         written = front-on (written c.args.sink.now) (written c.rows.sink) (written c.line.new.sink) c.args.output.now c.rows.output far.2.0 c.deref.result.now
             so_far.grew far.2.2 c.in_err-line.ensures.told.err;
       },
