@@ -4,7 +4,6 @@ use Rattle.std.specs.declared.option.Option.{Option}
 use Rattle.std.specs.Io.KnownBytes.{Appends}
 use Rattle.std.proofs.lemmas.Fmt.{decimal_injective}
 use Rattle.arrayvec.specs.ArrayVec.{ArrayVec}
-use Rattle.disk_model.specs.declared.disk.Disk.{Ghosts}
 use Rattle.raft_model.specs.Lists.{In}
 use Rattle.replay_text.specs.declared.row.Row.{Row}
 use Rattle.replay_text.specs.Lines.{ReadsRows}
@@ -15,7 +14,6 @@ use Rattle.world_laws.specs.Headline.{HasHeadline}
 use Rattle.world_parts.specs.Promise.{KeepsItsWord}
 use Rattle.world_parts.specs.Report.{end_lines, row_lines}
 use Rattle.allocator_app.specs.InPart.{IsReadInPart, IsWrittenInPart}
-use Rattle.allocator_app.specs.Nodes.{IsRunBy, RunsNodes}
 use Rattle.allocator_app.specs.NoFurther.{ReadsNoFurther}
 use Rattle.allocator_app.specs.Report.{IsReport, IsReplayed, IsToTheEnd, Says}
 use Rattle.allocator_app.specs.Rows.{Ends, IsReplayedBy, IsTold}
@@ -124,27 +122,6 @@ same_nodes : (size base turns count port times : ℕ) (ids nodes : List ℕ) (wo
     → IsNode count port times nodes words → ids ≡ nodes
 same_nodes size base turns count port times ids nodes words p q =
     one_list ids nodes (λ n here. (p.members.nodes n here).1) (λ n here. (q.members.nodes n here).1) (fourth_on (sym p.spelled ∙ q.spelled))
-
-pub asked_for_nodes : {L D : Type 0} (faults : L → ℕ) (disk : Ghosts D) (plan : Plan) (size base turns : ℕ) (ids : List ℕ) (words : List (List ℕ))
-    (links_old links_new : List L) (disks_old disks_new : List (Option D)) (sink sink_now : Option (List ℕ)) (status : Status) →
-    IsPlan plan words → IsNode size base turns ids words → IsRunBy faults disk plan links_old links_new disks_old disks_new sink sink_now status →
-    RunsNodes faults disk ids links_old links_new disks_old disks_new sink sink_now status
-asked_for_nodes faults disk (Replay rows nodes) size base turns ids words links_old links_new disks_old disks_new sink sink_now status planned asks runs =
-    absurd (replay_or_node rows nodes.items size base turns ids words planned asks)
-asked_for_nodes faults disk (Node count port times nodes) size base turns ids words links_old links_new disks_old disks_new sink sink_now status planned asks runs =
-    subst (λ l. RunsNodes faults disk l links_old links_new disks_old disks_new sink sink_now status)
-    (same_nodes count port times size base turns nodes.items ids words planned asks) runs
-asked_for_nodes faults disk (Soak seed rounds count) size base turns ids words links_old links_new disks_old disks_new sink sink_now status planned asks runs =
-    absurd (node_or_soak size base turns ids seed rounds count words asks planned)
-
-pub of_nodes : {L D : Type 0} (faults : L → ℕ) (disk : Ghosts D) (plan : Plan) (size base turns : ℕ) (ids : ArrayVec ℕ)
-    (links_old links_new : List L) (disks_old disks_new : List (Option D)) (sink sink_now : Option (List ℕ)) (status : Status) →
-    plan ≡ Node size base turns ids → (list : List ℕ) → list ≡ ids.items →
-    RunsNodes faults disk list links_old links_new disks_old disks_new sink sink_now status →
-    IsRunBy faults disk plan links_old links_new disks_old disks_new sink sink_now status
-of_nodes faults disk plan size base turns ids links_old links_new disks_old disks_new sink sink_now status is list same runs =
-    subst (λ p. IsRunBy faults disk p links_old links_new disks_old disks_new sink sink_now status) (sym is)
-    (subst (λ l. RunsNodes faults disk l links_old links_new disks_old disks_new sink sink_now status) same runs)
 
 size_of_node : {a b c x y z : ℕ} {d w : ArrayVec ℕ} → Node a b c d ≡ Node x y z w → a ≡ x
 size_of_node e = cc

@@ -1,13 +1,13 @@
 ghost use Rattle.std.specs.Prelude.{◌≡◌, ◌≤◌, ◌↔◌, ◌⊎◌, ℕ, List, [], Some, length, map, string_bytes, IsTrue};
 ghost use Rattle.std.specs.Io.KnownBytes.{Appends};
 ghost use Rattle.arrayvec.specs.ArrayVec.{ArrayVec};
-ghost use Rattle.node_turns.specs.CutRun.{EndsAt, IsCutRun};
 ghost use Rattle.node_turns.specs.InPart as nodes;
+ghost use Rattle.node_turns.specs.InPart.{Leaves};
 ghost use Rattle.node_turns.specs.Opening.{Given};
 ghost use Rattle.node_turns.specs.Report.{report};
 ghost use Rattle.node_turns.specs.Status.{DisksTell, IsDamagedDisk};
 ghost use Rattle.node_turns.specs.Status.{NoDamagedDisk, NoDiskRose, NoLinkRose};
-ghost use Rattle.node_turns.specs.WholeRun.{IsWholeRun, Tell, after_turns};
+ghost use Rattle.node_turns.specs.WholeRun.{Tell, after_turns};
 ghost use Rattle.outside.specs.Faults.{Rose};
 ghost use Rattle.program_parts.specs.Output.{WritesFront};
 ghost use Rattle.replay_text.specs.declared.row.Row.{Row};
@@ -20,7 +20,7 @@ ghost use Rattle.world_parts.specs.Lawful.{Lawful};
 ghost use Rattle.world_parts.specs.Promise.{KeepsItsWord};
 ghost use Rattle.allocator_app.specs.InPart.{IsReadInPart, IsWrittenInPart};
 ghost use Rattle.allocator_app.specs.NoFurther.{ReadsNoFurther};
-ghost use Rattle.allocator_app.specs.Nodes.{IsRunBy, RunsNodes};
+ghost use Rattle.allocator_app.specs.Nodes.{RunsNodes};
 ghost use Rattle.allocator_app.specs.Report.{IsBegun, IsOfNeither, IsOfNodes, IsReplayed, IsToTheEnd};
 ghost use Rattle.allocator_app.specs.Rows.{IsReplayedBy};
 ghost use Rattle.allocator_app.specs.Soaking.{IsSoakedBy};
@@ -148,31 +148,26 @@ pub fn run<S: Source, K: Sink, L: Link, D: Disk, C: Clock>(
         IsSoak seed rounds size (map string_bytes words.now) → AreNone links.old disks.old →
         (Rose (K.faults sink.old) (K.faults sink.new) → ⊥) →
         (result ≡ Status.Done) ⊎ (result ≡ Status.Memory) }
-    // What a run of allocators over links and disks leaves, and when its statuses come.
+    // What a run of allocators over links and disks writes, and that each disk is there again.
     ensures nodes { (size base turns : ℕ) (ids : List ℕ) →
         IsNode size base turns ids (map string_bytes words.now) → AreGiven ids links.old disks.old →
-        RunsNodes L.faults D.Disk ids links.old links.new disks.old disks.new
-        (K.written sink.old) (K.written sink.new) result }
-    // What they send, write and store together is what the definition says.
-    ensures nodes_whole { (size base turns : ℕ) (ids : List ℕ) (given : Given) →
+        RunsNodes ids disks.old disks.new (K.written sink.old) (K.written sink.new) result }
+    ensures nodes_report { (size base turns : ℕ) (ids : List ℕ) (given : Given) →
         IsNode size base turns ids (map string_bytes words.now) → AreGiven ids links.old disks.old →
         Tell L.coming L.sent D.Disk links.old disks.old (C.readings clock.old) given →
-        result ≡ Status.Done → IsWholeRun L.coming L.sent D.Disk links.new disks.new
-        (C.readings clock.new) (K.written sink.old) (K.written sink.new) (length ids) turns
-        (after_turns size turns ids given) }
-    // A sink that failed has a front of what a run writes that ends so.
-    ensures nodes_in_part { (size base turns : ℕ) (ids : List ℕ) (given : Given) →
-        IsNode size base turns ids (map string_bytes words.now) → AreGiven ids links.old disks.old →
-        Tell L.coming L.sent D.Disk links.old disks.old (C.readings clock.old) given →
-        result ≡ Status.WriteFault → nodes.IsWrittenInPart L.faults D.Disk ids links.old links.new
-        disks.old disks.new (K.written sink.old) (K.written sink.new)
+        result ≡ Status.Done → Appends (K.written sink.old) (K.written sink.new)
         (report turns (after_turns size turns ids given).lines) }
-    // And of a run that did not come to its end it says how far it came.
-    ensures nodes_cut { (size base turns id : ℕ) (ids : List ℕ) (given : Given) →
+    // What it leaves on links, disks and the clock, and when its statuses come.
+    ensures nodes_left { (size base turns : ℕ) (ids : List ℕ) →
         IsNode size base turns ids (map string_bytes words.now) → AreGiven ids links.old disks.old →
-        Tell L.coming L.sent D.Disk links.old disks.old (C.readings clock.old) given →
-        EndsAt id result → IsCutRun L.coming L.sent D.Disk links.old links.new disks.old disks.new
-        (C.readings clock.new) size turns ids given id }
+        (result ≡ Status.WriteFault) ⊎ Leaves L.coming L.sent L.faults D.Disk size turns ids
+        links.old links.new disks.old disks.new (C.readings clock.old) (C.readings clock.new) result }
+    // Where the sink failed, all is left as where it did not, and a front is written.
+    ensures nodes_in_part { (size base turns : ℕ) (ids : List ℕ) →
+        IsNode size base turns ids (map string_bytes words.now) → AreGiven ids links.old disks.old →
+        result ≡ Status.WriteFault → nodes.IsWrittenInPart L.coming L.sent L.faults D.Disk size turns
+        ids links.old links.new disks.old disks.new (C.readings clock.old) (C.readings clock.new)
+        (K.written sink.old) (K.written sink.new) }
     // Where nothing fails, the first damaged disk ends their run; without one it comes to its end.
     ensures nodes_finish { (size base turns : ℕ) (ids : List ℕ) →
         IsNode size base turns ids (map string_bytes words.now) → AreGiven ids links.old disks.old →
@@ -254,25 +249,23 @@ fn follow<S: Source, K: Sink, L: Link, D: Disk, C: Clock>(
     ensures replays { (bytes : List ℕ) → S.left source.old ≡ Some bytes →
         IsReplayedBy plan bytes (S.left source.new) (K.written sink.old) (K.written sink.new) result }
     ensures soaks { IsSoakedBy plan (K.written sink.old) (K.written sink.new) result }
-    ensures nodes { IsRunBy L.faults D.Disk plan links.old links.new disks.old disks.new
+    ensures nodes { (size base turns : ℕ) (ids : ArrayVec ℕ) →
+        plan ≡ Plan.Node size base turns ids → RunsNodes ids.items disks.old disks.new
         (K.written sink.old) (K.written sink.new) result }
-    ensures nodes_whole { (size base turns : ℕ) (ids : ArrayVec ℕ) (given : Given) →
+    ensures nodes_report { (size base turns : ℕ) (ids : ArrayVec ℕ) (given : Given) →
         plan ≡ Plan.Node size base turns ids →
         Tell L.coming L.sent D.Disk links.old disks.old (C.readings clock.old) given →
-        result ≡ Status.Done → IsWholeRun L.coming L.sent D.Disk links.new disks.new
-        (C.readings clock.new) (K.written sink.old) (K.written sink.new) (length ids.items) turns
-        (after_turns size turns ids.items given) }
-    ensures nodes_in_part { (size base turns : ℕ) (ids : ArrayVec ℕ) (given : Given) →
-        plan ≡ Plan.Node size base turns ids →
-        Tell L.coming L.sent D.Disk links.old disks.old (C.readings clock.old) given →
-        result ≡ Status.WriteFault → nodes.IsWrittenInPart L.faults D.Disk ids.items
-        links.old links.new disks.old disks.new (K.written sink.old) (K.written sink.new)
+        result ≡ Status.Done → Appends (K.written sink.old) (K.written sink.new)
         (report turns (after_turns size turns ids.items given).lines) }
-    ensures nodes_cut { (size base turns id : ℕ) (ids : ArrayVec ℕ) (given : Given) →
-        plan ≡ Plan.Node size base turns ids →
-        Tell L.coming L.sent D.Disk links.old disks.old (C.readings clock.old) given →
-        EndsAt id result → IsCutRun L.coming L.sent D.Disk links.old links.new disks.old disks.new
-        (C.readings clock.new) size turns ids.items given id }
+    ensures nodes_left { (size base turns : ℕ) (ids : ArrayVec ℕ) →
+        plan ≡ Plan.Node size base turns ids → (result ≡ Status.WriteFault) ⊎
+        Leaves L.coming L.sent L.faults D.Disk size turns ids.items links.old links.new
+        disks.old disks.new (C.readings clock.old) (C.readings clock.new) result }
+    ensures nodes_in_part { (size base turns : ℕ) (ids : ArrayVec ℕ) →
+        plan ≡ Plan.Node size base turns ids → result ≡ Status.WriteFault →
+        nodes.IsWrittenInPart L.coming L.sent L.faults D.Disk size turns ids.items
+        links.old links.new disks.old disks.new (C.readings clock.old) (C.readings clock.new)
+        (K.written sink.old) (K.written sink.new) }
     ensures nodes_finish { (size base turns : ℕ) (ids : ArrayVec ℕ) →
         plan ≡ Plan.Node size base turns ids → NoDamagedDisk D.Disk ids.items disks.old →
         NoLinkRose L.faults ids.items links.old links.new →

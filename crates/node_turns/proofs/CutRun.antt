@@ -1,12 +1,10 @@
 -- A run that was cut off: from the allocators to what is left of links and disks.
 use Rattle.std.proofs.Common.{◌≡◌, ℕ, ◌<◌, List, length, take, true, refl, sym, ap, ◌∙◌, subst, inl, inr, arith}
-use Rattle.std.specs.Prelude.{Option, Some, None, IsNone, IsSome, Result, Err, slice_index, slice_index_or, ⊤}
+use Rattle.std.specs.Prelude.{Option, Some, None, IsNone, IsSome, slice_index, slice_index_or}
 use Rattle.disk_model.specs.declared.disk.Disk.{Ghosts}
 use Rattle.outside.specs.Readings.{next_reading}
 use Rattle.outside.specs.declared.received.RawFrame.{RawFrame}
 use Rattle.outside.specs.declared.received.Received.{Received}
-use Rattle.program_parts.specs.declared.status.Status.{Status}
-use Rattle.program_parts.specs.declared.status.Status.TheVariants.{Done, Usage, BadRow, Unlawful, ReadFault, WriteFault, Memory, Limit, LinkFault, DiskFault, Damaged as DamagedStore}
 use Rattle.raft_core.specs.StoredPuts.{store_of}
 use Rattle.raft_log.specs.declared.durable.Durable.{Durable}
 use Rattle.raft_log.specs.DurableViews.{durable_disk, durable_fault, durable_state}
@@ -15,7 +13,7 @@ use Rattle.raft_log.specs.Rules.{AlwaysStandsForState, StandsForState}
 use Rattle.raft_log.specs.Stored.{AfterSome, Stored, after_puts, opening_puts}
 use Rattle.alloc_server.specs.Server.{durable_of, fault_of}
 use Rattle.node_turns.specs.Cut.{IsCut, IsCutOpening, IsCutTurning}
-use Rattle.node_turns.specs.CutRun.{EndsAt, HoldsOpeningInPart, HoldsStoreInPart, IsCutInOpening, IsCutInTurns, IsCutRun, IsLeft, IsLeftDamaged, IsLeftUnopened, KeepsImages, KeepsOrOpens}
+use Rattle.node_turns.specs.CutRun.{HoldsOpeningInPart, HoldsStoreInPart, IsCutInOpening, IsCutInTurns, IsCutRun, IsLeft, IsLeftDamaged, IsLeftUnopened, KeepsImages, KeepsOrOpens}
 use Rattle.node_turns.specs.Ends.{fault_id}
 use Rattle.node_turns.specs.Opening.{Given, opened}
 use Rattle.node_turns.specs.Puts.{turn_puts}
@@ -30,22 +28,6 @@ use Rattle.node_turns.specs.declared.runner.Runner.{Runner}
 use Rattle.node_turns.proofs.Ending.{an_item, some_same, some_value}
 use Rattle.node_turns.proofs.Sent.{all_begin, cut_begins}
 use Rattle.node_turns.proofs.WholeRun.{holds_store, opened_store}
-
--- the fault that a status comes from
-pub ended_at : (ended : Result ⊤ Fault) (status : Status) (id : ℕ) → EndsAt id status → ((node : ℕ) → status ≡ LinkFault node → ended ≡ Err (Link node)) →
-    ((node : ℕ) → status ≡ DiskFault node → ended ≡ Err (Disk node)) → ((node key : ℕ) → status ≡ DamagedStore node key → ended ≡ Err (Damaged node key)) →
-    (fault : Fault) × (ended ≡ Err fault) × (fault_id fault ≡ id)
-ended_at ended Done id at link disk damaged = absurd at
-ended_at ended Usage id at link disk damaged = absurd at
-ended_at ended (BadRow row) id at link disk damaged = absurd at
-ended_at ended (Unlawful row number) id at link disk damaged = absurd at
-ended_at ended ReadFault id at link disk damaged = absurd at
-ended_at ended WriteFault id at link disk damaged = absurd at
-ended_at ended Memory id at link disk damaged = absurd at
-ended_at ended (Limit row) id at link disk damaged = absurd at
-ended_at ended (LinkFault node) id at link disk damaged = (Link node, link node refl, at)
-ended_at ended (DiskFault node) id at link disk damaged = (Disk node, disk node refl, at)
-ended_at ended (DamagedStore node key) id at link disk damaged = (Damaged node key, damaged node key refl, at)
 
 none_is : {A : Type 0} (o : Option A) → IsNone o → o ≡ None
 none_is None is = refl

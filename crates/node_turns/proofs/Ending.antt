@@ -143,11 +143,6 @@ disk_status (Link node) id is = absurd (cc (is))
 disk_status (Disk node) id is = cc (is)
 disk_status (Damaged node key) id is = absurd (cc (is))
 
-pub damaged_status : (fault : Fault) (id key : ℕ) → fault_status fault ≡ DamagedStore id key → fault ≡ Damaged id key
-damaged_status (Link node) id key is = absurd (cc (is))
-damaged_status (Disk node) id key is = absurd (cc (is))
-damaged_status (Damaged node of) id key is = cc (is)
-
 -- nothing had waited
 pub from_nothing : (a b : Option (List ℕ)) (piece : List ℕ) → Appends (append_known a []) b piece → Appends a b piece
 from_nothing None b piece wrote = wrote

@@ -1,8 +1,8 @@
 pub mod Cut
 pub mod CutRun
 pub mod Ending
-pub mod InPart
 pub mod Kept
+pub mod Left
 pub mod Lists
 pub mod Opened
 pub mod Parts

@@ -122,13 +122,6 @@ module _ {D L : Type 0} (disk : Ghosts D) (faults : L → ℕ)
     }
 
 module _ {D L : Type 0} (disk : Ghosts D) (faults : L → ℕ) (ids : List ℕ) (disks_old disks_new : List (Option D)) where
-  -- nothing was touched
-  pub count_none : (links : List L) (status : Status) → length links ≡ length ids → CountNoOther faults disk.faults ids links links disks_old disks_old status
-  count_none links status each = record {
-    links = λ i before after low other. ap faults (one_item links i after before (omega (arith, each, low)));
-    disks = λ i before after low other was is. ap disk.faults (sym (some_one was is refl));
-  }
-
   -- they were stopped, and the run has a status
   pub stopped_run : {F : Type 0} (runners : List (Runner D F disk)) (last : List (Option D)) (links_old links_new : List L) (result : Result ⊤ Fault) (status : Status) →
       ((id : ℕ) → result ≡ Err (Link id) → status ≡ LinkFault id) → ((id : ℕ) → result ≡ Err (Disk id) → status ≡ DiskFault id) →

@@ -18,9 +18,6 @@ use Rattle.node_turns.specs.declared.runner.Runner.{Runner}
 pub rose_before : (a b c : ℕ) → a ≤ b → Rose b c → Rose a c
 rose_before a b c earlier rose = omega (arith, earlier, rose)
 
-pub rose_behind : (a b c : ℕ) → Rose a b → b ≤ c → Rose a c
-rose_behind a b c rose later = omega (arith, rose, later)
-
 -- what is read within a list does not depend on what is read behind it
 pub one_item : {A : Type 0} (xs : List A) (i : ℕ) (d e : A) → i < length xs → slice_index_or xs i d ≡ slice_index_or xs i e
 one_item [] i d e within = absurd (omega (arith, within))

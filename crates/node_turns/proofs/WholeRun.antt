@@ -2,7 +2,6 @@
 use Rattle.std.proofs.Common.{◌≡◌, ℕ, ◌<◌, List, [], length, take, true, sym, ap, ◌∙◌, subst, arith}
 use Rattle.std.proofs.lemmas.List.{take_all}
 use Rattle.std.specs.Prelude.{Option, Some, None, IsSome, slice_index, slice_index_or}
-use Rattle.std.specs.Io.KnownBytes.{Appends}
 use Rattle.disk_model.specs.declared.disk.Disk.{Ghosts}
 use Rattle.outside.specs.Readings.{next_reading}
 use Rattle.outside.specs.declared.received.RawFrame.{RawFrame}
@@ -17,13 +16,12 @@ use Rattle.raft_log.specs.Stored.{Stored, after_puts, opening_puts}
 use Rattle.server_parts.specs.TimedServer.{opening}
 use Rattle.alloc_server.specs.Server.{StandsFor, durable_of}
 use Rattle.node_turns.specs.Opening.{Given, opened, readings_after}
-use Rattle.node_turns.specs.Report.{report}
 use Rattle.node_turns.specs.Run.{AreStopped, AreTelling}
 use Rattle.node_turns.specs.Stands.{AreOpened, AreOpenedAt, Stand, runner_disk}
 use Rattle.node_turns.specs.Steps.{Keeps}
 use Rattle.node_turns.specs.Taking.{KeepsNodes}
 use Rattle.node_turns.specs.Turns.{Together}
-use Rattle.node_turns.specs.WholeRun.{HoldsStore, IsWholeRun, Tell, TellsState}
+use Rattle.node_turns.specs.WholeRun.{HoldsStore, LeavesAll, Tell, TellsState}
 use Rattle.node_turns.specs.declared.runner.Runner.{Runner}
 use Rattle.node_turns.specs.declared.steps.LastSteps.{LastSteps}
 use Rattle.node_turns.proofs.Ending.{an_item, some_same, some_value}
@@ -102,14 +100,13 @@ module _ {D F L : Type 0} {disk : Ghosts D} (coming : L → Option (List Receive
     store_is = sym is.member.raft.store;
   })
 
-  pub whole_run : (runners : List (Runner D F disk)) (links_before links : List L) (old disks : List (Option D)) (readings written_before written : Option (List ℕ))
-      (steps : LastSteps) (count turns : ℕ) (all : Together) → length runners ≡ count → length links_before ≡ count →
+  pub leaves_all : (runners : List (Runner D F disk)) (links_before links : List L) (old disks : List (Option D)) (readings : Option (List ℕ))
+      (steps : LastSteps) (count : ℕ) (all : Together) → length runners ≡ count → length links_before ≡ count →
       Stand coming sent runners links readings steps all → AreTelling runners → AreStopped runners old disks →
-      Appends written_before written (report turns all.lines) → IsWholeRun coming sent disk links disks readings written_before written count turns all
-  whole_run runners links_before links old disks readings written_before written steps count turns all size each stand telling stopped wrote =
+      LeavesAll coming sent disk links disks readings count all
+  leaves_all runners links_before links old disks readings steps count all size each stand telling stopped =
       let within : (i : ℕ) → i < count → i < length runners = λ i low. omega (arith, size, low) in
       record {
-        report_is = wrote;
         coming_is = λ i link low. (stand.each i (an_item runners i (within i low)) link (within i low)).coming_is;
         sent_is = λ i link low. (stand.each i (an_item runners i (within i low)) link (within i low)).sent_is;
         stored_is = λ i after low is.

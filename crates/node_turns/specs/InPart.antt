@@ -1,22 +1,39 @@
--- What a sink has that failed.
-use Rattle.std.specs.Prelude.{ℕ, List, Option}
+-- What a run leaves whose sink failed: what one leaves that ends so, and a front of what that one writes.
+use Rattle.std.specs.Prelude.{◌≡◌, ◌⊎◌, ℕ, List, length, Option}
 use Rattle.disk_model.specs.declared.disk.Disk.{Ghosts}
+use Rattle.outside.specs.declared.received.RawFrame.{RawFrame}
+use Rattle.outside.specs.declared.received.Received.{Received}
 use Rattle.program_parts.specs.Output.{WritesFront}
-use Rattle.node_turns.specs.Report.{damaged_line, disk_fault_line, link_fault_line}
-use Rattle.node_turns.specs.Status.{DiskRose, IsDamagedDisk, LinkRose}
+use Rattle.program_parts.specs.declared.status.Status.{Status}
+use Rattle.program_parts.specs.declared.status.Status.TheVariants.{Damaged, DiskFault, Done, LinkFault}
+use Rattle.node_turns.specs.CutRun.{EndsAt, IsCutRun, IsLeftDamaged, IsLeftUnopened}
+use Rattle.node_turns.specs.Opening.{Given}
+use Rattle.node_turns.specs.Quiet.{CountNoOther}
+use Rattle.node_turns.specs.Report.{status_text}
+use Rattle.node_turns.specs.Status.{AreWhole, DiskRose, IsDamagedDisk, LinkRose}
+use Rattle.node_turns.specs.WholeRun.{LeavesAll, Tell, after_turns}
 
--- a front of this report, or of the one line of a run that was cut off, which names what failed or is damaged
-pub data IsWrittenInPart {L D : Type 0} (link_faults : L → ℕ) (disk : Ghosts D) (ids : List ℕ)
-    (links_old links_new : List L) (disks_old disks_new : List (Option D)) (before now : Option (List ℕ))
-    (report : List ℕ) : Type 0 where
-  OfReport : WritesFront before now report →
-      IsWrittenInPart link_faults disk ids links_old links_new disks_old disks_new before now report
-  OfLink : (id : ℕ) → LinkRose link_faults ids links_old links_new id →
-      WritesFront before now (link_fault_line id) →
-      IsWrittenInPart link_faults disk ids links_old links_new disks_old disks_new before now report
-  OfDisk : (id : ℕ) → DiskRose disk.faults ids disks_old disks_new id →
-      WritesFront before now (disk_fault_line id) →
-      IsWrittenInPart link_faults disk ids links_old links_new disks_old disks_new before now report
-  OfDamaged : (id key : ℕ) → IsDamagedDisk disk ids disks_old id key →
-      WritesFront before now (damaged_line id key) →
-      IsWrittenInPart link_faults disk ids links_old links_new disks_old disks_new before now report
+module _ {L D : Type 0} (coming : L → Option (List Received)) (sent : L → Option (List RawFrame))
+    (link_faults : L → ℕ) (disk : Ghosts D) (size turns : ℕ) (ids : List ℕ) (links_old links : List L)
+    (disks_old disks : List (Option D)) (readings_old readings : Option (List ℕ)) where
+  -- on its links, its disks and its clock, by the status that it ends with if its sink takes what it writes
+  pub record Leaves (status : Status) : Type 0 where
+    pub link_fault : (id : ℕ) → status ≡ LinkFault id → LinkRose link_faults ids links_old links id
+    pub disk_fault : (id : ℕ) → status ≡ DiskFault id → DiskRose disk.faults ids disks_old disks id
+    pub damaged : (id key : ℕ) → status ≡ Damaged id key →
+        IsDamagedDisk disk ids disks_old id key × (links ≡ links_old)
+    pub damaged_left : (id key : ℕ) → status ≡ Damaged id key → IsLeftDamaged disk ids disks_old disks id
+    pub unopened : (id : ℕ) → status ≡ DiskFault id → AreWhole disk ids disks_old
+        ⊎ (IsLeftUnopened disk ids disks_old disks id × (links ≡ links_old))
+    pub quiet : CountNoOther link_faults disk.faults ids links_old links disks_old disks status
+    pub done : (given : Given) → Tell coming sent disk links_old disks_old readings_old given → status ≡ Done →
+        LeavesAll coming sent disk links disks readings (length ids) (after_turns size turns ids given)
+    pub cut : (given : Given) (id : ℕ) → Tell coming sent disk links_old disks_old readings_old given →
+        EndsAt id status → IsCutRun coming sent disk links_old links disks_old disks readings size turns ids given id
+
+  -- the sink failed
+  pub record IsWrittenInPart (before now : Option (List ℕ)) : Type 0 where
+    pub ended : Status
+    pub leaves : Leaves ended
+    pub front : (given : Given) → Tell coming sent disk links_old disks_old readings_old given →
+        WritesFront before now (status_text turns (after_turns size turns ids given).lines ended)

@@ -1,6 +1,5 @@
 -- A run to its end, where links, disks and the clock tell what they have.
 use Rattle.std.specs.Prelude.{◌≡◌, ℕ, ◌<◌, List, length, Option, Some, None, slice_index_or, true}
-use Rattle.std.specs.Io.KnownBytes.{Appends}
 use Rattle.disk_model.specs.declared.disk.Disk.{Ghosts}
 use Rattle.outside.specs.declared.received.RawFrame.{RawFrame}
 use Rattle.outside.specs.declared.received.Received.{Received}
@@ -9,7 +8,6 @@ use Rattle.raft_log.specs.Rules.{AlwaysStandsForState, StandsForState}
 use Rattle.raft_log.specs.Stored.{Stored}
 use Rattle.raft_model.specs.Server.{Store}
 use Rattle.node_turns.specs.Opening.{Given, opened}
-use Rattle.node_turns.specs.Report.{report}
 use Rattle.node_turns.specs.Turns.{Together, all_turns}
 
 -- these allocators of a cluster of a size, after all their turns
@@ -39,12 +37,11 @@ module _ {L D : Type 0} (coming : L → Option (List Received)) (sent : L → Op
         TellsState disk before (given.stored i)
     pub readings_are : readings ≡ Some given.readings
 
-  -- what a run of so many allocators leaves that took so many turns each and are these then: the report is written,
-  -- each link tells the items that are left and the frames that were sent, each disk holds the store of its allocator,
-  -- and the clock tells the readings that are left
-  pub record IsWholeRun (links : List L) (disks : List (Option D)) (readings : Option (List ℕ))
-      (written_before written : Option (List ℕ)) (count turns : ℕ) (all : Together) : Type 0 where
-    pub report_is : Appends written_before written (report turns all.lines)
+  -- what a run of so many allocators leaves that took so many turns each and are these then: each link tells the items
+  -- that are left and the frames that were sent, each disk holds the store of its allocator, and the clock tells the
+  -- readings that are left
+  pub record LeavesAll (links : List L) (disks : List (Option D)) (readings : Option (List ℕ)) (count : ℕ)
+      (all : Together) : Type 0 where
     pub coming_is : (i : ℕ) (link : L) → i < count → coming (slice_index_or links i link) ≡ Some (all.running i).coming
     pub sent_is : (i : ℕ) (link : L) → i < count → sent (slice_index_or links i link) ≡ Some (all.running i).sent
     pub stored_is : (i : ℕ) (after : D) → i < count → slice_index_or disks i None ≡ Some after →

@@ -8,19 +8,18 @@ ghost use Rattle.transfer_rx.specs.Acceptance.{AnswersByRows, first_signature};
 ghost use Rattle.transfer_rx.specs.Memory.{ReceiverFitsInMemory};
 ghost use Rattle.world_parts.specs.Cluster.{AreMembers};
 ghost use Rattle.node_turns.specs.Cut.{IsCut, IsCutOpening};
-ghost use Rattle.node_turns.specs.CutRun.{EndsAt, IsCutRun, IsLeftDamaged, IsLeftUnopened};
 ghost use Rattle.node_turns.specs.Opening.{Given, opened};
 ghost use Rattle.node_turns.specs.Ends.{end_status, fault_line};
-ghost use Rattle.node_turns.specs.InPart.{IsWrittenInPart};
-ghost use Rattle.node_turns.specs.Quiet.{CountNoOther, RunQuietly};
+ghost use Rattle.node_turns.specs.InPart.{IsWrittenInPart, Leaves};
+ghost use Rattle.node_turns.specs.Quiet.{RunQuietly};
 ghost use Rattle.node_turns.specs.Report.{damaged_line, disk_fault_line, link_fault_line, report};
 ghost use Rattle.node_turns.specs.Run.{AreTelling, HasRun};
 ghost use Rattle.node_turns.specs.Runners.{accepts, runners_of};
 ghost use Rattle.node_turns.specs.Stands.{Stand};
-ghost use Rattle.node_turns.specs.Status.{AreWhole, DiskRose, IsDamagedDisk, IsEndStatus, IsStatus, LinkRose};
+ghost use Rattle.node_turns.specs.Status.{IsDamagedDisk, IsEndStatus, IsStatus};
 ghost use Rattle.node_turns.specs.Status.{DisksTell, NoDamagedDisk, NoDiskRose, NoLinkRose};
 ghost use Rattle.node_turns.specs.Steps.{Keeps, steps_made};
-ghost use Rattle.node_turns.specs.WholeRun.{IsWholeRun, Tell, after_turns};
+ghost use Rattle.node_turns.specs.WholeRun.{Tell, after_turns};
 ghost use Rattle.node_turns.specs.declared.fault.Fault.TheVariants.{Link as LinkFailed, Disk as DiskFailed, Damaged as IsDamaged};
 
 use crate::fault::Fault;
@@ -68,30 +67,25 @@ pub fn node<K: Sink, L: Link, D: Disk, C: Clock>(
     ensures places { length disks.new ≡ length disks.old }
     ensures write_fault { result ≡ Status.WriteFault →
         Rose (K.faults sink.old) (K.faults sink.new) }
-    // No fault is passed over: with any other status the counts of the sink, of the links and of the
-    // disks stay, but for the one of the link or the disk that the status names.
     ensures kept { (result ≡ Status.WriteFault) ⊎ (K.faults sink.new ≡ K.faults sink.old) }
-    ensures quiet { (result ≡ Status.WriteFault) ⊎ CountNoOther L.faults D.faults ids.now
-        links.old links.new disks.old disks.new result }
-    ensures link_fault { (id : ℕ) → result ≡ Status.LinkFault id →
-        LinkRose L.faults ids.now links.old links.new id }
+    // What it leaves on its links, its disks and its clock, by its status.
+    ensures leaves { (result ≡ Status.WriteFault) ⊎ Leaves L.coming L.sent L.faults D.Disk size turns
+        ids.now links.old links.new disks.old disks.new (C.readings clock.old) (C.readings clock.new)
+        result }
+    // And what is written.
+    ensures report { (given : Given) → Tell L.coming L.sent D.Disk links.old disks.old
+        (C.readings clock.old) given → result ≡ Status.Done → Appends (K.written sink.old)
+        (K.written sink.new) (report turns (after_turns size turns ids.now given).lines) }
     ensures link_line { (id : ℕ) → result ≡ Status.LinkFault id →
         Appends (K.written sink.old) (K.written sink.new) (link_fault_line id) }
-    ensures disk_fault { (id : ℕ) → result ≡ Status.DiskFault id →
-        DiskRose D.faults ids.now disks.old disks.new id }
     ensures disk_line { (id : ℕ) → result ≡ Status.DiskFault id →
         Appends (K.written sink.old) (K.written sink.new) (disk_fault_line id) }
-    // Nothing came or was sent then.
-    ensures damaged { (id key : ℕ) → result ≡ Status.Damaged id key →
-        IsDamagedDisk D.Disk ids.now disks.old id key × (links.new ≡ links.old) }
     ensures damaged_line { (id key : ℕ) → result ≡ Status.Damaged id key →
         Appends (K.written sink.old) (K.written sink.new) (damaged_line id key) }
-    ensures damaged_left { (id key : ℕ) → result ≡ Status.Damaged id key →
-        IsLeftDamaged D.Disk ids.now disks.old disks.new id }
-    // Where a disk is damaged, a disk that fails does so in an opening.
-    ensures unopened { (id : ℕ) → result ≡ Status.DiskFault id →
-        AreWhole D.Disk ids.now disks.old ⊎
-        (IsLeftUnopened D.Disk ids.now disks.old disks.new id × (links.new ≡ links.old)) }
+    // Where the sink failed, all is left as where it did not, and a front is written.
+    ensures in_part { result ≡ Status.WriteFault → IsWrittenInPart L.coming L.sent L.faults D.Disk
+        size turns ids.now links.old links.new disks.old disks.new (C.readings clock.old)
+        (C.readings clock.new) (K.written sink.old) (K.written sink.new) }
     // Where nothing fails, the first damaged disk ends the run; without one it comes to its end.
     ensures finishes { NoDamagedDisk D.Disk ids.now disks.old →
         NoLinkRose L.faults ids.now links.old links.new →
@@ -103,20 +97,6 @@ pub fn node<K: Sink, L: Link, D: Disk, C: Clock>(
         NoDiskRose D.faults ids.now disks.old disks.new →
         (Rose (K.faults sink.old) (K.faults sink.new) → ⊥) →
         (result ≡ Status.Damaged id key) ⊎ (result ≡ Status.Memory) }
-    // What they did together is what the definition says.
-    ensures done { (given : Given) → Tell L.coming L.sent D.Disk links.old disks.old
-        (C.readings clock.old) given → result ≡ Status.Done → IsWholeRun L.coming L.sent D.Disk
-        links.new disks.new (C.readings clock.new) (K.written sink.old) (K.written sink.new)
-        (length ids.now) turns (after_turns size turns ids.now given) }
-    // A sink that failed has a front of what a run writes that ends so.
-    ensures in_part { (given : Given) → Tell L.coming L.sent D.Disk links.old disks.old
-        (C.readings clock.old) given → result ≡ Status.WriteFault → IsWrittenInPart L.faults D.Disk
-        ids.now links.old links.new disks.old disks.new (K.written sink.old) (K.written sink.new)
-        (report turns (after_turns size turns ids.now given).lines) }
-    // And of a run that did not come to its end it says how far it came.
-    ensures cut { (given : Given) (id : ℕ) → Tell L.coming L.sent D.Disk links.old disks.old
-        (C.readings clock.old) given → EndsAt id result → IsCutRun L.coming L.sent D.Disk
-        links.old links.new disks.old disks.new (C.readings clock.new) size turns ids.now given id }
 {
     a_state_is_durable::<D>();
     an_image_stands_for_one_state();

@@ -1,12 +1,13 @@
-use Rattle.std.proofs.Common.{◌≡◌, ◌⊎◌, length, inl, inr}
+use Rattle.std.proofs.Common.{◌≡◌, ◌⊎◌, inl, inr}
+use Rattle.std.specs.Io.KnownBytes.{Appends}
 use Rattle.outside.specs.Faults.{Rose}
-use Rattle.program_parts.specs.declared.status.Status.TheVariants.{Damaged, Done, Memory}
+use Rattle.program_parts.specs.declared.status.Status.TheVariants.{Damaged, Done, Memory, WriteFault}
 use Rattle.node_turns.specs.Status.{DisksTell, IsDamagedDisk, NoDamagedDisk, NoDiskRose, NoLinkRose}
-use Rattle.node_turns.specs.CutRun.{IsCutRun}
-use Rattle.node_turns.specs.InPart.{IsWrittenInPart}
+use Rattle.node_turns.specs.InPart.{IsWrittenInPart, Leaves}
 use Rattle.node_turns.specs.Report.{report}
-use Rattle.node_turns.specs.WholeRun.{IsWholeRun, after_turns}
-use Rattle.allocator_app.proofs.Ending.{all_lawful, as_asked, asked, asked_for_nodes, asked_to_soak, comes_to, has_headline, no_further, node_plan, nothing_given, read_part, replayed, words_for_nodes, words_for_rows, written_part}
+use Rattle.node_turns.specs.WholeRun.{after_turns}
+use Rattle.allocator_app.specs.Nodes.{RunsNodes}
+use Rattle.allocator_app.proofs.Ending.{all_lawful, as_asked, asked, asked_to_soak, comes_to, has_headline, no_further, node_plan, nothing_given, read_part, replayed, words_for_nodes, words_for_rows, written_part}
 use Rattle.allocator_app.proofs.program.run.Goals as goal
 
 pub returns-clause-report : goal.returns-clause-report
@@ -56,10 +57,6 @@ pub returns-clause-soak_in_part : goal.returns-clause-soak_in_part
 returns-clause-soak_in_part g c = λ seed rounds size asks is.
     (asked_to_soak c.in-Some.plan seed rounds size _ _ _ c.follow.result c.in-Some.ensures.some asks c.follow.ensures.soaks).in_part is
 
-pub returns-clause-nodes : goal.returns-clause-nodes
-returns-clause-nodes g c = λ size base turns ids asks given.
-    asked_for_nodes _ _ c.in-Some.plan size base turns ids _ _ _ _ _ _ _ c.follow.result c.in-Some.ensures.some asks c.follow.ensures.nodes
-
 pub returns-clause-nodes_alone : goal.returns-clause-nodes_alone
 returns-clause-nodes_alone g c = λ is. words_for_nodes c.in-Some.plan _ c.in-Some.ensures.some (c.follow.ensures.nodes_alone is)
 
@@ -74,13 +71,6 @@ returns-clause-objects g c = λ none. elim c.follow.ensures.objects [
   | inl nodes ↦ absurd (nothing_given c.in-Some.plan _ _ _ c.in-Some.ensures.some nodes (c.has_objects.ensures.0 c.if-not-has_objects.false) none)
   | inr same ↦ same
 ]
-
-pub returns-clause-nodes_whole : goal.returns-clause-nodes_whole
-returns-clause-nodes_whole g c = λ size base turns ids given asks objects tells done.
-    let plan = node_plan c.in-Some.plan size base turns ids _ c.in-Some.ensures.some asks in
-    as_asked (λ count times nodes. IsWholeRun g.L.Link.coming g.L.Link.sent g.D.Disk c.follow.new.links c.follow.new.disks
-    (g.C.Clock.readings c.follow.new.clock) (g.K.Sink.written c.args.sink.now) (g.K.Sink.written c.follow.new.sink) (length nodes) times (after_turns count times nodes given))
-    plan (c.follow.ensures.nodes_whole plan.count plan.port plan.times plan.nodes given plan.is tells done)
 
 pub returns-clause-nodes_finish : goal.returns-clause-nodes_finish
 returns-clause-nodes_finish g c = λ size base turns ids asks objects.
@@ -98,16 +88,30 @@ returns-clause-nodes_refuse g c = λ size base turns id key ids asks objects.
     (Rose (g.K.Sink.faults c.args.sink.now) (g.K.Sink.faults c.follow.new.sink) → ⊥) → (c.follow.result ≡ Damaged id key) ⊎ (c.follow.result ≡ Memory))
     plan (c.follow.ensures.nodes_refuse plan.count plan.port plan.times id key plan.nodes plan.is)
 
-pub returns-clause-nodes_cut : goal.returns-clause-nodes_cut
-returns-clause-nodes_cut g c = λ size base turns id ids given asks objects tells at.
+pub returns-clause-nodes : goal.returns-clause-nodes
+returns-clause-nodes g c = λ size base turns ids asks objects.
     let plan = node_plan c.in-Some.plan size base turns ids _ c.in-Some.ensures.some asks in
-    as_asked (λ count times nodes. IsCutRun g.L.Link.coming g.L.Link.sent g.D.Disk c.args.links.now c.follow.new.links c.args.disks.now c.follow.new.disks
-    (g.C.Clock.readings c.follow.new.clock) count times nodes given id)
-    plan (c.follow.ensures.nodes_cut plan.count plan.port plan.times id plan.nodes given plan.is tells at)
+    as_asked (λ count times nodes. RunsNodes nodes c.args.disks.now c.follow.new.disks (g.K.Sink.written c.args.sink.now) (g.K.Sink.written c.follow.new.sink) c.follow.result)
+    plan (c.follow.ensures.nodes plan.count plan.port plan.times plan.nodes plan.is)
+
+pub returns-clause-nodes_report : goal.returns-clause-nodes_report
+returns-clause-nodes_report g c = λ size base turns ids given asks objects tells done.
+    let plan = node_plan c.in-Some.plan size base turns ids _ c.in-Some.ensures.some asks in
+    as_asked (λ count times nodes. Appends (g.K.Sink.written c.args.sink.now) (g.K.Sink.written c.follow.new.sink) (report times (after_turns count times nodes given).lines))
+    plan (c.follow.ensures.nodes_report plan.count plan.port plan.times plan.nodes given plan.is tells done)
+
+pub returns-clause-nodes_left : goal.returns-clause-nodes_left
+returns-clause-nodes_left g c = λ size base turns ids asks objects.
+    let plan = node_plan c.in-Some.plan size base turns ids _ c.in-Some.ensures.some asks in
+    as_asked (λ count times nodes. (c.follow.result ≡ WriteFault)
+    ⊎ Leaves g.L.Link.coming g.L.Link.sent g.L.Link.faults g.D.Disk count times nodes c.args.links.now c.follow.new.links c.args.disks.now c.follow.new.disks
+    (g.C.Clock.readings c.args.clock.now) (g.C.Clock.readings c.follow.new.clock) c.follow.result)
+    plan (c.follow.ensures.nodes_left plan.count plan.port plan.times plan.nodes plan.is)
 
 pub returns-clause-nodes_in_part : goal.returns-clause-nodes_in_part
-returns-clause-nodes_in_part g c = λ size base turns ids given asks objects tells failed.
+returns-clause-nodes_in_part g c = λ size base turns ids asks objects failed.
     let plan = node_plan c.in-Some.plan size base turns ids _ c.in-Some.ensures.some asks in
-    as_asked (λ count times nodes. IsWrittenInPart g.L.Link.faults g.D.Disk nodes c.args.links.now c.follow.new.links c.args.disks.now c.follow.new.disks
-    (g.K.Sink.written c.args.sink.now) (g.K.Sink.written c.follow.new.sink) (report times (after_turns count times nodes given).lines))
-    plan (c.follow.ensures.nodes_in_part plan.count plan.port plan.times plan.nodes given plan.is tells failed)
+    as_asked (λ count times nodes. IsWrittenInPart g.L.Link.coming g.L.Link.sent g.L.Link.faults g.D.Disk count times nodes c.args.links.now c.follow.new.links
+    c.args.disks.now c.follow.new.disks (g.C.Clock.readings c.args.clock.now) (g.C.Clock.readings c.follow.new.clock)
+    (g.K.Sink.written c.args.sink.now) (g.K.Sink.written c.follow.new.sink))
+    plan (c.follow.ensures.nodes_in_part plan.count plan.port plan.times plan.nodes plan.is failed)

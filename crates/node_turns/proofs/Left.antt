@@ -1,0 +1,129 @@
+-- What a run leaves, by how it ended.
+use Rattle.std.proofs.Common.{◌≡◌, ◌⊎◌, ℕ, ◌<◌, List, length, take, true, ap, subst, inl, inr, arith}
+use Rattle.std.specs.Prelude.{Option, None, IfErr, IsSome, OnOk, Result, Ok, Err, slice_index_or, ⊤}
+use Rattle.disk_model.specs.declared.disk.Disk.{Ghosts}
+use Rattle.outside.specs.declared.received.RawFrame.{RawFrame}
+use Rattle.outside.specs.declared.received.Received.{Received}
+use Rattle.program_parts.specs.Output.{WritesFront}
+use Rattle.program_parts.specs.declared.status.Status.{Status}
+use Rattle.program_parts.specs.declared.status.Status.TheVariants.{Damaged as DamagedStore, DiskFault, LinkFault}
+use Rattle.raft_log.specs.declared.durable.Durable.{Durable}
+use Rattle.raft_log.specs.DurableViews.{durable_disk, durable_fault, durable_state}
+use Rattle.raft_log.specs.Opening.{IsReadAs}
+use Rattle.raft_log.specs.Rules.{AlwaysStandsForState, StandsForState}
+use Rattle.raft_log.specs.Stored.{Stored, after_puts, opening_puts}
+use Rattle.node_turns.specs.Cut.{IsCut, IsCutOpening}
+use Rattle.node_turns.specs.CutRun.{IsLeftDamaged, IsLeftUnopened}
+use Rattle.node_turns.specs.Ends.{end_status, fault_line}
+use Rattle.node_turns.specs.InPart.{Leaves}
+use Rattle.node_turns.specs.Opening.{Given, opened}
+use Rattle.node_turns.specs.Quiet.{RunQuietly}
+use Rattle.node_turns.specs.Report.{report, status_text}
+use Rattle.node_turns.specs.Run.{AreStopped, AreTelling, HasRun}
+use Rattle.node_turns.specs.Stands.{Stand}
+use Rattle.node_turns.specs.Status.{DiskRose, IsDamagedDisk, LinkRose}
+use Rattle.node_turns.specs.Steps.{Keeps}
+use Rattle.node_turns.specs.WholeRun.{Tell, after_turns}
+use Rattle.node_turns.specs.declared.fault.Fault.{Fault}
+use Rattle.node_turns.specs.declared.fault.Fault.TheVariants.{Link, Disk, Damaged}
+use Rattle.node_turns.specs.declared.runner.Runner.{Runner}
+use Rattle.node_turns.specs.declared.steps.LastSteps.{LastSteps}
+use Rattle.node_turns.proofs.CutRun.{cut_run, left_damaged, left_unopened}
+use Rattle.node_turns.proofs.Quiet.{stopped_run}
+use Rattle.node_turns.proofs.WholeRun.{leaves_all}
+
+link_same : {a b : ℕ} → ◌≡◌ {A = Status} (LinkFault a) (LinkFault b) → a ≡ b
+link_same is = cc (is)
+
+disk_same : {a b : ℕ} → ◌≡◌ {A = Status} (DiskFault a) (DiskFault b) → a ≡ b
+disk_same is = cc (is)
+
+damaged_same : {a b x y : ℕ} → ◌≡◌ {A = Status} (DamagedStore a x) (DamagedStore b y) → a ≡ b
+damaged_same is = cc (is)
+
+key_same : {a b x y : ℕ} → ◌≡◌ {A = Status} (DamagedStore a x) (DamagedStore b y) → x ≡ y
+key_same is = cc (is)
+
+-- what was written of the text of a status, by how the run had ended
+pub front_of : (ended : Result ⊤ Fault) (before now : Option (List ℕ)) (steps : LastSteps) (turns : ℕ) (lines : List (List ℕ)) → OnOk ended (Keeps steps lines) →
+    OnOk ended ((told : List (List ℕ)) → Keeps steps told → WritesFront before now (report turns told)) →
+    IfErr ended (λ fault. WritesFront before now (fault_line fault)) → WritesFront before now (status_text turns lines (end_status ended))
+front_of (Ok done) before now steps turns lines keeps of_report of_line = of_report lines keeps
+front_of (Err (Link id)) before now steps turns lines keeps of_report of_line = of_line
+front_of (Err (Disk id)) before now steps turns lines keeps of_report of_line = of_line
+front_of (Err (Damaged id key)) before now steps turns lines keeps of_report of_line = of_line
+
+module _ {D F L : Type 0} {disk : Ghosts D} (coming : L → Option (List Received)) (sent : L → Option (List RawFrame)) (faults : L → ℕ)
+    (size turns : ℕ) (ids : List ℕ) (links_old : List L) (disks_old : List (Option D)) (readings_old : Option (List ℕ)) (each : length links_old ≡ length ids) where
+  module _ (durable : (store : Durable D disk) → durable_fault store ≡ None → disk.tells (durable_disk store) ≡ true →
+      AlwaysStandsForState (disk.contents (durable_disk store)) (durable_state store))
+      (one_state : (image : List ℕ) (a b : Stored) → StandsForState image a → StandsForState image b → a ≡ b)
+      (reads_same : (state : Stored) (count : ℕ) → IsReadAs (after_puts (take count (opening_puts state)) state) state)
+      (there : (i : ℕ) → i < length ids → IsSome (slice_index_or disks_old i None))
+      (runners : List (Runner D F disk)) (links : List L) (disks last : List (Option D)) (readings : Option (List ℕ)) (steps : LastSteps)
+      (stopped : AreStopped runners disks last) where
+    pub leaves : (ended : Result ⊤ Fault) → HasRun faults ids disks_old disks links_old links runners ended →
+        OnOk ended (length runners ≡ length ids) →
+        OnOk ended ((given : Given) → Tell coming sent disk links_old disks_old readings_old given → Stand coming sent runners links readings steps (after_turns size turns ids given)) →
+        OnOk ended ((given : Given) → Tell coming sent disk links_old disks_old readings_old given → AreTelling runners) →
+        IfErr ended (λ fault. (length runners ≡ length ids) ⊎ IsCutOpening coming sent ids runners links_old links disks_old disks readings_old readings fault) →
+        IfErr ended (λ fault. (given : Given) → Tell coming sent disk links_old disks_old readings_old given →
+        IsCut coming sent ids runners links_old links disks_old disks readings_old readings (opened size ids given) turns fault) →
+        RunQuietly faults ids disks_old disks links_old links runners ended →
+        Leaves coming sent faults disk size turns ids links_old links disks_old last readings_old readings (end_status ended)
+    leaves (Ok done) run all stands tells unopened cut quiet = record {
+      link_fault = λ id is. absurd (cc (is));
+      disk_fault = λ id is. absurd (cc (is));
+      damaged = λ id key is. absurd (cc (is));
+      damaged_left = λ id key is. absurd (cc (is));
+      unopened = λ id is. absurd (cc (is));
+      quiet = stopped_run disk faults ids disks_old disks runners last links_old links (Ok done) (end_status (Ok done)) (λ id e. ap end_status e) (λ id e. ap end_status e) stopped quiet;
+      done = λ given tell is. leaves_all coming sent durable runners links_old links disks last readings steps (length ids) (after_turns size turns ids given)
+          all each (stands given tell) (tells given tell) stopped;
+      cut = λ given id tell at. absurd at;
+    }
+    leaves (Err (Link node)) run all stands tells unopened cut quiet = record {
+      link_fault = λ id is. subst (LinkRose faults ids links_old links) (link_same is) run.failed.0;
+      disk_fault = λ id is. absurd (cc (is));
+      damaged = λ id key is. absurd (cc (is));
+      damaged_left = λ id key is. absurd (cc (is));
+      unopened = λ id is. absurd (cc (is));
+      quiet = stopped_run disk faults ids disks_old disks runners last links_old links (Err (Link node)) (LinkFault node) (λ id e. ap end_status e) (λ id e. ap end_status e) stopped quiet;
+      done = λ given tell is. absurd (cc (is));
+      cut = λ given id tell at. cut_run coming sent durable one_state reads_same size turns ids runners links_old links disks_old disks last readings_old readings given each there
+          tell stopped (Link node) id at (cut given tell);
+    }
+    leaves (Err (Disk node)) run all stands tells unopened cut quiet = record {
+      link_fault = λ id is. absurd (cc (is));
+      disk_fault = λ id is. subst (DiskRose disk.faults ids disks_old last) (disk_same is) (run.failed last stopped);
+      damaged = λ id key is. absurd (cc (is));
+      damaged_left = λ id key is. absurd (cc (is));
+      unopened = λ id is. elim unopened [
+        | inl same ↦ inl (λ i before low was. run.whole i before (omega (arith, same, low)) was)
+        | inr at ↦ inr (
+          subst (IsLeftUnopened disk ids disks_old last) (disk_same is)
+              (left_unopened durable one_state reads_same ids runners disks_old disks last stopped coming sent links_old links readings_old readings node at),
+          at.untouched,
+        )
+      ];
+      quiet = stopped_run disk faults ids disks_old disks runners last links_old links (Err (Disk node)) (DiskFault node) (λ id e. ap end_status e) (λ id e. ap end_status e) stopped quiet;
+      done = λ given tell is. absurd (cc (is));
+      cut = λ given id tell at. cut_run coming sent durable one_state reads_same size turns ids runners links_old links disks_old disks last readings_old readings given each there
+          tell stopped (Disk node) id at (cut given tell);
+    }
+    leaves (Err (Damaged node of)) run all stands tells unopened cut quiet = record {
+      link_fault = λ id is. absurd (cc (is));
+      disk_fault = λ id is. absurd (cc (is));
+      damaged = λ id key is. (subst (λ k. IsDamagedDisk disk ids disks_old id k) (key_same is) (subst (λ n. IsDamagedDisk disk ids disks_old n of) (damaged_same is) run.failed.0), run.failed.1);
+      damaged_left = λ id key is. elim unopened [
+        | inl same ↦ absurd (let fewer = run.failed.2 in omega (arith, same, fewer))
+        | inr at ↦ subst (IsLeftDamaged disk ids disks_old last) (damaged_same is)
+            (left_damaged durable one_state reads_same ids runners disks_old disks last stopped coming sent links_old links readings_old readings node of at)
+      ];
+      unopened = λ id is. absurd (cc (is));
+      quiet = stopped_run disk faults ids disks_old disks runners last links_old links (Err (Damaged node of)) (end_status (Err (Damaged node of))) (λ id e. ap end_status e) (λ id e. ap end_status e)
+          stopped quiet;
+      done = λ given tell is. absurd (cc (is));
+      cut = λ given id tell at. cut_run coming sent durable one_state reads_same size turns ids runners links_old links disks_old disks last readings_old readings given each there
+          tell stopped (Damaged node of) id at (cut given tell);
+    }
