@@ -21,7 +21,7 @@ use Rattle.node_turns.specs.Quiet.{RunQuietly}
 use Rattle.node_turns.specs.Report.{report, status_text}
 use Rattle.node_turns.specs.Run.{AreStopped, AreTelling, HasRun}
 use Rattle.node_turns.specs.Stands.{Stand}
-use Rattle.node_turns.specs.Status.{DiskRose, IsDamagedDisk, LinkRose}
+use Rattle.node_turns.specs.Status.{DiskRose, IsDamagedDisk, IsToldStatus, LinkRose}
 use Rattle.node_turns.specs.Steps.{Keeps}
 use Rattle.node_turns.specs.WholeRun.{Tell, after_turns}
 use Rattle.node_turns.specs.declared.fault.Fault.{Fault}
@@ -43,6 +43,12 @@ damaged_same is = cc (is)
 
 key_same : {a b x y : ℕ} → ◌≡◌ {A = Status} (DamagedStore a x) (DamagedStore b y) → x ≡ y
 key_same is = cc (is)
+
+pub told_status : (ended : Result ⊤ Fault) → IsToldStatus (end_status ended)
+told_status (Ok done) = tt
+told_status (Err (Link id)) = tt
+told_status (Err (Disk id)) = tt
+told_status (Err (Damaged id key)) = tt
 
 -- what was written of the text of a status, by how the run had ended
 pub front_of : (ended : Result ⊤ Fault) (before now : Option (List ℕ)) (steps : LastSteps) (turns : ℕ) (lines : List (List ℕ)) → OnOk ended (Keeps steps lines) →

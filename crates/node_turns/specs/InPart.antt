@@ -10,7 +10,7 @@ use Rattle.node_turns.specs.CutRun.{EndsAt, IsCutRun, IsLeftDamaged, IsLeftUnope
 use Rattle.node_turns.specs.Opening.{Given}
 use Rattle.node_turns.specs.Quiet.{CountNoOther}
 use Rattle.node_turns.specs.Report.{status_text}
-use Rattle.node_turns.specs.Status.{AreWhole, DiskRose, IsDamagedDisk, LinkRose}
+use Rattle.node_turns.specs.Status.{AreWhole, DiskRose, IsDamagedDisk, IsToldStatus, LinkRose}
 use Rattle.node_turns.specs.WholeRun.{LeavesAll, Tell, after_turns}
 
 module _ {L D : Type 0} (coming : L → Option (List Received)) (sent : L → Option (List RawFrame))
@@ -34,6 +34,7 @@ module _ {L D : Type 0} (coming : L → Option (List Received)) (sent : L → Op
   -- the sink failed
   pub record IsWrittenInPart (before now : Option (List ℕ)) : Type 0 where
     pub ended : Status
+    pub told : IsToldStatus ended
     pub leaves : Leaves ended
     pub front : (given : Given) → Tell coming sent disk links_old disks_old readings_old given →
         WritesFront before now (status_text turns (after_turns size turns ids given).lines ended)

@@ -22,6 +22,11 @@ abbrev pub IsEndStatus : Status → Type 0
 IsEndStatus Memory = ⊥
 IsEndStatus status = IsStatus status
 
+-- and whose sink took what it writes
+abbrev pub IsToldStatus : Status → Type 0
+IsToldStatus WriteFault = ⊥
+IsToldStatus status = IsEndStatus status
+
 -- the count of faults of the link of this node rose
 pub record LinkRose {L : Type 0} (faults : L → ℕ) (ids : List ℕ) (old new : List L) (id : ℕ) : Type 0 where
   pub place : ℕ

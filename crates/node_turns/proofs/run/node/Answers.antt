@@ -7,7 +7,7 @@ use Rattle.node_turns.specs.Status.{IsEndStatus}
 use Rattle.node_turns.specs.WholeRun.{after_turns}
 use Rattle.node_turns.specs.declared.fault.Fault.TheVariants.{Link, Disk, Damaged}
 use Rattle.node_turns.proofs.Ending.{are_back, at_err, by_status}
-use Rattle.node_turns.proofs.Left.{front_of, leaves}
+use Rattle.node_turns.proofs.Left.{front_of, leaves, told_status}
 use Rattle.node_turns.proofs.Lists.{at_ok, on_ok}
 use Rattle.node_turns.proofs.Refusing.{by_end, not_whole, one_damaged}
 use Rattle.node_turns.proofs.run.node.Goals as goal
@@ -96,6 +96,7 @@ returns-clause-in_part g c = λ is.
     let after = g.C.Clock.readings ended.new.clock in
     record {
       ended = end_status ended.result;
+      told = told_status ended.result;
       leaves = leaves g.L.Link.coming g.L.Link.sent g.L.Link.faults was.size was.turns was.ids.now was.links.now was.disks.now before c.requires.links
           c.a_state_is_durable.ensures c.an_image_stands_for_one_state.ensures.state c.an_opening_goes_on.ensures.same c.requires.present (runners_of ended.new.runners)
           ended.new.links ended.new.disks c.stop.new.disks after ended.new.steps c.stop.ensures.stopped ended.result ended.ensures.run ended.ensures.all ended.ensures.stands
