@@ -29,11 +29,11 @@ lt_false a b more = grind (arith, nat_tests)
 module _ {D : Type 0} {disk : Ghosts D} (old new : Durable D disk) (ok : Bool) (failed : Option Fault) (ended : ok ≡ is_none failed) where
   pub cut_made : (previous : ℕ) → previous < length (durable_state old).log → MakesPuts (StoredPut.PutLast (take previous (durable_state old).log) (take previous (durable_state old).origins) ∷ []) old new ok → KeepsFault old new failed
       → DoesPuts (noted LEADER (cut_to (store_of (durable_state old)) previous)) old new failed
-  cut_made previous shorter made keeps = rw (lt_true previous (length (durable_state old).log) shorter) (does (noted LEADER (PutShorter previous ∷ [])) _ old new ok failed ended refl made keeps)
+  cut_made previous shorter made keeps = rw (lt_true previous (length (durable_state old).log) shorter) (does (noted LEADER (PutShorter previous ∷ [])) _ old new ok failed tt ended refl made keeps)
 
   pub commit_made : (place : ℕ) → (durable_state old).commit < place → MakesPuts (StoredPut.PutCommit place ∷ []) old new ok → KeepsFault old new failed
       → DoesPuts (noted LEADER (commit_puts (store_of (durable_state old)) place)) old new failed
-  commit_made place later made keeps = rw (lt_true (durable_state old).commit place later) (does (noted LEADER (PutCommit place ∷ [])) _ old new ok failed ended refl made keeps)
+  commit_made place later made keeps = rw (lt_true (durable_state old).commit place later) (does (noted LEADER (PutCommit place ∷ [])) _ old new ok failed tt ended refl made keeps)
 
 -- nothing is to be put
 module _ {D : Type 0} {disk : Ghosts D} (old new : Durable D disk) where

@@ -91,7 +91,7 @@ raised_stands raft raft2 members s s2 p t now term st higher stored down =
 -- a higher term is stored, with no vote
 pub term_made : {D : Type 0} {disk : Ghosts D} (origin : ℕ) (old new : Durable D disk) (ok : Bool) (failed : Option Fault) (term : ℕ) → ok ≡ is_none failed → (durable_state old).term < term
     → MakesPuts (StoredPut.PutTerm term ∷ StoredPut.PutVote 0 ∷ []) old new ok → KeepsFault old new failed → DoesPuts (noted origin (term_puts (store_of (durable_state old)) term)) old new failed
-term_made origin old new ok failed term ended higher made keeps = rw (lt_true (durable_state old).term term higher) (does (noted origin (PutTerm term ∷ PutVote None ∷ [])) _ old new ok failed ended refl made keeps)
+term_made origin old new ok failed term ended higher made keeps = rw (lt_true (durable_state old).term term higher) (does (noted origin (PutTerm term ∷ PutVote None ∷ [])) _ old new ok failed tt ended refl made keeps)
 
 -- ---- verdicts
 

@@ -1,6 +1,6 @@
 -- Puts of the machine as they are made of a stored state, one after another.
 use Rattle.std.proofs.Common.{◌≡◌, ◌⊎◌, inl, inr, ℕ, List, [], ◌∷◌, ◌++◌, Option, Some, None, refl, sym, ap, subst, ◌∙◌}
-use Rattle.std.specs.Prelude.{Bool, true, false, Result, Ok, Err, OnOk, IfSome, is_ok, is_none}
+use Rattle.std.specs.Prelude.{⊤, Bool, true, false, Result, Ok, Err, OnOk, IfSome, is_ok, is_none}
 use Rattle.std.specs.Result.{result_err}
 use Rattle.disk_model.specs.declared.disk.Disk.{Ghosts}
 use Rattle.kv_store.specs.declared.fault.Fault.{Fault}
@@ -19,6 +19,18 @@ noted_both origin (x ∷ xs) ys = ap (λ (rest : List Noted). record { put = x; 
 stored_both : (xs ys : List Noted) (s : Stored) → stored_puts (xs ++ ys) s ≡ stored_puts xs s ++ stored_puts ys (after_puts (stored_puts xs s) s)
 stored_both [] ys s = refl
 stored_both (x ∷ xs) ys s = ap (λ (rest : List StoredPut). stored_put x s ∷ rest) (stored_both xs ys (after_put (stored_put x s) s))
+
+abbrev IsSomePut : List Noted → Type 0
+IsSomePut [] = ⊥
+IsSomePut (put ∷ puts) = ⊤
+
+front_none : (xs ys : List Noted) → xs ++ ys ≡ [] → xs ≡ []
+front_none [] ys none = refl
+front_none (x ∷ xs) ys none = absurd (subst IsSomePut none tt)
+
+back_none : (xs ys : List Noted) → xs ++ ys ≡ [] → ys ≡ []
+back_none [] ys none = none
+back_none (x ∷ xs) ys none = absurd (subst IsSomePut none tt)
 
 -- where the call succeeds
 pub each_ok : {T E : Type 0} (r : Result T E) (Q : Type 0) → ((value : T) → r ≡ Ok value → Q) → OnOk r Q
@@ -49,7 +61,7 @@ module _ {D : Type 0} {disk : Ghosts D} where
 
   -- no put at all
   pub nothing : (durable : Durable D disk) → MakesPuts [] durable durable true → (durable_fault durable ≡ None → KeepsFault durable durable None) → DoesPuts [] durable durable None
-  nothing durable made keeps = record { made = made; faults = record { works = keeps; still = λ fault was. still durable; kept = tt } }
+  nothing durable made keeps = record { made = made; needed = λ none. refl; faults = record { works = keeps; still = λ fault was. still durable; kept = tt } }
 
   -- the first puts failed
   pub cut_off : (xs ys : List Noted) (old new : Durable D disk) (fault : Fault)
@@ -57,6 +69,7 @@ module _ {D : Type 0} {disk : Ghosts D} where
       → DoesPuts xs old new (Some fault) → DoesPuts (xs ++ ys) old new (Some fault)
   cut_off xs ys old new fault law first = let s = durable_state old in record {
     made = subst (λ (l : List StoredPut). MakesPuts l old new false) (sym (stored_both xs ys s)) (law (stored_puts xs s) (stored_puts ys (after_puts (stored_puts xs s) s)) first.made);
+    needed = λ none. first.needed (front_none xs ys none);
     faults = first.faults;
   }
 
@@ -78,14 +91,16 @@ module _ {D : Type 0} {disk : Ghosts D} where
     made = subst (λ (l : List StoredPut). MakesPuts l old new (is_none failed)) (sym (stored_both xs ys s))
         (law (stored_puts xs s) (stored_puts ys (after_puts (stored_puts xs s) s)) first.made first.faults.works
         (subst (λ (state : Stored). MakesPuts (stored_puts ys state) mid new (is_none failed)) (first.made.state refl) second.made));
+    needed = λ none. second.needed (back_none xs ys none);
     faults = all_faults old mid new failed keeps first.faults second.faults;
   }
 
   -- one call of the store made these puts
-  pub does : (puts : List Noted) (stored : List StoredPut) (old new : Durable D disk) (ok : Bool) (failed : Option Fault) → ok ≡ is_none failed
+  pub does : (puts : List Noted) (stored : List StoredPut) (old new : Durable D disk) (ok : Bool) (failed : Option Fault) → IsSomePut puts → ok ≡ is_none failed
       → stored_puts puts (durable_state old) ≡ stored → MakesPuts stored old new ok → KeepsFault old new failed → DoesPuts puts old new failed
-  does puts stored old new ok failed ended same made keeps = record {
+  does puts stored old new ok failed some ended same made keeps = record {
     made = subst (λ (l : List StoredPut). MakesPuts l old new (is_none failed)) (sym same) (subst (MakesPuts stored old new) ended made);
+    needed = λ none. absurd (subst IsSomePut none some);
     faults = record {
       works = λ works. keeps;
       still = λ fault was. closed fault was (subst (λ (o : Option Fault). IfSome o (λ fault. (failed ≡ Some fault) × (durable_disk new ≡ durable_disk old) × (durable_state new ≡ durable_state old))) was keeps.closed);

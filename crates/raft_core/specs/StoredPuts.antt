@@ -95,8 +95,9 @@ pub record KeepsFaults {D : Type 0} {disk : Ghosts D} (old new : Durable D disk)
   pub kept : IfSome failed (λ fault. durable_fault new ≡ Some fault)
 
 -- these puts of the machine are made in order, each with its origin, up to the first that fails, whose fault is
--- answered
+-- answered; so without a put none is
 pub record DoesPuts {D : Type 0} {disk : Ghosts D} (puts : List Noted) (old new : Durable D disk)
     (failed : Option Fault) : Type 0 where
   pub made : MakesPuts (stored_puts puts (durable_state old)) old new (is_none failed)
+  pub needed : puts ≡ [] → failed ≡ None
   pub faults : KeepsFaults old new failed

@@ -20,4 +20,4 @@ returns-clause-puts g c =
     let entry = c.args.entry in
     alike LEADER (cut_to (store_of (durable_state c.args.d.now)) c.args.previous) (PutEntry entry ∷ PutLonger entry ∷ []) c.args.d.now _ (result_err c.append.result)
     (c.puts_in_turn.ensures.joined _ (noted LEADER (PutEntry entry ∷ PutLonger entry ∷ [])) c.args.d.now c.cut.new.d _ (result_err c.append.result)
-    c.in_ok-cut.ensures.puts (does (noted LEADER (PutEntry entry ∷ PutLonger entry ∷ [])) _ c.cut.new.d _ (is_ok c.append.result) (result_err c.append.result) (none_failed c.append.result) (search rules) c.append.ensures.puts c.append.ensures.fault))
+    c.in_ok-cut.ensures.puts (does (noted LEADER (PutEntry entry ∷ PutLonger entry ∷ [])) _ c.cut.new.d _ (is_ok c.append.result) (result_err c.append.result) tt (none_failed c.append.result) (search rules) c.append.ensures.puts c.append.ensures.fault))

@@ -12,7 +12,7 @@ use Rattle.raft_core.proofs.election.add_blank.Goals as goal
 pub returns-in_ok-append-clause-puts : goal.returns-in_ok-append-clause-puts
 returns-in_ok-append-clause-puts g c =
     let e = blank (durable_state c.args.d.now).term in
-    blank_made c.args.d.now _ None (search rules) (does (noted WIN (PutEntry e ∷ PutLonger e ∷ [])) _ c.args.d.now _ true None refl (same_puts WIN (durable_state c.args.d.now) e _ (search rules)) c.in_ok-append.ensures.puts c.in_ok-append.ensures.fault)
+    blank_made c.args.d.now _ None (search rules) (does (noted WIN (PutEntry e ∷ PutLonger e ∷ [])) _ c.args.d.now _ true None tt refl (same_puts WIN (durable_state c.args.d.now) e _ (search rules)) c.in_ok-append.ensures.puts c.in_ok-append.ensures.fault)
 
 pub returns-else-wants_blank-clause-puts : goal.returns-else-wants_blank-clause-puts
 returns-else-wants_blank-clause-puts g c =

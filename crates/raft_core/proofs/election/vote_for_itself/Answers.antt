@@ -13,11 +13,11 @@ returns-in_err-set_term-clause-puts g c =
     let term = (durable_state c.args.d.now).term + 1 in
     fails _ c.args.d.now _ c.in_err-set_term.field-0.0 _ (search rules)
     (c.puts_in_turn.ensures.cut_off (noted WIN (PutTerm term ∷ PutVote None ∷ [])) (noted WIN (PutVote (Some c.args.me) ∷ [])) c.args.d.now _ c.in_err-set_term.field-0.0
-    (does (noted WIN (PutTerm term ∷ PutVote None ∷ [])) _ c.args.d.now _ false (Some c.in_err-set_term.field-0.0) refl (search rules) c.in_err-set_term.ensures.puts c.in_err-set_term.ensures.fault))
+    (does (noted WIN (PutTerm term ∷ PutVote None ∷ [])) _ c.args.d.now _ false (Some c.in_err-set_term.field-0.0) tt refl (search rules) c.in_err-set_term.ensures.puts c.in_err-set_term.ensures.fault))
 
 pub returns-clause-puts : goal.returns-clause-puts
 returns-clause-puts g c =
     let term = (durable_state c.args.d.now).term + 1 in
     c.puts_in_turn.ensures.joined (noted WIN (PutTerm term ∷ PutVote None ∷ [])) (noted WIN (PutVote (Some c.args.me) ∷ [])) c.args.d.now c.set_term.new.self _ (result_err c.set_vote.result)
-    (does (noted WIN (PutTerm term ∷ PutVote None ∷ [])) _ c.args.d.now _ true None refl (search rules) c.in_ok-set_term.ensures.puts c.in_ok-set_term.ensures.fault)
-    (does (noted WIN (PutVote (Some c.args.me) ∷ [])) _ c.set_term.new.self _ (is_ok c.set_vote.result) (result_err c.set_vote.result) (none_failed c.set_vote.result) (search rules) c.set_vote.ensures.puts c.set_vote.ensures.fault)
+    (does (noted WIN (PutTerm term ∷ PutVote None ∷ [])) _ c.args.d.now _ true None tt refl (search rules) c.in_ok-set_term.ensures.puts c.in_ok-set_term.ensures.fault)
+    (does (noted WIN (PutVote (Some c.args.me) ∷ [])) _ c.set_term.new.self _ (is_ok c.set_vote.result) (result_err c.set_vote.result) tt (none_failed c.set_vote.result) (search rules) c.set_vote.ensures.puts c.set_vote.ensures.fault)
