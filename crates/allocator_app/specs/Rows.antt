@@ -130,7 +130,8 @@ Ends (Unlawful row number) limit first bytes left sink_before sink_now =
 Ends (Limit row) limit first bytes left sink_before sink_now =
     IsTold (Limit row) limit first bytes left sink_before sink_now
 Ends ReadFault limit first bytes left sink_before sink_now = IsReadInPart limit first bytes left sink_before sink_now
-Ends WriteFault limit first bytes left sink_before sink_now = IsWrittenInPart limit first bytes left sink_before sink_now
+Ends WriteFault limit first bytes left sink_before sink_now =
+    IsWrittenInPart limit first bytes left sink_before sink_now
 Ends Memory limit first bytes left sink_before sink_now = Unit {0}
 Ends Usage limit first bytes left sink_before sink_now = ⊥
 Ends (LinkFault id) limit first bytes left sink_before sink_now = ⊥

@@ -1,6 +1,6 @@
 -- What the members of a world offer is their own.
 use Rattle.std.proofs.Common.{◌≡◌, ℕ, ◌+◌, ◌≤◌, Bool, true, false, List, [], ◌∷◌, length, ap, inl, inr, refl, subst, sym, ◌∙◌}
-use Rattle.std.specs.Prelude.{◌==◌, not, None, Option, if◌then◌else◌, ⊤}
+use Rattle.std.specs.Prelude.{not, None, Option, if◌then◌else◌, ⊤}
 use Rattle.std.proofs.lemmas.Bool.Decides.{eqb_tells}
 use Rattle.disk_model.specs.declared.disk.Disk.{Ghosts}
 use Rattle.disk_model.specs.declared.memory.MemoryDisk.{MemoryDisk}
@@ -8,7 +8,7 @@ use Rattle.kv_store.specs.Shelf.{Shelf}
 use Rattle.raft_core.specs.StoredPuts.{store_of}
 use Rattle.raft_log.specs.Shelf.{are_put, puts_on}
 use Rattle.raft_log.specs.Stored.{Stored}
-use Rattle.raft_model.specs.Lists.{In, any, at, at_here}
+use Rattle.raft_model.specs.Lists.{In, at, at_here}
 use Rattle.raft_model.specs.Server.{Store, committed}
 use Rattle.replay_text.specs.declared.row.Row.{Row}
 use Rattle.replay_text.specs.declared.row.Row.TheVariants.{Open, Tick, Rx, Send, Ext, Crash, Fault}
@@ -24,7 +24,7 @@ use Rattle.world_parts.specs.Cluster.{Cluster, is_member, receipt_of, tick_of}
 use Rattle.world_parts.specs.Lawful.{because, cause, or_else}
 use Rattle.world_parts.specs.Members.{Life, Member as MemberState, cut_off, puts_of, stepped}
 use Rattle.world_parts.specs.Members.Life.{Down, Up, Failed}
-use Rattle.world_parts.specs.Promise.{AreOwn, IsGivenIn, OffersItsOwn, step_given}
+use Rattle.world_parts.specs.Promise.{AreOwn, OffersItsOwn, step_given}
 use Rattle.bus_world.specs.OnDisk.{IsUpOn, RunsAs}
 use Rattle.bus_world.specs.Places.{IsLife}
 use Rattle.bus_world.specs.Stands.{StandsFor as StandsForMember}

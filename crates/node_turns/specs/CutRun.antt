@@ -53,7 +53,8 @@ module _ {L D : Type 0} (coming : L → Option (List Received)) (sent : L → Op
     (links : List L) (disks : List (Option D)) (readings : Option (List ℕ)) (count : ℕ) where
   -- at the opening of the one at a place: no link was touched, the disks before it hold what they held when they were
   -- handed in, its own is as a part of its opening leaves it, and those behind it are as they were
-  pub record IsCutInOpening (links_old : List L) (disks_old : List (Option D)) (given : Given) (place : ℕ) : Type 0 where
+  pub record IsCutInOpening (links_old : List L) (disks_old : List (Option D)) (given : Given) (place : ℕ)
+      : Type 0 where
     pub untouched : links ≡ links_old
     pub readings_are : readings ≡ Some (readings_after (suc place) given.readings)
     pub stored_is : (i : ℕ) (after : D) → i < place → slice_index_or disks i None ≡ Some after →

@@ -40,7 +40,8 @@ use std::alloc::Global;
 /// `LinkFault`, `DiskFault` and `WriteFault` come only where the link or the disk of that node, or the
 /// sink, counted a fault; `Damaged` where the store of that node is damaged, first at that key, before
 /// any turn. Then one line is all that is written, what was sent is a beginning of what a run to its end
-/// sends, and each store that was opened holds what it then held. Where nothing fails, a damaged store ends
+/// sends, and each store that was opened holds what it then held. At most one link or disk counts a
+/// fault, and the status names it, unless the sink fails too. Where nothing fails, a damaged store ends
 /// the run so, and without one it comes to `Done`. All memory is taken before anything else: with
 /// `Memory` nothing was touched.
 pub fn node<K: Sink, L: Link, D: Disk, C: Clock>(

@@ -1,6 +1,5 @@
 -- Node IDs of members, one after another.
 use Rattle.std.proofs.Common.{length, ℕ, ◌≡◌, ◌≤◌, ◌↔◌, Bool, true, false, IsTrue, List, ◌∷◌, refl, inl, inr, subst, sym}
-use Rattle.raft_model.specs.Lists.{In}
 use Rattle.raft_model.specs.Members.{HasNoneTwice}
 use Rattle.world_parts.specs.Cluster.{AreMembers, AreNodes}
 

@@ -1,5 +1,5 @@
 -- What each row tells, and the report of a list of rows.
-use Rattle.std.specs.Prelude.{ℕ, zero, suc, ◌+◌, ◌==◌, nat_lt, List, [], ◌∷◌, ◌++◌, length, take, codes, decimal, if◌then◌else◌, Option, Some, None}
+use Rattle.std.specs.Prelude.{ℕ, zero, suc, ◌+◌, ◌==◌, nat_lt, List, [], ◌∷◌, ◌++◌, length, codes, decimal, if◌then◌else◌, Option, Some, None}
 use Rattle.hex.specs.Hex.{encode_lower}
 use Rattle.can_frame.specs.declared.entry.Entry.{Entry}
 use Rattle.kv_store.specs.Shelf.{Shelf}

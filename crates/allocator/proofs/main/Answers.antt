@@ -1,4 +1,4 @@
-use Rattle.std.proofs.Common.{◌≡◌, ◌≤◌, ◌<◌, ℕ, zero, suc, List, [], ◌∷◌, length, ap, sym, subst, arith, inl, inr, refl}
+use Rattle.std.proofs.Common.{◌≤◌, ◌<◌, ℕ, zero, suc, List, [], ◌∷◌, length, subst, arith, inl, inr, refl}
 use Rattle.std.specs.Prelude.{slice_index}
 use Rattle.raft_model.specs.Lists.{In}
 use Rattle.allocator.proofs.main.Goals as goal
