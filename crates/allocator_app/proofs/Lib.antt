@@ -4,7 +4,6 @@ pub mod Ending
 pub mod Entries
 pub mod Lines
 pub mod Logs
-pub mod Neither
 pub mod OneReport
 pub mod Reading
 pub mod Rest

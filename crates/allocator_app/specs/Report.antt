@@ -9,7 +9,7 @@ use Rattle.world_parts.specs.Report.{end_lines, row_lines}
 use Rattle.world_parts.specs.declared.unlawful.Unlawful.{Unlawful}
 use Rattle.allocator_app.specs.Words.{IsReplay}
 use Rattle.program_parts.specs.declared.status.Status.{Status}
-use Rattle.program_parts.specs.declared.status.Status.TheVariants.{Done, Usage, BadRow, Unlawful as IsUnlawful, ReadFault, WriteFault, Limit, LinkFault, DiskFault, Damaged}
+use Rattle.program_parts.specs.declared.status.Status.TheVariants.{Done, Usage, BadRow, Unlawful as IsUnlawful, Limit, LinkFault, DiskFault, Damaged}
 
 -- lawful rows were taken from the front of the bytes, up to a world and the rest of the bytes, and these lines tell
 -- of them
@@ -97,12 +97,6 @@ IsToTheEnd (BadRow row) = Unit {0}
 IsToTheEnd (IsUnlawful row number) = Unit {0}
 IsToTheEnd (Limit row) = Unit {0}
 IsToTheEnd _ = ⊥
-
--- the status of a run that neither the source nor the sink ended
-abbrev pub IsOfNeither : Status → Type 0
-IsOfNeither ReadFault = ⊥
-IsOfNeither WriteFault = ⊥
-IsOfNeither _ = Unit {0}
 
 -- the report of a schedule of at most so many rows, from a world on, and the status that it comes with
 pub record IsReport (limit : ℕ) (first : Cluster) (bytes report : List ℕ) (status : Status) : Type 0 where

@@ -101,10 +101,12 @@ pub record ReadsRows (limit : ℕ) (before now : Cluster) (bytes : List ℕ)
   pub written : Appends sink_before (append_known sink_now output) lines
   pub ahead : ReadsAhead before bytes left sink_before sink_now
 
--- a fault is that of the object whose count rose
+-- a fault is that of the object whose count rose; the count of the other stays
 abbrev pub IsCausedBy : ℕ → ℕ → ℕ → ℕ → Fault → Type 0
-IsCausedBy source_before source_now sink_before sink_now Source = Rose source_before source_now
-IsCausedBy source_before source_now sink_before sink_now Sink = Rose sink_before sink_now
+IsCausedBy source_before source_now sink_before sink_now Source =
+    Rose source_before source_now × (sink_now ≡ sink_before)
+IsCausedBy source_before source_now sink_before sink_now Sink =
+    Rose sink_before sink_now × (source_now ≡ source_before)
 
 -- what it leaves
 abbrev pub IsInPart : Fault → ℕ → Cluster → List ℕ → Option (List ℕ) → Option (List ℕ) → Option (List ℕ) → Type 0

@@ -21,7 +21,7 @@ ghost use Rattle.world_parts.specs.Promise.{KeepsItsWord};
 ghost use Rattle.allocator_app.specs.InPart.{IsReadInPart, IsWrittenInPart};
 ghost use Rattle.allocator_app.specs.NoFurther.{ReadsNoFurther};
 ghost use Rattle.allocator_app.specs.Nodes.{RunsNodes};
-ghost use Rattle.allocator_app.specs.Report.{IsBegun, IsOfNeither, IsOfNodes, IsReplayed, IsToTheEnd};
+ghost use Rattle.allocator_app.specs.Report.{IsBegun, IsOfNodes, IsReplayed, IsToTheEnd};
 ghost use Rattle.allocator_app.specs.Rows.{IsReplayedBy};
 ghost use Rattle.allocator_app.specs.Soaking.{IsSoakedBy};
 ghost use Rattle.allocator_app.specs.Words.{AreAbsent, AreGiven, AreNone, ArePresent, AsksForNodes, AsksForRows, HasObjects};
@@ -46,9 +46,10 @@ use world_laws::headline::the_headline;
 /// has one report, and one status that it comes with (`specs/Report.antt`): `Done`, or `BadRow`,
 /// `Unlawful` or `Limit` with the number of the first row that is not taken. The run comes to them unless
 /// something fails, or there is not enough memory to begin with. Of the bytes behind the rows that were
-/// taken at most 4,096 are read (`specs/NoFurther.antt`). `ReadFault` and `WriteFault` come only
-/// where the source or the sink failed. Where the source failed, the lines of exactly the rows whose line
-/// feeds were read are written; where the sink failed, it has a front of the report (`specs/InPart.antt`).
+/// taken at most 4,096 are read (`specs/NoFurther.antt`). `ReadFault` comes exactly where the source
+/// counted a fault, `WriteFault` exactly where the sink did. Where the source failed, the lines of exactly
+/// the rows whose line feeds were read are written; where the sink failed, it has a front of the report
+/// (`specs/InPart.antt`).
 ///
 /// `soak <seed> <rounds> <size>` makes its rows from the seed, and writes what they came to in six lines
 /// (`Rounds` and `Counts` of `soak_rounds`).
@@ -103,8 +104,9 @@ pub fn run<S: Source, K: Sink, L: Link, D: Disk, C: Clock>(
         Appends (K.written sink.old) (K.written sink.new) report ×
         HasHeadline is.ids is.told.comes.rows }
     // No fault is passed over, and none is tried again.
-    ensures no_fault { IsOfNeither result → (S.faults source.new ≡ S.faults source.old) ×
-        (K.faults sink.new ≡ K.faults sink.old) }
+    ensures source_kept { (result ≡ Status.ReadFault) ⊎
+        (S.faults source.new ≡ S.faults source.old) }
+    ensures sink_kept { (result ≡ Status.WriteFault) ⊎ (K.faults sink.new ≡ K.faults sink.old) }
     // Of what comes behind the rows that were taken, no more is read than the run keeps at a time.
     ensures no_further { (bytes report : List ℕ) → S.left source.old ≡ Some bytes →
         (is : IsReplayed (map string_bytes words.now) bytes report result) →
@@ -288,8 +290,9 @@ fn follow<S: Source, K: Sink, L: Link, D: Disk, C: Clock>(
     ensures read { result ≡ Status.ReadFault → Rose (S.faults source.old) (S.faults source.new) }
     ensures write { result ≡ Status.WriteFault → Rose (K.faults sink.old) (K.faults sink.new) }
     ensures begun { IsBegun result }
-    ensures kept { IsOfNeither result → (S.faults source.new ≡ S.faults source.old) ×
-        (K.faults sink.new ≡ K.faults sink.old) }
+    ensures source_kept { (result ≡ Status.ReadFault) ⊎
+        (S.faults source.new ≡ S.faults source.old) }
+    ensures sink_kept { (result ≡ Status.WriteFault) ⊎ (K.faults sink.new ≡ K.faults sink.old) }
 {
     match plan {
         Plan::Replay { rows, ids } => replay(alloc, rows, &ids, source, sink),

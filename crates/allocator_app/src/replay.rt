@@ -1,4 +1,4 @@
-ghost use Rattle.std.specs.Prelude.{◌≡◌, ◌≤◌, ◌<◌, ◌+◌, ℕ, List, [], Some, IfOk, IfErr, OnErr, OnOk};
+ghost use Rattle.std.specs.Prelude.{◌≡◌, ◌≤◌, ◌<◌, ◌+◌, ◌⊎◌, ℕ, List, [], Some, IfOk, IfErr, OnErr, OnOk};
 ghost use Rattle.outside.specs.Faults.{HasCause, Rose};
 ghost use Rattle.bus_world.specs.World.{StandsFor, accepts, rows_taken};
 ghost use Rattle.server_parts.specs.Accepted as accepted;
@@ -7,7 +7,7 @@ ghost use Rattle.transfer_rx.specs.Memory.{ReceiverFitsInMemory};
 ghost use Rattle.world_parts.specs.Cluster.{AreMembers, Cluster, cluster};
 ghost use Rattle.program_parts.specs.Output.{Grows};
 ghost use Rattle.allocator_app.specs.Reaching.{HasRoom, Reaches};
-ghost use Rattle.allocator_app.specs.Report.{IsOfSchedule, IsToTheEnd};
+ghost use Rattle.allocator_app.specs.Report.{IsOfSchedule};
 ghost use Rattle.allocator_app.specs.Rows.{BreaksOff, Ends, IsCausedBy, IsInPart, ReadsRows, TakesRows, Waits};
 
 use crate::input::{Input, Next};
@@ -40,8 +40,9 @@ pub(crate) fn replay<S: Source, K: Sink>(
     ensures read { result ≡ Status.ReadFault → Rose (S.faults source.old) (S.faults source.new) }
     ensures write { result ≡ Status.WriteFault → Rose (K.faults sink.old) (K.faults sink.new) }
     ensures begun { IsOfSchedule result }
-    ensures kept { IsToTheEnd result → (S.faults source.new ≡ S.faults source.old) ×
-        (K.faults sink.new ≡ K.faults sink.old) }
+    ensures source_kept { (result ≡ Status.ReadFault) ⊎
+        (S.faults source.new ≡ S.faults source.old) }
+    ensures sink_kept { (result ≡ Status.WriteFault) ⊎ (K.faults sink.new ≡ K.faults sink.old) }
 {
     let Ok(mut world) = World::new(alloc, ids, limit as usize, accept_rows(), accept) else {
         return Status::Memory;

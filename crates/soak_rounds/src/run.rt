@@ -1,4 +1,4 @@
-ghost use Rattle.std.specs.Prelude.{◌≡◌, ◌≤◌, ◌<◌, ◌*◌};
+ghost use Rattle.std.specs.Prelude.{◌≡◌, ◌≤◌, ◌<◌, ◌*◌, ◌⊎◌};
 ghost use Rattle.std.specs.Io.KnownBytes.{Appends};
 ghost use Rattle.outside.specs.Faults.{Rose};
 ghost use Rattle.program_parts.specs.Output.{WritesFront};
@@ -26,8 +26,8 @@ const MEMBERS: [u8; 5] = [1, 2, 3, 4, 5];
 /// told of a stop, how many rows were refused, how many pairs the longest committed list has, and the
 /// rounds again.
 ///
-/// `Done` comes with exactly these lines. `WriteFault` comes only where the sink failed, and it then has a
-/// front of them. With `Memory` nothing is written: all memory is taken before the first row.
+/// `Done` comes with exactly these lines. `WriteFault` comes exactly where the sink failed, and it then has
+/// a front of them. With `Memory` nothing is written: all memory is taken before the first row.
 pub fn soak<K: Sink>(alloc: Global, seed: u64, rounds: u64, size: u8, sink: &mut K) -> Status
     requires rounds { rounds ≤ 20000 }
     requires least { 1 ≤ size }
@@ -35,7 +35,7 @@ pub fn soak<K: Sink>(alloc: Global, seed: u64, rounds: u64, size: u8, sink: &mut
     ensures end { IsEnd result }
     ensures report { result ≡ Status.Done →
         Appends (K.written sink.old) (K.written sink.new) (soak_report seed rounds size) }
-    ensures kept { result ≡ Status.Done → K.faults sink.new ≡ K.faults sink.old }
+    ensures kept { (result ≡ Status.WriteFault) ⊎ (K.faults sink.new ≡ K.faults sink.old) }
     ensures write_fault { result ≡ Status.WriteFault →
         Rose (K.faults sink.old) (K.faults sink.new) }
     ensures written_in_part { result ≡ Status.WriteFault →

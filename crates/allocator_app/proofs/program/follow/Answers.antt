@@ -1,4 +1,4 @@
-use Rattle.std.proofs.Common.{◌≡◌, ◌⊎◌, refl, sym, ap, ◌∙◌, subst, inl, inr}
+use Rattle.std.proofs.Common.{◌≡◌, ◌⊎◌, sym, ◌∙◌}
 use Rattle.std.specs.Io.KnownBytes.{Appends}
 use Rattle.outside.specs.Faults.{Rose}
 use Rattle.program_parts.specs.declared.status.Status.TheVariants.{Damaged, Done, Memory, WriteFault}
@@ -7,9 +7,7 @@ use Rattle.node_turns.specs.InPart.{IsWrittenInPart, Leaves}
 use Rattle.node_turns.specs.Report.{report}
 use Rattle.node_turns.specs.WholeRun.{after_turns}
 use Rattle.allocator_app.specs.Nodes.{RunsNodes}
-use Rattle.allocator_app.specs.Report.{IsOfNeither}
 use Rattle.allocator_app.proofs.Ending.{as_planned}
-use Rattle.allocator_app.proofs.Neither.{of_schedule, of_soak}
 use Rattle.allocator_app.proofs.program.follow.Goals as goal
 
 pub returns-in-Node-clause-nodes_finish : goal.returns-in-Node-clause-nodes_finish
@@ -25,19 +23,6 @@ returns-in-Node-clause-nodes_refuse g c = λ size base turns id key ids is.
     NoDiskRose g.D.Disk.faults nodes c.args.disks.now c.node.new.disks →
     (Rose (g.K.Sink.faults c.args.sink.now) (g.K.Sink.faults c.node.new.sink) → ⊥) → (c.node.result ≡ Damaged id key) ⊎ (c.node.result ≡ Memory))
     c.deref-in-Node.result.now (sym c.in-Node.is ∙ is) c.deref-in-Node.ensures.0 (c.node.ensures.refuses id key)
-
-pub returns-in-Replay-clause-kept : goal.returns-in-Replay-clause-kept
-returns-in-Replay-clause-kept g c = of_schedule c.replay.result c.replay.ensures.begun c.replay.ensures.kept
-    (λ is. let same = c.replay.ensures.untouched is in (ap g.S.Source.faults same.0, ap g.K.Sink.faults same.1))
-
-pub returns-in-Soak-clause-kept : goal.returns-in-Soak-clause-kept
-returns-in-Soak-clause-kept g c = of_soak c.soak.result c.soak.ensures.end (λ is. (refl, c.soak.ensures.kept is)) (λ is. (refl, ap g.K.Sink.faults (c.soak.ensures.untouched is)))
-
-pub returns-in-Node-clause-kept : goal.returns-in-Node-clause-kept
-returns-in-Node-clause-kept g c = λ neither. elim c.node.ensures.kept [
-  | inl fault ↦ absurd (subst IsOfNeither fault neither)
-  | inr same ↦ (refl, same)
-]
 
 pub returns-in-Node-clause-nodes : goal.returns-in-Node-clause-nodes
 returns-in-Node-clause-nodes g c = λ size base turns ids is.
