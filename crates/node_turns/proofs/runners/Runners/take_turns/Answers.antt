@@ -1,12 +1,14 @@
 use Rattle.std.proofs.Common.{◌≡◌, suc, ◌+◌, ◌<◌, ◌++◌, ℕ, List, length, take, drop, append-nil, ap, sym, ◌∙◌, subst, refl, arith}
 use Rattle.std.proofs.lemmas.List.{drop_all, take_all}
 use Rattle.std.specs.Prelude.{Ok, Err, slice_index_or}
+use Rattle.disk_model.specs.declared.disk.Disk.{Ghosts}
 use Rattle.node_turns.specs.Cut.{IsCutTurn}
 use Rattle.node_turns.specs.Runners.{runners_of}
 use Rattle.node_turns.specs.Quiet.{StayQuiet}
 use Rattle.node_turns.specs.Stands.{AreStanding, Stand, closure_of}
 use Rattle.node_turns.specs.Taking.{AreWorking, EndsTurn, KeepsNodes}
 use Rattle.node_turns.specs.Turns.{all_turns, first_turns}
+use Rattle.node_turns.specs.declared.runner.Runner.{Runner}
 use Rattle.node_turns.proofs.Quiet.{quiet_kept, quiet_then}
 use Rattle.node_turns.proofs.Together.{ends_later, links_kept, links_then, nodes_kept, nodes_then}
 use Rattle.node_turns.proofs.runners.Runners.take_turns.Goals as goal
@@ -15,6 +17,18 @@ use Rattle.node_turns.proofs.runners.Runners.take_turns.Goals as goal
 whole : {A : Type 0} (n : ℕ) (items new : List A) → n ≡ length items → length new ≡ length items → take n (new ++ drop (length new) items) ≡ new
 whole n items new size same =
     ap (λ rest. take n (new ++ rest)) (drop_all (length new) items (omega (arith, same))) ∙ ap (take n) (append-nil new) ∙ take_all n new (omega (arith, size, same))
+
+-- the allocators after a turn, which it took through a slice of all of them
+record Taken {D F : Type 0} {disk : Ghosts D} (n : ℕ) (items new : List (Runner D F disk)) : Type 0 where
+  nodes : KeepsNodes items new
+  same : take n (new ++ drop (length new) items) ≡ new
+
+taken : {D F : Type 0} {disk : Ghosts D} (n : ℕ) (items lent new : List (Runner D F disk))
+    → lent ≡ items → length lent ≡ n → KeepsNodes lent new → Taken n items new
+taken n items lent new value len kept =
+    let nodes = subst (λ l. KeepsNodes l new) value kept in
+    let sizes = ap length value in
+    record { nodes = nodes; same = whole n items new (omega (arith, len, sizes)) nodes.count }
 
 pub turns-init : goal.turns-init
 turns-init g c = record {
@@ -53,18 +67,15 @@ invariant_of-self g c =
     let value = c.as_mut_slice.ensures.value in
     let items = runners_of c.turns.self in
     let new = c.take_turn.new.runners in
-    let nodes = subst (λ l. KeepsNodes l new) value c.take_turn.ensures.nodes in
-    let len = c.as_mut_slice.ensures.len in
-    let sizes = ap length value in
-    let same = whole c.turns.self.list.len items new (omega (arith, len, sizes)) nodes.count in
+    let went = taken c.turns.self.list.len items _ new value c.as_mut_slice.ensures.len c.take_turn.ensures.nodes in
     record {
-      five = let size = ap length same in let count = nodes.count in let five = c.turns.self.five in omega (arith, size, count, five);
+      five = let size = ap length went.same in let count = went.nodes.count in let five = c.turns.self.five in omega (arith, size, count, five);
       room = c.turns.self.room;
       alike = λ i runner within.
-          let size = ap length same in
-          let count = nodes.count in
+          let size = ap length went.same in
+          let count = went.nodes.count in
           let inside : i < length items = omega (arith, size, count, within) in
-          ap (λ l. closure_of (slice_index_or l i runner)) same ∙ (nodes.each i runner runner inside).accepts ∙ c.turns.self.alike i runner inside;
+          ap (λ l. closure_of (slice_index_or l i runner)) went.same ∙ (went.nodes.each i runner runner inside).accepts ∙ c.turns.self.alike i runner inside;
     }
 
 pub returns-in-Err-clause-nodes : goal.returns-in-Err-clause-nodes
@@ -72,11 +83,8 @@ returns-in-Err-clause-nodes g c =
     let value = c.as_mut_slice.ensures.value in
     let items = runners_of c.turns.self in
     let new = c.take_turn.new.runners in
-    let nodes = subst (λ l. KeepsNodes l new) value c.take_turn.ensures.nodes in
-    let len = c.as_mut_slice.ensures.len in
-    let sizes = ap length value in
-    let same = whole c.turns.self.list.len items new (omega (arith, len, sizes)) nodes.count in
-    subst (λ l. KeepsNodes (runners_of c.args.self.now) l) (sym same) (nodes_then (runners_of c.args.self.now) items new c.turns.invariant.nodes nodes)
+    let went = taken c.turns.self.list.len items _ new value c.as_mut_slice.ensures.len c.take_turn.ensures.nodes in
+    subst (λ l. KeepsNodes (runners_of c.args.self.now) l) (sym went.same) (nodes_then (runners_of c.args.self.now) items new c.turns.invariant.nodes went.nodes)
 
 pub returns-in-Err-clause-links : goal.returns-in-Err-clause-links
 returns-in-Err-clause-links g c =
@@ -87,13 +95,10 @@ returns-in-Err-clause-failed g c =
     let value = c.as_mut_slice.ensures.value in
     let items = runners_of c.turns.self in
     let new = c.take_turn.new.runners in
-    let nodes = subst (λ l. KeepsNodes l new) value c.take_turn.ensures.nodes in
-    let len = c.as_mut_slice.ensures.len in
-    let sizes = ap length value in
-    let same = whole c.turns.self.list.len items new (omega (arith, len, sizes)) nodes.count in
+    let went = taken c.turns.self.list.len items _ new value c.as_mut_slice.ensures.len c.take_turn.ensures.nodes in
     let before = runners_of c.args.self.now in
     let faults = g.L.Link.faults in
-    subst (λ l. EndsTurn faults before l c.args.links.now c.take_turn.new.links c.in-Err.fault) (sym same)
+    subst (λ l. EndsTurn faults before l c.args.links.now c.take_turn.new.links c.in-Err.fault) (sym went.same)
     (ends_later faults before items new c.args.links.now c.turns.links c.take_turn.new.links c.in-Err.fault c.turns.invariant.nodes c.turns.invariant.links c.requires.each
     (subst (λ l. EndsTurn faults l new c.turns.links c.take_turn.new.links c.in-Err.fault) value c.in-Err.ensures.failed))
 
@@ -103,10 +108,7 @@ turns-preserved g c =
     let value = c.as_mut_slice.ensures.value in
     let items = runners_of c.turns.self in
     let new = c.take_turn.new.runners in
-    let nodes = subst (λ l. KeepsNodes l new) value c.take_turn.ensures.nodes in
-    let len = c.as_mut_slice.ensures.len in
-    let sizes = ap length value in
-    let same = whole c.turns.self.list.len items new (omega (arith, len, sizes)) nodes.count in
+    let went = taken c.turns.self.list.len items _ new value c.as_mut_slice.ensures.len c.take_turn.ensures.nodes in
     let before = runners_of c.args.self.now in
     let coming = g.L.Link.coming in
     let sent = g.L.Link.sent in
@@ -115,26 +117,26 @@ turns-preserved g c =
     record {
       some = omega (arith, low);
       accepts = so_far.accepts;
-      nodes = subst (λ l. KeepsNodes before l) (sym same) (nodes_then before items new so_far.nodes nodes);
+      nodes = subst (λ l. KeepsNodes before l) (sym went.same) (nodes_then before items new so_far.nodes went.nodes);
       links = links_then g.L.Link.faults c.args.links.now c.turns.links c.take_turn.new.links so_far.links c.take_turn.ensures.links;
-      working = subst (λ l. AreWorking l) (sym same) c.in-Ok.ensures.working;
-      standing = λ all. subst (λ l. AreStanding l) (sym same) (c.in-Ok.ensures.standing (subst (λ l. AreStanding l) (sym value) (so_far.standing all)));
+      working = subst (λ l. AreWorking l) (sym went.same) c.in-Ok.ensures.working;
+      standing = λ all. subst (λ l. AreStanding l) (sym went.same) (c.in-Ok.ensures.standing (subst (λ l. AreStanding l) (sym value) (so_far.standing all)));
       quiet = λ all.
           let turn = c.in-Ok.ensures.quiet (subst (λ l. AreStanding l) (sym value) (so_far.standing all)) in
           let faults = g.L.Link.faults in
-          subst (λ l. StayQuiet faults before l c.args.links.now c.take_turn.new.links (Ok tt)) (sym same)
+          subst (λ l. StayQuiet faults before l c.args.links.now c.take_turn.new.links (Ok tt)) (sym went.same)
           (quiet_then faults before items new c.args.links.now c.turns.links c.take_turn.new.links (Ok tt) so_far.nodes (so_far.quiet all)
           (subst (λ l. StayQuiet faults l new c.turns.links c.take_turn.new.links (Ok tt)) value turn));
       few = let steps = so_far.few in let more = c.take_turn.ensures.few in omega (arith, steps, more);
       turned = λ all is.
           let far = so_far.turned all is in
           let by_then = all_turns (length before) c.turns.taken all in
-          let count : length c.as_mut_slice.result.now ≡ length before = sizes ∙ so_far.nodes.count in
+          let count : length c.as_mut_slice.result.now ≡ length before = ap length value ∙ so_far.nodes.count in
           let now = c.in-Ok.ensures.turned by_then (subst (λ l. Stand coming sent l c.turns.links (readings c.turns.clock) c.turns.steps by_then) (sym value) far) in
           let next : suc c.turns.taken ≡ c.turns.taken + 1 = omega arith in
           subst (λ n. Stand coming sent (take c.turns.self.list.len (new ++ drop (length new) items)) c.take_turn.new.links (readings c.take_turn.new.clock) c.take_turn.new.steps
           (all_turns (length before) n all)) next
-          (subst (λ l. Stand coming sent l c.take_turn.new.links (readings c.take_turn.new.clock) c.take_turn.new.steps (first_turns (length before) by_then)) (sym same)
+          (subst (λ l. Stand coming sent l c.take_turn.new.links (readings c.take_turn.new.clock) c.take_turn.new.steps (first_turns (length before) by_then)) (sym went.same)
           (subst (λ n. Stand coming sent new c.take_turn.new.links (readings c.take_turn.new.clock) c.take_turn.new.steps (first_turns n by_then)) count now));
     }
 
@@ -153,21 +155,18 @@ returns-in-Err-clause-cut g c = λ all is.
     let value = c.as_mut_slice.ensures.value in
     let items = runners_of c.turns.self in
     let new = c.take_turn.new.runners in
-    let nodes = subst (λ l. KeepsNodes l new) value c.take_turn.ensures.nodes in
-    let len = c.as_mut_slice.ensures.len in
-    let sizes = ap length value in
     let list = take c.turns.self.list.len (new ++ drop (length new) items) in
-    let same = whole c.turns.self.list.len items new (omega (arith, len, sizes)) nodes.count in
+    let went = taken c.turns.self.list.len items _ new value c.as_mut_slice.ensures.len c.take_turn.ensures.nodes in
     let before = runners_of c.args.self.now in
     let by_then = all_turns (length before) c.turns.taken all in
     let cut = c.in-Err.ensures.cut by_then
     (subst (λ l. Stand g.L.Link.coming g.L.Link.sent l c.turns.links (g.C.Clock.readings c.turns.clock) c.turns.steps by_then) (sym value) (so_far.turned all is)) in
-    let count : length before ≡ length list = sym (ap length same ∙ nodes.count ∙ so_far.nodes.count) in
+    let count : length before ≡ length list = sym (ap length went.same ∙ went.nodes.count ∙ so_far.nodes.count) in
     record {
       taken = c.turns.taken;
       fewer = c.turns-test.true;
       turn = subst (λ n. IsCutTurn g.L.Link.coming g.L.Link.sent list c.take_turn.new.links (g.C.Clock.readings c.take_turn.new.clock) (all_turns n c.turns.taken all) c.in-Err.fault) count
-          (subst (λ l. IsCutTurn g.L.Link.coming g.L.Link.sent l c.take_turn.new.links (g.C.Clock.readings c.take_turn.new.clock) by_then c.in-Err.fault) (sym same) cut);
+          (subst (λ l. IsCutTurn g.L.Link.coming g.L.Link.sent l c.take_turn.new.links (g.C.Clock.readings c.take_turn.new.clock) by_then c.in-Err.fault) (sym went.same) cut);
     }
 
 pub returns-in-Err-clause-quiet : goal.returns-in-Err-clause-quiet
@@ -176,14 +175,11 @@ returns-in-Err-clause-quiet g c = λ all.
     let value = c.as_mut_slice.ensures.value in
     let items = runners_of c.turns.self in
     let new = c.take_turn.new.runners in
-    let nodes = subst (λ l. KeepsNodes l new) value c.take_turn.ensures.nodes in
-    let len = c.as_mut_slice.ensures.len in
-    let sizes = ap length value in
-    let same = whole c.turns.self.list.len items new (omega (arith, len, sizes)) nodes.count in
+    let went = taken c.turns.self.list.len items _ new value c.as_mut_slice.ensures.len c.take_turn.ensures.nodes in
     let before = runners_of c.args.self.now in
     let faults = g.L.Link.faults in
     let result = Err c.in-Err.fault in
     let turn = c.in-Err.ensures.quiet (subst (λ l. AreStanding l) (sym value) (so_far.standing all)) in
-    subst (λ l. StayQuiet faults before l c.args.links.now c.take_turn.new.links result) (sym same)
+    subst (λ l. StayQuiet faults before l c.args.links.now c.take_turn.new.links result) (sym went.same)
     (quiet_then faults before items new c.args.links.now c.turns.links c.take_turn.new.links result so_far.nodes (so_far.quiet all)
     (subst (λ l. StayQuiet faults l new c.turns.links c.take_turn.new.links result) value turn))
