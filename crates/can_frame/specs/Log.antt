@@ -72,6 +72,14 @@ pub record HasNodeId (log : List Entry) (node : ℕ) : Type 0 where
   pub within : place < length log
   pub same : (slice_index_or log place (blank 0)).node ≡ node
 
+-- an entry of the log is the pair of these
+pub record HasPair (log : List Entry) (uid : List ℕ) (node : ℕ) : Type 0 where
+  pub place : ℕ
+  pub within : place < length log
+  pub pair : IsPair (slice_index_or log place (blank 0))
+  pub its_uid : (slice_index_or log place (blank 0)).uid ≡ uid
+  pub its_node : (slice_index_or log place (blank 0)).node ≡ node
+
 -- the second list begins with the first
 abbrev pub IsPrefix : {A : Type 0} → List A → List A → Type 0
 IsPrefix front whole = take (length front) whole ≡ front

@@ -90,30 +90,3 @@ impl Frame {
         Tail::read(bytes[bytes.len() - 1])
     }
 }
-
-#[cfg(test)]
-mod tests {
-    use super::*;
-    use std::test::Fail;
-
-    #[test]
-    fn frames_that_are_none(rt: HostRuntime) {
-        assert_eq!(rt; Frame::from_parts(536870912, &[0]), Err(BadFrame::Wide));
-        assert_eq!(rt; Frame::from_parts(0, &[]), Err(BadFrame::Empty));
-        assert_eq!(rt; Frame::from_parts(0, &[0; 9]), Err(BadFrame::Long));
-    }
-
-    #[test]
-    fn frames_that_are_none_are_told_why(rt: HostRuntime) -> Result<(), Fail> {
-        let rows = [
-            (BadFrame::Wide, "the identifier is wider than 29 bits"),
-            (BadFrame::Empty, "a frame has one byte at least"),
-            (BadFrame::Long, "a frame has eight bytes at most"),
-        ];
-        for (error, text) in rows {
-            let told = error.to_string(rt.alloc())?;
-            assert_eq!(rt; told.as_str(), text);
-        }
-        Ok(())
-    }
-}

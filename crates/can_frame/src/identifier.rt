@@ -122,36 +122,3 @@ impl Ident {
         16777216 * self.priority as u32 + low
     }
 }
-
-#[cfg(test)]
-mod tests {
-    use super::*;
-    use std::test::Fail;
-
-    #[test]
-    fn identifiers_are_read_and_written_again(rt: HostRuntime) -> Result<(), Fail> {
-        let rows = [
-            (0x1e00_0101, Kind::Message, 1, 1, 0, 0),
-            (0x1e01_5501, Kind::Message, 341, 1, 0, 0),
-            (0x1e01_8603, Kind::Message, 390, 3, 0, 0),
-            (0x1e1f_8281, Kind::Request, 31, 1, 2, 0),
-            (0x1e1e_0182, Kind::Response, 30, 2, 1, 0),
-            (0x1e01_b281, Kind::Request, 1, 1, 50, 0),
-            (0x1e00_0500, Kind::Anonymous, 1, 0, 0, 1),
-        ];
-        for (id, kind, number, source, dest, discriminator) in rows {
-            let ident = Ident {
-                priority: 30,
-                kind,
-                number,
-                source,
-                dest,
-                discriminator,
-            };
-            let found = Ident::read(id).ok_or("no reading")?;
-            assert_eq!(rt; found, ident);
-            assert_eq!(rt; found.write(), id);
-        }
-        Ok(())
-    }
-}

@@ -52,20 +52,3 @@ fn take_bit(register: u16, bit: bool) -> u16
     let moved = register % 32768 * 2;
     if top != bit { moved ^ 0x1021 } else { moved }
 }
-
-#[cfg(test)]
-mod tests {
-    use super::*;
-
-    const ALLOCATION: u64 = 0x0b2a_8126_20a1_1d40;
-
-    #[test]
-    fn published_values(rt: HostRuntime) {
-        assert_eq!(rt; crc_more(CRC_OF_NOTHING, b"123456789"), 0x29b1);
-        let front = crc_more(CRC_OF_NOTHING, b"1234");
-        assert_eq!(rt; crc_more(front, b"56789"), 0x29b1);
-        assert_eq!(rt; crc(ALLOCATION, &[]), 0xf258);
-        let payload = [0, 0, 1, 2, 3, 4, 5, 6, 7, 8, 9, 10, 11];
-        assert_eq!(rt; crc(ALLOCATION, &payload), 0x5d58);
-    }
-}

@@ -64,7 +64,9 @@ pub struct StdClock<C> {
 
 impl<'a, R: time::Clock> StdClock<&'a R> {
     /// The clock of the system that runs the program.
-    pub fn new(rt: &'a R) -> StdClock<&'a R> {
+    pub fn new(rt: &'a R) -> StdClock<&'a R>
+        ensures { result.last ≡ 0 }
+    {
         StdClock {
             system: rt,
             last: 0,
@@ -75,12 +77,11 @@ impl<'a, R: time::Clock> StdClock<&'a R> {
 impl<C: time::Clock> Clock for StdClock<C> {
     ghost readings = { λ _. None };
 
-    fn now(&mut self) -> u64 {
+    fn now(&mut self) -> u64
+        ensures last { result ≡ self.new.last }
+    {
         if let Ok(time) = self.system.monotonic() {
-            self.last = time
-                .as_secs()
-                .saturating_mul(1000)
-                .saturating_add(u64::from(time.subsec_millis()));
+            self.last = u64::try_from(time.as_millis()).unwrap_or(u64::MAX);
         }
         self.last
     }

@@ -136,7 +136,8 @@ impl Sink for MemorySink {
     }
 }
 
-/// A std writer, with a count of its faults. It tells no contents.
+/// A std writer, with a count of its faults. It tells no contents, but takes and answers what the writer
+/// does.
 #[derive(Drop)]
 pub struct StdSink<W> {
     writer: W,
@@ -146,7 +147,8 @@ pub struct StdSink<W> {
 impl<W: Write> StdSink<W> {
     /// A sink into this writer. No fault is counted yet.
     pub fn new(writer: W) -> StdSink<W>
-        ensures { result.faults ≡ 0 }
+        ensures writer { result.writer ≡ writer }
+        ensures faults { result.faults ≡ 0 }
     {
         StdSink { writer, faults: 0 }
     }
@@ -167,6 +169,8 @@ impl<W: Write> Sink for StdSink<W> {
         ensures failed { OnErr result (self.new.faults ≡ one_more self.old.faults) }
         ensures nothing { IfOk result (λ count. count ≡ 0 → 0 < length piece.now →
             self.new.faults ≡ one_more self.old.faults) }
+        ensures writer { WriteAppends (W.contents self.old.writer)
+            (W.contents self.new.writer) result piece.now }
     {
         match self.writer.write(piece) {
             Ok(count) => {
@@ -186,7 +190,35 @@ impl<W: Write> Sink for StdSink<W> {
 #[cfg(test)]
 mod tests {
     use super::*;
+    use arrayvec::ArrayVec;
+    use std::io;
     use std::test::Fail;
+
+    /// A writer that takes at most so many bytes, call by call, and fails where there is no number.
+    #[derive(Drop)]
+    struct Takes<'a> {
+        turns: &'a [Option<usize>],
+        bytes: ArrayVec<u8, 8>,
+    }
+
+    impl Write for Takes<'_> {
+        fn write(&mut self, piece: &[u8]) -> io::Result<usize> {
+            let [Some(most), rest @ ..] = self.turns else {
+                self.turns = self.turns.get(1..).unwrap_or_default();
+                return Err(io::Error::from(io::ErrorKind::Other));
+            };
+            self.turns = rest;
+            let count = piece.len().min(*most);
+            match self.bytes.try_extend_from_slice(&piece[..count]) {
+                Ok(()) => Ok(count),
+                Err(_) => Err(io::Error::from(io::ErrorKind::Other)),
+            }
+        }
+
+        fn flush(&mut self) -> io::Result<()> {
+            Ok(())
+        }
+    }
 
     #[test]
     fn a_sink_in_memory_fails_and_takes_nothing_as_told(rt: HostRuntime) -> Result<(), Fail> {
@@ -211,6 +243,28 @@ mod tests {
     fn a_std_writer_is_a_sink(rt: HostRuntime) -> Result<(), Fail> {
         let mut sink = StdSink::new(Vec::new(rt.alloc()));
         assert_eq!(rt; sink.write(b"xyz"), Ok(3));
+        assert_eq!(rt; sink.write(b""), Ok(0));
+        assert_eq!(rt; sink.write(b"z"), Ok(1));
+        assert_eq!(rt; sink.writer.as_slice(), b"xyzz".as_slice());
+        assert_eq!(rt; sink.faults, 0);
         Ok(())
+    }
+
+    #[test]
+    fn a_std_writer_takes_a_part_fails_and_takes_nothing(rt: HostRuntime) {
+        let turns = [Some(2), None, Some(0), Some(3)];
+        let mut sink = StdSink::new(Takes {
+            turns: &turns,
+            bytes: ArrayVec::new(),
+        });
+        assert_eq!(rt; sink.write(b"abc"), Ok(2));
+        assert_eq!(rt; sink.faults, 0);
+        assert_eq!(rt; sink.write(b"cd"), Err(Failed));
+        assert_eq!(rt; sink.faults, 1);
+        assert_eq!(rt; sink.write(b"cd"), Ok(0));
+        assert_eq!(rt; sink.faults, 2);
+        assert_eq!(rt; sink.write(b"cd"), Ok(2));
+        assert_eq!(rt; sink.faults, 2);
+        assert_eq!(rt; sink.writer.bytes.as_slice(), b"abcd".as_slice());
     }
 }

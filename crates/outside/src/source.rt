@@ -1,4 +1,4 @@
-ghost use Rattle.std.specs.Prelude.{◌≡◌, ◌↔◌, ℕ, ◌<◌, min, length, List, Option, Some, None, IfOk, IsErr, OnOk};
+ghost use Rattle.std.specs.Prelude.{◌≡◌, ◌↔◌, ℕ, ◌<◌, min, length, List, [], Option, Some, None, Ok, IfOk, IsErr, OnOk, true, false};
 ghost use Rattle.std.specs.Io.{ReadsAtMost};
 ghost use Rattle.std.specs.Io.KnownBytes.{ReadConsumes};
 ghost use Rattle.outside.specs.Faults.{HasCause, counted, one_more};
@@ -94,19 +94,28 @@ impl Source for MemorySource<'_> {
     }
 }
 
-/// A std reader, with a count of its faults. It tells no contents.
+/// A std reader, with a count of its faults. It tells no contents, but takes and answers what the reader
+/// does. Behind its end the reader is not read again, so a terminal needs its end once.
 #[derive(Drop)]
-pub struct StdSource<R> {
+pub struct StdSource<R: Read> {
     reader: R,
+    has_ended: bool,
     faults: u64,
+    ghost end: { (bytes : List ℕ) → has_ended ≡ true → R.remaining reader ≡ Some bytes → bytes ≡ [] },
 }
 
 impl<R: Read> StdSource<R> {
     /// A source of what this reader gives. No fault is counted yet.
     pub fn new(reader: R) -> StdSource<R>
-        ensures { result.faults ≡ 0 }
+        ensures reader { result.reader ≡ reader }
+        ensures open { result.has_ended ≡ false }
+        ensures faults { result.faults ≡ 0 }
     {
-        StdSource { reader, faults: 0 }
+        StdSource {
+            reader,
+            has_ended: false,
+            faults: 0,
+        }
     }
 }
 
@@ -122,9 +131,20 @@ impl<R: Read> Source for StdSource<R> {
         ensures cause { HasCause self.old.faults self.new.faults result }
         ensures kept { OnOk result (self.new.faults ≡ self.old.faults) }
         ensures faults { self.new.faults ≡ counted result self.old.faults }
+        ensures reader { ReadConsumes (R.remaining self.old.reader)
+            (R.remaining self.new.reader) result buf.new }
+        ensures end { IfOk result (λ count. count ≡ 0 → 0 < length buf.new →
+            self.new.has_ended ≡ true) }
+        ensures ended { self.old.has_ended ≡ true → (result ≡ Ok 0) × (self.new ≡ self.old) }
     {
+        if self.has_ended {
+            return Ok(0);
+        }
         match self.reader.read(buf) {
-            Ok(count) => Ok(count),
+            Ok(count) => {
+                self.has_ended = count == 0 && !buf.is_empty();
+                Ok(count)
+            }
             Err(_) => {
                 self.faults = self.faults.saturating_add(1);
                 Err(Failed)
@@ -136,7 +156,32 @@ impl<R: Read> Source for StdSource<R> {
 #[cfg(test)]
 mod tests {
     use super::*;
+    use std::io;
     use std::test::Fail;
+
+    /// A reader that gives these pieces, one a call, and fails where there is none.
+    #[derive(Drop)]
+    struct Pieces<'a> {
+        pieces: &'a [Option<&'a [u8]>],
+    }
+
+    impl Read for Pieces<'_> {
+        fn read(&mut self, buf: &mut [u8]) -> io::Result<usize> {
+            match self.pieces {
+                [Some(piece), rest @ ..] => {
+                    self.pieces = rest;
+                    let count = piece.len().min(buf.len());
+                    buf[..count].copy_from_slice(&piece[..count]);
+                    Ok(count)
+                }
+                [None, rest @ ..] => {
+                    self.pieces = rest;
+                    Err(io::Error::from(io::ErrorKind::Other))
+                }
+                [] => Ok(0),
+            }
+        }
+    }
 
     #[test]
     fn a_source_in_memory_fails_once(rt: HostRuntime) -> Result<(), Fail> {
@@ -157,8 +202,35 @@ mod tests {
         let mut buf = [0; 2];
         assert_eq!(rt; source.read(&mut buf), Ok(2));
         assert_eq!(rt; buf, *b"xy");
+        assert_eq!(rt; source.read(&mut []), Ok(0));
         assert_eq!(rt; source.read(&mut buf), Ok(1));
+        assert_eq!(rt; buf, *b"zy");
         assert_eq!(rt; source.read(&mut buf), Ok(0));
+        Ok(())
+    }
+
+    #[test]
+    fn a_std_reader_that_fails_is_read_on_and_one_that_ends_is_not(
+        rt: HostRuntime,
+    ) -> Result<(), Fail> {
+        let pieces = [
+            Some(b"ab".as_slice()),
+            None,
+            Some(b"c".as_slice()),
+            Some(b"".as_slice()),
+            Some(b"d".as_slice()),
+        ];
+        let mut source = StdSource::new(Pieces { pieces: &pieces });
+        let mut buf = [0; 3];
+        assert_eq!(rt; source.read(&mut buf), Ok(2));
+        assert_eq!(rt; source.read(&mut buf), Err(Failed));
+        assert_eq!(rt; source.faults, 1);
+        assert_eq!(rt; source.read(&mut buf), Ok(1));
+        assert_eq!(rt; buf, [b'c', b'b', 0]);
+        assert_eq!(rt; source.read(&mut buf), Ok(0));
+        assert_eq!(rt; source.read(&mut buf), Ok(0));
+        assert_eq!(rt; source.reader.pieces.len(), 1);
+        assert_eq!(rt; source.faults, 1);
         Ok(())
     }
 }

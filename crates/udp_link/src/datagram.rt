@@ -6,8 +6,17 @@ ghost use Rattle.udp_link.specs.Datagram.{IsDatagram, most_data};
 use arrayvec::ArrayVec;
 use outside::{RawFrame, Received};
 
+/// The bytes of a datagram before the data: the identifier, and the number of data bytes.
+const HEAD: usize = 5;
+
+/// The most data bytes of a frame.
+const MOST_DATA: usize = 8;
+
 /// The most bytes of a datagram that is a frame.
-pub const MOST: usize = 13;
+pub const MOST: usize = HEAD + MOST_DATA;
+
+/// The first number that is no identifier, which has 29 bits.
+const FIRST_WIDE: u32 = 1 << 29;
 
 /// The frame of a datagram. A datagram with an identifier of more than 29 bits is junk.
 pub fn frame_of(datagram: &[u8]) -> Received
@@ -18,14 +27,14 @@ pub fn frame_of(datagram: &[u8]) -> Received
     let [a, b, c, d, len, data @ ..] = datagram else {
         return Received::Junk;
     };
-    if data.is_empty() || data.len() > 8 || data.len() != *len as usize {
+    if data.is_empty() || data.len() > MOST_DATA || data.len() != *len as usize {
         return Received::Junk;
     }
     let id = u32::from_be_bytes([*a, *b, *c, *d]);
-    if id >= 1 << 29 {
+    if id >= FIRST_WIDE {
         return Received::Junk;
     }
-    let mut bytes = [0; 8];
+    let mut bytes = [0; MOST_DATA];
     bytes[..data.len()].copy_from_slice(data);
     Received::Frame(RawFrame {
         id,
@@ -46,8 +55,8 @@ pub fn datagram_of(frame: &RawFrame) -> ArrayVec<u8, MOST>
     let mut bytes = [0; MOST];
     bytes[..4].copy_from_slice(&frame.id.to_be_bytes());
     bytes[4] = frame.len;
-    bytes[5..].copy_from_slice(&frame.bytes);
+    bytes[HEAD..].copy_from_slice(&frame.bytes);
     let mut datagram = ArrayVec::from(bytes);
-    datagram.truncate(5 + frame.len.min(8) as usize);
+    datagram.truncate(HEAD + MOST_DATA.min(usize::from(frame.len)));
     datagram
 }

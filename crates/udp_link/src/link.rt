@@ -1,4 +1,4 @@
-ghost use Rattle.std.specs.Prelude.{◌≡◌, ◌≤◌, ◌+◌, ◌<◌, ℕ, List, None, IfOk, OnOk};
+ghost use Rattle.std.specs.Prelude.{◌≡◌, ◌≤◌, ◌+◌, ℕ, List, None, IfOk, IsErr, OnOk};
 ghost use Rattle.outside.specs.Contents.{WhereTold};
 ghost use Rattle.outside.specs.Faults.{HasCause, counted, one_more};
 ghost use Rattle.outside.specs.Traffic.{Receives, Sends};
@@ -22,20 +22,21 @@ pub struct UdpLink {
     base: u16,
     id: u8,
     faults: u64,
-    ghost ports: { base + 125 < 65536 },
 }
 
 impl UdpLink {
     /// The link of the node with this ID, 1 to 125: it receives at port `base + id` of 127.0.0.1, and
-    /// never waits. It fails where the socket cannot be made, as where the port is taken.
+    /// never waits. It fails where the socket cannot be made, as where the port is taken, or is none.
     pub fn open<R: Net>(rt: &R, base: u16, id: u8) -> Result<UdpLink, Failed>
-        requires ports { base + 125 < 65536 }
-        requires member { id ≤ 125 }
         ensures base { IfOk result (λ link. link.base ≡ base) }
         ensures id { IfOk result (λ link. link.id ≡ id) }
         ensures faults { IfOk result (λ link. link.faults ≡ 0) }
+        ensures port { 65536 ≤ base + id → IsErr result }
     {
-        let Ok(socket) = UdpSocket::bind(rt, (Ipv4Addr::LOCALHOST, base + u16::from(id))) else {
+        let Some(port) = base.checked_add(u16::from(id)) else {
+            return Err(Failed);
+        };
+        let Ok(socket) = UdpSocket::bind(rt, (Ipv4Addr::LOCALHOST, port)) else {
             return Err(Failed);
         };
         if socket.set_nonblocking(true).is_err() {
@@ -75,11 +76,12 @@ impl UdpLink {
         Some(Received::Nothing)
     }
 
-    /// Sends a datagram to the port of a node, and tells whether the socket works.
-    fn send_to(&self, node: u8, datagram: &[u8]) -> bool
-        requires { node ≤ 125 }
-    {
-        let port = self.base + u16::from(node);
+    /// Sends a datagram to the port of a node, where there is such a port, and tells whether the socket
+    /// works.
+    fn send_to(&self, node: u8, datagram: &[u8]) -> bool {
+        let Some(port) = self.base.checked_add(u16::from(node)) else {
+            return true;
+        };
         for _ in 0..TRIES {
             match self.socket.send_to(datagram, (Ipv4Addr::LOCALHOST, port)) {
                 Ok(_) => break,
@@ -142,6 +144,7 @@ impl Link for UdpLink {
 #[cfg(test)]
 mod tests {
     use super::*;
+    use std::net::SocketAddr;
     use std::test::Fail;
 
     const FRAME: RawFrame = RawFrame {
@@ -150,14 +153,16 @@ mod tests {
         bytes: [4, 0, 0, 0, 0, 0, 0, 0xc0],
     };
 
-    /// Links 1 and 2 at the first base whose ports are free.
-    fn two_links<R: Net>(rt: &R) -> Result<(UdpLink, UdpLink), Failed> {
+    /// The links of the nodes 1, 2 and 125, at the first base whose ports are free.
+    fn links<R: Net>(rt: &R) -> Result<(UdpLink, UdpLink, UdpLink), Failed> {
         for number in 0..100 {
             let base = 5000 + 200 * number;
-            if let Ok(one) = UdpLink::open(rt, base, 1) {
-                if let Ok(two) = UdpLink::open(rt, base, 2) {
-                    return Ok((one, two));
-                }
+            if let (Ok(one), Ok(two), Ok(last)) = (
+                UdpLink::open(rt, base, 1),
+                UdpLink::open(rt, base, 2),
+                UdpLink::open(rt, base, 125),
+            ) {
+                return Ok((one, two, last));
             }
         }
         Err(Failed)
@@ -175,15 +180,36 @@ mod tests {
     }
 
     #[test]
-    fn a_frame_goes_to_the_others_and_another_datagram_is_junk(
-        rt: HostRuntime,
-    ) -> Result<(), Fail> {
-        let (mut one, mut two) = two_links(&rt)?;
+    fn a_frame_goes_to_each_other_node(rt: HostRuntime) -> Result<(), Fail> {
+        let (mut one, mut two, mut last) = links(&rt)?;
         assert_eq!(rt; two.recv(), Ok(Received::Nothing));
         assert_eq!(rt; one.send(&FRAME), Ok(()));
         assert_eq!(rt; next(&mut two), Ok(Received::Frame(FRAME)));
+        assert_eq!(rt; next(&mut last), Ok(Received::Frame(FRAME)));
+        assert_eq!(rt; last.send(&FRAME), Ok(()));
+        assert_eq!(rt; next(&mut one), Ok(Received::Frame(FRAME)));
+        assert_eq!(rt; next(&mut two), Ok(Received::Frame(FRAME)));
+        assert_eq!(rt; one.recv(), Ok(Received::Nothing));
+        assert_eq!(rt; two.recv(), Ok(Received::Nothing));
+        assert_eq!(rt; last.recv(), Ok(Received::Nothing));
+        Ok(())
+    }
+
+    #[test]
+    fn a_link_receives_on_this_machine_alone(rt: HostRuntime) -> Result<(), Fail> {
+        let (one, _two, last) = links(&rt)?;
+        let first = SocketAddr::from((Ipv4Addr::LOCALHOST, one.base.saturating_add(1)));
+        assert_eq!(rt; one.socket.local_addr()?, first);
+        let highest = SocketAddr::from((Ipv4Addr::LOCALHOST, one.base.saturating_add(125)));
+        assert_eq!(rt; last.socket.local_addr()?, highest);
+        Ok(())
+    }
+
+    #[test]
+    fn another_datagram_is_junk(rt: HostRuntime) -> Result<(), Fail> {
+        let (_one, mut two, _last) = links(&rt)?;
         let third = UdpSocket::bind(&rt, (Ipv4Addr::LOCALHOST, 0))?;
-        let to = (Ipv4Addr::LOCALHOST, two.base + 2);
+        let to = two.socket.local_addr()?;
         for len in [0, 3, 4, 5, 12, 14, 40] {
             let sent = third.send_to(&[8; 40][..len], to)?;
             assert_eq!(rt; sent, len);
@@ -205,8 +231,9 @@ mod tests {
 
     #[test]
     fn a_port_without_a_listener_is_no_failure(rt: HostRuntime) -> Result<(), Fail> {
-        let (mut one, two) = two_links(&rt)?;
+        let (mut one, two, last) = links(&rt)?;
         drop(two);
+        drop(last);
         for _ in 0..3 {
             assert_eq!(rt; one.send(&FRAME), Ok(()));
             assert_eq!(rt; one.recv(), Ok(Received::Nothing));
@@ -215,9 +242,10 @@ mod tests {
     }
 
     #[test]
-    fn a_port_that_is_taken_makes_no_link(rt: HostRuntime) -> Result<(), Fail> {
-        let (one, _two) = two_links(&rt)?;
+    fn a_port_that_is_taken_or_none_makes_no_link(rt: HostRuntime) -> Result<(), Fail> {
+        let (one, _two, _last) = links(&rt)?;
         assert!(rt; UdpLink::open(&rt, one.base, 2).is_err());
+        assert!(rt; UdpLink::open(&rt, 65_411, 125).is_err());
         Ok(())
     }
 }
