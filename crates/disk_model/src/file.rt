@@ -144,22 +144,43 @@ mod tests {
     use super::*;
     use std::test::Fail;
 
+    /// Pieces that stand at both ends, over the 4,096th byte, and further up.
+    const PIECES: [(usize, [u8; 3]); 5] = [
+        (0, [1, 2, 3]),
+        (4095, [4, 5, 6]),
+        (8190, [7, 8, 9]),
+        (8700, [10, 11, 12]),
+        (IMAGE - 3, [13, 14, 15]),
+    ];
+
     #[test]
     fn a_missing_file_is_made_and_keeps_what_was_written(rt: HostRuntime) -> Result<(), Fail> {
         let path = "made.store";
         let _ = fs::remove_file(&rt, path);
         let mut disk = FileDisk::open(&rt, path)?;
-        let mut bytes = [9; 3];
-        disk.read(IMAGE - 3, &mut bytes)?;
-        assert_eq!(rt; bytes, [0, 0, 0]);
-        disk.write(4000, &[1, 2, 3])?;
+        let mut image = [9; IMAGE];
+        disk.read(0, &mut image)?;
+        assert!(rt; image == [0; IMAGE]);
+        for (at, bytes) in PIECES {
+            assert!(rt; at <= IMAGE - 3);
+            disk.write(at, &bytes)?;
+            image[at..at + 3].copy_from_slice(&bytes);
+        }
         disk.sync()?;
         assert_eq!(rt; disk.faults(), 0);
         drop(disk);
-        assert_eq!(rt; fs::metadata(&rt, path)?.len(), IMAGE as u64);
+        assert!(rt; fs::read(&rt, path)?.as_slice() == image.as_slice());
         let mut disk = FileDisk::open(&rt, path)?;
-        disk.read(3999, &mut bytes)?;
-        assert_eq!(rt; bytes, [0, 1, 2]);
+        for (at, bytes) in PIECES {
+            assert!(rt; at <= IMAGE - 3);
+            let mut read = [0; 3];
+            disk.read(at, &mut read)?;
+            assert_eq!(rt; read, bytes, "at {at}");
+        }
+        let mut last = [0; 1];
+        disk.read(IMAGE - 1, &mut last)?;
+        assert_eq!(rt; last, [15]);
+        assert_eq!(rt; disk.faults(), 0);
         fs::remove_file(&rt, path)?;
         Ok(())
     }
@@ -197,12 +218,37 @@ mod tests {
     }
 
     #[test]
-    fn a_full_device_takes_no_bytes_and_counts(rt: HostRuntime) -> Result<(), Fail> {
+    fn a_full_device_takes_no_bytes_and_is_not_synced(rt: HostRuntime) -> Result<(), Fail> {
         let file = OpenOptions::new().write(true).open(&rt, "/dev/full")?;
         assert!(rt; !is_zeroed(&file));
         let mut disk = FileDisk { file, faults: 0 };
         assert_eq!(rt; disk.write(0, &[1]), Err(Failed));
         assert_eq!(rt; disk.faults(), 1);
+        assert_eq!(rt; disk.sync(), Err(Failed));
+        assert_eq!(rt; disk.faults(), 2);
+        Ok(())
+    }
+
+    #[test]
+    fn a_call_that_fails_is_counted_once_and_the_next_one_works(
+        rt: HostRuntime,
+    ) -> Result<(), Fail> {
+        let path = "short.store";
+        let _ = fs::remove_file(&rt, path);
+        let mut disk = FileDisk::open(&rt, path)?;
+        disk.write(0, &[1, 2, 3])?;
+        disk.file.set_len(3)?;
+        let mut bytes = [0; 3];
+        assert_eq!(rt; disk.read(1, &mut bytes), Err(Failed));
+        assert_eq!(rt; disk.faults(), 1);
+        assert_eq!(rt; disk.read(0, &mut bytes), Ok(()));
+        assert_eq!(rt; bytes, [1, 2, 3]);
+        assert_eq!(rt; disk.write(3, &[4]), Ok(()));
+        assert_eq!(rt; disk.read(1, &mut bytes), Ok(()));
+        assert_eq!(rt; bytes, [2, 3, 4]);
+        assert_eq!(rt; disk.sync(), Ok(()));
+        assert_eq!(rt; disk.faults(), 1);
+        fs::remove_file(&rt, path)?;
         Ok(())
     }
 }

@@ -38,6 +38,3 @@ pub use node_status::NodeStatus;
 pub use payload::Payload;
 pub use vote_answer::VoteAnswer;
 pub use vote_request::VoteRequest;
-
-#[cfg(test)]
-mod tests;

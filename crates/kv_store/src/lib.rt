@@ -17,8 +17,6 @@ mod load;
 mod replace;
 mod store;
 mod table;
-#[cfg(test)]
-mod tests;
 mod value;
 
 pub use fault::{Fault, OpenFault, OpenRefused};

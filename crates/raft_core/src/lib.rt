@@ -35,8 +35,6 @@ mod peer;
 mod propose;
 mod raft;
 mod tell;
-#[cfg(test)]
-mod tests;
 mod votes;
 
 pub use calls::{Call, Pending};

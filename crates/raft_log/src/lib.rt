@@ -26,8 +26,6 @@ mod keys;
 pub mod laws;
 pub mod origin;
 mod state;
-#[cfg(test)]
-mod tests;
 mod values;
 
 pub use durable::Durable;

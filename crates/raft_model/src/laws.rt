@@ -292,7 +292,8 @@ pub fn law_fit()
 
 /// The phases of a finished step may come at any server, and do what is owed: a server that has waited
 /// stands for the next term, a leader's commit is the greatest, a committed pair is told where there is
-/// room, a full log takes no proposal, and a Candidate that counts a quorum leads.
+/// room, a full log takes no proposal, and a Candidate that counts a quorum leads: after each move, and in
+/// every run.
 pub fn law_duty()
     ensures tick_comes { (members : List ℕ) (member step : ℕ) (bag : List Message) (waited : Bool)
         (site : Site)
@@ -316,6 +317,10 @@ pub fn law_duty()
         (offers_of_all members member step server (tell_phase room server)) }
     ensures full { (server : Plain) (entry : Entry) → length server.store.log ≡ log_limit
         → MayPropose server entry → ⊥ }
+    ensures win_kept { (members : List ℕ) (member step : ℕ) (bag : List Message) (called : List ℕ)
+        (server : Plain) (move : Move)
+        → Comes members member bag called server move → WinDuty members server
+        → WinDuty members (plain_after members member step server move) }
     ensures win { (members : List ℕ) (events : List Event) (member : ℕ)
         → Lawful (beginning members) events
         → WinDuty members ((run (beginning members) events).server member) }

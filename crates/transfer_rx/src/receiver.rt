@@ -215,6 +215,3 @@ fn delivered(took: Took) -> Option<Transfer>
         Took::Dropped(_) => None,
     }
 }
-
-#[cfg(test)]
-mod tests;

@@ -1,4 +1,4 @@
-use Rattle.raft_model.proofs.Duty.{tick_comes, tick_duty, commit_comes, commit_duty, tell_comes, tell_duty, full_duty}
+use Rattle.raft_model.proofs.Duty.{tick_comes, tick_duty, commit_comes, commit_duty, tell_comes, tell_duty, full_duty, win_duty}
 use Rattle.raft_model.proofs.Finished.{run_wins}
 use Rattle.raft_model.proofs.laws.law_duty.Goals as goal
 
@@ -11,5 +11,6 @@ returns c = record {
   tell_comes = tell_comes;
   tell = tell_duty;
   full = full_duty;
+  win_kept = win_duty;
   win = run_wins;
 }

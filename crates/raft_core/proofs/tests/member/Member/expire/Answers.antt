@@ -1,5 +1,0 @@
-use Rattle.raft_log.specs.DurableViews.{durable_state}
-use Rattle.raft_core.proofs.tests.member.Member.expire.Goals as goal
-
-pub invariant_of-result : goal.invariant_of-result
-invariant_of-result c = record { fits = c.expire.ensures.fits (durable_state c.args.self.durable) c.args.self.fits }

@@ -1,0 +1,365 @@
+//! Frames that come to a receiver, each with what it leads to.
+
+ghost use Rattle.std.specs.Prelude.{◌≡◌, ◌∷◌, []};
+ghost use Rattle.transfer_rx.specs.Acceptance.{AnswersByRows, first_signature};
+ghost use Rattle.transfer_rx.specs.Memory.{ReceiverFitsInMemory};
+ghost use Rattle.transfer_tests.specs.declared.receiver.TheConstants.{ALLOCATION, ANOTHER};
+ghost use Rattle.transfer_rx.specs.Views.{accept_of, setting_of};
+
+use arrayvec::ArrayVec;
+use block_pool::BlockPool;
+use can_frame::{Frame, Ident, Kind, Mark, Why};
+use std::test::Fail;
+use transfer_rx::{AcceptRow, Receiver, Took, Transfer};
+
+const ALLOCATION: u64 = 0x0b2a_8126_20a1_1d40;
+
+const ANOTHER: u64 = 0x0b2a_8126_20a1_1d41;
+
+/// An Allocation of node 1 in three frames, with transfer ID 1.
+const A: [u8; 8] = [0x58, 0x5d, 0, 0, 1, 2, 3, 0x81];
+
+const B: [u8; 8] = [4, 5, 6, 7, 8, 9, 10, 0x21];
+
+const C: [u8; 2] = [11, 0x41];
+
+const PAYLOAD: [u8; 13] = [0, 0, 1, 2, 3, 4, 5, 6, 7, 8, 9, 10, 11];
+
+const NODE_1: u32 = 0x1e00_0101;
+
+const NODE_3: u32 = 0x1e00_0103;
+
+/// What a frame should lead to.
+#[derive(Clone, Copy)]
+enum Then<'a> {
+    Part,
+    Delivered(&'a [u8]),
+    Dropped(Why),
+}
+
+/// A frame that comes at a moment.
+#[derive(Clone, Copy)]
+struct Row<'a> {
+    id: u32,
+    bytes: &'a [u8],
+    now: u64,
+    then: Then<'a>,
+}
+
+fn comes<'a>(id: u32, bytes: &'a [u8], now: u64, then: Then<'a>) -> Row<'a> {
+    Row {
+        id,
+        bytes,
+        now,
+        then,
+    }
+}
+
+fn allocation(kind: Kind, number: u16) -> Option<u64>
+    ensures { result ≡ first_signature
+        (record { kind = Kind.Message; number = 1; signature = ALLOCATION } ∷ []) kind number }
+{
+    match kind {
+        Kind::Message if number == 1 => Some(ALLOCATION),
+        _ => None,
+    }
+}
+
+fn another(kind: Kind, number: u16) -> Option<u64>
+    ensures { result ≡ first_signature
+        (record { kind = Kind.Message; number = 1; signature = ANOTHER } ∷ []) kind number }
+{
+    match kind {
+        Kind::Message if number == 1 => Some(ANOTHER),
+        _ => None,
+    }
+}
+
+fn anonymous(kind: Kind, number: u16) -> Option<u64>
+    ensures { result ≡ first_signature
+        (record { kind = Kind.Anonymous; number = 1; signature = ALLOCATION } ∷ []) kind number }
+{
+    match kind {
+        Kind::Anonymous if number == 1 => Some(ALLOCATION),
+        _ => None,
+    }
+}
+
+fn accept_rows(kind: Kind, signature: u64) -> ArrayVec<AcceptRow, 16>
+    ensures { result.items ≡ record { kind = kind; number = 1; signature = signature } ∷ [] }
+{
+    let mut rows = ArrayVec::new();
+    rows.push(AcceptRow {
+        kind,
+        number: 1,
+        signature,
+    });
+    rows
+}
+
+/// The place of the first row that led to something else.
+fn first_wrong<F: Fn(Kind, u16) -> Option<u64> + Copy, const S: usize, const N: usize>(
+    receiver: &mut Receiver<F, S, N>,
+    rows: &[Row],
+) -> Option<usize>
+    requires callable { F.IsAlwaysCallable (accept_of receiver.old) }
+    requires answers { AnswersByRows (F.post (accept_of receiver.old))
+        (setting_of receiver.old).rows }
+{
+    for (place, row) in rows.iter().enumerate() {
+        if !leads_to(receiver, row) {
+            return Some(place);
+        }
+    }
+    None
+}
+
+/// The same in a new receiver of node 2, with one session and one block.
+fn first_wrong_anew(rows: &[Row]) -> Option<usize> {
+    let mut receiver: Receiver<_, 1, 1> = Receiver::new(
+        2,
+        accept_rows(Kind::Message, ALLOCATION),
+        allocation,
+    );
+    first_wrong(&mut receiver, rows)
+}
+
+fn leads_to<F: Fn(Kind, u16) -> Option<u64> + Copy, const S: usize, const N: usize>(
+    receiver: &mut Receiver<F, S, N>,
+    row: &Row,
+) -> bool
+    requires callable { F.IsAlwaysCallable (accept_of receiver.old) }
+    requires answers { AnswersByRows (F.post (accept_of receiver.old))
+        (setting_of receiver.old).rows }
+    ensures setting { setting_of receiver.new ≡ setting_of receiver.old }
+    ensures accept { accept_of receiver.new ≡ accept_of receiver.old }
+{
+    let Ok(frame) = Frame::from_parts(row.id, row.bytes) else {
+        return false;
+    };
+    let mark = Mark {
+        step: 0,
+        re: 0,
+        place: 0,
+    };
+    match (receiver.take(&frame, mark, row.now), row.then) {
+        (Took::Delivered(transfer), Then::Delivered(payload)) => transfer.payload.as_slice()
+            == payload,
+        (Took::Part, Then::Part) => true,
+        (Took::Dropped(why), Then::Dropped(expected)) => why == expected,
+        _ => false,
+    }
+}
+
+#[test]
+fn worked_cases(rt: HostRuntime) {
+    let part = Then::Part;
+    let whole = Then::Delivered(&PAYLOAD);
+    let start = Then::Dropped(Why::Start);
+    let cases: [&[Row]; 8] = [
+        &[
+            comes(NODE_1, &A, 0, part),
+            comes(NODE_1, &B, 2000, part),
+            comes(NODE_1, &C, 4000, whole),
+        ],
+        &[comes(NODE_1, &A, 0, part), comes(NODE_1, &B, 2001, start)],
+        &[
+            comes(NODE_1, &A, 0, part),
+            comes(NODE_1, &A, 1, start),
+            comes(NODE_1, &B, 2, part),
+            comes(NODE_1, &B, 3, Then::Dropped(Why::Toggle)),
+            comes(NODE_1, &C, 4, whole),
+        ],
+        &[
+            comes(NODE_1, &A, 0, part),
+            comes(NODE_1, &B, 0, part),
+            comes(NODE_1, &C, 0, whole),
+            comes(NODE_1, &C, 0, Then::Dropped(Why::TransferId)),
+        ],
+        // the ID just before the expected one begins nothing anew, another one does
+        &[
+            comes(NODE_1, &[1, 0xc1], 0, Then::Delivered(&[1])),
+            comes(NODE_1, &[2, 0xc1], 0, Then::Dropped(Why::TransferId)),
+            comes(NODE_1, &[3, 0xc4], 0, Then::Delivered(&[3])),
+        ],
+        // a frame that is dropped does not renew the moment
+        &[
+            comes(NODE_1, &A, 0, part),
+            comes(NODE_1, &A, 1500, start),
+            comes(NODE_1, &B, 2001, start),
+        ],
+        // after a transfer that is spoiled the next ID is expected
+        &[
+            comes(NODE_1, &A, 0, part),
+            comes(NODE_3, &A, 0, Then::Dropped(Why::NoSession)),
+            comes(NODE_1, &[0, 0x21], 0, Then::Dropped(Why::Length)),
+            comes(NODE_1, &[1, 0xc1], 0, Then::Dropped(Why::TransferId)),
+            comes(NODE_1, &[2, 0xc2], 0, Then::Delivered(&[2])),
+        ],
+        &[
+            comes(0x1e00_0102, &[0, 0xc0], 0, Then::Dropped(Why::NotWanted)),
+            comes(0x1e01_0080, &[0, 0xc0], 0, Then::Dropped(Why::BadIdent)),
+        ],
+    ];
+    for rows in cases {
+        assert_eq!(rt; first_wrong_anew(rows), None);
+    }
+}
+
+#[test]
+fn the_blocks_are_counted(rt: HostRuntime) {
+    let rows = [
+        comes(NODE_1, &A, 0, Then::Part),
+        comes(NODE_3, &A, 0, Then::Dropped(Why::NoBlock)),
+        comes(NODE_3, &[0, 0xc1], 0, Then::Dropped(Why::TransferId)),
+    ];
+    let mut receiver: Receiver<_, 2, 1> = Receiver::new(
+        2,
+        accept_rows(Kind::Message, ALLOCATION),
+        allocation,
+    );
+    assert_eq!(rt; first_wrong(&mut receiver, &rows), None);
+}
+
+/// Whether message 1 of node 1 has a session with these bytes, node 3 has none, and so many blocks
+/// are free.
+fn has_kept<F: Fn(Kind, u16) -> Option<u64> + Copy, const N: usize>(
+    receiver: &Receiver<F, 1, N>,
+    bytes: &[u8],
+    free: usize,
+) -> bool {
+    let pool = receiver.pool();
+    receiver.chain_of(Kind::Message, 1, 1) == Some(0)
+        && receiver.chain_of(Kind::Message, 1, 3).is_none()
+        && pool.free() == free
+        && has_bytes(pool, bytes)
+}
+
+fn has_bytes<const N: usize>(pool: &BlockPool<N, 1>, bytes: &[u8]) -> bool {
+    let mut out = [0; 56];
+    let len = pool.len(0);
+    if len > 56 {
+        return false;
+    }
+    pool.copy_out(0, &mut out[..len]);
+    &out[..len] == bytes
+}
+
+#[test]
+fn the_pool_has_what_came(rt: HostRuntime) {
+    let mut small: Receiver<_, 1, 1> = Receiver::new(
+        2,
+        accept_rows(Kind::Message, ALLOCATION),
+        allocation,
+    );
+    let first = comes(NODE_1, &A, 0, Then::Part);
+    assert_eq!(rt; first_wrong(&mut small, &[first]), None);
+    assert_eq!(rt; has_kept(&small, &A[..7], 0), true);
+    let mut receiver: Receiver<_, 1, 2> = Receiver::new(
+        2,
+        accept_rows(Kind::Message, ALLOCATION),
+        allocation,
+    );
+    let second = comes(NODE_1, &B, 0, Then::Part);
+    let third = comes(NODE_1, &C, 0, Then::Delivered(&PAYLOAD));
+    assert_eq!(rt; leads_to(&mut receiver, &first), true);
+    assert_eq!(rt; has_kept(&receiver, &A[..7], 1), true);
+    assert_eq!(rt; leads_to(&mut receiver, &second), true);
+    assert_eq!(rt; leads_to(&mut receiver, &third), true);
+    assert_eq!(rt; has_kept(&receiver, &[], 2), true);
+}
+
+#[test]
+fn the_crc_has_the_signature(rt: HostRuntime) {
+    let rows = [
+        comes(NODE_1, &A, 0, Then::Part),
+        comes(NODE_1, &B, 0, Then::Part),
+        comes(NODE_1, &C, 0, Then::Dropped(Why::Crc)),
+        comes(NODE_1, &[0, 0xc1], 0, Then::Dropped(Why::TransferId)),
+        comes(NODE_1, &[7, 0xc2], 0, Then::Delivered(&[7])),
+    ];
+    let mut receiver: Receiver<_, 1, 1> = Receiver::new(
+        2,
+        accept_rows(Kind::Message, ANOTHER),
+        another,
+    );
+    assert_eq!(rt; first_wrong(&mut receiver, &rows), None);
+}
+
+#[test]
+fn an_anonymous_frame_is_a_transfer(rt: HostRuntime) {
+    let sender = 0x1e00_0500;
+    let rows = [
+        comes(
+            sender,
+            &[0xfa, 6, 7, 0xc1],
+            0,
+            Then::Delivered(&[0xfa, 6, 7]),
+        ),
+        comes(sender, &[0xfa, 6, 7, 0xe1], 0, Then::Dropped(Why::Toggle)),
+        comes(sender, &[0xfa, 6, 7, 0x81], 0, Then::Dropped(Why::Start)),
+    ];
+    let mut receiver: Receiver<_, 1, 1> = Receiver::new(
+        2,
+        accept_rows(Kind::Anonymous, ALLOCATION),
+        anonymous,
+    );
+    assert_eq!(rt; first_wrong(&mut receiver, &rows), None);
+}
+
+#[test]
+fn peek_tells_what_take_delivers(rt: HostRuntime) -> Result<(), Fail> {
+    let mut receiver: Receiver<_, 1, 1> = Receiver::new(
+        0,
+        accept_rows(Kind::Message, ALLOCATION),
+        allocation,
+    );
+    let frames: [&[u8]; 3] = [&A, &B, &C];
+    let first = Frame::from_parts(NODE_1, frames[0])?;
+    let second = Frame::from_parts(NODE_1, frames[1])?;
+    let third = Frame::from_parts(NODE_1, frames[2])?;
+    let mark = |place| Mark {
+        step: 5,
+        re: 0,
+        place,
+    };
+    assert_eq!(rt; receiver.take(&first, mark(0), 0), Took::Part);
+    assert_eq!(rt; receiver.take(&second, mark(1), 0), Took::Part);
+    let seen = receiver.peek(&third, mark(2), 0).ok_or("nothing")?;
+    assert_eq!(rt; seen.payload.as_slice(), PAYLOAD.as_slice());
+    assert_eq!(rt; seen.whole, true);
+    assert_eq!(rt; receiver.take(&third, mark(2), 0), Took::Delivered(seen));
+    Ok(())
+}
+
+/// Whoever keeps a receiver and is generic in its closure.
+#[derive(Drop)]
+struct Listener<F> {
+    receiver: Receiver<F, 160, 128>,
+}
+
+impl<F: Fn(Kind, u16) -> Option<u64> + Copy> Listener<F> {
+    fn hears(&mut self, frame: &Frame, mark: Mark, now: u64) -> bool
+        requires callable { F.IsAlwaysCallable (accept_of self.old.receiver) }
+        requires answers { AnswersByRows (F.post (accept_of self.old.receiver))
+            (setting_of self.old.receiver).rows }
+        requires memory { ReceiverFitsInMemory F.row 160 128 }
+    {
+        matches!(self.receiver.take(frame, mark, now), Took::Part)
+    }
+}
+
+#[test]
+fn a_listener_keeps_any_closure(rt: HostRuntime) -> Result<(), Fail> {
+    let mut listener = Listener {
+        receiver: Receiver::new(2, accept_rows(Kind::Message, ALLOCATION), allocation),
+    };
+    let frame = Frame::from_parts(NODE_1, &A)?;
+    let mark = Mark {
+        step: 0,
+        re: 0,
+        place: 0,
+    };
+    assert_eq!(rt; listener.hears(&frame, mark, 0), true);
+    Ok(())
+}
