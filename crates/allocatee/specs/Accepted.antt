@@ -1,0 +1,15 @@
+-- The transfers that an allocatee receives: Allocations without a source, which are requests of devices, and those with
+-- one, which are answers of allocators.
+use Rattle.std.specs.Prelude.{List, [], ◌∷◌}
+use Rattle.can_frame.specs.declared.identifier.Kind.TheVariants.{Anonymous, Message}
+use Rattle.transfer_rx.specs.declared.accept.AcceptRow.{AcceptRow}
+use Rattle.transfer_rx.specs.Reassembly.{Setting}
+
+unfoldable pub rows : List AcceptRow
+rows = record { kind = Anonymous; number = 1; signature = 0x0b2a812620a11d40 }
+    ∷ record { kind = Message; number = 1; signature = 0x0b2a812620a11d40 }
+    ∷ []
+
+-- its receiver: it has no node ID of its own, so no frame is dropped as its own
+abbrev pub setting : Setting
+setting = record { rows = rows; me = 0; sessions = 8; blocks = 8 }

@@ -1,0 +1,91 @@
+-- A device that asks for a node ID (`Asking`), with its receiver. A step takes an event: a reading of its clock, or a
+-- frame.
+use Rattle.std.specs.Prelude.{ℕ, max, Bool, List, [], Option, None, Some}
+use Rattle.can_frame.specs.declared.step.Seen.{Seen}
+use Rattle.can_frame.specs.declared.step.Seen.TheVariants.{Bad, Dropped, Part, Ticked, Took}
+use Rattle.can_frame.specs.declared.step.Sent.{Sent}
+use Rattle.dsdl_codec.specs.declared.allocation.Allocation.{Allocation}
+use Rattle.dsdl_codec.specs.Allocation.{allocation_of}
+use Rattle.transfer_rx.specs.Keys.{is_anonymous}
+use Rattle.transfer_rx.specs.Reassembly.{Answer, Arrival, Continues, Drops, Gives, answer, next}
+use Rattle.transfer_rx.specs.Sessions.{Session}
+use Rattle.allocatee.specs.Accepted.{setting}
+use Rattle.allocatee.specs.Asking.{Asking, asking_from, at_moment, hears, sent_one, ticks}
+
+pub record Device : Type 0 where
+  pub asking : Asking
+  pub sessions : List Session
+
+abbrev pub opening : List ℕ → ℕ → ℕ → ℕ → Device
+opening uid preferred now word = record { asking = asking_from uid preferred now word; sessions = [] }
+
+-- ---- its events; of the word come its waits and the discriminators of its frames
+
+pub data Event : Type 0 where
+  -- it reads its clock
+  Tick : (now word : ℕ) → Event
+  -- a frame comes
+  Rx : (arrival : Arrival) (word : ℕ) → Event
+
+-- what a step saw and offered, and what it leaves
+pub record Sight : Type 0 where
+  pub seen : Seen
+  pub sent : List Sent
+  pub device : Device
+
+-- ---- a frame
+
+-- an Allocation is taken; a payload that reads as none does nothing
+abbrev pub reads : ℕ → Bool → Option Allocation → Asking → Asking
+reads word anonymous None a = a
+reads word anonymous (Some message) a = hears word anonymous message a
+
+abbrev pub seen_of_reading : Option Allocation → Seen
+seen_of_reading None = Bad
+seen_of_reading (Some message) = Took
+
+abbrev pub takes : ℕ → Answer → Asking → Asking
+takes word (Gives delivery) a = reads word (is_anonymous delivery.ident.kind) (allocation_of delivery.payload) a
+takes word Continues a = a
+takes word (Drops why) a = a
+
+abbrev pub seen_of : Answer → Seen
+seen_of (Gives delivery) = seen_of_reading (allocation_of delivery.payload)
+seen_of Continues = Part
+seen_of (Drops why) = Dropped why
+
+-- the frame as it comes at the step's moment
+abbrev pub at_step : Device → Arrival → Arrival
+at_step d arrival = record arrival { moment = max d.asking.moment arrival.moment }
+
+abbrev pub answer_to : Device → Arrival → Answer
+answer_to d arrival = answer setting d.sessions (at_step d arrival)
+
+-- ---- the step
+
+abbrev pub ticked : ℕ → ℕ → ℕ → Device → Sight
+ticked number now word d = record {
+  seen = Ticked;
+  sent = (ticks number word (at_moment now d.asking)).sent;
+  device = record d { asking = (ticks number word (at_moment now d.asking)).asking };
+}
+
+abbrev pub received : Arrival → ℕ → Device → Sight
+received arrival word d = record {
+  seen = seen_of (answer_to d arrival);
+  sent = [];
+  device = record {
+    asking = takes word (answer_to d arrival) (at_moment arrival.moment d.asking);
+    sessions = next setting d.sessions (at_step d arrival);
+  };
+}
+
+unfoldable pub step : Device → ℕ → Event → Sight
+step d number (Tick now word) = ticked number now word d
+step d number (Rx arrival word) = received arrival word d
+
+-- ---- between steps
+
+-- the next frame has gone out
+abbrev pub popped : Device → Device
+popped d = record d { asking = sent_one d.asking }

@@ -1,0 +1,6 @@
+pub mod Accepted
+pub mod Allocatee
+pub mod Asking
+pub mod Given
+pub mod Judging
+pub mod Stands

@@ -1,0 +1,57 @@
+ghost use Rattle.std.specs.Prelude.{◌≡◌};
+ghost use Rattle.transfer_rx.specs.Acceptance.{first_signature};
+ghost use Rattle.allocatee.specs.Accepted as accepted;
+
+use arrayvec::ArrayVec;
+use can_frame::Kind;
+use transfer_rx::AcceptRow;
+
+/// Message type `uavcan.protocol.dynamic_node_id.Allocation`.
+pub(crate) const ALLOCATION: u16 = 1;
+
+pub(crate) const ALLOCATION_SIGNATURE: u64 = 0x0b2a_8126_20a1_1d40;
+
+/// The kinds and numbers of transfers that an allocatee receives, with the signature of their type.
+#[tactic(auto, unfolding(crate::specs::Accepted::rows))]
+pub fn allocatee_rows() -> ArrayVec<AcceptRow, 16>
+    ensures { result.items ≡ accepted.rows }
+{
+    let rows = [
+        AcceptRow {
+            kind: Kind::Anonymous,
+            number: ALLOCATION,
+            signature: ALLOCATION_SIGNATURE,
+        },
+        AcceptRow {
+            kind: Kind::Message,
+            number: ALLOCATION,
+            signature: ALLOCATION_SIGNATURE,
+        },
+    ];
+    match ArrayVec::try_from(rows.as_slice()) {
+        Ok(rows) => rows,
+        Err(_) => unreachable!(),
+    }
+}
+
+/// The signature of the type with a kind and number that an allocatee receives.
+#[tactic(auto, unfolding(crate::specs::Accepted::rows))]
+pub fn allocatee_accept(kind: Kind, number: u16) -> Option<u64>
+    ensures { result ≡ first_signature accepted.rows kind number }
+{
+    match kind {
+        Kind::Anonymous | Kind::Message => of_message(number),
+        Kind::Request | Kind::Response => None,
+    }
+}
+
+#[tactic(auto, unfolding(crate::specs::Accepted::rows))]
+fn of_message(number: u16) -> Option<u64>
+    ensures anonymous { result ≡ first_signature accepted.rows Kind.Anonymous number }
+    ensures message { result ≡ first_signature accepted.rows Kind.Message number }
+{
+    match number {
+        ALLOCATION => Some(ALLOCATION_SIGNATURE),
+        _ => None,
+    }
+}
