@@ -10,6 +10,7 @@ ghost use Rattle.outside.specs.Faults.{Rose};
 ghost use Rattle.raft_log.specs.DurableViews.{durable_copies, durable_fault, durable_state};
 ghost use Rattle.raft_log.specs.Opening.{FailsToOpen, OpensTo};
 ghost use Rattle.raft_log.specs.Rules.{AlwaysStandsForState, IsDamagedAt};
+ghost use Rattle.raft_core.specs.RaftViews.{raft_role};
 ghost use Rattle.raft_core.specs.StoredPuts.{store_of};
 ghost use Rattle.transfer_rx.specs.Acceptance.{AnswersByRows};
 ghost use Rattle.transfer_tx.specs.Queue.{next_out};
@@ -165,9 +166,11 @@ impl<D: Disk, F: Fn(Kind, u16) -> Option<u64> + Copy> Server<D, F> {
         self.member.outbox.pop()
     }
 
-    /// What it shows of itself. Of a server that failed this is what it kept.
+    /// What it shows of itself. Of a server that failed this is what it kept, and the role that it had
+    /// come to.
     pub fn view(&self) -> View
         ensures stands { (t : Timed) → StandsFor self.now t → result ≡ view_of t }
+        ensures role { result.role ≡ raft_role self.now.member.raft }
         ensures term { result.term ≡ (durable_state (durable_of self.now)).term }
         ensures vote { result.vote ≡ (durable_state (durable_of self.now)).vote }
         ensures last { result.last ≡ length (durable_state (durable_of self.now)).log }

@@ -39,6 +39,7 @@ place_stays a b given grows is = record {
   below = omega (arith, is.below, grows.commit);
   uid = ap (λ (e : Entry). e.uid) (grows.same is.place is.below) ∙ is.uid;
   node = ap (λ (e : Entry). e.node) (grows.same is.place is.below) ∙ is.node;
+  device = is.device;
 }
 
 one_more : (store : Store) (offers : List Offer) (new : Offer) → AreOfPlaces store offers
@@ -100,6 +101,7 @@ in_committed store given sane is = record {
   inside = grind (arith, length-take, is.below, sane);
   uid = ap (λ (e : Entry). e.uid) (get_or-take store.commit store.log is.place (blank 0) is.below) ∙ is.uid;
   node = ap (λ (e : Entry). e.node) (get_or-take store.commit store.log is.place (blank 0) is.below) ∙ is.node;
+  device = is.device;
 }
 
 abbrev Judged : Type 0

@@ -1,10 +1,11 @@
 -- The pairs that transfers give.
-use Rattle.std.proofs.Common.{◌≡◌, ℕ, ◌+◌, ◌<◌, ◌≤◌, List, inl, inr, refl, sym, ◌∙◌, ap, arith, Option, Some, None}
+use Rattle.std.proofs.Common.{◌≡◌, ◌≢◌, ℕ, ◌+◌, ◌<◌, ◌≤◌, List, inl, inr, refl, sym, ◌∙◌, ap, arith, Option, Some, None}
 use Rattle.std.specs.Prelude.{◌/◌, ◌*◌, ◌&&◌, length, nat_le, nat_eq, slice_index_or}
 use Rattle.can_frame.specs.declared.identifier.Kind.TheVariants.{Message as Broadcast}
 use Rattle.can_frame.specs.declared.step.What.{What}
 use Rattle.can_frame.specs.declared.step.What.TheVariants.{Alloc, Disc, Stat, InfoQ, Info, VoteQ, Vote, AppQ, App}
 use Rattle.can_frame.specs.Log.{blank}
+use Rattle.can_frame.specs.Zeros.{zeros}
 use Rattle.dsdl_codec.specs.Allocation.{allocation_of}
 use Rattle.dsdl_codec.specs.declared.allocation.Allocation.{Allocation}
 use Rattle.raft_model.specs.Server.{Store}
@@ -61,9 +62,10 @@ follow_up_gives bytes given gives = omega (arith, (allocation_gives 0 bytes give
 pub message_gives : (what : What) (payload : List ℕ) (given : Pair) → Gives what payload given → kind_of what ≡ Broadcast
 message_gives what payload given gives = ap kind_of gives.kind
 
--- the pair is that of a committed place
+-- the pair is that of a committed place, and its unique ID some device's
 pub record IsOfPlace (store : Store) (given : Pair) : Type 0 where
   pub place : ℕ
   pub below : place < store.commit
   pub uid : (slice_index_or store.log place (blank 0)).uid ≡ given.0
   pub node : (slice_index_or store.log place (blank 0)).node ≡ given.1
+  pub device : given.0 ≢ zeros

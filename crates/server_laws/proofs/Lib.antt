@@ -12,6 +12,7 @@ pub mod Growing
 pub mod Giving
 pub mod Keeping
 pub mod Walk
+pub mod Winning
 pub mod Called
 pub mod Running
 pub mod Given

@@ -60,12 +60,12 @@ use Rattle.server_parts.specs.TimedServer.{is_zero, known, knows_all, may_propos
 use Rattle.server_parts.specs.Transfers.{Given as Pair, given_in, has_room, id_of, message_by, pair_message}
 use Rattle.server_laws.specs.Coming.{AnswersFrom, RequestsFrom, SaysFrom}
 use Rattle.server_laws.specs.LawsBelow.{Laws}
-use Rattle.server_laws.proofs.Calling.{commit_quiet, expire_quiet, quiet_calls, tick_quiet}
+use Rattle.server_laws.proofs.Calling.{AreQuiet, IsQuiet, commit_quiet, expire_quiet, quiet_calls, quiet_proposals, tick_quiet}
 use Rattle.server_laws.proofs.Choices.{and_left, and_right, either, eq_false, eq_true, lt_true, not_true, tell}
 use Rattle.server_laws.proofs.Giving.{allocation_gives, gives_it}
 use Rattle.server_laws.proofs.Listed.{sent}
 use Rattle.server_laws.proofs.Lists.{in_drop, in_front}
-use Rattle.server_laws.proofs.Peers.{ArePeers, list_peers, members_list}
+use Rattle.server_laws.proofs.Peers.{ArePeers, covers, list_peers, members_list}
 use Rattle.server_laws.proofs.Logs.{are_zeros, no_zeros, not_told, told_at}
 use Rattle.server_laws.proofs.Proposing.{IsNewEntry, candidate_is, chosen_new, leader_of, may_record, new_is, stood}
 use Rattle.server_laws.proofs.Steady.{Steady, offers_steady, takes_steady}
@@ -130,16 +130,17 @@ module _ (laws : Laws) (members : List ℕ) (number : ℕ) (bag : List Message) 
   offered g = (all_moved members g.timed.me number site g.moves).offered
 
   -- moves that call nobody, and stand for nothing
-  quietly : (given : Given) (moves : List Move) (g : Going) → Sure g → (In TimeOut moves → ⊥) → ((peer : ℕ) → In peer (calls_of_all moves) → ⊥)
+  quietly : (given : Given) (moves : List Move) (g : Going) → Sure g → (In TimeOut moves → ⊥) → AreQuiet moves
       → ((s : Site) → s.plain ≡ g.timed.plain → AllCome (members_of g.timed) g.timed.me number bag s moves) → Sure (takes number given moves g)
-  quietly given moves g h stays calls comes =
-      takes_steady members number bag site laws Anyone Anyone given moves g h (inl stays) (λ s e free. comes s e) (λ peer l. (tt, calls peer))
+  quietly given moves g h stays quiet comes =
+      takes_steady members number bag site laws Anyone Anyone given moves g h (inl stays) (λ s e free. comes s e)
+      (λ peer l. (tt, quiet_calls moves quiet peer)) (λ entry i. absurd (quiet_proposals moves quiet entry i))
 
   -- one move
-  one_move : (given : Given) (move : Move) (g : Going) → Sure g → move ≢ TimeOut → ((peer : ℕ) → In peer (calls_of_all (move ∷ [])) → ⊥)
+  one_move : (given : Given) (move : Move) (g : Going) → Sure g → move ≢ TimeOut → IsQuiet move
       → ((called : List ℕ) → Comes (members_of g.timed) g.timed.me bag called g.timed.plain move) → Sure (takes number given (move ∷ []) g)
-  one_move given move g h other calls comes =
-      quietly given (move ∷ []) g h (λ i. elim i [ inl e ↦ other (sym e) | inr j ↦ j ]) calls
+  one_move given move g h other quiet comes =
+      quietly given (move ∷ []) g h (λ i. elim i [ inl e ↦ other (sym e) | inr j ↦ j ]) (quiet, tt)
       (λ s e. (subst (λ (p : Plain). Comes (members_of g.timed) g.timed.me bag s.called p move) (sym e) (comes s.called), tt))
 
   -- a transfer that says nothing
@@ -169,7 +170,7 @@ module _ (laws : Laws) (members : List ℕ) (number : ℕ) (bag : List Message) 
   pub gives_up_sure : (g : Going) → Sure g → Sure (gives_up number g)
   gives_up_sure g h =
       quietly (given_at g.timed.now) (handled.moves_of_expire (overdue g.timed.times g.timed.now all_nodes)) g h
-      (expire_stays (overdue g.timed.times g.timed.now all_nodes)) (quiet_calls (handled.moves_of_expire (overdue g.timed.times g.timed.now all_nodes)) (expire_quiet (overdue g.timed.times g.timed.now all_nodes)))
+      (expire_stays (overdue g.timed.times g.timed.now all_nodes)) (expire_quiet (overdue g.timed.times g.timed.now all_nodes))
       (λ s e. expire_comes (members_of g.timed) g.timed.me number bag (overdue g.timed.times g.timed.now all_nodes) s)
 
   -- ---- a tick
@@ -227,29 +228,51 @@ module _ (laws : Laws) (members : List ℕ) (number : ℕ) (bag : List Message) 
           tt,
           quiet_calls (handled.moves_of_tick (knows_all g.timed) g.timed.now g.timed.plain g.timed.times)
               (tick_quiet (knows_all g.timed && has_waited g.timed.times g.timed.now) g.timed.plain) peer,
-        ));
+        ))
+        (λ entry i. absurd (quiet_proposals (handled.moves_of_tick (knows_all g.timed) g.timed.now g.timed.plain g.timed.times)
+        (tick_quiet (knows_all g.timed && has_waited g.timed.times g.timed.now) g.timed.plain) entry i));
     once = election_once (members_of g.timed) g.timed.me (knows_all g.timed && has_waited g.timed.times g.timed.now) g.timed.plain h.once;
   }
 
   proposes_sure : (origin : ℕ) (uid : List ℕ) (node : ℕ) (g : Going) → Sure g → IsInjective g.timed.plain.store.log → may_propose g.timed ≡ true
-      → IsNewEntry g.timed.plain.store.log uid node → Sure (proposes number origin uid node g)
+      → IsNewEntry (members_of g.timed) g.timed.plain.store.log uid node → Sure (proposes number origin uid node g)
   proposes_sure origin uid node g h once may new =
-      one_move (given_proposal g.timed.now origin) (ProposeEntry (proposal g.timed.plain.store.term uid node)) g h (λ e. cc) (λ peer i. i)
-      (λ called. may_record laws.blank_keeps laws.reservation_keeps laws.pair_keeps g.timed.plain uid node
-      (leader_of g.timed.plain.memory.role (and_left (is_leader g.timed.plain.memory.role) (nat_lt (length g.timed.plain.store.log) 127) may))
-      (lt_true (length g.timed.plain.store.log) 127 (and_right (is_leader g.timed.plain.memory.role) (nat_lt (length g.timed.plain.store.log) 127) may))
-      once new)
+      takes_steady members number bag site laws Anyone Anyone (given_proposal g.timed.now origin) (ProposeEntry entry ∷ []) g h
+      (inl (λ i. elim i [ inl e ↦ absurd (cc (e)) | inr j ↦ j ]))
+      (λ s e free. (
+        subst (λ (p : Plain). Comes (members_of g.timed) g.timed.me bag s.called p (ProposeEntry entry)) (sym e)
+            (may_record laws.blank_keeps laws.reservation_keeps laws.pair_keeps (members_of g.timed) g.timed.plain uid node leads
+            (lt_true (length g.timed.plain.store.log) 127 (and_right (is_leader g.timed.plain.memory.role) (nat_lt (length g.timed.plain.store.log) 127) may))
+            once new),
+        tt,
+      ))
+      (λ peer l. (tt, λ i. i))
+      (λ other i. elim i [ inl e ↦ subst (λ (n : ℕ). In n members → ⊥) (sym (its_node other e)) not_member | inr j ↦ absurd j ])
+    where
+      entry : Entry
+      entry = proposal g.timed.plain.store.term uid node
+
+      leads : g.timed.plain.memory.role ≡ Leader
+      leads = leader_of g.timed.plain.memory.role (and_left (is_leader g.timed.plain.memory.role) (nat_lt (length g.timed.plain.store.log) 127) may)
+
+      -- a leader knows all members
+      not_member : In node members → ⊥
+      not_member i = new.outside (covers laws.same_count (members_of g.timed) members (h.1 (λ follows. absurd (cc (leads, follows)))).all node i)
+
+      its_node : (other : Entry) → ProposeEntry other ≡ ProposeEntry entry → other.node ≡ node
+      its_node other e = let same : other ≡ entry = cc (e) in ap (λ (x : Entry). x.node) same
 
   record_sure : (g : Going) → Recorded g → Sure (record_phase number g)
   record_sure g h =
       either Sure (may_propose g.timed) (records_node number (candidate g.timed) g) g (λ may. go may (candidate g.timed) refl) (λ e. h.sure)
     where
-      recorded : may_propose g.timed ≡ true → (node : ℕ) → (1 ≤ node) × (node ≤ 125) × (HasNodeId g.timed.plain.store.log node → ⊥)
+      recorded : may_propose g.timed ≡ true → (node : ℕ)
+          → (1 ≤ node) × (node ≤ 125) × (HasNodeId g.timed.plain.store.log node → ⊥) × (In node (members_of g.timed) → ⊥)
           → (uid : Option (List ℕ)) → new_uid g.timed node ≡ uid → Sure (records_as number node uid g)
       recorded may node new None e = proposes_sure 3 zeros node g h.sure h.once may
-          (record { least = new.0; most = new.1; given = new.2; told = inl refl })
+          (record { least = new.0; most = new.1; given = new.2; outside = new.3; told = inl refl })
       recorded may node new (Some uid) e = proposes_sure 2 uid node g h.sure h.once may
-          (record { least = new.0; most = new.1; given = new.2; told = inr (new_is g.timed.plain.store.log (identity (history node g.timed.watch) g.timed.now) uid e) })
+          (record { least = new.0; most = new.1; given = new.2; outside = new.3; told = inr (new_is g.timed.plain.store.log (identity (history node g.timed.watch) g.timed.now) uid e) })
 
       go : may_propose g.timed ≡ true → (node : Option ℕ) → candidate g.timed ≡ node → Sure (records_node number node g)
       go may None e = h.sure
@@ -307,7 +330,7 @@ module _ (laws : Laws) (members : List ℕ) (number : ℕ) (bag : List Message) 
       → place < g.timed.plain.store.commit → Sure (gives_pair number (AnswerAgain place) place g)
   again_sure place uid g h some at_place committed =
       gives_sure (AnswerAgain place) (slice_index_or g.timed.plain.store.log place (blank 0)) g h
-      (one_move (given_at g.timed.now) (AnswerAgain place) g h (λ e. cc) (λ peer i. i)
+      (one_move (given_at g.timed.now) (AnswerAgain place) g h (λ e. cc) tt
       (λ called. (committed, λ z. no_zeros uid some (sym (told_at g.timed.plain.store.log uid place at_place) ∙ z))))
       (offered_by (given_at g.timed.now) (AnswerAgain place) g h.0.leave _ (inl refl))
 
@@ -326,6 +349,7 @@ module _ (laws : Laws) (members : List ℕ) (number : ℕ) (bag : List Message) 
             least = c.0;
             most = c.1;
             given = c.2;
+            outside = c.3;
             told = inr (no_zeros uid some, not_told g.timed.plain.store.log uid (ap is_some new));
           })
 
@@ -358,7 +382,7 @@ module _ (laws : Laws) (members : List ℕ) (number : ℕ) (bag : List Message) 
       (vote_answer_bytes (record { term = (with_term g.timed.plain.store request.term).term; granted = grant }) 0)
       (Some (Answers (answer_to g.timed.me number (with_term g.timed.plain.store request.term) request grant)))
       (takes number (given_at g.timed.now) (TakeVoteRequest request grant ∷ []) g)
-      (one_move (given_at g.timed.now) (TakeVoteRequest request grant) g h (λ e. cc) (λ peer i. i)
+      (one_move (given_at g.timed.now) (TakeVoteRequest request grant) g h (λ e. cc) tt
       (λ called. (here, to, vote, laws.granted (with_term g.timed.plain.store request.term) request)))
       (λ message is. offered_by (given_at g.timed.now) (TakeVoteRequest request grant) g h.0.leave message (inl (sym (cc (is)))))
 
@@ -370,7 +394,7 @@ module _ (laws : Laws) (members : List ℕ) (number : ℕ) (bag : List Message) 
       (append_answer_bytes (record { term = (with_term g.timed.plain.store request.term).term; success = is_accepted verdict }) 0)
       (Some (Answers (answer_to g.timed.me number (with_term g.timed.plain.store request.term) request (is_accepted verdict))))
       (takes number (given_at g.timed.now) (TakeAppendRequest request verdict ∷ []) g)
-      (one_move (given_at g.timed.now) (TakeAppendRequest request verdict) g h (λ e. cc) (λ peer i. i)
+      (one_move (given_at g.timed.now) (TakeAppendRequest request verdict) g h (λ e. cc) tt
       (λ called. (here, to, append, laws.judged g.timed.plain request)))
       (λ message is. offered_by (given_at g.timed.now) (TakeAppendRequest request verdict) g h.0.leave message (inl (sym (cc (is)))))
 
@@ -395,7 +419,7 @@ module _ (laws : Laws) (members : List ℕ) (number : ℕ) (bag : List Message) 
     where
       go : (call : Option Request) → g.timed.plain.memory.pending d.ident.source ≡ call → Sure (answers_call number (vote_answered d says) call g)
       go None e = h
-      go (Some request) e = one_move (given_at g.timed.now) (vote_answered d says request) g h (λ s. cc) (λ peer i. i)
+      go (Some request) e = one_move (given_at g.timed.now) (vote_answered d says request) g h (λ s. cc) tt
           (λ called. (here request e, h.0.own d.ident.source request e, awaited false d g request e is, e))
 
   append_answer_sure : (d : Delivery) (says : AppendAnswer) (g : Going) → Sure g
@@ -407,7 +431,7 @@ module _ (laws : Laws) (members : List ℕ) (number : ℕ) (bag : List Message) 
     where
       go : (call : Option Request) → g.timed.plain.memory.pending d.ident.source ≡ call → Sure (answers_call number (append_answered d says) call g)
       go None e = h
-      go (Some request) e = one_move (given_at g.timed.now) (append_answered d says request) g h (λ s. cc) (λ peer i. i)
+      go (Some request) e = one_move (given_at g.timed.now) (append_answered d says request) g h (λ s. cc) tt
           (λ called. (here request e, h.0.own d.ident.source request e, awaited true d g request e is, e))
 
   -- ---- by its data type
@@ -491,7 +515,7 @@ module _ (laws : Laws) (members : List ℕ) (number : ℕ) (bag : List Message) 
   commit_sure : (g : Going) → Sure g → Sure (commit_phase number g)
   commit_sure g h =
       quietly (given_at g.timed.now) (duty.commit_phase (members_of g.timed) g.timed.me g.timed.plain) g h
-      (commit_stays (members_of g.timed) g.timed.me g.timed.plain) (quiet_calls (duty.commit_phase (members_of g.timed) g.timed.me g.timed.plain) (commit_quiet (members_of g.timed) g.timed.me g.timed.plain))
+      (commit_stays (members_of g.timed) g.timed.me g.timed.plain) (commit_quiet (members_of g.timed) g.timed.me g.timed.plain)
       (λ s e. subst (λ (p : Plain). AllCome (members_of g.timed) g.timed.me number bag s (duty.commit_phase (members_of g.timed) g.timed.me p)) e
       (laws.commit_comes (members_of g.timed) g.timed.me number bag s))
 
@@ -501,9 +525,9 @@ module _ (laws : Laws) (members : List ℕ) (number : ℕ) (bag : List Message) 
       told : has_to_tell g.timed.plain ≡ true → Sure (tells_next number g)
       told e =
           either Sure (is_zero (next_entry g.timed.plain).uid) _ _
-          (λ z. one_move (given_at g.timed.now) TellNothing g h (λ s. cc) (λ peer i. i) (λ called. (leads, below, are_zeros (next_entry g.timed.plain).uid z)))
+          (λ z. one_move (given_at g.timed.now) TellNothing g h (λ s. cc) tt (λ called. (leads, below, are_zeros (next_entry g.timed.plain).uid z)))
           (λ z. gives_sure TellPair (slice_index_or g.timed.plain.store.log g.timed.plain.memory.told (blank 0)) g h
-          (one_move (given_at g.timed.now) TellPair g h (λ s. cc) (λ peer i. i) (λ called. (leads, below, no_zeros (next_entry g.timed.plain).uid z)))
+          (one_move (given_at g.timed.now) TellPair g h (λ s. cc) tt (λ called. (leads, below, no_zeros (next_entry g.timed.plain).uid z)))
           (offered_by (given_at g.timed.now) TellPair g h.0.leave _ (inl refl)))
         where
           leads : g.timed.plain.memory.role ≡ Leader
@@ -535,6 +559,7 @@ module _ (laws : Laws) (members : List ℕ) (number : ℕ) (bag : List Message) 
         called = λ p i. h.0.0.called p (inr i);
         fit = h.0.0.fit;
         own = h.0.0.own;
+        outside = h.0.0.outside;
       },
       h.0.1,
     ),
@@ -554,6 +579,9 @@ module _ (laws : Laws) (members : List ℕ) (number : ℕ) (bag : List Message) 
       (offered_by (given_call g.timed.now (id_of g.timed.ids what peer)) move g h.0.0.leave (Requests request) says)))
       (λ e. sends_calling what peer rest payload (Some (Requests request)) g (fewer peer rest g h) (λ fits message is. absurd (cc (e, fits))))
     where
+      no_proposal : (entry : Entry) → move ≡ ProposeEntry entry → ⊥
+      no_proposal entry e = absurd (cc (sym (ap (λ (m : Move). calls_of_all (m ∷ [])) e) ∙ calls))
+
       not_again : (p : ℕ) → In p rest → In p (calls_of_all (move ∷ [])) → ⊥
       not_again p i c = elim (subst (λ (l : List ℕ). In p l) calls c) [ inl e ↦ once (subst (λ (n : ℕ). In n rest) e i) | inr j ↦ j ]
 
@@ -566,7 +594,8 @@ module _ (laws : Laws) (members : List ℕ) (number : ℕ) (bag : List Message) 
                   (comes s.called (free peer (inl refl))),
               tt,
             ))
-            (λ p i. (inr i, not_again p i)),
+            (λ p i. (inr i, not_again p i))
+            (λ entry i. elim i [ inl e ↦ absurd (no_proposal entry (sym e)) | inr j ↦ absurd j ]),
         λ p i. h.1 p (inr i),
       )
 
@@ -634,6 +663,7 @@ module _ (laws : Laws) (members : List ℕ) (number : ℕ) (bag : List Message) 
         called = λ p i. h.0.called p tt;
         fit = h.0.fit;
         own = h.0.own;
+        outside = h.0.outside;
       },
       h.1,
     ),

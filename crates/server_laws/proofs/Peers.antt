@@ -1,11 +1,11 @@
 -- The members that a server knows: itself first, at most five, none twice, and the others 1 to 125.
-use Rattle.std.proofs.Common.{◌≡◌, ◌≢◌, ℕ, suc, ◌≤◌, true, false, List, [], ◌∷◌, ◌++◌, length, length-append, ◌⊎◌, inl, inr, refl, sym, ap, subst, arith, drop}
+use Rattle.std.proofs.Common.{◌≡◌, ◌≢◌, ℕ, suc, ◌+◌, ◌≤◌, Bool, true, false, List, [], ◌∷◌, ◌++◌, length, length-append, ◌⊎◌, inl, inr, refl, sym, ◌∙◌, ap, subst, arith, drop}
 use Rattle.std.specs.Prelude.{◌&&◌, not, nat_le, nat_lt, nat_eq}
 use Rattle.cluster_discovery.specs.Members.{Event, Start, all_joined, counts, joined, lists, may_join, members}
 use Rattle.cluster_discovery.specs.Members.Event.{Heard, Sent}
-use Rattle.raft_model.specs.Lists.{In}
-use Rattle.raft_model.specs.Members.{HasNoneTwice}
-use Rattle.server_laws.proofs.Choices.{and_left, and_right, either, eq_false, le_true, lt_true, not_true}
+use Rattle.raft_model.specs.Lists.{In, how_many}
+use Rattle.raft_model.specs.Members.{HasNoneTwice, IsAll}
+use Rattle.server_laws.proofs.Choices.{and_left, and_right, either, eq_false, eq_true, le_true, lt_true, not_true, tell}
 use Rattle.server_laws.proofs.Lists.{in_append, none_passes, once_more}
 
 pub record IsList (size me : ℕ) (list : List ℕ) : Type 0 where
@@ -15,8 +15,37 @@ pub record IsList (size me : ℕ) (list : List ℕ) : Type 0 where
   pub few : (length list ≤ size) ⊎ (length list ≡ 1)
   pub devices : (peer : ℕ) → In peer peers → (1 ≤ peer) × (peer ≤ 125)
 
-unlisted : (list : List ℕ) (node : ℕ) → lists list node ≡ false → In node list → ⊥
+pub unlisted : (list : List ℕ) (node : ℕ) → lists list node ≡ false → In node list → ⊥
 unlisted list node h i = eq_false node node (none_passes (λ member. nat_eq member node) list h node i) refl
+
+-- ---- a list that has all members has each of them
+
+counts_one : (test : ℕ → Bool) (xs : List ℕ) (x : ℕ) → In x xs → test x ≡ true → 1 ≤ how_many test xs
+counts_one test [] x i e = absurd i
+counts_one test (y ∷ ys) x (inl same) e = rw (ap test (sym same) ∙ e) (omega arith)
+counts_one test (y ∷ ys) x (inr i) e = omega (arith, counts_one test ys x i e)
+
+one_counts : (test : ℕ → Bool) (xs : List ℕ) → 1 ≤ how_many test xs → (x : ℕ) × In x xs × (test x ≡ true)
+one_counts test [] h = absurd (omega (arith, h))
+one_counts test (y ∷ ys) h = elim (tell (test y)) [
+  | inl t ↦ (y, inl refl, t)
+  | inr f ↦ let less : 1 ≤ 0 + how_many test ys = rw f at h in let r = one_counts test ys (omega (arith, less)) in (r.0, inr r.1, r.2)
+]
+
+is_itself : (n : ℕ) → nat_eq n n ≡ true
+is_itself n = elim (tell (nat_eq n n)) [ inl e ↦ e | inr e ↦ absurd (eq_false n n e refl) ]
+
+pub covers : ((list members : List ℕ) (test : ℕ → Bool) → IsAll list members → how_many test list ≡ how_many test members)
+    → (list members : List ℕ) → IsAll list members → (node : ℕ) → In node members → In node list
+covers same_count list members all node i =
+    let r = one_counts (λ n. nat_eq n node) list (omega (
+      arith,
+      same_count list members (λ n. nat_eq n node) all,
+      counts_one (λ n. nat_eq n node) members node i (is_itself node),
+    )) in
+    subst (λ (n : ℕ). In n list) (eq_true r.0 node r.2) r.1
+
+-- ---- a list grows
 
 joins : (size me node : ℕ) (list : List ℕ) → IsList size me list → may_join size list node ≡ true → IsList size me (list ++ node ∷ [])
 joins size me node list h may = record {

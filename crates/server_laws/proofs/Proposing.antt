@@ -9,6 +9,7 @@ use Rattle.id_selector.specs.Choice.{IsChoice, IsFree, chosen}
 use Rattle.node_discovery.specs.Watch.{devices}
 use Rattle.raft_core.specs.Taken.{proposal}
 use Rattle.raft_model.specs.Handlers.{plain_after_all}
+use Rattle.raft_model.specs.Lists.{In}
 use Rattle.raft_model.specs.Moves.Elections.{adds_blank, has_quorum, is_leader, own_vote, stand_puts, win_puts}
 use Rattle.raft_model.specs.Moves.Leading.{MayPropose}
 use Rattle.raft_model.specs.Moves.Move.{TimeOut}
@@ -21,12 +22,14 @@ use Rattle.cluster_discovery.specs.Members.{lists}
 use Rattle.server_laws.proofs.Choices.{and_left, not_true, tell}
 use Rattle.server_laws.proofs.Lists.{found, in_range}
 use Rattle.server_laws.proofs.Logs.{no_zeros, not_recorded, not_told}
+use Rattle.server_laws.proofs.Peers.{unlisted}
 
--- an entry that a log may take: with a new node ID, and with a new unique ID or none
-pub record IsNewEntry (log : List Entry) (uid : List ℕ) (node : ℕ) : Type 0 where
+-- an entry that a log may take: with a new node ID, which is none of the list of members, and with a new unique ID or none
+pub record IsNewEntry (list : List ℕ) (log : List Entry) (uid : List ℕ) (node : ℕ) : Type 0 where
   pub least : 1 ≤ node
   pub most : node ≤ 125
   pub given : HasNodeId log node → ⊥
+  pub outside : In node list → ⊥
   pub told : (uid ≡ zeros) ⊎ ((uid ≢ zeros) × (HasUid log uid → ⊥))
 
 leads : (role : Role) → is_leader role ≡ true → role ≡ Leader
@@ -44,13 +47,18 @@ or_false false b h = (refl, h)
 unknown : (t : Timed) (node : ℕ) → is_known t node ≡ false → HasNodeId t.plain.store.log node → ⊥
 unknown t node h = not_recorded t.plain.store.log node (or_false (lists (members_of t) node) (is_recorded t.plain.store.log node) h).1
 
+no_member : (t : Timed) (node : ℕ) → is_known t node ≡ false → In node (members_of t) → ⊥
+no_member t node h = unlisted (members_of t) node (or_false (lists (members_of t) node) (is_recorded t.plain.store.log node) h).0
+
 -- ---- the node of a tick
 
-pub candidate_is : (t : Timed) (node : ℕ) → candidate t ≡ Some node → (1 ≤ node) × (node ≤ 125) × (HasNodeId t.plain.store.log node → ⊥)
+pub candidate_is : (t : Timed) (node : ℕ) → candidate t ≡ Some node
+    → (1 ≤ node) × (node ≤ 125) × (HasNodeId t.plain.store.log node → ⊥) × (In node (members_of t) → ⊥)
 candidate_is t node e =
     let f = found (is_candidate t) devices node e in
     let i = in_range 1 125 node f.1 in
-    (i.0, omega (arith, i.1), unknown t node (not_true (is_known t node) (and_left (not (is_known t node)) _ f.0)))
+    let new : is_known t node ≡ false = not_true (is_known t node) (and_left (not (is_known t node)) _ f.0) in
+    (i.0, omega (arith, i.1), unknown t node new, no_member t node new)
 
 pub new_is : (log : List Entry) (told : Option (List ℕ)) (uid : List ℕ) → if_new log told ≡ Some uid → (uid ≢ zeros) × (HasUid log uid → ⊥)
 new_is log None uid e = absurd (cc (e))
@@ -70,11 +78,12 @@ module _ (chosen_is : (busy : List Bool) (preferred : ℕ) → IsChoice busy pre
   free busy preferred node (inr next) = next.next.free
 
   pub chosen_new : (t : Timed) (preferred node : ℕ) → chosen (taken t) preferred ≡ Some node
-      → (1 ≤ node) × (node ≤ 125) × (HasNodeId t.plain.store.log node → ⊥)
+      → (1 ≤ node) × (node ≤ 125) × (HasNodeId t.plain.store.log node → ⊥) × (In node (members_of t) → ⊥)
   chosen_new t preferred node e =
       let f = free (taken t) preferred node (subst (λ (o : Option ℕ). IsChoice (taken t) preferred o) e (chosen_is (taken t) preferred)) in
       let at_node : get_or (taken t) node true ≡ is_taken t node = get_or-map-range_with_len (is_taken t) 0 128 node node true (omega (arith, f.most)) (omega arith) in
-      (f.least, f.most, unknown t node (or_false (is_known t node) _ (sym at_node ∙ f.free)).0)
+      let new : is_known t node ≡ false = (or_false (is_known t node) _ (sym at_node ∙ f.free)).0 in
+      (f.least, f.most, unknown t node new, no_member t node new)
 
 -- ---- injective logs
 
@@ -83,9 +92,9 @@ module _ (blank_keeps : (log : List Entry) (entry : Entry) → IsBlank entry →
     → IsInjective (log ++ entry ∷ []))
     (pair_keeps : (log : List Entry) (entry : Entry) → IsPair entry → IsInjective log → (HasUid log entry.uid → ⊥) → (HasNodeId log entry.node → ⊥)
     → IsInjective (log ++ entry ∷ [])) where
-  pub may_record : (plain : Plain) (uid : List ℕ) (node : ℕ) → plain.memory.role ≡ Leader → length plain.store.log < log_limit
-      → IsInjective plain.store.log → IsNewEntry plain.store.log uid node → MayPropose plain (proposal plain.store.term uid node)
-  may_record plain uid node role room once new = by_uid new.told
+  pub may_record : (list : List ℕ) (plain : Plain) (uid : List ℕ) (node : ℕ) → plain.memory.role ≡ Leader → length plain.store.log < log_limit
+      → IsInjective plain.store.log → IsNewEntry list plain.store.log uid node → MayPropose plain (proposal plain.store.term uid node)
+  may_record list plain uid node role room once new = by_uid new.told
     where
       by_uid : (uid ≡ zeros) ⊎ ((uid ≢ zeros) × (HasUid plain.store.log uid → ⊥)) → MayPropose plain (proposal plain.store.term uid node)
       by_uid (inl e) =

@@ -1,6 +1,7 @@
 -- A step as it goes, against the message machine: its moves may come, leave its server, and offer what it sent.
 use Rattle.std.proofs.Common.{◌≡◌, ◌≢◌, ℕ, true, List, [], ◌∷◌, ◌++◌, ◌⊎◌, inl, inr, refl, sym, ◌∙◌, ap, subst, Option, Some, None}
 use Rattle.std.specs.Prelude.{◌&&◌, ◌==◌, nat_lt}
+use Rattle.can_frame.specs.declared.entry.Entry.{Entry}
 use Rattle.cluster_discovery.specs.Members.{Event as Heard, Start, is_complete}
 use Rattle.cluster_discovery.specs.Members as cluster
 use Rattle.raft_core.specs.Handled.{noted_puts}
@@ -149,6 +150,7 @@ module _ (members : List ℕ) (number : ℕ) (bag : List Message) (site : Site) 
     pub called : (peer : ℕ) → Free peer → In peer (all_moved members me number site moves).called → ⊥
     pub fit : IsFit me plain
     pub own : OwnCalls me plain.memory.pending
+    pub outside : (entry : Entry) → In (ProposeEntry entry) moves → In entry.node members → ⊥
 
   abbrev pub Steady : (ℕ → Type 0) → Going → Type 0
   Steady Free g = Goes Free g.timed.me g.timed.plain g.moves g.puts g.offers
@@ -171,6 +173,7 @@ module _ (members : List ℕ) (number : ℕ) (bag : List Message) (site : Site) 
     called = h.called;
     fit = h.fit;
     own = h.own;
+    outside = h.outside;
   }
 
   -- moves that may come over the server's own list
@@ -179,8 +182,9 @@ module _ (members : List ℕ) (number : ℕ) (bag : List Message) (site : Site) 
       → ((s : Site) → s.plain ≡ g.timed.plain → ((peer : ℕ) → Free peer → In peer s.called → ⊥)
       → AllCome (members_of g.timed) g.timed.me number bag s moves)
       → ((peer : ℕ) → Left peer → Free peer × (In peer (calls_of_all moves) → ⊥))
+      → ((entry : Entry) → In (ProposeEntry entry) moves → In entry.node members → ⊥)
       → Steady Left (takes number given moves g)
-  takes_steady laws Free Left given moves g h counting comes left = (
+  takes_steady laws Free Left given moves g h counting comes left new = (
     record {
       made = written;
       come = laws.joined_come members g.timed.me number bag g.moves moves site h.0.come come;
@@ -196,6 +200,7 @@ module _ (members : List ℕ) (number : ℕ) (bag : List Message) (site : Site) 
       fit = subst (λ (p : Plain). IsFit g.timed.me p) after
           (fit_all laws members g.timed.me number bag moves (all_moved members g.timed.me number site g.moves) come (subst (λ (p : Plain). IsFit g.timed.me p) (sym h.0.leave) h.0.fit));
       own = own_all (members_of g.timed) g.timed.me number moves g.timed.plain h.0.own;
+      outside = λ entry i. elim (in_append (ProposeEntry entry) g.moves moves i) [ inl j ↦ h.0.outside entry j | inr j ↦ new entry j ];
     },
     λ counts. elim counting [
       | inr whole ↦ whole

@@ -62,6 +62,7 @@ module _ (laws : Laws)
       called = λ peer free i. starts.called peer i;
       fit = may.fit;
       own = may.calls;
+      outside = λ entry i. absurd i;
     },
     λ counts. let c = may.knows.counting counts in record { complete = c; all = may.knows.all c },
   )
@@ -111,6 +112,7 @@ module _ (laws : Laws) where
         puts = goes.made;
         come = goes.come;
         leave = goes.leave;
+        outside = goes.outside;
         say = λ message i.
             let f = in_filter (message_made number (step t number event).going.timed.me) (step t number event).going.offers message i in
             let m = made_is number (step t number event).going.timed.me f.0 message f.2 in goes.say f.0 f.1 m.0 message m.1;

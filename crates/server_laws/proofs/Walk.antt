@@ -1,5 +1,5 @@
 -- What all changes of a step keep, the whole step keeps.
-use Rattle.std.proofs.Common.{length, ◌≡◌, ℕ, ◌≤◌, Bool, true, false, List, [], ◌∷◌, inl, inr, refl, sym, subst, arith, Option, Some, None, drop, ap, ◌<◌}
+use Rattle.std.proofs.Common.{length, ◌≡◌, ◌≢◌, ◌∙◌, ℕ, ◌≤◌, Bool, true, false, List, [], ◌∷◌, inl, inr, refl, sym, subst, arith, Option, Some, None, drop, ap, ◌<◌}
 use Rattle.std.specs.Prelude.{◌-◌, ◌&&◌, not, nat_le, nat_eq, nat_lt, slice_index_or}
 use Rattle.alloc_exchange.specs.declared.heard.Heard.{Heard}
 use Rattle.alloc_exchange.specs.declared.heard.Heard.TheVariants.{Denied, FollowUp, Ignored, Whole}
@@ -62,6 +62,7 @@ use Rattle.server_laws.proofs.Giving.{allocation_gives, follow_up_gives, message
 use Rattle.server_laws.proofs.Growing.{IsDecided, commit_decided, expire_decided, tick_decided}
 use Rattle.server_laws.proofs.Keeping.{IsSentTo, IsServed, IsTick, Keeping, MakesCall}
 use Rattle.server_laws.proofs.Lists.{found, in_range}
+use Rattle.server_laws.proofs.Logs.{no_zeros, told_at}
 use Rattle.server_laws.proofs.Peers.{list_peers, members_list}
 use Rattle.server_laws.proofs.Uids.{IsWholeOf, answers_whole, info_has_uid, told_is}
 
@@ -128,17 +129,23 @@ module _ (number : ℕ) (event : Event) (Keeps : Going → Type 0) (Comes : Deli
   abbrev IsGiving : Move → Type 0
   IsGiving move = IsQuiet move × ((members : List ℕ) (me : ℕ) (server : Plain) → IsDecided members me server move)
 
-  gives_keeps : (move : Move) (place : ℕ) (g : Going) → IsGiving move → place < g.timed.plain.store.commit → Keeps g
+  gives_keeps : (move : Move) (place : ℕ) (g : Going) → IsGiving move → place < g.timed.plain.store.commit
+      → (slice_index_or g.timed.plain.store.log place (blank 0)).uid ≢ zeros → Keeps g
       → Keeps (gives_entry number move (slice_index_or g.timed.plain.store.log place (blank 0)) g)
-  gives_keeps move place g giving low h =
+  gives_keeps move place g giving low some h =
       let entry : Entry = slice_index_or g.timed.plain.store.log place (blank 0) in
       let s = k.sends_keep Alloc 0 (allocation_payload entry.node entry.uid) None g
       (record {
         destination = refl;
         said = (refl, refl);
         told = λ e. absurd (cc (e));
-        gives = λ given e. let is = (allocation_gives entry.node entry.uid given e).1 in record
-            { place = place; below = low; uid = ap (λ (pair : Pair). pair.0) (sym is); node = ap (λ (pair : Pair). pair.1) (sym is) };
+        gives = λ given e. let is = (allocation_gives entry.node entry.uid given e).1 in record {
+          place = place;
+          below = low;
+          uid = ap (λ (pair : Pair). pair.0) (sym is);
+          node = ap (λ (pair : Pair). pair.1) (sym is);
+          device = λ none. some (ap (λ (pair : Pair). pair.0) (sym is) ∙ none);
+        };
       }) h in
       either Keeps (has_room g.timed.queue (allocation_payload entry.node entry.uid)) _ _
       (λ e. k.takes_keep _ _ _ (giving.0, tt) (giving.1 (members_of g.timed) g.timed.me g.timed.plain, tt) s) (λ e. s)
@@ -155,13 +162,15 @@ module _ (number : ℕ) (event : Event) (Keeps : Going → Type 0) (Comes : Deli
   whole_keeps : (uid : List ℕ) (preference : ℕ) (g : Going) → length uid ≡ 16 → Keeps g → Keeps (hears_whole number uid preference g)
   whole_keeps uid preference g whole h =
       either Keeps (is_zero uid) g (answers_or_records number uid preference (recorded_at g.timed.plain.store.log uid) g)
-      (λ e. h) (λ e. go (recorded_at g.timed.plain.store.log uid))
+      (λ e. h) (λ some. go some (recorded_at g.timed.plain.store.log uid) refl)
     where
-      go : (place : Option ℕ) → Keeps (answers_or_records number uid preference place g)
-      go None = records_keeps uid preference g whole h
-      go (Some place) =
+      go : is_zero uid ≡ false → (place : Option ℕ) → recorded_at g.timed.plain.store.log uid ≡ place
+          → Keeps (answers_or_records number uid preference place g)
+      go some None at_place = records_keeps uid preference g whole h
+      go some (Some place) at_place =
           either Keeps (nat_lt place g.timed.plain.store.commit) (gives_pair number (AnswerAgain place) place g) g
-          (λ e. gives_keeps (AnswerAgain place) place g (tt, λ members me server. tt) (lt_true place g.timed.plain.store.commit e) h) (λ e. h)
+          (λ e. gives_keeps (AnswerAgain place) place g (tt, λ members me server. tt) (lt_true place g.timed.plain.store.commit e)
+          (λ none. no_zeros uid some (sym (told_at g.timed.plain.store.log uid place at_place) ∙ none)) h) (λ e. h)
 
   heard_keeps : (heard : Heard) (g : Going) → IsWholeOf heard → Keeps g → Keeps (answers_request number heard g)
   heard_keeps (FollowUp bytes) g whole h =
@@ -283,7 +292,8 @@ module _ (number : ℕ) (event : Event) (Keeps : Going → Type 0) (Comes : Deli
       (λ e. either Keeps (is_zero (next_entry g.timed.plain).uid) _ _
       (λ z. k.takes_keep (given_at g.timed.now) (TellNothing ∷ []) g (tt, tt) (tt, tt) h)
       (λ z. gives_keeps TellPair g.timed.plain.memory.told g (tt, λ members me server. tt)
-      (lt_true g.timed.plain.memory.told g.timed.plain.store.commit (and_right (is_leader g.timed.plain.memory.role) _ e)) h)) (λ e. h)
+      (lt_true g.timed.plain.memory.told g.timed.plain.store.commit (and_right (is_leader g.timed.plain.memory.role) _ e))
+      (no_zeros (next_entry g.timed.plain).uid z) h)) (λ e. h)
 
   by_call_keeps : (what : What) (peer : ℕ) (move : Move) (request : Request) (payload : List ℕ) (g : Going) → kind_of what ≡ RequestKind
       → (1 ≤ peer) × (peer ≤ 125) → IsSaid number g.timed.me what peer 0 payload (Some (Requests request))

@@ -1,5 +1,6 @@
 -- When the moves of a step may come in the message machine.
 use Rattle.std.specs.Prelude.{◌≡◌, ◌≢◌, ⊤, ℕ, true, false, List, Option, Some}
+use Rattle.can_frame.specs.declared.entry.Entry.{Entry}
 use Rattle.can_frame.specs.declared.identifier.Kind.{Kind}
 use Rattle.can_frame.specs.declared.identifier.Kind.TheVariants.{Anonymous, Message as Broadcast, Request as RequestKind, Response}
 use Rattle.can_frame.specs.Log.{IsInjective}
@@ -20,6 +21,7 @@ use Rattle.raft_model.specs.Lists.{In}
 use Rattle.raft_model.specs.Members.{IsAll}
 use Rattle.raft_model.specs.Messages.{Message, Request}
 use Rattle.raft_model.specs.Messages.Message.{Answers, Requests}
+use Rattle.raft_model.specs.Moves.Move.{ProposeEntry}
 use Rattle.raft_model.specs.Server.{Plain}
 use Rattle.raft_model.specs.Server.Role.{Follower}
 use Rattle.raft_model.specs.Stops.{AllCome, Site, all_moved}
@@ -99,7 +101,7 @@ pub record Begins (t : Timed) (site : Site) : Type 0 where
   pub called : (peer : ℕ) → In peer site.called → ⊥
 
 -- the step went as a step of the machine: its moves may come, with its puts in order, they leave its server, and
--- offer what it said
+-- offer what it said; and what it records has no member's node ID
 pub record IsOfTheMachine (members : List ℕ) (me number : ℕ) (bag : List Message) (site : Site)
     (going : Going) : Type 0 where
   pub come : AllCome members me number bag site going.moves
@@ -107,6 +109,7 @@ pub record IsOfTheMachine (members : List ℕ) (me number : ℕ) (bag : List Mes
   pub leave : (all_moved members me number site going.moves).plain ≡ going.timed.plain
   pub say : (message : Message) → In message (messages number going) →
       In message (all_moved members me number site going.moves).offered
+  pub outside : (entry : Entry) → In (ProposeEntry entry) going.moves → In entry.node members → ⊥
 
 -- what a server keeps, whatever step it takes
 pub record KeepsOrder (t : Timed) : Type 0 where

@@ -11,9 +11,10 @@ use Rattle.raft_core.specs.Handled.{noted_puts}
 use Rattle.raft_core.specs.StoredPuts.{Noted, plain_puts}
 use Rattle.raft_core.specs.Times.{Given}
 use Rattle.raft_model.specs.Decisions.{commit_index, grants, judges}
-use Rattle.raft_model.specs.Duty.{CommitDuty, TellDuty, TickDuty, commit_phase, tell_phase, tick_phase}
+use Rattle.raft_model.specs.Duty.{CommitDuty, TellDuty, TickDuty, WinDuty, commit_phase, tell_phase, tick_phase}
 use Rattle.raft_model.specs.Fit.{IsFit}
 use Rattle.raft_model.specs.Handlers.{calls_of_all, offers_of_all, plain_after, plain_after_all, puts_of_all}
+use Rattle.raft_model.specs.Lists.{how_many}
 use Rattle.raft_model.specs.Members.{IsAll, KnowsEnough}
 use Rattle.raft_model.specs.Messages.{Message, Request}
 use Rattle.raft_model.specs.Moves.{Comes, Move}
@@ -78,6 +79,8 @@ pub record Laws : Type 0 where
       AllCome members member step bag site moves
   pub same_commit : (list members : List ℕ) (member : ℕ) (server : Plain) → IsAll list members
       → commit_index list member server ≡ commit_index members member server
+  pub same_count : (list members : List ℕ) (test : ℕ → Bool) → IsAll list members →
+      how_many test list ≡ how_many test members
   pub granted : (store : Store) (request : Request) → IsGranted store request (grants store request)
   pub judged : (server : Plain) (request : Request) → IsJudged server request (judges server request)
   pub tick_comes : (members : List ℕ) (member step : ℕ) (bag : List Message) (waited : Bool) (site : Site)
@@ -94,3 +97,7 @@ pub record Laws : Type 0 where
       server.memory.role ≡ Leader
       → TellDuty member step room server (plain_after_all members member step server (tell_phase room server))
       (offers_of_all members member step server (tell_phase room server))
+  pub win_kept : (members : List ℕ) (member step : ℕ) (bag : List Message) (called : List ℕ) (server : Plain)
+      (move : Move)
+      → Comes members member bag called server move → WinDuty members server
+      → WinDuty members (plain_after members member step server move)

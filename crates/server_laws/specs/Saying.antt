@@ -6,15 +6,7 @@ use Rattle.dsdl_codec.specs.AppendAnswer.{append_answer_bytes}
 use Rattle.dsdl_codec.specs.VoteAnswer.{vote_answer_bytes}
 use Rattle.raft_model.specs.Messages.{Answer, Message, Request}
 use Rattle.raft_model.specs.Messages.Message.{Answers, Requests}
-use Rattle.transfer_rx.specs.Reassembly.{Delivery}
 use Rattle.server_parts.specs.Ending.{append_call_bytes, vote_call_bytes}
-
--- a request of a member that this transfer delivers, of votes or of appends, made in the step of its mark
-pub record IsAsked (d : Delivery) (me : ℕ) (append : Bool) (request : Request) : Type 0 where
-  pub from : request.from ≡ d.ident.source
-  pub made : request.step ≡ d.mark.step
-  pub receiver : request.to ≡ me
-  pub service : request.append ≡ append
 
 -- a request that the member makes in this step, to the node that the transfer goes to
 pub record SaysRequest (number me to : ℕ) (append : Bool) (bytes : Request → List ℕ) (payload : List ℕ)

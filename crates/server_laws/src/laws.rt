@@ -5,7 +5,7 @@ ghost use Rattle.can_frame.specs.declared.step.What.TheVariants.{Disc};
 ghost use Rattle.dsdl_codec.specs.Discovery.{discovery_bytes, discovery_of};
 ghost use Rattle.dsdl_codec.specs.declared.discovery.Discovery.{Discovery};
 ghost use Rattle.raft_core.specs.Times.{has_waited};
-ghost use Rattle.raft_model.specs.Duty.{CommitDuty, TickDuty};
+ghost use Rattle.raft_model.specs.Duty.{CommitDuty, TickDuty, WinDuty};
 ghost use Rattle.raft_model.specs.Lists.{In};
 ghost use Rattle.raft_model.specs.Messages.{Message};
 ghost use Rattle.raft_model.specs.Moves.Elections.{term_limit};
@@ -104,7 +104,8 @@ pub fn calls_of_a_step()
 /// A step is one of the message machine, where what is delivered to it was said by a member: its
 /// moves may come, one after another; its puts, but for their origins, are theirs, in order; they
 /// leave its server; and the requests, answers and pairs of the transfers that fitted are offered
-/// by them. What of this the next step asks for, each step keeps.
+/// by them. No entry that they propose has a member's node ID. What of this the next step asks for,
+/// each step keeps.
 pub fn moves_of_a_step()
     ensures moves { WhereItMayStep (λ members bag t number event. (site : Site) →
         Begins t site → IsOfTheMachine members t.me number bag site (step t number event).going) }
@@ -155,9 +156,9 @@ pub fn proposals_of_a_step()
 {}
 
 /// Where the commit index lies within the log, it does so after each step; and what the step gives to
-/// a device is then that of an entry that is committed when the step is over: each Allocation with a
-/// node ID that the step offers, whatever it says of the unique ID, and so each pair of those that
-/// fitted.
+/// a device is then that of an entry that is committed when the step is over, and its unique ID is not
+/// zeros, so that the entry keeps no node ID back: each Allocation with a node ID that the step offers,
+/// with however many bytes of a unique ID, and so each pair of those that fitted.
 pub fn pairs_of_a_step()
     ensures offered { (t : Timed) (number : ℕ) (event : Event) →
         t.plain.store.commit ≤ length t.plain.store.log →
@@ -180,7 +181,8 @@ pub fn pairs_of_a_step()
 /// What a step owes that ends. A leader has committed as far as the members let it, counted over
 /// all of them, and tells one place of its log at most, where there is room for its frames. Whoever
 /// has waited for an election, knows all members and does not lead, is Candidate or Leader of the
-/// next term when the step is over, where there is a next term.
+/// next term when the step is over, where there is a next term; and whoever is Candidate then counts no
+/// quorum, where that was so before.
 pub fn duty_of_a_step()
     ensures phases { (t : Timed) (number : ℕ) (event : Event) →
         (step t number event).going ≡ call_phase number (when_told t number event) }
@@ -193,6 +195,8 @@ pub fn duty_of_a_step()
         has_waited t.times (max t.now now) ≡ true → t.plain.memory.role ≢ Leader →
         t.plain.store.term < term_limit →
         TickDuty t.plain (step t number (Tick now word)).going.timed.plain }
+    ensures win { WhereItMayStep (λ members bag t number event. WinDuty members t.plain →
+        WinDuty members (step t number event).going.timed.plain) }
 {
     laws_below();
 }

@@ -1,5 +1,6 @@
 use Rattle.server_laws.proofs.Committing.{step_commits}
 use Rattle.server_laws.proofs.Dutiful.{phases, stands, tells_duly}
+use Rattle.server_laws.proofs.Winning.{step_wins}
 use Rattle.server_laws.proofs.laws.duty_of_a_step.Goals as goal
 
 pub returns : goal.returns
@@ -8,4 +9,5 @@ returns c = record {
   commit = step_commits c.laws_below.ensures;
   tell = tells_duly c.laws_below.ensures;
   tick = stands c.laws_below.ensures;
+  win = step_wins c.laws_below.ensures;
 }

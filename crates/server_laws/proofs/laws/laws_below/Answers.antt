@@ -21,6 +21,7 @@ returns c = record {
   all_puts = c.law_members.ensures.all_puts;
   all_come = c.law_members.ensures.all_come;
   same_commit = c.law_members.ensures.commit;
+  same_count = c.law_members.ensures.count;
   granted = c.law_decisions.ensures.granted;
   judged = c.law_decisions.ensures.judged;
   tick_comes = c.law_duty.ensures.tick_comes;
@@ -28,4 +29,5 @@ returns c = record {
   tick_duty = c.law_duty.ensures.tick;
   commit_duty = c.law_duty.ensures.commit;
   tell_duty = c.law_duty.ensures.tell;
+  win_kept = c.law_duty.ensures.win_kept;
 }
