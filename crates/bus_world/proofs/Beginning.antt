@@ -19,7 +19,7 @@ take_one_more [] i h = absurd (omega (arith, h))
 take_one_more (id ∷ ids) zero h = refl
 take_one_more (id ∷ ids) (suc i) h = ap (λ (l : List ℕ). id ∷ l) (take_one_more ids i (omega (arith, h)))
 
-each_and_last : {A : Type 0} (xs : List A) (x : A) (P : A → Type 0) → ((i : ℕ) (d : A) → i < length xs → P (slice_index_or xs i d)) → P x
+pub each_and_last : {A : Type 0} (xs : List A) (x : A) (P : A → Type 0) → ((i : ℕ) (d : A) → i < length xs → P (slice_index_or xs i d)) → P x
     → (i : ℕ) (d : A) → i < length (xs ++ x ∷ []) → P (slice_index_or (xs ++ x ∷ []) i d)
 each_and_last [] x P all own zero d h = own
 each_and_last [] x P all own (suc i) d h = absurd (omega (arith, h))

@@ -20,7 +20,7 @@ use Rattle.transfer_tx.specs.Views.{queued_of}
 use Rattle.world_parts.specs.Lawful.{already_running, because, judged, no_such_frame, no_node, not_running, or_else}
 use Rattle.bus_world.specs.Stands.{StandsFor}
 use Rattle.raft_model.specs.Members.{HasNoneTwice}
-use Rattle.bus_world.specs.World.{Holds, ids_of, place_of}
+use Rattle.bus_world.specs.Members.{Holds, ids_of, place_of}
 use Rattle.bus_world.specs.Places.{Accepts, Serves}
 use Rattle.bus_world.specs.declared.member.Member.{Member}
 use Rattle.bus_world.specs.declared.place.Place.{Place}

@@ -1,7 +1,9 @@
 -- What the members of a world offer is their own.
-use Rattle.std.proofs.Common.{◌≡◌, ℕ, ◌+◌, ◌≤◌, Bool, true, false, List, [], ◌∷◌, length, ap, inl, inr, refl, subst, sym, ◌∙◌}
-use Rattle.std.specs.Prelude.{not, None, Option, if◌then◌else◌, ⊤}
+use Rattle.std.proofs.Common.{◌≡◌, ℕ, ◌+◌, ◌<◌, ◌≤◌, Bool, true, false, List, [], ◌∷◌, length, length-take, get_or-take, ap, inl, inr, refl, subst, sym, ◌∙◌, arith}
+use Rattle.std.specs.Prelude.{not, None, Option, if◌then◌else◌, ⊤, slice_index_or}
 use Rattle.std.proofs.lemmas.Bool.Decides.{eqb_tells}
+use Rattle.can_frame.specs.declared.entry.Entry.{Entry}
+use Rattle.can_frame.specs.Log.{HasPair, IsWellFormed, blank}
 use Rattle.disk_model.specs.declared.disk.Disk.{Ghosts}
 use Rattle.disk_model.specs.declared.memory.MemoryDisk.{MemoryDisk}
 use Rattle.kv_store.specs.Shelf.{Shelf}
@@ -11,7 +13,7 @@ use Rattle.raft_log.specs.Stored.{Stored}
 use Rattle.raft_model.specs.Lists.{In, at, at_here}
 use Rattle.raft_model.specs.Server.{Store, committed}
 use Rattle.replay_text.specs.declared.row.Row.{Row}
-use Rattle.replay_text.specs.declared.row.Row.TheVariants.{Open, Tick, Rx, Send, Ext, Crash, Fault}
+use Rattle.replay_text.specs.declared.row.Row.TheVariants.{Open, Tick, Rx, Send, Ext, Crash, Fault, AOpen, ATick, ARx, ASend, AEnd}
 use Rattle.server_laws.specs.Giving as law
 use Rattle.server_parts.specs.Going.{Going, pairs}
 use Rattle.server_parts.specs.Step.{Event, step}
@@ -20,7 +22,7 @@ use Rattle.server_parts.specs.Transfers.{Given}
 use Rattle.alloc_server.specs.declared.server.Server.{Server}
 use Rattle.world_parts.specs.declared.unlawful.Unlawful.{Unlawful}
 use Rattle.world_parts.specs.declared.unlawful.Unlawful.TheVariants.{NoNode}
-use Rattle.world_parts.specs.Cluster.{Cluster, is_member, receipt_of, tick_of}
+use Rattle.world_parts.specs.Cluster.{Cluster, changed, is_member, receipt_of, tick_of}
 use Rattle.world_parts.specs.Lawful.{because, cause, or_else}
 use Rattle.world_parts.specs.Members.{Life, Member as MemberState, cut_off, puts_of, stepped}
 use Rattle.world_parts.specs.Members.Life.{Down, Up, Failed}
@@ -28,12 +30,12 @@ use Rattle.world_parts.specs.Promise.{AreOwn, OffersItsOwn, step_given}
 use Rattle.bus_world.specs.OnDisk.{IsUpOn, RunsAs}
 use Rattle.bus_world.specs.Places.{IsLife}
 use Rattle.bus_world.specs.Stands.{StandsFor as StandsForMember}
-use Rattle.bus_world.specs.World.{StandsFor}
+use Rattle.bus_world.specs.Members.{AreMembersOf, StandsFor, ids_of}
 use Rattle.bus_world.specs.declared.member.Member.{Member}
 use Rattle.bus_world.specs.declared.place.Place.{Place}
 use Rattle.bus_world.specs.declared.place.Place.TheVariants.{Down as DownAt, Up as UpAt, Absent}
-use Rattle.bus_world.specs.declared.world.World.{World}
-use Rattle.bus_world.proofs.Promising.{one_of}
+use Rattle.bus_world.specs.declared.members.Members.{Members}
+use Rattle.bus_world.proofs.Promising.{one_of, same_log}
 
 abbrev pub LawOfPairs : Type 0
 LawOfPairs = (t : Timed) (number : ℕ) (event : Event) → t.plain.store.commit ≤ length t.plain.store.log →
@@ -68,21 +70,70 @@ inside_life (DownAt disk) (Up t) shelf is = absurd is
 inside_life (UpAt server) (Up t) shelf is = inside_running server (Up t) shelf is
 inside_life Absent (Up t) shelf is = absurd is
 
+-- ---- each entry of a log is well formed
+
+abbrev AreFormed : Life → Type 0
+AreFormed Down = ⊤
+AreFormed (Up t) = (place : ℕ) → place < length t.plain.store.log → IsWellFormed (slice_index_or t.plain.store.log place (blank 0))
+AreFormed (Failed failure) = ⊤
+
+formed_up : {F : Type 0} {ghosts : Ghosts MemoryDisk} (server : Server MemoryDisk F ghosts) (t : Timed) (shelf : Shelf Stored) → IsUpOn server t shelf
+    → AreFormed (Up t)
+formed_up server t shelf is =
+    subst (λ (log : List Entry). (place : ℕ) → place < length log → IsWellFormed (slice_index_or log place (blank 0))) (sym (same_log server t shelf is))
+    (λ place h. (is.keeps.disk.on.stores.storable.follows place h).formed)
+
+formed_running : {F : Type 0} {ghosts : Ghosts MemoryDisk} (server : Server MemoryDisk F ghosts) (life : Life) (shelf : Shelf Stored) → RunsAs server life shelf
+    → AreFormed life
+formed_running server Down shelf is = tt
+formed_running server (Up t) shelf is = formed_up server t shelf is
+formed_running server (Failed failure) shelf is = tt
+
+formed_life : {F : Type 0} (place : Place F) (life : Life) (shelf : Shelf Stored) → IsLife place life shelf → AreFormed life
+formed_life place Down shelf is = tt
+formed_life place (Failed failure) shelf is = tt
+formed_life (DownAt disk) (Up t) shelf is = absurd is
+formed_life (UpAt server) (Up t) shelf is = formed_running server (Up t) shelf is
+formed_life Absent (Up t) shelf is = absurd is
+
+-- of members that stand for those of a cluster
+pub formed_at : {F : Type 0} (own : List (Member F)) (c : Cluster) → AreMembersOf own c.member → ids_of own ≡ c.ids
+    → (n : ℕ) → In n c.ids → AreFormed (c.member n).life
+formed_at {F} own c are ids n there =
+    let found = one_of own (λ (m : Member F). StandsForMember m (c.member m.id)) are n (subst (λ (l : List ℕ). In n l) (sym ids) there) in
+    subst (λ (k : ℕ). AreFormed (c.member k).life) found.1
+    (formed_life found.0.place (c.member found.0.id).life (c.member found.0.id).disk found.2.life)
+
 -- ---- a step
+
+-- an entry that is given to a device is a pair
+own_pair : (store : Store) (given : Given) → ((place : ℕ) → place < length store.log → IsWellFormed (slice_index_or store.log place (blank 0)))
+    → law.IsGivenIn (committed store) given → HasPair (committed store) given.0 given.1
+own_pair store given formed is =
+    let few : is.place < store.commit = grind (arith, length-take, is.inside) in
+    let inside : is.place < length store.log = grind (arith, length-take, is.inside) in
+    let same : slice_index_or (committed store) is.place (blank 0) ≡ slice_index_or store.log is.place (blank 0) = get_or-take store.commit store.log is.place (blank 0) few in record {
+      place = is.place;
+      within = is.inside;
+      pair = subst IsWellFormed (sym same) (formed is.place inside) (λ empty. is.device (sym is.uid ∙ empty.1)) (λ reserved. is.device (sym is.uid ∙ reserved.uid));
+      its_uid = is.uid;
+      its_node = is.node;
+    }
 
 own_by : LawOfPairs → (row : ℕ) (event : Event) (x : MemberState) (t : Timed) → IsInside t.plain.store → (b : Bool) →
     let going : Going = (step t row event).going in
-    AreOwn (if b then pairs going else [])
-    (if b then record x { life = Up going.timed; disk = puts_on (puts_of x going) x.disk } else cut_off x row t going (puts_on (puts_of x going) x.disk)).life
-own_by pairs_law row event x t inside true given there =
-    let is = pairs_law t row event inside given there in record { place = is.place; inside = is.inside; uid = is.uid; node = is.node }
-own_by pairs_law row event x t inside false given there = absurd there
+    let after = (if b then record x { life = Up going.timed; disk = puts_on (puts_of x going) x.disk } else cut_off x row t going (puts_on (puts_of x going) x.disk)).life in
+    AreFormed after → AreOwn (if b then pairs going else []) after
+own_by pairs_law row event x t inside true formed given there =
+    own_pair (step t row event).going.timed.plain.store given formed (pairs_law t row event inside given there)
+own_by pairs_law row event x t inside false formed given there = absurd there
 
-own_step : LawOfPairs → (row : ℕ) (event : Event) (life : Life) (x : MemberState) → AreInside life
+own_step : LawOfPairs → (row : ℕ) (event : Event) (life : Life) (x : MemberState) → AreInside life → AreFormed (stepped row event life x).life
     → AreOwn (step_given row event life x) (stepped row event life x).life
-own_step pairs_law row event Down x inside = λ given there. absurd there
-own_step pairs_law row event (Up t) x inside = own_by pairs_law row event x t inside (are_put (puts_of x (step t row event).going) x.disk.calls)
-own_step pairs_law row event (Failed failure) x inside = λ given there. absurd there
+own_step pairs_law row event Down x inside formed = λ given there. absurd there
+own_step pairs_law row event (Up t) x inside formed =
+    own_by pairs_law row event x t inside (are_put (puts_of x (step t row event).going) x.disk.calls) formed
+own_step pairs_law row event (Failed failure) x inside formed = λ given there. absurd there
 
 -- ---- a row
 
@@ -97,7 +148,7 @@ listed_by : (b : Bool) (other : Option Unlawful) → or_else (because NoNode (no
 listed_by true other e = refl
 listed_by false other e = absurd (cc (e))
 
-module _ {F : Type 0} (world : World F) (c : Cluster) (stands : StandsFor world c) (pairs_law : LawOfPairs) where
+module _ {F : Type 0} (world : Members F) (c : Cluster) (stands : StandsFor world c) (pairs_law : LawOfPairs) where
   inside_at : (n : ℕ) → In n c.ids → AreInside (c.member n).life
   inside_at n there =
       let found = one_of world.members.items (λ (m : Member F). StandsForMember m (c.member m.id)) stands.holds.members n
@@ -106,18 +157,28 @@ module _ {F : Type 0} (world : World F) (c : Cluster) (stands : StandsFor world 
       (inside_life found.0.place (c.member found.0.id).life (c.member found.0.id).disk found.2.life)
 
   own_at : (n : ℕ) (event : Event) → In n c.ids →
+      AreFormed (at c.member n (stepped (c.rows + 1) event (c.member n).life (c.member n)) n).life →
       AreOwn (step_given (c.rows + 1) event (c.member n).life (c.member n))
       (at c.member n (stepped (c.rows + 1) event (c.member n).life (c.member n)) n).life
   own_at n event there =
-      subst (λ (x : MemberState). AreOwn (step_given (c.rows + 1) event (c.member n).life (c.member n)) x.life)
+      subst (λ (x : MemberState). AreFormed x.life → AreOwn (step_given (c.rows + 1) event (c.member n).life (c.member n)) x.life)
       (sym (at_here c.member n n (stepped (c.rows + 1) event (c.member n).life (c.member n)) refl))
       (own_step pairs_law (c.rows + 1) event (c.member n).life (c.member n) (inside_at n there))
 
-  pub offers_own : (row : Row) → cause c row ≡ None → OffersItsOwn c row
-  offers_own (Open n ms word) lawful = tt
-  offers_own (Tick n ms word) lawful = own_at n (tick_of ms word) (in_if c.ids n (listed_by (is_member c.ids n) _ lawful))
-  offers_own (Rx n k ms) lawful = own_at n (receipt_of c k ms) (in_if c.ids n (listed_by (is_member c.ids n) _ lawful))
-  offers_own (Send n) lawful = tt
-  offers_own (Ext frame) lawful = tt
-  offers_own (Crash n calls pattern) lawful = tt
-  offers_own (Fault n call) lawful = tt
+  -- the logs after the row are well formed
+  pub offers_own : (row : Row) → ((n : ℕ) → In n (changed c row).ids → AreFormed ((changed c row).member n).life) → cause c row ≡ None
+      → OffersItsOwn c row
+  offers_own (Open n ms word) formed lawful = tt
+  offers_own (Tick n ms word) formed lawful =
+      let listed = in_if c.ids n (listed_by (is_member c.ids n) _ lawful) in own_at n (tick_of ms word) listed (formed n listed)
+  offers_own (Rx n k ms) formed lawful =
+      let listed = in_if c.ids n (listed_by (is_member c.ids n) _ lawful) in own_at n (receipt_of c k ms) listed (formed n listed)
+  offers_own (Send n) formed lawful = tt
+  offers_own (Ext frame) formed lawful = tt
+  offers_own (Crash n calls pattern) formed lawful = tt
+  offers_own (Fault n call) formed lawful = tt
+  offers_own (AOpen a uid pref ms word) formed lawful = tt
+  offers_own (ATick a ms word) formed lawful = tt
+  offers_own (ARx a k ms word) formed lawful = tt
+  offers_own (ASend a) formed lawful = tt
+  offers_own (AEnd a) formed lawful = tt

@@ -7,6 +7,8 @@ pub mod Giving
 pub mod Looking
 pub mod Opening
 pub mod Promising
+pub mod Seating
 pub mod Setting
 pub mod Stepping
+pub mod Within
 pub mod Zeros

@@ -18,10 +18,12 @@ use Rattle.world_parts.specs.Promise.{GivesOnce, log_on}
 use Rattle.bus_world.specs.OnDisk.{IsUpOn, RunsAs}
 use Rattle.bus_world.specs.Places.{IsLife}
 use Rattle.bus_world.specs.Stands.{StandsFor as StandsForMember}
-use Rattle.bus_world.specs.World.{StandsFor, ids_of}
+use Rattle.bus_world.specs.Members.{StandsFor, ids_of}
 use Rattle.bus_world.specs.declared.member.Member.{Member}
 use Rattle.bus_world.specs.declared.place.Place.{Place}
 use Rattle.bus_world.specs.declared.place.Place.TheVariants.{Down as DownAt, Up as UpAt, Absent}
+use Rattle.bus_world.specs.World.{StandsFor as StandsForWorld}
+use Rattle.bus_world.specs.declared.members.Members.{Members}
 use Rattle.bus_world.specs.declared.world.World.{World}
 
 -- what holds of each member holds of one with this node ID
@@ -50,9 +52,12 @@ is_once (DownAt disk) (Failed failure) shelf is = absurd is
 is_once (UpAt server) life shelf is = runs_once server life shelf is
 is_once Absent life shelf is = absurd is
 
-pub gives_once : {F : Type 0} (world : World F) (c : Cluster) → StandsFor world c → GivesOnce c
+gives_once : {F : Type 0} (world : Members F) (c : Cluster) → StandsFor world c → GivesOnce c
 gives_once {F} world c stands n there =
     let found = one_of world.members.items (λ (m : Member F). StandsForMember m (c.member m.id)) stands.holds.members n
     (subst (λ (ids : List ℕ). In n ids) (sym stands.holds.ids) there) in
     subst (λ (k : ℕ). IsInjective (log_on (c.member k).life (c.member k).disk)) found.1
     (is_once found.0.place (c.member found.0.id).life (c.member found.0.id).disk found.2.life)
+
+pub world_gives_once : {F G : Type 0} (world : World F G) (c : Cluster) → StandsForWorld world c → GivesOnce c
+world_gives_once world c stands = gives_once world.members c stands.members

@@ -1,7 +1,10 @@
 pub mod Fresh
+pub mod MemberRows
+pub mod Members
 pub mod OnDisk
 pub mod Patterns
 pub mod Places
 pub mod Rows
+pub mod Seats
 pub mod Stands
 pub mod World

@@ -1,5 +1,5 @@
 -- What a row of a world answers and leaves, for every state that the world stands for.
-use Rattle.std.specs.Prelude.{◌≡◌, ◌≤◌, ◌+◌, None, Some, length}
+use Rattle.std.specs.Prelude.{◌≡◌, None, Some}
 use Rattle.replay_text.specs.declared.row.Row.{Row}
 use Rattle.replay_text.specs.declared.told.Told.{Told}
 use Rattle.world_parts.specs.declared.unlawful.Unlawful.{Unlawful}
@@ -7,26 +7,29 @@ use Rattle.world_parts.specs.Cluster.{Cluster, changed}
 use Rattle.world_parts.specs.Lawful.{cause}
 use Rattle.world_parts.specs.Report.{told as told_by}
 use Rattle.world_parts.specs.Telling.{telling_of}
-use Rattle.bus_world.specs.World.{Holds, StandsFor}
+use Rattle.bus_world.specs.MemberRows as members
+use Rattle.bus_world.specs.Members.{Holds}
+use Rattle.bus_world.specs.Seats.{AreSeatsOf}
+use Rattle.bus_world.specs.World.{StandsFor}
 use Rattle.bus_world.specs.declared.world.World.{World}
 
-module _ {F : Type 0} where
+module _ {F G : Type 0} where
   -- the row is refused for this cause
-  abbrev pub Refuses : World F → Row → Unlawful → Type 0
+  abbrev pub Refuses : World F G → Row → Unlawful → Type 0
   Refuses world row why = (c : Cluster) → StandsFor world c → cause c row ≡ Some why
 
   -- the row is lawful, and tells this
-  abbrev pub Tells : World F → Row → Told → Type 0
+  abbrev pub Tells : World F G → Row → Told → Type 0
   Tells world row told = (c : Cluster) → StandsFor world c → (cause c row ≡ None)
       × (telling_of told ≡ told_by c row)
 
   -- and leaves this, but for the count of rows
-  abbrev pub Leaves : World F → World F → Row → Type 0
-  Leaves old new row = (c : Cluster) → StandsFor old c → Holds new.members.items new.frames.items (changed c row)
+  abbrev pub Leaves : World F G → World F G → Row → Type 0
+  Leaves old new row = (c : Cluster) → StandsFor old c
+      → (Holds new.members.members.items new.members.frames.items (changed c row))
+      × AreSeatsOf new.seats.items (changed c row).allocatee
 
-  -- all but the members and the bus stays, and the bus has one frame more at most
-  pub record Keeps (old new : World F) : Type 0 where
-    pub taken : new.taken ≡ old.taken
-    pub room : new.room ≡ old.room
+  -- all but the members, the allocatees and the bus stays, and the bus has one frame more at most
+  pub record Keeps (old new : World F G) : Type 0 where
+    pub members : members.Keeps old.members new.members
     pub accept : new.accept ≡ old.accept
-    pub most : length new.frames.items ≤ length old.frames.items + 1

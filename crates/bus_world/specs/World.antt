@@ -1,49 +1,35 @@
 -- What contracts see of a world, and what it stands for.
-use Rattle.std.specs.Prelude.{◌≡◌, ◌==◌, ℕ, ◌-◌, ◌<◌, List, length, map, position, Option, slice_index_or}
-use Rattle.transfer_tx.specs.declared.marked.Marked.{Marked}
-use Rattle.transfer_tx.specs.Views.{queued_of}
-use Rattle.world_parts.specs.Cluster.{AreMembers, Cluster}
-use Rattle.world_parts.specs.Members.{Member as MemberState}
-use Rattle.bus_world.specs.Stands.{StandsFor as StandsForMember}
-use Rattle.bus_world.specs.declared.member.Member.{Member}
+use Rattle.std.specs.Prelude.{◌≡◌, ℕ}
+use Rattle.world_parts.specs.Cluster.{Cluster}
+use Rattle.bus_world.specs.Members as members
+use Rattle.bus_world.specs.Seats.{AreSeatsOf}
 use Rattle.bus_world.specs.declared.world.World.{World}
 
-module _ {F : Type 0} where
+module _ {F G : Type 0} where
   -- how many frames the bus still takes
-  abbrev pub frames_left : World F → ℕ
-  frames_left world = world.room - length world.frames.items
+  abbrev pub frames_left : World F G → ℕ
+  frames_left world = members.frames_left world.members
 
   -- how many it was made for
-  abbrev pub frame_room : World F → ℕ
-  frame_room world = world.room
+  abbrev pub frame_room : World F G → ℕ
+  frame_room world = members.frame_room world.members
 
-  abbrev pub rows_taken : World F → ℕ
-  rows_taken world = world.taken
+  abbrev pub rows_taken : World F G → ℕ
+  rows_taken world = members.rows_taken world.members
 
-  -- the closure that was given to it
-  abbrev pub accepts : World F → F
-  accepts world = world.accept
+  -- the closures that were given to it: of the members, and of the allocatees
+  abbrev pub accepts : World F G → F
+  accepts world = members.accepts world.members
 
-  -- where a node ID stands
-  abbrev pub place_of : List (Member F) → ℕ → Option ℕ
-  place_of members n = position (λ member. member.id == n) members
+  abbrev pub allocatees_accept : World F G → G
+  allocatees_accept world = world.accept
 
-  abbrev pub ids_of : List (Member F) → List ℕ
-  ids_of members = map (λ member. member.id) members
+  -- the members, their bus, and the allocatees
+  pub record StandsFor (world : World F G) (c : Cluster) : Type 0 where
+    pub members : members.StandsFor world.members c
+    pub allocatees : AreSeatsOf world.seats.items c.allocatee
 
-  -- each member stands for its own
-  abbrev pub AreMembersOf : List (Member F) → (ℕ → MemberState) → Type 0
-  AreMembersOf members states = (i : ℕ) (d : Member F) → i < length members
-      → StandsForMember (slice_index_or members i d) (states (slice_index_or members i d).id)
-
-  -- the members and the bus
-  pub record Holds (own : List (Member F)) (bus : List Marked) (c : Cluster) : Type 0 where
-    pub ids : ids_of own ≡ c.ids
-    pub frames : map queued_of bus ≡ c.frames
-    pub members : AreMembersOf own c.member
-    pub lawful : AreMembers c.ids
-
-  -- and how many rows it has taken
-  pub record StandsFor (world : World F) (c : Cluster) : Type 0 where
-    pub holds : Holds world.members.items world.frames.items c
-    pub rows : world.taken ≡ c.rows
+  -- it was given the closures that another one was given
+  pub record AcceptsAs (new old : World F G) : Type 0 where
+    pub members : accepts new ≡ accepts old
+    pub allocatees : allocatees_accept new ≡ allocatees_accept old

@@ -10,17 +10,17 @@ ghost use Rattle.alloc_server.specs.Server.{event_of};
 ghost use Rattle.world_parts.specs.Cluster.{Cluster, receipt_of};
 ghost use Rattle.world_parts.specs.Lawful.{cause, is_forged, no_node, not_running, or_else};
 
-use crate::world::World;
+use crate::members::Members;
 use alloc_server::Event;
 use can_frame::{Frame, Ident, Judged, Kind, Mark};
 use replay_text::Told;
-use server_parts::{APPEND_ENTRIES, DISCOVERY, REQUEST_VOTE};
+use server_parts::{ALLOCATION, APPEND_ENTRIES, DISCOVERY, REQUEST_VOTE};
 use transfer_tx::Marked;
 use world_parts::Unlawful;
 
-impl<F: Fn(Kind, u16) -> Option<u64> + Copy> World<F> {
-    ghost use Rattle.bus_world.specs.Rows.{Keeps, Leaves, Refuses, Tells};
-    ghost use Rattle.bus_world.specs.World.{StandsFor, ids_of, place_of};
+impl<F: Fn(Kind, u16) -> Option<u64> + Copy> Members<F> {
+    ghost use Rattle.bus_world.specs.MemberRows.{Keeps, Leaves, Refuses, Tells};
+    ghost use Rattle.bus_world.specs.Members.{StandsFor, ids_of, place_of};
 
     /// A running member receives frame `k`.
     pub(crate) fn receive(&mut self, n: u8, k: u32, moment: u64) -> Result<Told, Unlawful>
@@ -121,7 +121,7 @@ impl<F: Fn(Kind, u16) -> Option<u64> + Copy> World<F> {
     }
 
     /// Whether a frame from outside is one that no stranger may send: it has a member's source, or is
-    /// of a data type that members send each other.
+    /// of a data type that members alone send.
     fn is_forged(&self, frame: &Frame) -> bool
         ensures { result ≡ is_forged (ids_of self.now.members.items)
             (identifier_of frame.now.id) }
@@ -131,7 +131,11 @@ impl<F: Fn(Kind, u16) -> Option<u64> + Copy> World<F> {
         };
         match ident.kind {
             Kind::Anonymous => false,
-            Kind::Message => self.is_member(ident.source) || ident.number == DISCOVERY,
+            Kind::Message => {
+                self.is_member(ident.source)
+                    || ident.number == DISCOVERY
+                    || ident.number == ALLOCATION
+            }
             Kind::Request | Kind::Response => {
                 self.is_member(ident.source)
                     || ident.number == APPEND_ENTRIES
@@ -142,7 +146,7 @@ impl<F: Fn(Kind, u16) -> Option<u64> + Copy> World<F> {
 }
 
 /// Puts a frame on the bus; its number there.
-fn put_on(frames: &mut Vec<Marked>, frame: Marked) -> u32
+pub(crate) fn put_on(frames: &mut Vec<Marked>, frame: Marked) -> u32
     requires room { length frames.old.items < vec_capacity frames.old }
     requires few { length frames.old.items < 4294967295 }
     ensures frames { frames.new.items ≡ frames.old.items ++ frame ∷ [] }

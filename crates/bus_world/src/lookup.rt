@@ -4,12 +4,12 @@ ghost use Rattle.std.specs.Prelude.{◌≡◌, ◌<◌, None, Some, IfOk, IfErr,
 ghost use Rattle.world_parts.specs.Cluster.{Cluster, is_member};
 ghost use Rattle.world_parts.specs.Lawful.{already_running, no_node, not_running, or_else};
 
-use crate::world::World;
+use crate::members::Members;
 use can_frame::Kind;
 use world_parts::Unlawful;
 
-impl<F: Fn(Kind, u16) -> Option<u64> + Copy> World<F> {
-    ghost use Rattle.bus_world.specs.World.{StandsFor, ids_of, place_of};
+impl<F: Fn(Kind, u16) -> Option<u64> + Copy> Members<F> {
+    ghost use Rattle.bus_world.specs.Members.{StandsFor, ids_of, place_of};
 
     /// Where a member stands.
     pub(crate) fn place(&self, n: u8) -> Option<usize>

@@ -7,7 +7,7 @@ ghost use Rattle.transfer_rx.specs.Memory.{ReceiverFitsInMemory};
 ghost use Rattle.server_parts.specs.Accepted as accepted;
 ghost use Rattle.bus_world.specs.Patterns.{IsFilled};
 
-use crate::world::World;
+use crate::members::Members;
 use alloc_server::Event;
 use arrayvec::ArrayVec;
 use can_frame::Kind;
@@ -16,8 +16,8 @@ use replay_text::Told;
 use transfer_rx::AcceptRow;
 use world_parts::Unlawful;
 
-impl<F: Fn(Kind, u16) -> Option<u64> + Copy> World<F> {
-    ghost use Rattle.bus_world.specs.Rows.{Keeps, Leaves, Refuses, Tells};
+impl<F: Fn(Kind, u16) -> Option<u64> + Copy> Members<F> {
+    ghost use Rattle.bus_world.specs.MemberRows.{Keeps, Leaves, Refuses, Tells};
 
     /// A stopped member opens. It is not inlined: no other row is to pay for the place of a whole server
     /// on the stack.
@@ -33,23 +33,11 @@ impl<F: Fn(Kind, u16) -> Option<u64> + Copy> World<F> {
         ensures keeps { Keeps self.old self.new }
     {
         let size = self.members.as_slice().len() as u8;
-        let rows = self.copy_of_rows();
+        let rows = copy_of(&self.rows);
         let accept = self.accept;
         match self.stopped(n) {
             Ok(place) => Ok(self.members[place].open(size, moment, word, rows, accept)),
             Err(why) => Err(why),
-        }
-    }
-
-    /// The rows that a server is handed.
-    fn copy_of_rows(&self) -> ArrayVec<AcceptRow, 16>
-        ensures { result.items ≡ self.now.rows.items }
-    {
-        let _few = self.rows.remaining_capacity();
-        let mut copy = ArrayVec::new();
-        match copy.try_extend_from_slice(&self.rows) {
-            Ok(()) => copy,
-            Err(_) => unreachable!(),
         }
     }
 
@@ -105,5 +93,17 @@ impl<F: Fn(Kind, u16) -> Option<u64> + Copy> World<F> {
             Ok(place) => Ok(self.members[place].fail_at(call)),
             Err(why) => Err(why),
         }
+    }
+}
+
+/// The rows that the receiver of a server or an allocatee is handed.
+pub(crate) fn copy_of(rows: &ArrayVec<AcceptRow, 16>) -> ArrayVec<AcceptRow, 16>
+    ensures { result.items ≡ rows.now.items }
+{
+    let _few = rows.remaining_capacity();
+    let mut copy = ArrayVec::new();
+    match copy.try_extend_from_slice(rows) {
+        Ok(()) => copy,
+        Err(_) => unreachable!(),
     }
 }

@@ -1,24 +1,27 @@
-ghost use Rattle.std.specs.Prelude.{◌≡◌, ◌≤◌, ◌<◌, ◌+◌, ◌++◌, ◌∷◌, ◌↔◌, ◌^◌, ℕ, List, [], None, Some, IfOk, IfErr, IfSome, IsErr, OnOk, length, slice_index_or, vec_capacity};
+ghost use Rattle.std.specs.Prelude.{◌≡◌, ◌≤◌, ◌<◌, ◌+◌, ◌++◌, ◌∷◌, ◌↔◌, ◌^◌, ℕ, List, [], None, Some, IfOk, IfErr, IfSome, IsErr, OnOk, length, slice_index_or};
 ghost use Rattle.disk_model.specs.Pattern.{IsUsable};
 ghost use Rattle.outside.specs.declared.pattern.Pattern.{Pattern};
 ghost use Rattle.replay_text.specs.declared.row.Row.{Row};
-ghost use Rattle.replay_text.specs.declared.row.Row.TheVariants.{Crash};
+ghost use Rattle.replay_text.specs.declared.row.Row.TheVariants.{AOpen, Crash};
 ghost use Rattle.transfer_rx.specs.Acceptance.{AnswersByRows};
 ghost use Rattle.transfer_rx.specs.Memory.{ReceiverFitsInMemory};
+ghost use Rattle.allocatee.specs.Accepted as device;
 ghost use Rattle.server_parts.specs.Accepted as accepted;
+ghost use Rattle.world_laws.specs.Allocatees.{HasAllocatees};
+ghost use Rattle.world_laws.specs.Duty.{AreDutiful};
 ghost use Rattle.world_laws.specs.Headline.{HasHeadline};
 ghost use Rattle.world_laws.specs.Safe.{AreSafe};
-ghost use Rattle.world_parts.specs.Cluster.{AreMembers, AreNodes, Cluster, cluster, next, world_of};
+ghost use Rattle.world_parts.specs.Cluster.{AreMembers, Cluster, cluster, next, world_of};
 ghost use Rattle.world_parts.specs.Lawful.{Lawful, cause};
 ghost use Rattle.world_parts.specs.Promise.{OffersItsOwn};
 ghost use Rattle.world_parts.specs.Report.{entry_of, told as told_by, view_at};
 ghost use Rattle.world_parts.specs.Telling.{telling_of};
 ghost use Rattle.world_parts.specs.declared.unlawful.WorldFault.TheVariants.{BadIds};
-ghost use Rattle.bus_world.specs.Fresh.{AreFresh};
-ghost use Rattle.bus_world.specs.Places.{Accepts};
-ghost use Rattle.bus_world.specs.declared.member.Member.{Member};
+ghost use Rattle.bus_world.specs.Seats.{Accepts, AreEmpty};
+ghost use Rattle.bus_world.specs.declared.seat.Seat.{Seat};
 
-use crate::member::Member;
+use crate::members::Members;
+use crate::seat::Seat;
 use alloc_server::View;
 use arrayvec::ArrayVec;
 use can_frame::{Entry, Kind};
@@ -26,77 +29,75 @@ use replay_text::{Row, Told};
 use server_laws::laws::pairs_of_a_step;
 use std::alloc::Global;
 use transfer_rx::AcceptRow;
-use transfer_tx::Marked;
-use world_laws::headline::{rows_are_safe, rows_grow_by_one, the_headline};
-use world_parts::{Unlawful, WorldFault, are_members};
+use world_laws::allocatees::the_allocatees;
+use world_laws::headline::{rows_are_dutiful, rows_are_safe, rows_grow_by_one, the_headline};
+use world_parts::{Unlawful, WorldFault};
 
-/// A cluster of 1 to 5 members on one bus.
+/// How many allocatees there may be at once.
+const SEATS: usize = 8;
+
+/// A cluster of 1 to 5 members, and up to 8 allocatees, on one bus.
 #[derive(Drop)]
-pub struct World<F> {
-    pub(crate) members: Vec<Member<F>>,
-    pub(crate) frames: Vec<Marked>,
+pub struct World<F, G> {
+    pub(crate) members: Members<F>,
 
-    /// How many frames the world was made for.
-    pub(crate) room: usize,
+    /// The places of the allocatees: the first is that of number 1.
+    pub(crate) seats: Vec<Seat<G>>,
 
-    /// How many rows it has taken.
-    pub(crate) taken: u64,
-
-    /// What each member's receiver accepts, as rows and as a closure.
+    /// What each allocatee's receiver accepts, as rows and as a closure.
     pub(crate) rows: ArrayVec<AcceptRow, 16>,
-    pub(crate) accept: F,
-    ghost below: { room < 4294967296 },
-    ghost fits: { length frames.items ≤ room },
-    ghost kept: { room ≤ vec_capacity frames },
-    ghost some: { 1 ≤ length members.items },
-    ghost five: { length members.items ≤ 5 },
-    ghost by_rows: { rows.items ≡ accepted.rows },
-    ghost alike: { (i : ℕ) (d : Member F) → i < length members.items →
-        Accepts (slice_index_or members.items i d).place accept },
+    pub(crate) accept: G,
+    ghost eight: { length seats.items ≡ 8 },
+    ghost by_rows: { rows.items ≡ device.rows },
+    ghost alike: { (i : ℕ) (d : Seat G) → i < 8 →
+        Accepts (slice_index_or seats.items i d) accept },
 }
 
-impl<F: Fn(Kind, u16) -> Option<u64> + Copy> World<F> {
+impl<F: Fn(Kind, u16) -> Option<u64> + Copy, G: Fn(Kind, u16) -> Option<u64> + Copy> World<F, G> {
     ghost use Rattle.bus_world.specs.Rows.{Keeps, Leaves, Refuses, Tells};
-    ghost use Rattle.bus_world.specs.World.{StandsFor, accepts, frame_room, frames_left, rows_taken};
+    ghost use Rattle.bus_world.specs.World.{StandsFor, accepts, allocatees_accept, frame_room, frames_left, rows_taken};
 
-    /// A world of these members, all stopped, on disks of zeros, with an empty bus that takes so many
-    /// frames. All memory is taken here: with too little of it the answer is `Memory`.
+    /// A world of these members, all stopped, on disks of zeros, without allocatees, with an empty bus
+    /// that takes so many frames. All memory is taken here: with too little of it the answer is `Memory`.
     pub fn new(
         alloc: Global,
         ids: &[u8],
         frames: usize,
         rows: ArrayVec<AcceptRow, 16>,
         accept: F,
-    ) -> Result<World<F>, WorldFault>
+        arows: ArrayVec<AcceptRow, 16>,
+        aaccept: G,
+    ) -> Result<World<F, G>, WorldFault>
         requires frames { frames < 2 ^ 32 }
         requires rows { rows.items ≡ accepted.rows }
         requires memory { ReceiverFitsInMemory F.row 160 128 }
         requires callable { F.IsAlwaysCallable accept }
         requires answers { AnswersByRows (F.post accept) rows.items }
+        requires arows { arows.items ≡ device.rows }
+        requires amemory { ReceiverFitsInMemory G.row 8 8 }
+        requires acallable { G.IsAlwaysCallable aaccept }
+        requires aanswers { AnswersByRows (G.post aaccept) arows.items }
         ensures stands { IfOk result (λ world. StandsFor world (cluster ids.now)) }
         ensures frames { IfOk result (λ world. frames_left world ≡ frames) }
         ensures room { IfOk result (λ world. frame_room world ≡ frames) }
         ensures taken { IfOk result (λ world. rows_taken world ≡ 0) }
         ensures accepts { IfOk result (λ world. accepts world ≡ accept) }
+        ensures aaccepts { IfOk result (λ world. allocatees_accept world ≡ aaccept) }
         ensures bad { IfErr result (λ why. (why ≡ BadIds) ↔ (AreMembers ids.now → ⊥)) }
         ensures members { OnOk result (AreMembers ids.now) }
     {
-        if !are_members(ids) {
-            return Err(WorldFault::BadIds);
-        }
-        let Ok(bus) = Vec::with_capacity(alloc, frames) else {
-            return Err(WorldFault::Memory);
+        let members = match Members::new(alloc, ids, frames, rows, accept) {
+            Ok(members) => members,
+            Err(why) => return Err(why),
         };
-        let Some(members) = stopped_members(alloc, ids) else {
+        let Some(seats) = empty_seats(alloc) else {
             return Err(WorldFault::Memory);
         };
         Ok(World {
             members,
-            frames: bus,
-            room: frames,
-            taken: 0,
-            rows,
-            accept,
+            seats,
+            rows: arows,
+            accept: aaccept,
         })
     }
 
@@ -104,17 +105,26 @@ impl<F: Fn(Kind, u16) -> Option<u64> + Copy> World<F> {
     /// offers to a device is one of its member's committed log when the row is done.
     ///
     /// Along all rows that a world took, what its members commit is a beginning of one list that only
-    /// grows and gives no ID twice, every allocation that they offer is a pair of it by then, and every
-    /// later leader holds it (`HasHeadline` of `world_laws`). The run of the message machine that the
-    /// rows show is lawful and safe (`AreSafe`).
+    /// grows, gives no ID twice and has no member's node ID; every allocation that they offer, in a queue
+    /// or on the bus, is a pair of it by then, and every later leader holds it (`HasHeadline` of
+    /// `world_laws`). The run of the message machine that the rows show is lawful and safe (`AreSafe`).
+    /// Each step does its duty: a leader commits as far as a quorum lets it and tells one place where there
+    /// is room, who has waited stands for election, and who counts a quorum leads (`AreDutiful`). What an
+    /// allocatee holds is a pair of that list from then on, so two with different unique IDs never hold the
+    /// same node ID (`HasAllocatees`).
     pub fn row(&mut self, row: &Row) -> Result<Told, Unlawful>
         requires memory { ReceiverFitsInMemory F.row 160 128 }
         requires callable { F.IsAlwaysCallable (accepts self.old) }
         requires answers { AnswersByRows (F.post (accepts self.old)) accepted.rows }
+        requires amemory { ReceiverFitsInMemory G.row 8 8 }
+        requires acallable { G.IsAlwaysCallable (allocatees_accept self.old) }
+        requires aanswers { AnswersByRows (G.post (allocatees_accept self.old)) device.rows }
         requires frames { 1 ≤ frames_left self.old }
         requires rows { rows_taken self.old < 18446744073709551615 }
         requires filled { (n calls : ℕ) (pattern : Pattern) → row.now ≡ Crash n calls pattern →
             IsUsable pattern }
+        requires preferred { (a : ℕ) (uid : List ℕ) (pref ms word : ℕ) →
+            row.now ≡ AOpen a uid pref ms word → pref < 128 }
         ensures refused { IfErr result (λ why. (c : Cluster) → StandsFor self.old c →
             cause c row.now ≡ Some why) }
         ensures told { IfOk result (λ told. (c : Cluster) → StandsFor self.old c →
@@ -129,33 +139,48 @@ impl<F: Fn(Kind, u16) -> Option<u64> + Copy> World<F> {
         ensures safe { OnOk result ((ids : List ℕ) (rows : List Row) →
             Lawful (cluster ids) rows → StandsFor self.old (world_of ids rows) →
             AreSafe ids (rows ++ row.now ∷ [])) }
+        ensures duty { OnOk result ((ids : List ℕ) (rows : List Row) →
+            Lawful (cluster ids) rows → StandsFor self.old (world_of ids rows) →
+            AreDutiful ids (rows ++ row.now ∷ [])) }
+        ensures allocatees { OnOk result ((ids : List ℕ) (rows : List Row) →
+            Lawful (cluster ids) rows → StandsFor self.old (world_of ids rows) →
+            HasAllocatees ids (rows ++ row.now ∷ [])) }
         ensures unchanged { IsErr result → self.new ≡ self.old }
         ensures taken { OnOk result (rows_taken self.new ≡ rows_taken self.old + 1) }
         ensures left { OnOk result (frames_left self.old ≤ frames_left self.new + 1) }
         ensures room { frame_room self.new ≡ frame_room self.old }
         ensures accepts { accepts self.new ≡ accepts self.old }
+        ensures aaccepts { allocatees_accept self.new ≡ allocatees_accept self.old }
     {
         pairs_of_a_step();
+        rows_are_dutiful();
         rows_are_safe();
         rows_grow_by_one();
         the_headline();
+        the_allocatees();
         match self.change(row) {
             Ok(told) => {
-                self.taken += 1;
+                self.members.taken += 1;
                 Ok(told)
             }
             Err(why) => Err(why),
         }
     }
 
+    /// Takes a row, but does not count it.
     fn change(&mut self, row: &Row) -> Result<Told, Unlawful>
         requires memory { ReceiverFitsInMemory F.row 160 128 }
-        requires callable { F.IsAlwaysCallable self.old.accept }
-        requires answers { AnswersByRows (F.post self.old.accept) accepted.rows }
-        requires frames { length self.old.frames.items < self.old.room }
-        requires rows { self.old.taken < 18446744073709551615 }
+        requires callable { F.IsAlwaysCallable self.old.members.accept }
+        requires answers { AnswersByRows (F.post self.old.members.accept) accepted.rows }
+        requires amemory { ReceiverFitsInMemory G.row 8 8 }
+        requires acallable { G.IsAlwaysCallable self.old.accept }
+        requires aanswers { AnswersByRows (G.post self.old.accept) device.rows }
+        requires frames { length self.old.members.frames.items < self.old.members.room }
+        requires rows { self.old.members.taken < 18446744073709551615 }
         requires filled { (n calls : ℕ) (pattern : Pattern) → row.now ≡ Crash n calls pattern →
             IsUsable pattern }
+        requires preferred { (a : ℕ) (uid : List ℕ) (pref ms word : ℕ) →
+            row.now ≡ AOpen a uid pref ms word → pref < 128 }
         ensures refused { IfErr result (Refuses self.old row.now) }
         ensures told { IfOk result (Tells self.old row.now) }
         ensures leaves { OnOk result (Leaves self.old self.new row.now) }
@@ -163,13 +188,24 @@ impl<F: Fn(Kind, u16) -> Option<u64> + Copy> World<F> {
         ensures keeps { Keeps self.old self.new }
     {
         match row {
-            Row::Open { n, ms, word } => self.open(*n, *ms, *word),
-            Row::Tick { n, ms, word } => self.tick(*n, *ms, *word),
-            Row::Rx { n, k, ms } => self.receive(*n, *k, *ms),
-            Row::Send { n } => self.send(*n),
-            Row::Ext { frame } => self.hear_outside(frame),
-            Row::Crash { n, calls, pattern } => self.crash(*n, *calls, pattern),
-            Row::Fault { n, call } => self.fault(*n, *call),
+            Row::Open { n, ms, word } => self.members.open(*n, *ms, *word),
+            Row::Tick { n, ms, word } => self.members.tick(*n, *ms, *word),
+            Row::Rx { n, k, ms } => self.members.receive(*n, *k, *ms),
+            Row::Send { n } => self.members.send(*n),
+            Row::Ext { frame } => self.members.hear_outside(frame),
+            Row::Crash { n, calls, pattern } => self.members.crash(*n, *calls, pattern),
+            Row::Fault { n, call } => self.members.fault(*n, *call),
+            Row::AOpen {
+                a,
+                uid,
+                pref,
+                ms,
+                word,
+            } => self.come(*a, *uid, *pref, *ms, *word),
+            Row::ATick { a, ms, word } => self.ask(*a, *ms, *word),
+            Row::ARx { a, k, ms, word } => self.hear(*a, *k, *ms, *word),
+            Row::ASend { a } => self.put(*a),
+            Row::AEnd { a } => self.leave(*a),
         }
     }
 
@@ -177,10 +213,7 @@ impl<F: Fn(Kind, u16) -> Option<u64> + Copy> World<F> {
     pub fn view(&self, id: u8) -> Option<View>
         ensures { (c : Cluster) → StandsFor self.now c → result ≡ view_at c id }
     {
-        match self.place(id) {
-            Some(place) => self.members[place].view(),
-            None => None,
-        }
+        self.members.view(id)
     }
 
     /// The entry at a place of a member's log; at place 0 the blank of term 0. `None` for a node that
@@ -188,10 +221,7 @@ impl<F: Fn(Kind, u16) -> Option<u64> + Copy> World<F> {
     pub fn entry(&self, id: u8, place: u8) -> Option<Entry>
         ensures { (c : Cluster) → StandsFor self.now c → result ≡ entry_of c id place }
     {
-        match self.place(id) {
-            Some(at) => self.members[at].entry(place),
-            None => None,
-        }
+        self.members.entry(id, place)
     }
 
     /// How many frames the bus can still take.
@@ -200,32 +230,28 @@ impl<F: Fn(Kind, u16) -> Option<u64> + Copy> World<F> {
         ensures bus { (c : Cluster) → StandsFor self.now c →
             result + length c.frames ≡ frame_room self.now }
     {
-        self.room - self.frames.as_slice().len()
+        self.members.frames_left()
     }
 
     /// How many rows the world can still take.
     pub fn rows_left(&self) -> u64
         ensures { result + rows_taken self.now ≡ 18446744073709551615 }
     {
-        u64::MAX - self.taken
+        self.members.rows_left()
     }
 }
 
-/// A stopped member for each of these nodes. `None` where there is too little memory.
-fn stopped_members<F: Fn(Kind, u16) -> Option<u64> + Copy>(
-    alloc: Global,
-    ids: &[u8],
-) -> Option<Vec<Member<F>>>
-    requires { AreNodes ids.now }
-    ensures { IfSome result (λ members. AreFresh ids.now members.items) }
+/// Places for allocatees, where none is. `None` where there is too little memory.
+fn empty_seats<G: Fn(Kind, u16) -> Option<u64> + Copy>(alloc: Global) -> Option<Vec<Seat<G>>>
+    ensures { IfSome result (λ seats. AreEmpty seats.items 8) }
 {
-    let Ok(mut members) = Vec::with_capacity(alloc, ids.len()) else {
+    let Ok(mut seats) = Vec::with_capacity(alloc, SEATS) else {
         return None;
     };
-    for id in ids {
-        let Ok(()) = members.push(Member::new(*id)) else {
+    for place in 0..SEATS {
+        let Ok(()) = seats.push(Seat::new()) else {
             return None;
         };
     }
-    Some(members)
+    Some(seats)
 }

@@ -1,5 +1,5 @@
 -- Words are those of one row at most.
-use Rattle.std.proofs.Common.{◌≡◌, ◌<◌, ◌^◌, ℕ, List, ◌∷◌, length, get_or, refl, sym, ap, ◌∙◌, arith}
+use Rattle.std.proofs.Common.{◌≡◌, ◌<◌, ◌^◌, ◌+◌, ◌*◌, ℕ, List, ◌∷◌, length, get_or, refl, sym, ap, ◌∙◌, arith}
 use Rattle.std.specs.Prelude.{codes}
 use Rattle.std.specs.Fmt.{decimal}
 use Rattle.std.specs.Int.{from_be_bytes, w32}
@@ -10,7 +10,7 @@ use Rattle.outside.specs.declared.pattern.Pattern.{Pattern}
 use Rattle.outside.specs.declared.pattern.Pattern.TheVariants.{Old, New, Bytes}
 use Rattle.can_frame.specs.declared.frame.Frame.{Frame}
 use Rattle.replay_text.specs.declared.row.Row.{Row}
-use Rattle.replay_text.specs.declared.row.Row.TheVariants.{Open, Tick, Rx, Send, Ext, Crash, Fault}
+use Rattle.replay_text.specs.declared.row.Row.TheVariants.{Open, Tick, Rx, Send, Ext, Crash, Fault, AOpen, ATick, ARx, ASend, AEnd}
 use Rattle.replay_text.specs.Schedule.{ReadsWords, Spells, SpellsPattern}
 use Rattle.replay_text.specs.Words.{IsHex, identifier_bytes}
 use Rattle.replay_text.proofs.Numbers.{length-decoded}
@@ -37,9 +37,13 @@ one_frame same_frame a b id bytes x y v w =
     let less = b.narrow in
     same_frame a b (one_identifier a.id b.id (omega arith) (omega arith) (one_list _ _ id x y)) (one_list _ _ bytes v w)
 
--- rows, and the patterns that are no bytes, differ in the first letters of their names
+-- patterns that are no bytes differ in their first letters
 abbrev first_letter : List ℕ → ℕ
 first_letter word = get_or word 0 0
+
+-- and rows in the first two letters of their names
+abbrev first_letters : List ℕ → ℕ
+first_letters word = 256 * get_or word 0 0 + get_or word 1 0
 
 -- three letters spell no bytes
 odd_word : (bytes word : List ℕ) → length word ≡ 3 → IsHex bytes word → ⊥
@@ -67,6 +71,11 @@ name_of (Send n) = codes "send"
 name_of (Ext frame) = codes "ext"
 name_of (Crash n calls pattern) = codes "crash"
 name_of (Fault n call) = codes "fault"
+name_of (AOpen a uid pref ms word) = codes "aopen"
+name_of (ATick a ms word) = codes "atick"
+name_of (ARx a k ms word) = codes "arx"
+name_of (ASend a) = codes "asend"
+name_of (AEnd a) = codes "aend"
 
 -- stands first
 name_first : (row : Row) (line : List (List ℕ)) → Spells row line → (more : List (List ℕ)) × (line ≡ name_of row ∷ more)
@@ -77,6 +86,11 @@ name_first (Send n) line spelt = (_, spelt)
 name_first (Ext frame) line spelt = (_, spelt.2)
 name_first (Crash n calls pattern) line spelt = (_, spelt.1)
 name_first (Fault n call) line spelt = (_, spelt)
+name_first (AOpen a uid pref ms word) line spelt = (_, spelt.1)
+name_first (ATick a ms word) line spelt = (_, spelt)
+name_first (ARx a k ms word) line spelt = (_, spelt)
+name_first (ASend a) line spelt = (_, spelt)
+name_first (AEnd a) line spelt = (_, spelt)
 
 one_name : (a b : Row) (line : List (List ℕ)) → Spells a line → Spells b line → name_of a ≡ name_of b
 one_name a b line x y =
@@ -127,4 +141,34 @@ one_row same_frame (Fault n call) (Fault n' call') line x y =
     let e : n ≡ n' = one_number n n' (omega (arith, x.fields)) (omega (arith, y.fields)) (cc same) in
     let f : call ≡ call' = one_number call call' (omega (arith, x.fields)) (omega (arith, y.fields)) (cc same) in
     cc
-one_row same_frame a b line x y = let letter = ap first_letter (one_name a b line x.spelled y.spelled) in absurd (omega arith)
+one_row same_frame (AOpen a uid pref ms word) (AOpen a' uid' pref' ms' word') line x y =
+    let p = x.spelled in
+    let q = y.spelled in
+    let same = sym p.1 ∙ q.1 in
+    let e : a ≡ a' = one_number a a' (omega (arith, x.fields)) (omega (arith, y.fields)) (cc same) in
+    let f : pref ≡ pref' = one_number pref pref' (omega (arith, x.fields)) (omega (arith, y.fields)) (cc same) in
+    let g : ms ≡ ms' = one_number ms ms' (omega (arith, x.fields)) (omega (arith, y.fields)) (cc same) in
+    let h : word ≡ word' = one_number word word' (omega (arith, x.fields)) (omega (arith, y.fields)) (cc same) in
+    let digits : p.0 ≡ q.0 = cc same in
+    let i : uid ≡ uid' = one_list uid uid' p.0 p.2 (rw digits q.2) in
+    cc
+one_row same_frame (ATick a ms word) (ATick a' ms' word') line x y =
+    let same = sym x.spelled ∙ y.spelled in
+    let e : a ≡ a' = one_number a a' (omega (arith, x.fields)) (omega (arith, y.fields)) (cc same) in
+    let f : ms ≡ ms' = one_number ms ms' (omega (arith, x.fields)) (omega (arith, y.fields)) (cc same) in
+    let g : word ≡ word' = one_number word word' (omega (arith, x.fields)) (omega (arith, y.fields)) (cc same) in
+    cc
+one_row same_frame (ARx a k ms word) (ARx a' k' ms' word') line x y =
+    let same = sym x.spelled ∙ y.spelled in
+    let e : a ≡ a' = one_number a a' (omega (arith, x.fields)) (omega (arith, y.fields)) (cc same) in
+    let f : k ≡ k' = one_number k k' (omega (arith, x.fields)) (omega (arith, y.fields)) (cc same) in
+    let g : ms ≡ ms' = one_number ms ms' (omega (arith, x.fields)) (omega (arith, y.fields)) (cc same) in
+    let h : word ≡ word' = one_number word word' (omega (arith, x.fields)) (omega (arith, y.fields)) (cc same) in
+    cc
+one_row same_frame (ASend a) (ASend a') line x y =
+    let same = sym x.spelled ∙ y.spelled in
+    ap ASend (one_number a a' (omega (arith, x.fields)) (omega (arith, y.fields)) (cc same))
+one_row same_frame (AEnd a) (AEnd a') line x y =
+    let same = sym x.spelled ∙ y.spelled in
+    ap AEnd (one_number a a' (omega (arith, x.fields)) (omega (arith, y.fields)) (cc same))
+one_row same_frame a b line x y = let letters = ap first_letters (one_name a b line x.spelled y.spelled) in absurd (omega arith)

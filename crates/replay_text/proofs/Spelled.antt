@@ -10,7 +10,7 @@ use Rattle.hex.proofs.HexLemmas.{decode_of-encode_lower}
 use Rattle.outside.specs.declared.pattern.Pattern.{Pattern}
 use Rattle.outside.specs.declared.pattern.Pattern.TheVariants.{Old, New, Bytes}
 use Rattle.replay_text.specs.declared.row.Row.{Row}
-use Rattle.replay_text.specs.declared.row.Row.TheVariants.{Open, Tick, Rx, Send, Ext, Crash, Fault}
+use Rattle.replay_text.specs.declared.row.Row.TheVariants.{Open, Tick, Rx, Send, Ext, Crash, Fault, AOpen, ATick, ARx, ASend, AEnd}
 use Rattle.replay_text.specs.Schedule.{IsPattern, IsRow, last_moment, last_call, Reads, Spells, SpellsPattern, row_text, row_words, pattern_word}
 use Rattle.replay_text.specs.Words.{identifier_bytes, words}
 use Rattle.replay_text.proofs.Numbers.{length-decoded}
@@ -24,6 +24,12 @@ three a b c x y z = All-cons IsVisible a (b ∷ c ∷ []) x (two b c y z)
 
 four : (a b c d : List ℕ) → IsVisible a → IsVisible b → IsVisible c → IsVisible d → AreVisible (a ∷ b ∷ c ∷ d ∷ [])
 four a b c d w x y z = All-cons IsVisible a (b ∷ c ∷ d ∷ []) w (three b c d x y z)
+
+five : (a b c d e : List ℕ) → IsVisible a → IsVisible b → IsVisible c → IsVisible d → IsVisible e → AreVisible (a ∷ b ∷ c ∷ d ∷ e ∷ [])
+five a b c d e v w x y z = All-cons IsVisible a (b ∷ c ∷ d ∷ e ∷ []) v (four b c d e w x y z)
+
+six : (a b c d e f : List ℕ) → IsVisible a → IsVisible b → IsVisible c → IsVisible d → IsVisible e → IsVisible f → AreVisible (a ∷ b ∷ c ∷ d ∷ e ∷ f ∷ [])
+six a b c d e f u v w x y z = All-cons IsVisible a (b ∷ c ∷ d ∷ e ∷ f ∷ []) u (five b c d e f v w x y z)
 
 visible-pattern : (pattern : Pattern) (word : List ℕ) → SpellsPattern pattern word → IsVisible word
 visible-pattern Old word spelt = rw spelt (visible-literal (codes "old") refl)
@@ -46,6 +52,16 @@ visible-row (Crash n calls pattern) line fields spelt = rw spelt.1
     (four (codes "crash") _ _ _ (visible-literal (codes "crash") refl) (visible-decimal n (omega arith)) (visible-decimal calls (omega arith)) (visible-pattern pattern spelt.0 spelt.2))
 visible-row (Fault n call) line fields spelt = rw spelt
     (three (codes "fault") _ _ (visible-literal (codes "fault") refl) (visible-decimal n (omega arith)) (visible-decimal call (omega arith)))
+visible-row (AOpen a uid pref ms word) line fields spelt = rw spelt.1
+    (six (codes "aopen") _ _ _ _ _ (visible-literal (codes "aopen") refl) (visible-decimal a (omega arith)) (visible-hex _ _ spelt.2) (visible-decimal pref (omega arith)) (visible-decimal ms (omega arith)) (visible-decimal word (omega arith)))
+visible-row (ATick a ms word) line fields spelt = rw spelt
+    (four (codes "atick") _ _ _ (visible-literal (codes "atick") refl) (visible-decimal a (omega arith)) (visible-decimal ms (omega arith)) (visible-decimal word (omega arith)))
+visible-row (ARx a k ms word) line fields spelt = rw spelt
+    (five (codes "arx") _ _ _ _ (visible-literal (codes "arx") refl) (visible-decimal a (omega arith)) (visible-decimal k (omega arith)) (visible-decimal ms (omega arith)) (visible-decimal word (omega arith)))
+visible-row (ASend a) line fields spelt = rw spelt
+    (two (codes "asend") _ (visible-literal (codes "asend") refl) (visible-decimal a (omega arith)))
+visible-row (AEnd a) line fields spelt = rw spelt
+    (two (codes "aend") _ (visible-literal (codes "aend") refl) (visible-decimal a (omega arith)))
 
 pub no_line_feed : (row : Row) (line : List ℕ) → Reads row line → All (λ byte. byte ≢ 10) line
 no_line_feed row line reads =
@@ -60,6 +76,12 @@ length-three a b c = omega (arith, length-append a (32 ∷ join_with_byte 32 (b 
 
 length-four : (a b c d : List ℕ) → length (join_with_byte 32 (a ∷ b ∷ c ∷ d ∷ [])) ≡ length a + length b + length c + length d + 3
 length-four a b c d = omega (arith, length-append a (32 ∷ join_with_byte 32 (b ∷ c ∷ d ∷ [])), length-three b c d)
+
+length-five : (a b c d e : List ℕ) → length (join_with_byte 32 (a ∷ b ∷ c ∷ d ∷ e ∷ [])) ≡ length a + length b + length c + length d + length e + 4
+length-five a b c d e = omega (arith, length-append a (32 ∷ join_with_byte 32 (b ∷ c ∷ d ∷ e ∷ [])), length-four b c d e)
+
+length-six : (a b c d e f : List ℕ) → length (join_with_byte 32 (a ∷ b ∷ c ∷ d ∷ e ∷ f ∷ [])) ≡ length a + length b + length c + length d + length e + length f + 5
+length-six a b c d e f = omega (arith, length-append a (32 ∷ join_with_byte 32 (b ∷ c ∷ d ∷ e ∷ f ∷ [])), length-five b c d e f)
 
 node : (n : ℕ) → n < 256 → length (decimal n) ≤ 3
 node n small = length-decimal-le 3 n (omega arith) (omega arith) (omega arith)
@@ -78,7 +100,7 @@ length-pattern Old word fits spelt = rw spelt (omega arith)
 length-pattern New word fits spelt = rw spelt (omega arith)
 length-pattern (Bytes bytes) word fits spelt = let sized = (length-decoded word bytes.items spelt).0 in let short = fits.short in omega arith
 
-short_words : (row : Row) (line : List (List ℕ)) → IsRow row → Spells row line → length (join_with_byte 32 line) ≤ 50
+short_words : (row : Row) (line : List (List ℕ)) → IsRow row → Spells row line → length (join_with_byte 32 line) ≤ 74
 short_words (Open n ms word) line fields spelt = rw spelt
     (omega (arith, length-four (codes "open") (decimal n) (decimal ms) (decimal word), node n fields.0, moment ms fields.1, number word fields.2))
 short_words (Tick n ms word) line fields spelt = rw spelt
@@ -94,8 +116,27 @@ short_words (Crash n calls pattern) line fields spelt = rw spelt.1
     (omega (arith, length-four (codes "crash") (decimal n) (decimal calls) spelt.0, node n fields.0, call calls fields.1, length-pattern pattern spelt.0 fields.2 spelt.2))
 short_words (Fault n calls) line fields spelt = rw spelt
     (omega (arith, length-three (codes "fault") (decimal n) (decimal calls), node n fields.0, call calls fields.2))
+short_words (AOpen a uid pref ms word) line fields spelt =
+    let size = fields.1.size in
+    rw spelt.1
+    (omega (
+      arith,
+      size,
+      length-six (codes "aopen") (decimal a) spelt.0 (decimal pref) (decimal ms) (decimal word),
+      (length-decoded _ _ spelt.2).0,
+      node a fields.0,
+      node pref (omega (arith, fields.2)),
+      moment ms fields.3,
+      number word fields.4,
+    ))
+short_words (ATick a ms word) line fields spelt = rw spelt
+    (omega (arith, length-four (codes "atick") (decimal a) (decimal ms) (decimal word), node a fields.0, moment ms fields.1, number word fields.2))
+short_words (ARx a k ms word) line fields spelt = rw spelt
+    (omega (arith, length-five (codes "arx") (decimal a) (decimal k) (decimal ms) (decimal word), node a fields.0, number k fields.1, moment ms fields.2, number word fields.3))
+short_words (ASend a) line fields spelt = rw spelt (omega (arith, length-two (codes "asend") (decimal a), node a fields))
+short_words (AEnd a) line fields spelt = rw spelt (omega (arith, length-two (codes "aend") (decimal a), node a fields))
 
-pub short_line : (row : Row) (line : List ℕ) → Reads row line → length line ≤ 50
+pub short_line : (row : Row) (line : List ℕ) → Reads row line → length line ≤ 74
 short_line row line reads = rw (join-words line) at (short_words row (words line) reads.fields reads.spelled)
 
 identifier-bytes : (id : ℕ) → IsBytes (identifier_bytes id)
@@ -125,6 +166,11 @@ spells-row_words (Ext frame) fields = (
 )
 spells-row_words (Crash n calls pattern) fields = (pattern_word pattern, refl, pattern-word pattern fields.2)
 spells-row_words (Fault n call) fields = refl
+spells-row_words (AOpen a uid pref ms word) fields = (encode_lower uid, refl, decode_of-encode_lower uid fields.1.each)
+spells-row_words (ATick a ms word) fields = refl
+spells-row_words (ARx a k ms word) fields = refl
+spells-row_words (ASend a) fields = refl
+spells-row_words (AEnd a) fields = refl
 
 -- which are those of its text
 words-row_text : (row : Row) → AreVisible (row_words row) → words (row_text row) ≡ row_words row
@@ -135,6 +181,11 @@ words-row_text (Send n) visible = words-joined _ _ visible
 words-row_text (Ext frame) visible = words-joined _ _ visible
 words-row_text (Crash n calls pattern) visible = words-joined _ _ visible
 words-row_text (Fault n call) visible = words-joined _ _ visible
+words-row_text (AOpen a uid pref ms word) visible = words-joined _ _ visible
+words-row_text (ATick a ms word) visible = words-joined _ _ visible
+words-row_text (ARx a k ms word) visible = words-joined _ _ visible
+words-row_text (ASend a) visible = words-joined _ _ visible
+words-row_text (AEnd a) visible = words-joined _ _ visible
 
 pub read_again : (row : Row) → IsRow row → Reads row (row_text row)
 read_again row fields =

@@ -1,5 +1,5 @@
 -- Lines of a report: words with single spaces, and a line feed at the end.
-use Rattle.std.specs.Prelude.{ℕ, cond, List, ◌++◌, codes, decimal, flat_map}
+use Rattle.std.specs.Prelude.{ℕ, cond, List, ◌++◌, codes, decimal, flat_map, Option, None, Some}
 use Rattle.hex.specs.Hex.{encode_lower}
 use Rattle.can_frame.specs.declared.step.Role.{Role}
 use Rattle.can_frame.specs.declared.step.Role.TheVariants.{Follower, Candidate, Leader}
@@ -11,7 +11,7 @@ use Rattle.can_frame.specs.declared.step.What.{What}
 use Rattle.can_frame.specs.declared.step.What.TheVariants.{Alloc, Disc, Stat, InfoQ, Info, VoteQ, Vote, AppQ, App}
 use Rattle.can_frame.specs.declared.step.Sent.{Sent}
 use Rattle.replay_text.specs.declared.told.Told.{Told}
-use Rattle.replay_text.specs.declared.told.Told.TheVariants.{Opened, Stepped, Failed, Stopped, Armed, Popped, Outside}
+use Rattle.replay_text.specs.declared.told.Told.TheVariants.{Opened, Stepped, Failed, Stopped, Armed, Popped, Outside, AOpened, AStepped, APopped, AEnded}
 use Rattle.replay_text.specs.Words.{identifier_bytes}
 
 abbrev pub role_letter : Role → List ℕ
@@ -58,6 +58,15 @@ sent_mark sent =
 abbrev pub line_head : ℕ → ℕ → List ℕ
 line_head row n = decimal row ++ codes " " ++ decimal n
 
+-- and that of its allocatee
+abbrev pub allocatee_head : ℕ → ℕ → List ℕ
+allocatee_head row a = decimal row ++ codes " a" ++ decimal a
+
+-- an allocatee waits for a node ID, or holds one
+abbrev pub state_word : Option ℕ → List ℕ
+state_word None = codes "wait"
+state_word (Some node) = codes "hold:" ++ decimal node
+
 -- the line of what a row did, its line feed included
 abbrev pub told_line : ℕ → Told → List ℕ
 told_line row (Opened n term vote last commit) =
@@ -74,3 +83,10 @@ told_line row (Popped n k frame) = line_head row n ++ codes " send " ++ decimal 
     ++ codes " " ++ encode_lower (identifier_bytes frame.id) ++ codes " " ++ encode_lower frame.bytes.items
     ++ codes "\n"
 told_line row (Outside k) = decimal row ++ codes " ext " ++ decimal k ++ codes "\n"
+told_line row (AOpened a) = allocatee_head row a ++ codes " open\n"
+told_line row (AStepped a holds queued seen sent) = allocatee_head row a ++ codes " " ++ state_word holds
+    ++ codes " " ++ decimal queued ++ codes " " ++ seen_word seen ++ flat_map sent_mark sent.items ++ codes "\n"
+told_line row (APopped a k frame) = allocatee_head row a ++ codes " send " ++ decimal k
+    ++ codes " " ++ encode_lower (identifier_bytes frame.id) ++ codes " " ++ encode_lower frame.bytes.items
+    ++ codes "\n"
+told_line row (AEnded a) = allocatee_head row a ++ codes " end\n"

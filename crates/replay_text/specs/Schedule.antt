@@ -5,7 +5,7 @@ use Rattle.hex.specs.Hex.{IsBytes, encode_lower}
 use Rattle.outside.specs.declared.pattern.Pattern.{Pattern}
 use Rattle.outside.specs.declared.pattern.Pattern.TheVariants.{Old, New, Bytes}
 use Rattle.replay_text.specs.declared.row.Row.{Row}
-use Rattle.replay_text.specs.declared.row.Row.TheVariants.{Open, Tick, Rx, Send, Ext, Crash, Fault}
+use Rattle.replay_text.specs.declared.row.Row.TheVariants.{Open, Tick, Rx, Send, Ext, Crash, Fault, AOpen, ATick, ARx, ASend, AEnd}
 use Rattle.replay_text.specs.Words.{IsHex, identifier_bytes, words}
 
 -- the last moment, in milliseconds
@@ -27,6 +27,11 @@ IsPattern Old = Unit {0}
 IsPattern New = Unit {0}
 IsPattern (Bytes bytes) = IsRepeated bytes.items
 
+-- a unique ID: 16 bytes
+pub record IsUid (uid : List ℕ) : Type 0 where
+  pub size : length uid ≡ 16
+  pub each : IsBytes uid
+
 -- the fields of a row are in their ranges (the identifier and the size of a frame always are)
 abbrev pub IsRow : Row → Type 0
 IsRow (Open n ms word) = (n < 256) × (ms ≤ last_moment) × (word < 2 ^ 32)
@@ -36,6 +41,31 @@ IsRow (Send n) = n < 256
 IsRow (Ext frame) = IsBytes frame.bytes.items
 IsRow (Crash n calls pattern) = (n < 256) × (calls ≤ last_call) × IsPattern pattern
 IsRow (Fault n call) = (n < 256) × (1 ≤ call) × (call ≤ last_call)
+IsRow (AOpen a uid pref ms word) =
+    (a < 256) × IsUid uid × (pref < 128) × (ms ≤ last_moment) × (word < 2 ^ 32)
+IsRow (ATick a ms word) = (a < 256) × (ms ≤ last_moment) × (word < 2 ^ 32)
+IsRow (ARx a k ms word) = (a < 256) × (k < 2 ^ 32) × (ms ≤ last_moment) × (word < 2 ^ 32)
+IsRow (ASend a) = a < 256
+IsRow (AEnd a) = a < 256
+
+-- the row of an allocatee; each other row is a member's, or a frame from outside
+abbrev pub IsOfAllocatee : Row → Type 0
+IsOfAllocatee (Open n ms word) = ⊥
+IsOfAllocatee (Tick n ms word) = ⊥
+IsOfAllocatee (Rx n k ms) = ⊥
+IsOfAllocatee (Send n) = ⊥
+IsOfAllocatee (Ext frame) = ⊥
+IsOfAllocatee (Crash n calls pattern) = ⊥
+IsOfAllocatee (Fault n call) = ⊥
+IsOfAllocatee row = Unit {0}
+
+abbrev pub IsOfCluster : Row → Type 0
+IsOfCluster (AOpen a uid pref ms word) = ⊥
+IsOfCluster (ATick a ms word) = ⊥
+IsOfCluster (ARx a k ms word) = ⊥
+IsOfCluster (ASend a) = ⊥
+IsOfCluster (AEnd a) = ⊥
+IsOfCluster row = Unit {0}
 
 abbrev pub SpellsPattern : Pattern → List ℕ → Type 0
 SpellsPattern Old word = word ≡ codes "old"
@@ -54,6 +84,13 @@ Spells (Crash n calls pattern) line = (word : List ℕ)
     × (line ≡ codes "crash" ∷ decimal n ∷ decimal calls ∷ word ∷ [])
     × SpellsPattern pattern word
 Spells (Fault n call) line = line ≡ codes "fault" ∷ decimal n ∷ decimal call ∷ []
+Spells (AOpen a uid pref ms word) line = (digits : List ℕ)
+    × (line ≡ codes "aopen" ∷ decimal a ∷ digits ∷ decimal pref ∷ decimal ms ∷ decimal word ∷ [])
+    × IsHex uid digits
+Spells (ATick a ms word) line = line ≡ codes "atick" ∷ decimal a ∷ decimal ms ∷ decimal word ∷ []
+Spells (ARx a k ms word) line = line ≡ codes "arx" ∷ decimal a ∷ decimal k ∷ decimal ms ∷ decimal word ∷ []
+Spells (ASend a) line = line ≡ codes "asend" ∷ decimal a ∷ []
+Spells (AEnd a) line = line ≡ codes "aend" ∷ decimal a ∷ []
 
 -- the words are those of a row whose fields are in their ranges
 pub record ReadsWords (row : Row) (line : List (List ℕ)) : Type 0 where
@@ -79,6 +116,12 @@ row_words (Ext frame) =
     codes "ext" ∷ encode_lower (identifier_bytes frame.id) ∷ encode_lower frame.bytes.items ∷ []
 row_words (Crash n calls pattern) = codes "crash" ∷ decimal n ∷ decimal calls ∷ pattern_word pattern ∷ []
 row_words (Fault n call) = codes "fault" ∷ decimal n ∷ decimal call ∷ []
+row_words (AOpen a uid pref ms word) =
+    codes "aopen" ∷ decimal a ∷ encode_lower uid ∷ decimal pref ∷ decimal ms ∷ decimal word ∷ []
+row_words (ATick a ms word) = codes "atick" ∷ decimal a ∷ decimal ms ∷ decimal word ∷ []
+row_words (ARx a k ms word) = codes "arx" ∷ decimal a ∷ decimal k ∷ decimal ms ∷ decimal word ∷ []
+row_words (ASend a) = codes "asend" ∷ decimal a ∷ []
+row_words (AEnd a) = codes "aend" ∷ decimal a ∷ []
 
 -- the text of a row, without its line feed
 abbrev pub row_text : Row → List ℕ

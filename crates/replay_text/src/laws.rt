@@ -19,9 +19,9 @@ pub fn a_row_is_read_again()
     ensures { (row : Row) → IsRow row → Reads row (row_text row) }
 {}
 
-/// The line of a row has at most 50 bytes, and no line feed in it.
+/// The line of a row has at most 74 bytes, and no line feed in it.
 pub fn lines_of_rows_are_short()
-    ensures short { (row : Row) (line : List ℕ) → Reads row line → length line ≤ 50 }
+    ensures short { (row : Row) (line : List ℕ) → Reads row line → length line ≤ 74 }
     ensures one_line { (row : Row) (line : List ℕ) → Reads row line → All (λ byte. byte ≢ 10) line }
 {}
 

@@ -1,11 +1,11 @@
 ghost use Rattle.std.specs.Prelude.{◌≡◌, ◌≤◌, ◌<◌, ◌+◌, ◌*◌, ◌++◌, codes, length, decimal, flat_map};
 ghost use Rattle.hex.specs.Hex.{encode_lower};
 ghost use Rattle.replay_text.specs.Words.{identifier_bytes};
-ghost use Rattle.replay_text.specs.Report.{role_letter, seen_word, sent_mark, told_line, transfer_name};
+ghost use Rattle.replay_text.specs.Report.{role_letter, seen_word, sent_mark, state_word, told_line, transfer_name};
 
 use crate::{Line, Told};
 use arrayvec::ArrayVec;
-use can_frame::{Frame, Role, Seen, Sent, What};
+use can_frame::{Frame, NodeId, Role, Seen, Sent, What};
 
 /// The line that tells what row number `row` did, its line feed included. The longest is that of a step
 /// that offered twelve transfers, with 189 bytes: 56 to `drop:9`, 11 for each transfer as ` +alloc:255`,
@@ -53,6 +53,25 @@ pub fn write_told(row: u64, told: &Told) -> ArrayVec<u8, 400>
             line.text(b" ext");
             line.field(u64::from(*k));
         }
+        Told::AOpened { a } => write_allocatee(&mut line, *a, b" open"),
+        Told::AStepped {
+            a,
+            holds,
+            queued,
+            seen,
+            sent,
+        } => {
+            write_allocatee(&mut line, *a, b" ");
+            write_holds(&mut line, *holds);
+            line.field(u64::from(*queued));
+            write_seen(&mut line, *seen);
+            write_marks(&mut line, sent);
+        }
+        Told::APopped { a, k, frame } => {
+            write_allocatee(&mut line, *a, b" send");
+            write_frame(&mut line, *k, frame);
+        }
+        Told::AEnded { a } => write_allocatee(&mut line, *a, b" end"),
     }
     line.text(b"\n");
     line.into_bytes()
@@ -66,6 +85,32 @@ fn write_event(line: &mut Line, n: u8, event: &[u8])
 {
     line.field(u64::from(n));
     line.text(event);
+}
+
+/// An allocatee and what happened to it.
+fn write_allocatee(line: &mut Line, a: u8, event: &[u8])
+    requires { length line.old + 22 + length event.now ≤ 400 }
+    ensures text { line.new ≡ line.old ++ codes " a" ++ decimal a ++ event.now }
+    ensures len { length line.new ≤ length line.old + 5 + length event.now }
+{
+    line.text(b" a");
+    line.number(u64::from(a));
+    line.text(event);
+}
+
+/// Whether it waits for a node ID, or which one it holds.
+fn write_holds(line: &mut Line, holds: Option<NodeId>)
+    requires { length line.old + 25 ≤ 400 }
+    ensures text { line.new ≡ line.old ++ state_word holds }
+    ensures len { length line.new ≤ length line.old + 8 }
+{
+    match holds {
+        Some(node) => {
+            line.text(b"hold:");
+            line.number(u64::from(node.get()));
+        }
+        None => line.text(b"wait"),
+    }
 }
 
 /// The term, and the three numbers that a line has behind it.
@@ -195,6 +240,53 @@ mod tests {
             seen,
             sent: list,
         }
+    }
+
+    #[test]
+    fn lines_of_an_allocatee(rt: HostRuntime) -> Result<(), Fail> {
+        let frame = Frame::from_parts(0x1e00_0500, &[0xfb, 0, 1, 2, 3, 4, 5, 0xc0]);
+        let frame = frame.ok().ok_or("no frame")?;
+        let mut asked = ArrayVec::new();
+        asked.push(Sent {
+            what: What::Alloc,
+            to: 0,
+            fitted: true,
+        });
+        let lines = [
+            (3, Told::AOpened { a: 1 }, b"3 a1 open\n".as_slice()),
+            (
+                4,
+                Told::AStepped {
+                    a: 1,
+                    holds: None,
+                    queued: 1,
+                    seen: Seen::Ticked,
+                    sent: asked,
+                },
+                b"4 a1 wait 1 tick +alloc:0\n",
+            ),
+            (
+                5,
+                Told::APopped { a: 1, k: 1, frame },
+                b"5 a1 send 1 1e000500 fb000102030405c0\n",
+            ),
+            (
+                26,
+                Told::AStepped {
+                    a: 1,
+                    holds: NodeId::new(125),
+                    queued: 0,
+                    seen: Seen::Took,
+                    sent: ArrayVec::new(),
+                },
+                b"26 a1 hold:125 0 took\n",
+            ),
+            (27, Told::AEnded { a: 1 }, b"27 a1 end\n"),
+        ];
+        for (row, told, line) in lines {
+            assert_eq!(rt; write_told(row, &told).as_slice(), line);
+        }
+        Ok(())
     }
 
     #[test]

@@ -4,13 +4,14 @@ ghost use Rattle.hex.specs.Hex.{IsBytes};
 ghost use Rattle.can_frame.specs.declared.frame.Frame.{Frame as FrameValue};
 ghost use Rattle.outside.specs.declared.pattern.Pattern.{Pattern as PatternValue};
 ghost use Rattle.replay_text.specs.declared.row.Row.{Row as RowValue};
-ghost use Rattle.replay_text.specs.Schedule.{Reads, ReadsWords, IsPattern, IsRepeated, SpellsPattern, last_moment};
+ghost use Rattle.replay_text.specs.Schedule.{Reads, ReadsWords, IsOfAllocatee, IsOfCluster, IsPattern, IsRepeated, SpellsPattern, last_moment};
 ghost use Rattle.replay_text.specs.Words.{IsHex, identifier_bytes, words};
 
 use crate::Row;
+use crate::laws::a_line_has_one_row;
 use crate::word::{
-    one_word, read_bytes, read_identifier, read_number, read_u8, read_u32, split_word, three_words,
-    two_words,
+    four_words, one_word, read_bytes, read_identifier, read_number, read_u8, read_u32, read_uid,
+    split_word, three_words, two_words,
 };
 use can_frame::Frame;
 use can_frame::laws::frames_are_their_parts;
@@ -18,6 +19,9 @@ use outside::Pattern;
 
 /// The last moment, in milliseconds.
 const LAST_MOMENT: u64 = 1_000_000_000_000_000;
+
+/// The highest node ID that an allocatee may prefer.
+const LAST_PREFERENCE: u64 = 127;
 
 /// The highest number of a disk call.
 const LAST_CALL: u32 = 1_000_000;
@@ -28,7 +32,20 @@ pub fn read_row(line: &[u8]) -> Option<Row>
     ensures none { IsNone result → (row : RowValue) → Reads row line.now → ⊥ }
     ensures only { (row : RowValue) → Reads row line.now → result ≡ Some row }
 {
+    a_line_has_one_row();
     let (name, fields) = split_word(line)?;
+    match read_cluster_row(name, fields) {
+        Some(row) => Some(row),
+        None => read_allocatee_row(name, fields),
+    }
+}
+
+/// A row of a member, or a frame from outside.
+fn read_cluster_row(name: &[u8], fields: &[u8]) -> Option<Row>
+    ensures found { IfSome result (λ row. ReadsWords row (name.now ∷ words fields.now)) }
+    ensures only { (row : RowValue) → IsOfCluster row → ReadsWords row (name.now ∷ words fields.now) →
+        result ≡ Some row }
+{
     match name {
         b"open" => read_open(fields),
         b"tick" => read_tick(fields),
@@ -37,6 +54,21 @@ pub fn read_row(line: &[u8]) -> Option<Row>
         b"ext" => read_ext(fields),
         b"crash" => read_crash(fields),
         b"fault" => read_fault(fields),
+        _ => None,
+    }
+}
+
+fn read_allocatee_row(name: &[u8], fields: &[u8]) -> Option<Row>
+    ensures found { IfSome result (λ row. ReadsWords row (name.now ∷ words fields.now)) }
+    ensures only { (row : RowValue) → IsOfAllocatee row → ReadsWords row (name.now ∷ words fields.now) →
+        result ≡ Some row }
+{
+    match name {
+        b"aopen" => read_aopen(fields),
+        b"atick" => read_atick(fields),
+        b"arx" => read_arx(fields),
+        b"asend" => read_asend(fields),
+        b"aend" => read_aend(fields),
         _ => None,
     }
 }
@@ -171,6 +203,69 @@ fn read_fault(fields: &[u8]) -> Option<Row>
     Some(Row::Fault { n, call })
 }
 
+fn read_aopen(fields: &[u8]) -> Option<Row>
+    ensures found { IfSome result (λ row. ReadsWords row (codes "aopen" ∷ words fields.now)) }
+    ensures only { (row : RowValue) → ReadsWords row (codes "aopen" ∷ words fields.now) →
+        result ≡ Some row }
+{
+    let (a, rest) = split_word(fields)?;
+    let (uid, pref, ms, word) = four_words(rest)?;
+    let a = read_u8(a)?;
+    let uid = read_uid(uid)?;
+    let pref = read_number(pref, LAST_PREFERENCE)? as u8;
+    let ms = read_number(ms, LAST_MOMENT)?;
+    let word = read_u32(word, u32::MAX)?;
+    Some(Row::AOpen {
+        a,
+        uid,
+        pref,
+        ms,
+        word,
+    })
+}
+
+fn read_atick(fields: &[u8]) -> Option<Row>
+    ensures found { IfSome result (λ row. ReadsWords row (codes "atick" ∷ words fields.now)) }
+    ensures only { (row : RowValue) → ReadsWords row (codes "atick" ∷ words fields.now) →
+        result ≡ Some row }
+{
+    let (a, ms, word) = read_turn(fields)?;
+    Some(Row::ATick { a, ms, word })
+}
+
+fn read_arx(fields: &[u8]) -> Option<Row>
+    ensures found { IfSome result (λ row. ReadsWords row (codes "arx" ∷ words fields.now)) }
+    ensures only { (row : RowValue) → ReadsWords row (codes "arx" ∷ words fields.now) →
+        result ≡ Some row }
+{
+    let (a, k, ms, word) = four_words(fields)?;
+    let a = read_u8(a)?;
+    let k = read_u32(k, u32::MAX)?;
+    let ms = read_number(ms, LAST_MOMENT)?;
+    let word = read_u32(word, u32::MAX)?;
+    Some(Row::ARx { a, k, ms, word })
+}
+
+fn read_asend(fields: &[u8]) -> Option<Row>
+    ensures found { IfSome result (λ row. ReadsWords row (codes "asend" ∷ words fields.now)) }
+    ensures only { (row : RowValue) → ReadsWords row (codes "asend" ∷ words fields.now) →
+        result ≡ Some row }
+{
+    let a = one_word(fields)?;
+    let a = read_u8(a)?;
+    Some(Row::ASend { a })
+}
+
+fn read_aend(fields: &[u8]) -> Option<Row>
+    ensures found { IfSome result (λ row. ReadsWords row (codes "aend" ∷ words fields.now)) }
+    ensures only { (row : RowValue) → ReadsWords row (codes "aend" ∷ words fields.now) →
+        result ≡ Some row }
+{
+    let a = one_word(fields)?;
+    let a = read_u8(a)?;
+    Some(Row::AEnd { a })
+}
+
 #[cfg(test)]
 mod tests {
     use super::*;
@@ -178,7 +273,7 @@ mod tests {
 
     #[test]
     fn lines_that_are_no_rows(rt: HostRuntime) {
-        let lines: [&[u8]; 22] = [
+        let lines: [&[u8]; 32] = [
             b"",
             b"open 1 0",
             b"open  1 0 0",
@@ -200,6 +295,16 @@ mod tests {
             b"crash 1 1 OLD",
             b"fault 1 0",
             b"fault 1 1000001",
+            b"aopen 1 000102030405060708090a0b0c0d0e 125 2000 0",
+            b"aopen 1 000102030405060708090a0b0c0d0e0f10 125 2000 0",
+            b"aopen 1 000102030405060708090a0b0c0d0e0f 128 2000 0",
+            b"aopen 256 000102030405060708090a0b0c0d0e0f 125 2000 0",
+            b"aopen 1 000102030405060708090a0b0c0d0e0f 125 2000",
+            b"atick 1 2600",
+            b"arx 1 2 2700",
+            b"arx 1 4294967296 2700 0",
+            b"asend a1",
+            b"aend 1 0",
             b"xxxxxxxxxxxxxxxxxxxxxxxxxxxxxxxxxxxxxxxxxxxxxxxxxxxxxxxxxxxxxxxxxxxxxxxxxxxxxxxxxxxxxxxxxxxxxxxxxxxxxxxxxxxxxxxxxxxxxxxx",
         ];
         for line in lines {
@@ -264,6 +369,35 @@ mod tests {
                 },
             ),
             (b"fault 1 1", Row::Fault { n: 1, call: 1 }),
+            (
+                b"aopen 1 000102030405060708090a0b0c0d0e0F 127 2000 4294967295",
+                Row::AOpen {
+                    a: 1,
+                    uid: [0, 1, 2, 3, 4, 5, 6, 7, 8, 9, 10, 11, 12, 13, 14, 15],
+                    pref: 127,
+                    ms: 2000,
+                    word: 4_294_967_295,
+                },
+            ),
+            (
+                b"atick 255 2600 1",
+                Row::ATick {
+                    a: 255,
+                    ms: 2600,
+                    word: 1,
+                },
+            ),
+            (
+                b"arx 8 4294967295 2700 0",
+                Row::ARx {
+                    a: 8,
+                    k: 4_294_967_295,
+                    ms: 2700,
+                    word: 0,
+                },
+            ),
+            (b"asend 1", Row::ASend { a: 1 }),
+            (b"aend 0", Row::AEnd { a: 0 }),
         ];
         for (line, row) in rows {
             assert_eq!(rt; read_row(line), Some(row));

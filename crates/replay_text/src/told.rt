@@ -1,7 +1,8 @@
 use arrayvec::ArrayVec;
-use can_frame::{Frame, Role, Seen, Sent};
+use can_frame::{Frame, NodeId, Role, Seen, Sent};
 
-/// What a row did, as a report tells it. `n` is the node, and the other numbers are those after the row.
+/// What a row did, as a report tells it. `n` is the node, `a` the allocatee, and the other numbers are those after
+/// the row.
 #[derive(Debug, Drop, PartialEq, Eq)]
 pub enum Told {
     /// A node opened, with this stored term, vote (0 for none), last index and commit index.
@@ -50,5 +51,32 @@ pub enum Told {
     /// A frame from outside is on the bus, as frame `k`.
     Outside {
         k: u32,
+    },
+
+    /// An allocatee came to the bus.
+    AOpened {
+        a: u8,
+    },
+
+    /// An allocatee made a step: the node ID that it holds, what it saw, and the transfer that it offered to its
+    /// queue of `queued` frames.
+    AStepped {
+        a: u8,
+        holds: Option<NodeId>,
+        queued: u8,
+        seen: Seen,
+        sent: ArrayVec<Sent, 1>,
+    },
+
+    /// An allocatee put a frame on the bus, as frame `k`.
+    APopped {
+        a: u8,
+        k: u32,
+        frame: Frame,
+    },
+
+    /// An allocatee left the bus.
+    AEnded {
+        a: u8,
     },
 }

@@ -1,9 +1,11 @@
 ghost use Rattle.std.specs.Prelude.{◌≡◌, ◌<◌, ◌≤◌, ◌∷◌, ◌^◌, [], ℕ, List, decimal, length, Some, IfSome, IsNone, ◌==◌};
 ghost use Rattle.std.specs.List.{position_or_len};
 ghost use Rattle.arrayvec.specs.ArrayVec.{ArrayVec as Items};
+ghost use Rattle.replay_text.specs.Schedule.{IsUid};
 ghost use Rattle.replay_text.specs.Words.{IsHex, identifier_bytes, words};
 
 use arrayvec::ArrayVec;
+use can_frame::Uid;
 use itoa::Buffer;
 use std::str;
 
@@ -142,4 +144,27 @@ pub fn three_words(text: &[u8]) -> Option<(&[u8], &[u8], &[u8])>
     let (first, rest) = split_word(text)?;
     let (second, third) = two_words(rest)?;
     Some((first, second, third))
+}
+
+/// The four words of a text; `None` where it has fewer or more.
+pub fn four_words(text: &[u8]) -> Option<(&[u8], &[u8], &[u8], &[u8])>
+    ensures some { IfSome result (λ parts. words text.now
+        ≡ parts.0.now ∷ parts.1.now ∷ parts.2.now ∷ parts.3.now ∷ []) }
+    ensures none { IsNone result → (a b c d : List ℕ) → words text.now ≡ a ∷ b ∷ c ∷ d ∷ [] → ⊥ }
+{
+    let (first, rest) = split_word(text)?;
+    let (second, third, fourth) = three_words(rest)?;
+    Some((first, second, third, fourth))
+}
+
+/// A unique ID: 16 bytes.
+pub fn read_uid(word: &[u8]) -> Option<Uid>
+    ensures found { IfSome result (λ uid. IsUid uid × IsHex uid word.now) }
+    ensures only { (uid : List ℕ) → IsUid uid → IsHex uid word.now → result ≡ Some uid }
+{
+    let bytes = read_bytes::<16>(word)?;
+    match bytes.into_inner() {
+        Ok(uid) => Some(uid),
+        Err(_) => None,
+    }
 }

@@ -3,7 +3,7 @@ use Rattle.std.proofs.Common.{◌≡◌, ◌≤◌, ◌+◌, ℕ, suc, Bool, tru
 use Rattle.std.specs.Io.KnownBytes.{Appends, append_known}
 use Rattle.world_parts.specs.Cluster.{Cluster}
 use Rattle.world_parts.specs.Report.{entry_of}
-use Rattle.soak_rounds.specs.Counts.{counts_of, is_no_blank, lines_of, pairs, pairs_to, soak_report}
+use Rattle.soak_rounds.specs.Counts.{counts_of, is_pair, lines_of, pairs, pairs_to, soak_report}
 use Rattle.soak_rounds.specs.Rounds.{Soak, for_each, has_round, one_if, seeded, soaked}
 use Rattle.soak_rounds.specs.declared.counts.Counts.{Counts}
 use mir.Val.{bool_byte}
@@ -20,11 +20,11 @@ one_at_most false = omega arith
 
 -- ---- pairs
 
-pub pairs_next : (w : Cluster) (n place count more : ℕ) → count ≡ pairs_to w n place → more ≡ one_if (is_no_blank (entry_of w n (place + 1))) →
+pub pairs_next : (w : Cluster) (n place count more : ℕ) → count ≡ pairs_to w n place → more ≡ one_if (is_pair (entry_of w n (place + 1))) →
     count + more ≡ pairs_to w n (place + 1)
 pairs_next w n place count more e f =
     let next : suc place ≡ place + 1 = omega arith in
-    let P : ℕ → Type 0 = λ p. more ≡ one_if (is_no_blank (entry_of w n p)) → count + more ≡ pairs_to w n p in
+    let P : ℕ → Type 0 = λ p. more ≡ one_if (is_pair (entry_of w n p)) → count + more ≡ pairs_to w n p in
     subst P next (λ h. ap (λ c. c + more) e ∙ ap (λ m. pairs_to w n place + m) h) f
 
 -- ---- the six lines

@@ -12,7 +12,7 @@ use Rattle.raft_log.specs.DeviceCalls.{key_of}
 use Rattle.raft_log.specs.Stored.{Put, Stored, after_put, opening_puts}
 use Rattle.raft_model.specs.Lists.{In, any, at}
 use Rattle.replay_text.specs.declared.row.Row.{Row}
-use Rattle.replay_text.specs.declared.row.Row.TheVariants.{Open, Tick, Rx, Send, Ext, Crash, Fault}
+use Rattle.replay_text.specs.declared.row.Row.TheVariants.{Open, Tick, Rx, Send, Ext, Crash, Fault, AOpen, ATick, ARx, ASend, AEnd}
 use Rattle.server_parts.specs.Going.{Going}
 use Rattle.server_parts.specs.Step.{Event, step}
 use Rattle.server_parts.specs.TimedServer.{Timed, opening}
@@ -219,6 +219,11 @@ next_faultless w (Send n) e all = at_one w.member n _ all (record { unset = (all
 next_faultless w (Ext frame) e all = all
 next_faultless w (Crash n calls pattern) e all = at_one w.member n _ all (crashed_faultless calls pattern (w.member n) (all n))
 next_faultless w (Fault n call) e all = absurd (cc (e))
+next_faultless w (AOpen a uid pref ms word) e all = all
+next_faultless w (ATick a ms word) e all = all
+next_faultless w (ARx a k ms word) e all = all
+next_faultless w (ASend a) e all = all
+next_faultless w (AEnd a) e all = all
 
 rows_faultless : (w : Cluster) (rows : List Row) → HasNoFault rows → AllFaultless w → AllFaultless (after_rows w rows)
 rows_faultless w [] none all = all
@@ -234,6 +239,11 @@ next_ids w (Send n) = refl
 next_ids w (Ext frame) = refl
 next_ids w (Crash n calls pattern) = refl
 next_ids w (Fault n call) = refl
+next_ids w (AOpen a uid pref ms word) = refl
+next_ids w (ATick a ms word) = refl
+next_ids w (ARx a k ms word) = refl
+next_ids w (ASend a) = refl
+next_ids w (AEnd a) = refl
 
 rows_ids : (w : Cluster) (rows : List Row) → (after_rows w rows).ids ≡ w.ids
 rows_ids w [] = refl

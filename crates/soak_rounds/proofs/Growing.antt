@@ -3,8 +3,9 @@ use Rattle.std.proofs.Common.{◌≡◌, ◌≤◌, ◌+◌, ◌*◌, ◌-◌, �
 use Rattle.std.proofs.Math.Nat.{mul-le-mul_right}
 use Rattle.std.specs.Prelude.{◌==◌, ◌%◌, ◌/◌, if◌then◌else◌}
 use Rattle.replay_text.specs.declared.row.Row.{Row}
-use Rattle.replay_text.specs.declared.row.Row.TheVariants.{Open, Tick, Rx, Send, Ext, Crash, Fault}
+use Rattle.replay_text.specs.declared.row.Row.TheVariants.{Open, Tick, Rx, Send, Ext, Crash, Fault, AOpen, ATick, ARx, ASend, AEnd}
 use Rattle.transfer_tx.specs.Queue.{Queued}
+use Rattle.world_parts.specs.Allocatees.{next_from}
 use Rattle.world_parts.specs.Cluster.{Cluster, in_list, next}
 use Rattle.world_parts.specs.Members.{next_frame}
 use Rattle.world_parts.specs.Report.{told}
@@ -68,6 +69,11 @@ frames_of (Send n) = 1
 frames_of (Ext frame) = 1
 frames_of (Crash n calls pattern) = 0
 frames_of (Fault n call) = 0
+frames_of (AOpen a uid pref ms word) = 0
+frames_of (ATick a ms word) = 0
+frames_of (ARx a k ms word) = 0
+frames_of (ASend a) = 1
+frames_of (AEnd a) = 0
 
 one_at_most : (frame : Option Queued) → length (in_list frame) ≤ 1
 one_at_most None = omega arith
@@ -84,6 +90,11 @@ next_frames w (Send n) = one_frame w.frames (in_list (next_frame (w.member n).li
 next_frames w (Ext frame) = one_frame w.frames _ (omega arith)
 next_frames w (Crash n calls pattern) = omega arith
 next_frames w (Fault n call) = omega arith
+next_frames w (AOpen a uid pref ms word) = omega arith
+next_frames w (ATick a ms word) = omega arith
+next_frames w (ARx a k ms word) = omega arith
+next_frames w (ASend a) = one_frame w.frames (in_list (next_from (w.allocatee a))) (one_at_most (next_from (w.allocatee a)))
+next_frames w (AEnd a) = omega arith
 
 one_at_most_if : (test : Bool) → one_if test ≤ 1
 one_at_most_if true = omega arith

@@ -18,9 +18,10 @@ are_zeros zero (x ∷ xs) = false
 are_zeros (suc n) [] = false
 are_zeros (suc n) (x ∷ xs) = (x == 0) && are_zeros n xs
 
-abbrev pub is_no_blank : Option Entry → Bool
-is_no_blank None = false
-is_no_blank (Some entry) = not ((entry.node == 0) && are_zeros 16 entry.uid)
+-- a unique ID that is not zeros: blanks and reservations have none
+abbrev pub is_pair : Option Entry → Bool
+is_pair None = false
+is_pair (Some entry) = not (are_zeros 16 entry.uid)
 
 abbrev pub commit_of : Option View → ℕ
 commit_of None = 0
@@ -38,10 +39,10 @@ furthest w (suc size) =
     then suc size
     else furthest w size
 
--- how many entries that a node shows up to a place are not blank
+-- how many entries that a node shows up to a place are pairs
 abbrev pub pairs_to : Cluster → ℕ → ℕ → ℕ
 pairs_to w n zero = 0
-pairs_to w n (suc place) = pairs_to w n place + one_if (is_no_blank (entry_of w n (suc place)))
+pairs_to w n (suc place) = pairs_to w n place + one_if (is_pair (entry_of w n (suc place)))
 
 -- and how many of the longest committed list
 unfoldable pub pairs : Cluster → ℕ → ℕ

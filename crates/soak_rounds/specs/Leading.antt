@@ -1,7 +1,7 @@
 -- The rows that were taken, as rows of a cluster.
 use Rattle.std.specs.Prelude.{◌≡◌, ℕ, Bool, true, false, List, [], ◌∷◌}
 use Rattle.replay_text.specs.declared.row.Row.{Row}
-use Rattle.replay_text.specs.declared.row.Row.TheVariants.{Open, Tick, Rx, Send, Ext, Crash, Fault}
+use Rattle.replay_text.specs.declared.row.Row.TheVariants.{Open, Tick, Rx, Send, Ext, Crash, Fault, AOpen, ATick, ARx, ASend, AEnd}
 use Rattle.world_parts.specs.Cluster.{cluster, world_of}
 use Rattle.world_parts.specs.Lawful.{Lawful}
 use Rattle.soak_rounds.specs.Rounds.{Soak}
@@ -15,6 +15,11 @@ is_fault (Send n) = false
 is_fault (Ext frame) = false
 is_fault (Crash n calls pattern) = false
 is_fault (Fault n call) = true
+is_fault (AOpen a uid pref ms word) = false
+is_fault (ATick a ms word) = false
+is_fault (ARx a k ms word) = false
+is_fault (ASend a) = false
+is_fault (AEnd a) = false
 
 abbrev pub HasNoFault : List Row → Type 0
 HasNoFault [] = Unit {0}

@@ -2,14 +2,17 @@ ghost use Rattle.std.specs.Prelude.{◌≡◌};
 ghost use Rattle.bus_world.specs.World.{StandsFor};
 ghost use Rattle.world_parts.specs.Cluster.{Cluster};
 ghost use Rattle.world_parts.specs.Report.{entry_of};
-ghost use Rattle.soak_rounds.specs.Counts.{commit_at, furthest, is_no_blank, pairs};
+ghost use Rattle.soak_rounds.specs.Counts.{commit_at, furthest, is_pair, pairs};
 
 use bus_world::World;
-use can_frame::Kind;
+use can_frame::{Kind, is_zero};
 
-/// How many entries of the longest committed list that a member shows are not blank.
+/// How many pairs stand in the longest committed list that a member shows: entries whose unique ID is not zeros.
 #[tactic(auto, unfolding(crate::specs::Counts::pairs))]
-pub(crate) fn pairs<F: Fn(Kind, u16) -> Option<u64> + Copy>(world: &World<F>, size: u8) -> u64
+pub(crate) fn pairs<F: Fn(Kind, u16) -> Option<u64> + Copy, G: Fn(Kind, u16) -> Option<u64> + Copy>(
+    world: &World<F, G>,
+    size: u8,
+) -> u64
     ensures { (w : Cluster) → StandsFor world.now w → result ≡ pairs w size }
 {
     let n = furthest(world, size);
@@ -21,7 +24,10 @@ pub(crate) fn pairs<F: Fn(Kind, u16) -> Option<u64> + Copy>(world: &World<F>, si
 }
 
 /// The first member that shows the greatest commit index; 0 where all show none or 0.
-fn furthest<F: Fn(Kind, u16) -> Option<u64> + Copy>(world: &World<F>, size: u8) -> u8
+fn furthest<F: Fn(Kind, u16) -> Option<u64> + Copy, G: Fn(Kind, u16) -> Option<u64> + Copy>(
+    world: &World<F, G>,
+    size: u8,
+) -> u8
     ensures { (w : Cluster) → StandsFor world.now w → result ≡ furthest w size }
 {
     let mut furthest = 0;
@@ -34,7 +40,10 @@ fn furthest<F: Fn(Kind, u16) -> Option<u64> + Copy>(world: &World<F>, size: u8) 
 }
 
 /// The commit index that a member shows, 0 where it shows none.
-fn commit<F: Fn(Kind, u16) -> Option<u64> + Copy>(world: &World<F>, n: u8) -> u8
+fn commit<F: Fn(Kind, u16) -> Option<u64> + Copy, G: Fn(Kind, u16) -> Option<u64> + Copy>(
+    world: &World<F, G>,
+    n: u8,
+) -> u8
     ensures { (w : Cluster) → StandsFor world.now w → result ≡ commit_at w n }
 {
     match world.view(n) {
@@ -43,12 +52,16 @@ fn commit<F: Fn(Kind, u16) -> Option<u64> + Copy>(world: &World<F>, n: u8) -> u8
     }
 }
 
-/// Whether a member shows an entry at this place that is not blank.
-fn is_pair<F: Fn(Kind, u16) -> Option<u64> + Copy>(world: &World<F>, n: u8, place: u8) -> bool
-    ensures { (w : Cluster) → StandsFor world.now w → result ≡ is_no_blank (entry_of w n place) }
+/// Whether a member shows a pair at this place.
+fn is_pair<F: Fn(Kind, u16) -> Option<u64> + Copy, G: Fn(Kind, u16) -> Option<u64> + Copy>(
+    world: &World<F, G>,
+    n: u8,
+    place: u8,
+) -> bool
+    ensures { (w : Cluster) → StandsFor world.now w → result ≡ is_pair (entry_of w n place) }
 {
     match world.entry(n, place) {
-        Some(entry) => !entry.is_blank(),
+        Some(entry) => !is_zero(&entry.uid),
         None => false,
     }
 }

@@ -2,6 +2,7 @@ ghost use Rattle.std.specs.Prelude.{◌≡◌, ◌≤◌, ◌<◌, ◌*◌, ◌�
 ghost use Rattle.std.specs.Io.KnownBytes.{Appends};
 ghost use Rattle.outside.specs.Faults.{Rose};
 ghost use Rattle.program_parts.specs.Output.{WritesFront};
+ghost use Rattle.allocatee.specs.Accepted as device;
 ghost use Rattle.server_parts.specs.Accepted as accepted;
 ghost use Rattle.transfer_rx.specs.Acceptance.{first_signature};
 ghost use Rattle.soak_rounds.specs.Counts.{IsEnd, soak_report};
@@ -9,6 +10,7 @@ ghost use Rattle.soak_rounds.specs.Counts.{IsEnd, soak_report};
 use crate::counts::write_counts;
 use crate::soaking::Soaking;
 use alloc_server::accept_rows;
+use allocatee::allocatee_rows;
 use bus_world::World;
 use can_frame::Kind;
 use outside::{Failed, Sink};
@@ -44,7 +46,15 @@ pub fn soak<K: Sink>(alloc: Global, seed: u64, rounds: u64, size: u8, sink: &mut
 {
     let room = room_for(rounds);
     let ids = &MEMBERS[..size as usize];
-    let Ok(world) = World::new(alloc, ids, room, accept_rows(), accept) else {
+    let Ok(world) = World::new(
+        alloc,
+        ids,
+        room,
+        accept_rows(),
+        accept,
+        allocatee_rows(),
+        device_accept,
+    ) else {
         return Status::Memory;
     };
     let mut soaking = Soaking::new(world, room, seed);
@@ -71,4 +81,11 @@ fn accept(kind: Kind, number: u16) -> Option<u64>
     ensures { result ≡ first_signature accepted.rows kind number }
 {
     alloc_server::accept(kind, number)
+}
+
+/// What an allocatee receives: `allocatee::allocatee_accept`, under a name of this crate.
+fn device_accept(kind: Kind, number: u16) -> Option<u64>
+    ensures { result ≡ first_signature device.rows kind number }
+{
+    allocatee::allocatee_accept(kind, number)
 }

@@ -1,9 +1,10 @@
-ghost use Rattle.std.specs.Prelude.{◌≡◌, ◌≤◌, ◌*◌, [], ◌∷◌, ℕ, length};
-ghost use Rattle.bus_world.specs.World.{accepts};
+ghost use Rattle.std.specs.Prelude.{◌≡◌, ◌≤◌, ◌<◌, ◌*◌, [], ◌∷◌, ℕ, List, length};
+ghost use Rattle.bus_world.specs.World.{accepts, allocatees_accept};
 ghost use Rattle.disk_model.specs.Pattern.{IsUsable};
 ghost use Rattle.outside.specs.declared.pattern.Pattern.{Pattern};
 ghost use Rattle.outside.specs.declared.pattern.Pattern.TheVariants.{Bytes};
-ghost use Rattle.replay_text.specs.declared.row.Row.TheVariants.{Crash};
+ghost use Rattle.replay_text.specs.declared.row.Row.TheVariants.{AOpen, Crash};
+ghost use Rattle.allocatee.specs.Accepted as device;
 ghost use Rattle.server_parts.specs.Accepted as accepted;
 ghost use Rattle.transfer_rx.specs.Acceptance.{AnswersByRows};
 ghost use Rattle.transfer_rx.specs.Memory.{ReceiverFitsInMemory};
@@ -37,8 +38,8 @@ const MOST_SENT: u8 = 8;
 
 /// A cluster, and what came of the rows that it was given.
 #[derive(Drop)]
-pub(crate) struct Soaking<F> {
-    world: World<F>,
+pub(crate) struct Soaking<F, G> {
+    world: World<F, G>,
     chance: Draws,
 
     /// How many frames the world was made for.
@@ -57,10 +58,10 @@ pub(crate) struct Soaking<F> {
     refused: u64,
 }
 
-impl<F: Fn(Kind, u16) -> Option<u64> + Copy> Soaking<F> {
+impl<F: Fn(Kind, u16) -> Option<u64> + Copy, G: Fn(Kind, u16) -> Option<u64> + Copy> Soaking<F, G> {
     ghost use Rattle.soak_rounds.specs.Soaking.{Does, HasRoom, Keeps, StandsFor, Tries};
 
-    pub fn new(world: World<F>, room: usize, seed: u64) -> Soaking<F>
+    pub fn new(world: World<F, G>, room: usize, seed: u64) -> Soaking<F, G>
         ensures { result ≡ record {
           world = world;
           chance = seed;
@@ -110,6 +111,9 @@ impl<F: Fn(Kind, u16) -> Option<u64> + Copy> Soaking<F> {
         requires memory { ReceiverFitsInMemory F.row 160 128 }
         requires callable { F.IsAlwaysCallable (accepts self.old.world) }
         requires answers { AnswersByRows (F.post (accepts self.old.world)) accepted.rows }
+        requires amemory { ReceiverFitsInMemory G.row 8 8 }
+        requires acallable { G.IsAlwaysCallable (allocatees_accept self.old.world) }
+        requires aanswers { AnswersByRows (G.post (allocatees_accept self.old.world)) device.rows }
         requires room { HasRoom (rounds * 41) (rounds * 274877906944) self.old }
         requires rounds { rounds ≤ 20000 }
         requires least { 1 ≤ size }
@@ -127,6 +131,9 @@ impl<F: Fn(Kind, u16) -> Option<u64> + Copy> Soaking<F> {
         requires memory { ReceiverFitsInMemory F.row 160 128 }
         requires callable { F.IsAlwaysCallable (accepts self.old.world) }
         requires answers { AnswersByRows (F.post (accepts self.old.world)) accepted.rows }
+        requires amemory { ReceiverFitsInMemory G.row 8 8 }
+        requires acallable { G.IsAlwaysCallable (allocatees_accept self.old.world) }
+        requires aanswers { AnswersByRows (G.post (allocatees_accept self.old.world)) device.rows }
         requires room { HasRoom 41 274877906944 self.old }
         requires number { number ≤ 20000 }
         requires least { 1 ≤ size }
@@ -149,6 +156,9 @@ impl<F: Fn(Kind, u16) -> Option<u64> + Copy> Soaking<F> {
         requires memory { ReceiverFitsInMemory F.row 160 128 }
         requires callable { F.IsAlwaysCallable (accepts self.old.world) }
         requires answers { AnswersByRows (F.post (accepts self.old.world)) accepted.rows }
+        requires amemory { ReceiverFitsInMemory G.row 8 8 }
+        requires acallable { G.IsAlwaysCallable (allocatees_accept self.old.world) }
+        requires aanswers { AnswersByRows (G.post (allocatees_accept self.old.world)) device.rows }
         requires room { HasRoom 1 1 self.old }
         requires least { 1 ≤ size }
         ensures stands { Does (arms_by_chance size) self.old self.new }
@@ -163,6 +173,9 @@ impl<F: Fn(Kind, u16) -> Option<u64> + Copy> Soaking<F> {
         requires memory { ReceiverFitsInMemory F.row 160 128 }
         requires callable { F.IsAlwaysCallable (accepts self.old.world) }
         requires answers { AnswersByRows (F.post (accepts self.old.world)) accepted.rows }
+        requires amemory { ReceiverFitsInMemory G.row 8 8 }
+        requires acallable { G.IsAlwaysCallable (allocatees_accept self.old.world) }
+        requires aanswers { AnswersByRows (G.post (allocatees_accept self.old.world)) device.rows }
         requires room { HasRoom 1 1 self.old }
         requires least { 1 ≤ size }
         ensures stands { Does (arms size) self.old self.new }
@@ -183,6 +196,9 @@ impl<F: Fn(Kind, u16) -> Option<u64> + Copy> Soaking<F> {
         requires memory { ReceiverFitsInMemory F.row 160 128 }
         requires callable { F.IsAlwaysCallable (accepts self.old.world) }
         requires answers { AnswersByRows (F.post (accepts self.old.world)) accepted.rows }
+        requires amemory { ReceiverFitsInMemory G.row 8 8 }
+        requires acallable { G.IsAlwaysCallable (allocatees_accept self.old.world) }
+        requires aanswers { AnswersByRows (G.post (allocatees_accept self.old.world)) device.rows }
         requires room { HasRoom 1 1 self.old }
         ensures stands { Does (asks_in_time number) self.old self.new }
         ensures keeps { Keeps self.old self.new }
@@ -199,6 +215,9 @@ impl<F: Fn(Kind, u16) -> Option<u64> + Copy> Soaking<F> {
         requires memory { ReceiverFitsInMemory F.row 160 128 }
         requires callable { F.IsAlwaysCallable (accepts self.old.world) }
         requires answers { AnswersByRows (F.post (accepts self.old.world)) accepted.rows }
+        requires amemory { ReceiverFitsInMemory G.row 8 8 }
+        requires acallable { G.IsAlwaysCallable (allocatees_accept self.old.world) }
+        requires aanswers { AnswersByRows (G.post (allocatees_accept self.old.world)) device.rows }
         requires room { HasRoom (room_for turn 5) 42949672960 self.old }
         requires size { size ≤ 5 }
         ensures stands { Does (each turn size) self.old self.new }
@@ -213,6 +232,9 @@ impl<F: Fn(Kind, u16) -> Option<u64> + Copy> Soaking<F> {
         requires memory { ReceiverFitsInMemory F.row 160 128 }
         requires callable { F.IsAlwaysCallable (accepts self.old.world) }
         requires answers { AnswersByRows (F.post (accepts self.old.world)) accepted.rows }
+        requires amemory { ReceiverFitsInMemory G.row 8 8 }
+        requires acallable { G.IsAlwaysCallable (allocatees_accept self.old.world) }
+        requires aanswers { AnswersByRows (G.post (allocatees_accept self.old.world)) device.rows }
         requires room { HasRoom (room_for turn 1) 8589934592 self.old }
         ensures stands { Does (has_turn turn n) self.old self.new }
         ensures keeps { Keeps self.old self.new }
@@ -236,6 +258,9 @@ impl<F: Fn(Kind, u16) -> Option<u64> + Copy> Soaking<F> {
         requires memory { ReceiverFitsInMemory F.row 160 128 }
         requires callable { F.IsAlwaysCallable (accepts self.old.world) }
         requires answers { AnswersByRows (F.post (accepts self.old.world)) accepted.rows }
+        requires amemory { ReceiverFitsInMemory G.row 8 8 }
+        requires acallable { G.IsAlwaysCallable (allocatees_accept self.old.world) }
+        requires aanswers { AnswersByRows (G.post (allocatees_accept self.old.world)) device.rows }
         requires room { HasRoom 1 1 self.old }
         ensures stands { Does (opens n) self.old self.new }
         ensures keeps { Keeps self.old self.new }
@@ -255,6 +280,9 @@ impl<F: Fn(Kind, u16) -> Option<u64> + Copy> Soaking<F> {
         requires memory { ReceiverFitsInMemory F.row 160 128 }
         requires callable { F.IsAlwaysCallable (accepts self.old.world) }
         requires answers { AnswersByRows (F.post (accepts self.old.world)) accepted.rows }
+        requires amemory { ReceiverFitsInMemory G.row 8 8 }
+        requires acallable { G.IsAlwaysCallable (allocatees_accept self.old.world) }
+        requires aanswers { AnswersByRows (G.post (allocatees_accept self.old.world)) device.rows }
         requires room { HasRoom 1 1 self.old }
         ensures stands { Does (ticks n) self.old self.new }
         ensures keeps { Keeps self.old self.new }
@@ -274,6 +302,9 @@ impl<F: Fn(Kind, u16) -> Option<u64> + Copy> Soaking<F> {
         requires memory { ReceiverFitsInMemory F.row 160 128 }
         requires callable { F.IsAlwaysCallable (accepts self.old.world) }
         requires answers { AnswersByRows (F.post (accepts self.old.world)) accepted.rows }
+        requires amemory { ReceiverFitsInMemory G.row 8 8 }
+        requires acallable { G.IsAlwaysCallable (allocatees_accept self.old.world) }
+        requires aanswers { AnswersByRows (G.post (allocatees_accept self.old.world)) device.rows }
         requires room { HasRoom 1 8589934592 self.old }
         ensures stands { Does (hears_all n) self.old self.new }
         ensures keeps { Keeps self.old self.new }
@@ -289,6 +320,9 @@ impl<F: Fn(Kind, u16) -> Option<u64> + Copy> Soaking<F> {
         requires memory { ReceiverFitsInMemory F.row 160 128 }
         requires callable { F.IsAlwaysCallable (accepts self.old.world) }
         requires answers { AnswersByRows (F.post (accepts self.old.world)) accepted.rows }
+        requires amemory { ReceiverFitsInMemory G.row 8 8 }
+        requires acallable { G.IsAlwaysCallable (allocatees_accept self.old.world) }
+        requires aanswers { AnswersByRows (G.post (allocatees_accept self.old.world)) device.rows }
         requires room { HasRoom 1 2 self.old }
         ensures stands { Does (hears n k) self.old self.new }
         ensures keeps { Keeps self.old self.new }
@@ -313,9 +347,14 @@ impl<F: Fn(Kind, u16) -> Option<u64> + Copy> Soaking<F> {
         requires memory { ReceiverFitsInMemory F.row 160 128 }
         requires callable { F.IsAlwaysCallable (accepts self.old.world) }
         requires answers { AnswersByRows (F.post (accepts self.old.world)) accepted.rows }
+        requires amemory { ReceiverFitsInMemory G.row 8 8 }
+        requires acallable { G.IsAlwaysCallable (allocatees_accept self.old.world) }
+        requires aanswers { AnswersByRows (G.post (allocatees_accept self.old.world)) device.rows }
         requires room { HasRoom 1 1 self.old }
         requires filled { (n calls : ℕ) (pattern : Pattern) → row.now ≡ Crash n calls pattern →
             IsUsable pattern }
+        requires preferred { (a : ℕ) (uid : List ℕ) (pref ms word : ℕ) →
+            row.now ≡ AOpen a uid pref ms word → pref < 128 }
         ensures stands { Does (repeats row.now) self.old self.new }
         ensures keeps { Keeps self.old self.new }
     {
@@ -328,6 +367,9 @@ impl<F: Fn(Kind, u16) -> Option<u64> + Copy> Soaking<F> {
         requires memory { ReceiverFitsInMemory F.row 160 128 }
         requires callable { F.IsAlwaysCallable (accepts self.old.world) }
         requires answers { AnswersByRows (F.post (accepts self.old.world)) accepted.rows }
+        requires amemory { ReceiverFitsInMemory G.row 8 8 }
+        requires acallable { G.IsAlwaysCallable (allocatees_accept self.old.world) }
+        requires aanswers { AnswersByRows (G.post (allocatees_accept self.old.world)) device.rows }
         requires room { HasRoom 8 8 self.old }
         ensures stands { Does (sends_some n) self.old self.new }
         ensures keeps { Keeps self.old self.new }
@@ -349,9 +391,14 @@ impl<F: Fn(Kind, u16) -> Option<u64> + Copy> Soaking<F> {
         requires memory { ReceiverFitsInMemory F.row 160 128 }
         requires callable { F.IsAlwaysCallable (accepts self.old.world) }
         requires answers { AnswersByRows (F.post (accepts self.old.world)) accepted.rows }
+        requires amemory { ReceiverFitsInMemory G.row 8 8 }
+        requires acallable { G.IsAlwaysCallable (allocatees_accept self.old.world) }
+        requires aanswers { AnswersByRows (G.post (allocatees_accept self.old.world)) device.rows }
         requires room { HasRoom 1 1 self.old }
         requires filled { (n calls : ℕ) (pattern : Pattern) → row.now ≡ Crash n calls pattern →
             IsUsable pattern }
+        requires preferred { (a : ℕ) (uid : List ℕ) (pref ms word : ℕ) →
+            row.now ≡ AOpen a uid pref ms word → pref < 128 }
         ensures stands { Does (gives row.now) self.old self.new }
         ensures keeps { Keeps self.old self.new }
     {
@@ -365,9 +412,14 @@ impl<F: Fn(Kind, u16) -> Option<u64> + Copy> Soaking<F> {
         requires memory { ReceiverFitsInMemory F.row 160 128 }
         requires callable { F.IsAlwaysCallable (accepts self.old.world) }
         requires answers { AnswersByRows (F.post (accepts self.old.world)) accepted.rows }
+        requires amemory { ReceiverFitsInMemory G.row 8 8 }
+        requires acallable { G.IsAlwaysCallable (allocatees_accept self.old.world) }
+        requires aanswers { AnswersByRows (G.post (allocatees_accept self.old.world)) device.rows }
         requires room { HasRoom 1 1 self.old }
         requires filled { (n calls : ℕ) (pattern : Pattern) → row.now ≡ Crash n calls pattern →
             IsUsable pattern }
+        requires preferred { (a : ℕ) (uid : List ℕ) (pref ms word : ℕ) →
+            row.now ≡ AOpen a uid pref ms word → pref < 128 }
         ensures tries { (s : Soak) → StandsFor self.old s → Tries result row.now s self.new }
         ensures keeps { Keeps self.old self.new }
     {
@@ -391,7 +443,11 @@ fn is_stop(told: &Told) -> bool
         | Told::Failed { .. }
         | Told::Armed { .. }
         | Told::Popped { .. }
-        | Told::Outside { .. } => false,
+        | Told::Outside { .. }
+        | Told::AOpened { .. }
+        | Told::AStepped { .. }
+        | Told::APopped { .. }
+        | Told::AEnded { .. } => false,
     }
 }
 

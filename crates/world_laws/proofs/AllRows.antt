@@ -18,7 +18,7 @@ use Rattle.world_laws.proofs.Joining.{lawful_joined, run_joined, same_ids}
 -- what is known of any row
 abbrev pub EachRow : Type 0
 EachRow = (choice : ℕ → Bool) (made : List Made) (w : Cluster) (run : machine.World) → AreMembers w.ids → Shows choice made w run
-    → Invariants run → IsRunWritable run → (row : Row) → cause w row ≡ None → FitsRow choice w row
+    → Invariants run → IsRunWritable w.ids run → (row : Row) → cause w row ≡ None → FitsRow choice w row
     → Continues choice (made_in w row made) (next w row) run (row_events choice w row)
 
 -- first some events, then others
@@ -27,7 +27,7 @@ pub joined : (choice : ℕ → Bool) (made : List Made) (w : Cluster) (run : mac
 joined choice made w run first rest lawful is = record {
   lawful = lawful_joined run first rest lawful is.lawful;
   shows = subst (λ (r : machine.World). Shows choice made w r) (sym (run_joined run first rest)) is.shows;
-  writable = subst IsRunWritable (sym (run_joined run first rest)) is.writable;
+  writable = subst (λ (r : machine.World). IsRunWritable w.ids r) (sym (run_joined run first rest)) is.writable;
 }
 
 module _ (each : EachRow) (sound : InEveryRun Invariants) (choice : ℕ → Bool) (ids : List ℕ) where
@@ -66,7 +66,7 @@ module _ (each : EachRow) (sound : InEveryRun Invariants) (choice : ℕ → Bool
       (one_more w earlier so_far members is row lawful.0 fits.0) lawful.1 fits.1)
 
 -- nothing is stored or said at the beginning
-pub nothing_said : (ids : List ℕ) → IsRunWritable (beginning ids)
+pub nothing_said : (ids : List ℕ) → IsRunWritable ids (beginning ids)
 nothing_said ids = record {
   stores = λ m. record { term = omega arith; entries = λ entry there. absurd there };
   bag = record { requests = λ request there. absurd there; senders = λ request there. absurd there; answers = λ answer there. absurd there };

@@ -33,7 +33,7 @@ use Rattle.world_laws.specs.Events.{MayHappen}
 use Rattle.world_laws.specs.Said.{IsRunWritable, IsStoreWritable}
 use Rattle.world_laws.specs.Shows.{Shows, ShowsLife, ShowsUp}
 use Rattle.world_laws.proofs.Ending.{one_stop}
-use Rattle.world_laws.proofs.Finished.{MoreLaws, of_machine, puts_vote}
+use Rattle.world_laws.proofs.Finished.{MoreLaws, of_machine, proposes_well, puts_vote}
 use Rattle.world_laws.proofs.Kept.{with_one}
 use Rattle.world_laws.proofs.LawsBelow.{FrameLaws}
 use Rattle.world_laws.proofs.Ranging.{ArePutsWritable, after_all, all_puts_fit, front}
@@ -70,7 +70,7 @@ one_few true = omega arith
 one_few false = omega arith
 
 module _ (laws : StepLaws) (more : MoreLaws) (cuts : CutLaws) (frame_laws : FrameLaws) (codec : CodecLaws) (choice : ℕ → Bool) (made : List Made) (w : Cluster)
-    (run : machine.World) (shows : Shows choice made w run) (members : AreMembers w.ids) (sound : Invariants run) (written : IsRunWritable run)
+    (run : machine.World) (shows : Shows choice made w run) (members : AreMembers w.ids) (sound : Invariants run) (written : IsRunWritable w.ids run)
     (t : Timed) (listed : In t.me w.ids) (is : ShowsUp made w.ids w.frames run t.me t (w.member t.me).disk) (event : Event)
     (may : MayHappen w.frames t event) (narrow : IsOnTheBus event)
     (failed : are_put (stored_puts (step t (w.rows + 1) event).going.puts (w.member t.me).disk.store) (w.member t.me).disk.calls ≡ false) where
@@ -107,10 +107,10 @@ module _ (laws : StepLaws) (more : MoreLaws) (cuts : CutLaws) (frame_laws : Fram
   inside : count < length (puts_of_all w.ids t.me number t.plain going.moves)
   inside = omega (arith, cuts.counted its_puts disk.calls failed, as_many going.puts disk.store, ap (λ (l : List Put). length l) same_puts)
 
-  puts_fit : ArePutsWritable (plain_puts going.puts)
-  puts_fit = subst ArePutsWritable (sym machine_step.puts)
-      (all_puts_fit w.ids t.me (members.nodes t.me listed).0 number run.bag shows.holds.written going.moves site machine_step.come
-      (more.records t number event is.runs.uids) (written.stores t.me))
+  puts_fit : ArePutsWritable w.ids (plain_puts going.puts)
+  puts_fit = subst (λ (all : List Put). ArePutsWritable w.ids all) (sym machine_step.puts)
+      (all_puts_fit w.ids (λ n i. (members.nodes n i).0) t.me (members.nodes t.me listed).0 number run.bag shows.holds.written going.moves site machine_step.come
+      (proposes_well laws more frame_laws codec choice made w run shows members sound written t listed is event may narrow) (written.stores t.me))
 
   -- what a restart finds: so many of the puts as are done for sure, or one more
   found : (pattern : Pattern) → store_of (restarted_on pattern disk_after).store
@@ -161,11 +161,11 @@ module _ (laws : StepLaws) (more : MoreLaws) (cuts : CutLaws) (frame_laws : Fram
         ∙ (sym stop.stored
         ∙ ap (λ (l : List Put). put_all t.plain.store (take (count + extra) l)) (sym same_puts))))
 
-    still_written : IsRunWritable run_then
+    still_written : IsRunWritable w.ids run_then
     still_written = record {
-      stores = stores_with run.server t.me (stopped_site run.members).plain written.stores (subst IsStoreWritable (sym its_store ∙ ap (λ (p : Plain). p.store) its_server)
-          (after_all t.plain.store (take (count + extra) (plain_puts going.puts)) (subst (λ (p : Plain). IsStoreWritable p.store) is.runs.plain (written.stores t.me))
-          (front (count + extra) (plain_puts going.puts) puts_fit)));
+      stores = stores_with w.ids run.server t.me (stopped_site run.members).plain written.stores (subst (λ (s : Store). IsStoreWritable w.ids s) (sym its_store ∙ ap (λ (p : Plain). p.store) its_server)
+          (after_all w.ids t.plain.store (take (count + extra) (plain_puts going.puts)) (subst (λ (p : Plain). IsStoreWritable w.ids p.store) is.runs.plain (written.stores t.me))
+          (front w.ids (count + extra) (plain_puts going.puts) puts_fit)));
       bag = written.bag;
     }
 
@@ -179,6 +179,7 @@ module _ (laws : StepLaws) (more : MoreLaws) (cuts : CutLaws) (frame_laws : Fram
       steps = omega (arith, shows.steps);
       lives = with_one choice made made (λ y i. i) w.ids w.frames w.frames (λ f i. i) run run_then w.member shows.lives t.me x (λ i. here)
           (λ m apart. at_other run.server t.me m (stopped_site run.members).plain apart);
+      asking = shows.asking;
       bus = shows.bus;
       narrow = shows.narrow;
       holds = shows.holds;
@@ -190,14 +191,14 @@ module _ (laws : StepLaws) (more : MoreLaws) (cuts : CutLaws) (frame_laws : Fram
     pub stopping : machine.Event
     pub one_event : cut w.ids t.me number t.plain [] going.moves count (more_done choice number (w.member t.me).pattern disk_after) ≡ stopping ∷ []
     pub comes_now : MayCome run stopping
-    pub written_then : IsRunWritable (after run stopping)
+    pub written_then : IsRunWritable w.ids (after run stopping)
     pub shows_then : Shows choice made (record w { member = at w.member t.me (cut_off (w.member t.me) number t going disk_after); rows = number }) (after run stopping)
 
   abbrev By : Bool → Type 0
   By b = let extra = if b then found_by (w.member t.me).pattern disk_after else one_if (choice number) in
       let x = if b then stopped_with (w.member t.me).pattern disk_after (w.member t.me) else record (w.member t.me) { life = Failed failure; disk = disk_after } in
       (e : machine.Event) × (cut w.ids t.me number t.plain [] going.moves count extra ≡ e ∷ []) × MayCome run e
-      × IsRunWritable (after run e) × Shows choice made (record w { member = at w.member t.me x; rows = number }) (after run e)
+      × IsRunWritable w.ids (after run e) × Shows choice made (record w { member = at w.member t.me x; rows = number }) (after run e)
 
   by : (b : Bool) → By b
   by true =
@@ -229,7 +230,7 @@ module _ (laws : StepLaws) (more : MoreLaws) (cuts : CutLaws) (frame_laws : Fram
 -- ---- of a member by its node ID
 
 module _ (laws : StepLaws) (more : MoreLaws) (cuts : CutLaws) (frame_laws : FrameLaws) (codec : CodecLaws) (choice : ℕ → Bool) (made : List Made) (w : Cluster)
-    (run : machine.World) (shows : Shows choice made w run) (members : AreMembers w.ids) (sound : Invariants run) (written : IsRunWritable run)
+    (run : machine.World) (shows : Shows choice made w run) (members : AreMembers w.ids) (sound : Invariants run) (written : IsRunWritable w.ids run)
     (t : Timed) (event : Event) (may : MayHappen w.frames t event) (narrow : IsOnTheBus event) where
   abbrev step_of : Going
   step_of = (step t (w.rows + 1) event).going
@@ -242,7 +243,7 @@ module _ (laws : StepLaws) (more : MoreLaws) (cuts : CutLaws) (frame_laws : Fram
     pub is_one : cut w.ids n (w.rows + 1) t.plain [] step_of.moves (done_on (stored_puts step_of.puts (w.member n).disk.store) (w.member n).disk.calls)
         (more_done choice (w.rows + 1) (w.member n).pattern (disk_then n)) ≡ stop_event ∷ []
     pub may_be : MayCome run stop_event
-    pub stays_written : IsRunWritable (after run stop_event)
+    pub stays_written : IsRunWritable w.ids (after run stop_event)
     pub shown_then : Shows choice made (record w { member = at w.member n (cut_off (w.member n) (w.rows + 1) t step_of (disk_then n)); rows = w.rows + 1 }) (after run stop_event)
 
   abbrev CutAt : ℕ → Type 0

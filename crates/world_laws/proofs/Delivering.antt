@@ -15,12 +15,11 @@ use Rattle.transfer_rx.specs.Acceptance.{wanted}
 use Rattle.transfer_rx.specs.Keys.{is_anonymous, key_of, same_key}
 use Rattle.transfer_rx.specs.Marks.{is_whole}
 use Rattle.transfer_rx.specs.Origin.{AreAmong, CameWithKey, IsIdleOrOf}
-use Rattle.transfer_rx.specs.Reassembly.{Arrival, Delivery, Gives, answer, piece_in}
+use Rattle.transfer_rx.specs.Reassembly.{Arrival, Delivery, Gives, Setting, answer, piece_in}
 use Rattle.transfer_rx.specs.Run.{has_session_key, is_of, of_key}
 use Rattle.transfer_rx.specs.Sessions.{Session, remembered, session_of}
 use Rattle.transfer_rx.specs.Sound.{Completes, IsAlone, IsDelivered}
 use Rattle.transfer_tx.specs.Queue.{Queued}
-use Rattle.server_parts.specs.Accepted.{rows, setting_for}
 use Rattle.server_parts.specs.Transfers.{Made, ident_of}
 use Rattle.world_parts.specs.Cluster.{is_member}
 use Rattle.world_parts.specs.Lawful.{is_forged, is_forged_by}
@@ -72,46 +71,46 @@ found key (first ∷ rest) session e = by (same_key key first.key) e (found key 
 
 -- ---- what a session took
 
-pub record IsOfKey (me : ℕ) (key : Key) (b : Arrival) : Type 0 where
+pub record IsOfKey (setting : Setting) (key : Key) (b : Arrival) : Type 0 where
   pub ident : Ident
-  pub wants : IsWanted me b.id ident
+  pub wants : IsWanted setting.rows setting.me b.id ident
   pub same : AreSame key (key_of ident)
 
-module _ (me : ℕ) (key : Key) (b : Arrival) where
-  by_wanted : (r : Result Wanted Why) → wanted rows me b.id ≡ r → has_session_key key r ≡ true → IsOfKey me key b
+module _ (setting : Setting) (key : Key) (b : Arrival) where
+  by_wanted : (r : Result Wanted Why) → wanted setting.rows setting.me b.id ≡ r → has_session_key key r ≡ true → IsOfKey setting key b
   by_wanted (Err why) e is = never is
   by_wanted (Ok w) e is = elim (tell (is_anonymous w.ident.kind)) [
     | inl a ↦ never (rw a at is)
-    | inr a ↦ record { ident = w.ident; wants = wanted_is me b.id w e; same = keys key (key_of w.ident) (rw a at is) }
+    | inr a ↦ record { ident = w.ident; wants = wanted_is setting.rows setting.me b.id w e; same = keys key (key_of w.ident) (rw a at is) }
   ]
 
-  of_its_key : is_of (setting_for me) key b ≡ true → IsOfKey me key b
+  of_its_key : is_of setting key b ≡ true → IsOfKey setting key b
   unfolding is_of
-  of_its_key is = by_wanted (wanted rows me b.id) refl is
+  of_its_key is = by_wanted (wanted setting.rows setting.me b.id) refl is
 
 -- the frames that a session took before the last one
-pub record HasTaken (frames : List Queued) (me : ℕ) (key : Key) (session : Session) : Type 0 where
+pub record HasTaken (frames : List Queued) (setting : Setting) (key : Key) (session : Session) : Type 0 where
   pub arrivals : List Arrival
-  pub each : (b : Arrival) → In b arrivals → CameFrom frames b × IsOfKey me key b
+  pub each : (b : Arrival) → In b arrivals → CameFrom frames b × IsOfKey setting key b
   pub taken : session.taken ≡ map piece_in arrivals
   pub marks : session.marks ≡ map (λ (a : Arrival). a.mark) arrivals
 
-module _ (frames : List Queued) (me : ℕ) (sessions : List Session) (heard : AreHeard frames me sessions) (now : ℕ) (key : Key) (session : Session) where
-  taken_by : CameWithKey (setting_for me) heard.arrivals session → session.key ≡ key → HasTaken frames me key session
+module _ (frames : List Queued) (setting : Setting) (sessions : List Session) (heard : AreHeard frames setting sessions) (now : ℕ) (key : Key) (session : Session) where
+  taken_by : CameWithKey setting heard.arrivals session → session.key ≡ key → HasTaken frames setting key session
   taken_by came own = record {
     arrivals = came.frames;
     each = λ b i.
-        let f = filtered (is_of (setting_for me) session.key) heard.arrivals b (among came.frames (of_key (setting_for me) session.key heard.arrivals) came.among b i) in
-        (heard.come b f.0, subst (λ (k : Key). IsOfKey me k b) own (of_its_key me session.key b f.1));
+        let f = filtered (is_of setting session.key) heard.arrivals b (among came.frames (of_key setting session.key heard.arrivals) came.among b i) in
+        (heard.come b f.0, subst (λ (k : Key). IsOfKey setting k b) own (of_its_key setting session.key b f.1));
     taken = came.taken;
     marks = came.marks;
   }
 
-  pub has_taken : IsIdleOrOf key (remembered now sessions) session → HasTaken frames me key session
+  pub has_taken : IsIdleOrOf key (remembered now sessions) session → HasTaken frames setting key session
   has_taken is = by is.idle_or_there where
-    by : ((session.taken ≡ []) × (session.marks ≡ [])) ⊎ (session_of key (remembered now sessions) ≡ Some session) → HasTaken frames me key session
+    by : ((session.taken ≡ []) × (session.marks ≡ [])) ⊎ (session_of key (remembered now sessions) ≡ Some session) → HasTaken frames setting key session
     by (inl (taken, marks)) = record { arrivals = []; each = λ b i. absurd i; taken = taken; marks = marks }
-    by (inr there) = taken_by (of_each (CameWithKey (setting_for me) heard.arrivals) sessions heard.kept session
+    by (inr there) = taken_by (of_each (CameWithKey setting heard.arrivals) sessions heard.kept session
         (filtered _ sessions session (found key (remembered now sessions) session there)).0) is.own
 
 -- ---- what is forged goes by the key
@@ -121,7 +120,8 @@ forged_same ids a b same = by a.kind b.kind same.kind where
   by : (k l : Kind) → k ≡ l → is_forged_by ids k a ≡ is_forged_by ids l b
   by k l e = ap (λ (x : Kind). is_forged_by ids x a) e ∙ of_kind l where
     of_kind : (l : Kind) → is_forged_by ids l a ≡ is_forged_by ids l b
-    of_kind Message = ap (λ (s : ℕ). is_member ids s || (a.number == 390)) same.source ∙ ap (λ (n : ℕ). is_member ids b.source || (n == 390)) same.number
+    of_kind Message = ap (λ (s : ℕ). is_member ids s || ((a.number == 390) || (a.number == 1))) same.source
+        ∙ ap (λ (n : ℕ). is_member ids b.source || ((n == 390) || (n == 1))) same.number
     of_kind Anonymous = refl
     of_kind Request = ap (λ (s : ℕ). is_member ids s || ((a.number == 30) || (a.number == 31))) same.source
         ∙ ap (λ (n : ℕ). is_member ids b.source || ((n == 30) || (n == 31))) same.number
@@ -139,12 +139,13 @@ forged_has_source ids ident e = by ident.kind e where
 -- ---- a delivery
 
 module _ (laws : FrameLaws) (ids : List ℕ) (low : (n : ℕ) → In n ids → 1 ≤ n) (high : (n : ℕ) → In n ids → n ≤ 125)
-    (made : List Made) (are : AreTransfers ids made) (me : ℕ) (some : 1 ≤ me) (frames : List Queued)
-    (bus : (frame : Queued) → In frame frames → IsOnBus made ids frame) (sessions : List Session) (heard : AreHeard frames me sessions)
-    (arrival : Arrival) (came : CameFrom frames arrival) (d : Delivery) (gives : answer (setting_for me) sessions arrival ≡ Gives d)
-    (untorn : d.whole ≡ false → d.mark.step ≡ 0) (forged : is_forged ids (Some d.ident) ≡ true) where
-  abbrev its : IsDelivered (setting_for me) sessions arrival d
-  its = laws.delivered (setting_for me) sessions arrival d gives
+    (made : List Made) (are : AreTransfers ids made) (setting : Setting) (frames : List Queued)
+    (bus : (frame : Queued) → In frame frames → IsOnBus made ids frame) (sessions : List Session) (heard : AreHeard frames setting sessions)
+    (arrival : Arrival) (came : CameFrom frames arrival) (d : Delivery) (gives : answer setting sessions arrival ≡ Gives d)
+    (untorn : d.whole ≡ false → d.mark.step ≡ 0) (forged : is_forged ids (Some d.ident) ≡ true)
+    (served : (1 ≤ setting.me) ⊎ (d.ident.kind ≡ Message)) where
+  abbrev its : IsDelivered setting sessions arrival d
+  its = laws.delivered setting sessions arrival d gives
 
   abbrev key : Key
   key = key_of d.ident
@@ -156,12 +157,12 @@ module _ (laws : FrameLaws) (ids : List ℕ) (low : (n : ℕ) → In n ids → 1
     source = ap (λ (i : Ident). i.source) its.ident;
   }
 
-  origin : (b : Arrival) → CameFrom frames b → IsOfKey me key b → IsFrom made me key b
-  origin b from is = from_bus laws ids low high made are me some frames bus b from is.ident is.wants
-      (sym (forged_same ids d.ident is.ident is.same) ∙ forged) key (sym is.same.kind) (sym is.same.number) (sym is.same.source)
+  origin : (b : Arrival) → CameFrom frames b → IsOfKey setting key b → IsFrom made setting.me key b
+  origin b from is = from_bus laws ids low high made are setting.rows setting.me frames bus b from is.ident is.wants
+      (sym (forged_same ids d.ident is.ident is.same) ∙ forged) key served (sym is.same.kind) (sym is.same.number) (sym is.same.source)
 
-  own : IsFrom made me key arrival
-  own = origin arrival came (record { ident = its.w.ident; wants = wanted_is me arrival.id its.w its.accepted; same = same_ident })
+  own : IsFrom made setting.me key arrival
+  own = origin arrival came (record { ident = its.w.ident; wants = wanted_is setting.rows setting.me arrival.id its.w its.accepted; same = same_ident })
 
   whole : d.whole ≡ true
   whole = elim (tell d.whole) [
@@ -169,7 +170,7 @@ module _ (laws : FrameLaws) (ids : List ℕ) (low : (n : ℕ) → In n ids → 1
     | inr e ↦ absurd (omega (arith, untorn e, are.numbered own.whose own.was_made, own.piece.step, ap (λ (m : Mark). m.step) its.mark))
   ]
 
-  completed : Completes (setting_for me) sessions its.w arrival d → WasMade made d
+  completed : Completes setting sessions its.w arrival d → WasMade made d
   completed c = (
     own.whose,
     own.was_made,
@@ -179,26 +180,26 @@ module _ (laws : FrameLaws) (ids : List ℕ) (low : (n : ℕ) → In n ids → 1
       kind = own.kind;
       number = own.number;
       to = ap (λ (i : Ident). i.dest) (one_ident (ident_of own.whose.by own.whose.offer.what own.whose.offer.to) its.w.ident (sym own.ident ∙ read)) ∙ ap (λ (i : Ident). i.dest) (sym its.ident);
-      id = final_id laws ids made are me key taken.arrivals arrival each own is_run its.w.signature d.id d.payload cutting;
+      id = final_id laws ids made are setting.me key taken.arrivals arrival each own is_run its.w.signature d.id d.payload cutting;
       re = sym own.piece.re ∙ ap (λ (m : Mark). m.re) (sym its.mark);
-      payload = sym (payload_is laws ids made are me key taken.arrivals arrival each own is_run its.w.signature d.id d.payload cutting);
+      payload = sym (payload_is laws ids made are setting.me key taken.arrivals arrival each own is_run its.w.signature d.id d.payload cutting);
     },
   )
     where
-      taken : HasTaken frames me key c.session
-      taken = has_taken frames me sessions heard arrival.moment key c.session
+      taken : HasTaken frames setting key c.session
+      taken = has_taken frames setting sessions heard arrival.moment key c.session
           (subst (λ (i : Ident). IsIdleOrOf (key_of i) (remembered arrival.moment sessions) c.session) (sym its.ident)
-          (laws.comes (setting_for me).sessions arrival.moment (key_of its.w.ident) (piece_in arrival).tail (remembered arrival.moment sessions) c.session c.there))
+          (laws.comes setting.sessions arrival.moment (key_of its.w.ident) (piece_in arrival).tail (remembered arrival.moment sessions) c.session c.there))
 
-      each : (b : Arrival) → In b (taken.arrivals ++ arrival ∷ []) → IsFrom made me key b
+      each : (b : Arrival) → In b (taken.arrivals ++ arrival ∷ []) → IsFrom made setting.me key b
       each b i = elim (in_append b taken.arrivals (arrival ∷ []) i) [
         | inl j ↦ let e = taken.each b j in origin b e.0 e.1
-        | inr (inl e) ↦ subst (λ (a : Arrival). IsFrom made me key a) (sym e) own
+        | inr (inl e) ↦ subst (λ (a : Arrival). IsFrom made setting.me key a) (sym e) own
         | inr (inr j) ↦ absurd j
       ]
 
       read : identifier_of arrival.id ≡ Some its.w.ident
-      read = (wanted_is me arrival.id its.w its.accepted).read
+      read = (wanted_is setting.rows setting.me arrival.id its.w its.accepted).read
 
       is_run : is_whole (map (λ (a : Arrival). a.mark) taken.arrivals ++ arrival.mark ∷ []) ≡ true
       is_run = ap (λ (l : List Mark). is_whole (l ++ arrival.mark ∷ [])) (sym taken.marks) ∙ (sym c.whole ∙ whole)
@@ -208,6 +209,6 @@ module _ (laws : FrameLaws) (ids : List ℕ) (low : (n : ℕ) → In n ids → 1
 
   pub was_made : WasMade made d
   was_made = by its.frames where
-    by : IsAlone its.w arrival d ⊎ Completes (setting_for me) sessions its.w arrival d → WasMade made d
+    by : IsAlone its.w arrival d ⊎ Completes setting sessions its.w arrival d → WasMade made d
     by (inl alone) = never (sym (forged_has_source ids d.ident forged) ∙ (ap (λ (i : Ident). is_anonymous i.kind) its.ident ∙ alone.anonymous))
     by (inr c) = completed c

@@ -10,7 +10,7 @@ use Rattle.raft_log.specs.Shelf.{are_put, done_on, is_open_on, opening_on, puts_
 use Rattle.raft_log.specs.Stored.{Stored}
 use Rattle.raft_model.specs.Lists.{at, at_here, at_other}
 use Rattle.replay_text.specs.declared.row.Row.{Row}
-use Rattle.replay_text.specs.declared.row.Row.TheVariants.{Crash, Ext, Fault, Open, Rx, Send, Tick}
+use Rattle.replay_text.specs.declared.row.Row.TheVariants.{AEnd, AOpen, ARx, ASend, ATick, Crash, Ext, Fault, Open, Rx, Send, Tick}
 use Rattle.server_parts.specs.Going.{Going}
 use Rattle.server_parts.specs.Step.{Event, step}
 use Rattle.server_parts.specs.TimedServer.{Timed, opening}
@@ -27,7 +27,7 @@ failed_at (Failed failure) = Some failure.row
 abbrev pub failed_in : Cluster → ℕ → Option ℕ
 failed_in w m = failed_at (w.member m).life
 
--- the member that a row is for; a frame from outside is for none
+-- the member that a row is for; a frame from outside is for none, nor is a row of an allocatee
 abbrev node_of : Row → ℕ
 node_of (Open n ms word) = n
 node_of (Tick n ms word) = n
@@ -36,6 +36,11 @@ node_of (Send n) = n
 node_of (Ext frame) = 0
 node_of (Crash n calls pattern) = n
 node_of (Fault n call) = n
+node_of (AOpen a uid pref ms word) = 0
+node_of (ATick a ms word) = 0
+node_of (ARx a k ms word) = 0
+node_of (ASend a) = 0
+node_of (AEnd a) = 0
 
 -- ---- one row, at its member: as before, or not failed, or failed at this row
 
@@ -103,6 +108,11 @@ module _ (w : Cluster) where
   changes_at (Ext frame) = inl refl
   changes_at (Crash n calls pattern) = changes_to n (crashed calls pattern (w.member n)) (crashed_changes (w.rows + 1) calls pattern (w.member n))
   changes_at (Fault n call) = changes_to n (failing call (w.member n)) (inl refl)
+  changes_at (AOpen a uid pref ms word) = inl refl
+  changes_at (ATick a ms word) = inl refl
+  changes_at (ARx a k ms word) = inl refl
+  changes_at (ASend a) = inl refl
+  changes_at (AEnd a) = inl refl
 
   stays_at : (row : Row) (m : ℕ) → m ≢ node_of row → failed_in (next w row) m ≡ failed_in w m
   stays_at (Open n ms word) m apart = ap (λ (x : Member). failed_at x.life) (at_other w.member n m _ apart)
@@ -112,6 +122,11 @@ module _ (w : Cluster) where
   stays_at (Ext frame) m apart = refl
   stays_at (Crash n calls pattern) m apart = ap (λ (x : Member). failed_at x.life) (at_other w.member n m _ apart)
   stays_at (Fault n call) m apart = ap (λ (x : Member). failed_at x.life) (at_other w.member n m _ apart)
+  stays_at (AOpen a uid pref ms word) m apart = refl
+  stays_at (ATick a ms word) m apart = refl
+  stays_at (ARx a k ms word) m apart = refl
+  stays_at (ASend a) m apart = refl
+  stays_at (AEnd a) m apart = refl
 
   -- a member that has failed had failed before, or is the row's, and failed in it
   failed_before : (row : Row) (m number : ℕ) → failed_in (next w row) m ≡ Some number

@@ -29,7 +29,7 @@ use Rattle.raft_model.specs.Stops.{AllCome, Site, all_moved}
 use Rattle.server_laws.specs.Coming.{Begins, IsOfTheMachine, KeepsOrder, KnowsMembers, MayStep, TakesFrom}
 use Rattle.server_laws.specs.Giving.{Gives, IsGivenIn}
 use Rattle.server_laws.specs.Listing.{IsNamed}
-use Rattle.server_laws.specs.Proposals.{HasUids}
+use Rattle.server_laws.specs.Proposals.{HasUids, RecordsUids}
 use Rattle.server_laws.specs.Sound.{IsInRange, IsOnTheBus, IsSound}
 use Rattle.server_parts.specs.Going.{Going, messages}
 use Rattle.server_parts.specs.Step.{Event, step}
@@ -44,7 +44,7 @@ use Rattle.world_laws.specs.Said.{AreWritable, IsRunWritable, IsStoreWritable, P
 use Rattle.world_laws.specs.Shows.{HoldsOfMade, IsAtWork, IsInRun, Shows, ShowsUp}
 use Rattle.world_laws.proofs.Hearing.{takes_from}
 use Rattle.world_laws.proofs.Lists.{equal, in_at, in_taken, none_twice}
-use Rattle.world_laws.proofs.Kept.{bus_more, with_one}
+use Rattle.world_laws.proofs.Kept.{asking_more, bus_more, with_one}
 use Rattle.world_laws.proofs.LawsBelow.{FrameLaws}
 use Rattle.world_laws.proofs.Making.{each_made, posted_when, still_made}
 use Rattle.world_laws.proofs.Ranging.{IsMessageWritable, Moved, moved_fits, of_nodes}
@@ -69,7 +69,7 @@ pub record MoreLaws : Type 0 where
   pub named : (t : Timed) (number : ℕ) (event : Event) (node : ℕ) → In node (members_of (step t number event).going.timed)
       → In node (members_of t) ⊎ IsNamed t number event node
   pub uids : (t : Timed) (number : ℕ) (event : Event) → HasUids t.watch → HasUids (step t number event).going.timed.watch
-  pub records : (t : Timed) (number : ℕ) (event : Event) → HasUids t.watch → ProposesWell (step t number event).going.moves
+  pub records : (t : Timed) (number : ℕ) (event : Event) → HasUids t.watch → RecordsUids (step t number event).going
   pub tells : (t : Timed) (number : ℕ) (event : Event) → TellsMembers t (step t number event).going.offers
   pub given : (t : Timed) (number : ℕ) (event : Event) → t.plain.store.commit ≤ length t.plain.store.log
       → (offer : Offer) (given : Given) → In offer (step t number event).going.offers → Gives offer.what offer.payload given
@@ -88,7 +88,7 @@ pub record MoreLaws : Type 0 where
 -- ---- a step that may come
 
 module _ (laws : StepLaws) (more : MoreLaws) (frame_laws : FrameLaws) (codec : CodecLaws) (choice : ℕ → Bool) (made : List Made) (w : Cluster)
-    (run : machine.World) (shows : Shows choice made w run) (members : AreMembers w.ids) (sound : Invariants run) (written : IsRunWritable run)
+    (run : machine.World) (shows : Shows choice made w run) (members : AreMembers w.ids) (sound : Invariants run) (written : IsRunWritable w.ids run)
     (t : Timed) (listed : In t.me w.ids) (is : ShowsUp made w.ids w.frames run t.me t (w.member t.me).disk) (event : Event)
     (may : MayHappen w.frames t event) (narrow : IsOnTheBus event) where
   abbrev number : ℕ
@@ -161,16 +161,20 @@ module _ (laws : StepLaws) (more : MoreLaws) (frame_laws : FrameLaws) (codec : C
   pub puts_vote : VoteForNodes (plain_puts going.puts)
   puts_vote = subst VoteForNodes (sym of_machine.puts) (more.votes w.ids t.me number site.plain going.moves (low t.me listed) are_of_nodes)
 
-  module _ (well : ProposesWell going.moves) where
-    pub moved_well : Moved w.ids t.me (low t.me listed) number run.bag shows.holds.written (all_moved w.ids t.me number site going.moves)
-    moved_well = moved_fits w.ids t.me (low t.me listed) number run.bag shows.holds.written going.moves site of_machine.come well
+  -- what it records has a unique ID of 16 bytes, and no member's node ID
+  pub proposes_well : ProposesWell w.ids going.moves
+  proposes_well entry i = (more.records t number event is.runs.uids entry i, of_machine.outside entry i)
+
+  module _ (well : ProposesWell w.ids going.moves) where
+    pub moved_well : Moved w.ids low t.me (low t.me listed) number run.bag shows.holds.written (all_moved w.ids t.me number site going.moves)
+    moved_well = moved_fits w.ids low t.me (low t.me listed) number run.bag shows.holds.written going.moves site of_machine.come well
         (record { store = written.stores t.me; offered = λ m i. absurd i })
 
     offered_well : (message : Message) → In message (messages number going)
-        → IsMessageWritable w.ids t.me (low t.me listed) number run.bag shows.holds.written message
+        → IsMessageWritable w.ids low t.me (low t.me listed) number run.bag shows.holds.written message
     offered_well message i = moved_well.offered message (of_machine.say message i)
 
-    written_after : AreWritable (posted (messages number going) run.bag)
+    written_after : AreWritable w.ids (posted (messages number going) run.bag)
     written_after = record {
       requests = λ request i. elim (posted_when (messages number going) run.bag (Requests request) i) [
         | inl new ↦ (offered_well (Requests request) new).0
@@ -197,7 +201,7 @@ module _ (laws : StepLaws) (more : MoreLaws) (frame_laws : FrameLaws) (codec : C
         (record { kind = what; answer = answer; reads = reads; some = omega (arith, some); is = refl }) in
         let entry : Entry = slice_index_or (committed store) is.place (blank 0) in
         let there : In entry store.log = in_taken store.commit store.log entry (in_at (committed store) is.place (blank 0) is.inside) in
-        let fits : IsEntry entry = (subst (λ (p : Plain). IsStoreWritable p.store) of_machine.leave moved_well.store).entries entry there in
+        let fits : IsEntry entry = ((subst (λ (p : Plain). IsStoreWritable w.ids p.store) of_machine.leave moved_well.store).entries entry there).fits in
         ap length (sym is.uid) ∙ fits.uid
       where
         inside : t.plain.store.commit ≤ length t.plain.store.log
@@ -306,6 +310,7 @@ module _ (laws : StepLaws) (more : MoreLaws) (frame_laws : FrameLaws) (codec : C
           lives = with_one choice made made_after still_there w.ids w.frames w.frames (λ f i. i) run after_run w.member shows.lives t.me x_after
               (λ i. record { runs = runs_after; works = works_after })
               (λ m apart. at_other run.server t.me m (site_after run t.me number going.moves).plain apart);
+          asking = λ a x e. asking_more made made_after still_there w.frames w.frames (λ f i. i) x (shows.asking a x e);
           bus = λ frame i. bus_more made made_after still_there w.ids frame (shows.bus frame i);
           narrow = shows.narrow;
           holds = holds_after;
@@ -316,17 +321,17 @@ module _ (laws : StepLaws) (more : MoreLaws) (frame_laws : FrameLaws) (codec : C
             some : 1 ≤ w.rows + 1
             some = omega arith
 
-      pub still_written : IsRunWritable after_run
+      pub still_written : IsRunWritable w.ids after_run
       still_written = record {
-        stores = stores_with run.server t.me (site_after run t.me number going.moves).plain written.stores
-            (subst (λ (ms : List ℕ). IsStoreWritable (all_moved ms t.me number site going.moves).plain.store) (sym shows.members) moved_well.store);
+        stores = stores_with w.ids run.server t.me (site_after run t.me number going.moves).plain written.stores
+            (subst (λ (ms : List ℕ). IsStoreWritable w.ids (all_moved ms t.me number site going.moves).plain.store) (sym shows.members) moved_well.store);
         bag = written_after;
       }
 
 -- ---- of a member by its node ID
 
 module _ (laws : StepLaws) (more : MoreLaws) (frame_laws : FrameLaws) (codec : CodecLaws) (choice : ℕ → Bool) (made : List Made) (w : Cluster)
-    (run : machine.World) (shows : Shows choice made w run) (members : AreMembers w.ids) (sound : Invariants run) (written : IsRunWritable run)
+    (run : machine.World) (shows : Shows choice made w run) (members : AreMembers w.ids) (sound : Invariants run) (written : IsRunWritable w.ids run)
     (t : Timed) (event : Event) (may : MayHappen w.frames t event) (narrow : IsOnTheBus event) where
   abbrev its_going : Going
   its_going = (step t (w.rows + 1) event).going
@@ -340,7 +345,7 @@ module _ (laws : StepLaws) (more : MoreLaws) (frame_laws : FrameLaws) (codec : C
   pub record IsFinished (n : ℕ) : Type 0 where
     pub may_come : MayCome run (its_event n)
     pub shown : Shows choice (made_of (w.rows + 1) n its_going.offers made) (record w { member = at w.member n (its_member n); rows = w.rows + 1 }) (after run (its_event n))
-    pub writable : IsRunWritable (after run (its_event n))
+    pub writable : IsRunWritable w.ids (after run (its_event n))
 
   abbrev Finishes : ℕ → Type 0
   Finishes n = In n w.ids → ShowsUp made w.ids w.frames run n t (w.member n).disk
@@ -349,11 +354,12 @@ module _ (laws : StepLaws) (more : MoreLaws) (frame_laws : FrameLaws) (codec : C
   own : Finishes t.me
   own listed is done = record {
     may_come = may_finish laws more frame_laws codec choice made w run shows members sound written t listed is event may narrow;
-    shown = finished_shown laws more frame_laws codec choice made w run shows members sound written t listed is event may narrow
-        (more.records t (w.rows + 1) event is.runs.uids) done (more.tells t (w.rows + 1) event);
-    writable = still_written laws more frame_laws codec choice made w run shows members sound written t listed is event may narrow
-        (more.records t (w.rows + 1) event is.runs.uids) done;
+    shown = finished_shown laws more frame_laws codec choice made w run shows members sound written t listed is event may narrow well done (more.tells t (w.rows + 1) event);
+    writable = still_written laws more frame_laws codec choice made w run shows members sound written t listed is event may narrow well done;
   }
+    where
+      well : ProposesWell w.ids its_going.moves
+      well = proposes_well laws more frame_laws codec choice made w run shows members sound written t listed is event may narrow
 
   pub finishes : (n : ℕ) → t.me ≡ n → Finishes n
   finishes n e = subst Finishes e own

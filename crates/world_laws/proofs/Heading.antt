@@ -4,10 +4,12 @@ use Rattle.std.specs.Prelude.{nat_lt, if◌then◌else◌, slice_index_or}
 use Rattle.std.proofs.lemmas.Bool.Decides.{leb_tells, eqb_tells}
 use Rattle.std.proofs.lemmas.List.{length-take-le}
 use Rattle.can_frame.specs.declared.entry.Entry.{Entry}
-use Rattle.can_frame.specs.Log.{AreDistinct, IsInjective, IsPrefix, IsWellFormed, blank}
+use Rattle.can_frame.specs.Log.{AreDistinct, HasPair, IsInjective, IsPair, IsPrefix, IsWellFormed, blank}
 use Rattle.dsdl_codec.specs.declared.allocation.Allocation.{Allocation}
 use Rattle.raft_model.specs.Invariants.{Invariants, IsSettled, StaysSettled}
 use Rattle.raft_model.specs.Lists.{In}
+use Rattle.raft_model.specs.Messages.{Pair}
+use Rattle.raft_model.specs.Messages.Message.{Pairs}
 use Rattle.raft_model.specs.Runs.{Event, World, run}
 use Rattle.raft_model.specs.Safety.{IsSafe, Lasts}
 use Rattle.raft_model.specs.Server as machine
@@ -16,9 +18,11 @@ use Rattle.raft_model.specs.Server.Role.{Leader}
 use Rattle.server_parts.specs.TimedServer.{Timed}
 use Rattle.world_parts.specs.Cluster.{Cluster}
 use Rattle.world_parts.specs.Members.Life.{Up}
-use Rattle.world_parts.specs.Logs.{IsOffered, IsPairOf, committed, stored}
+use Rattle.world_parts.specs.Logs.{IsOffered, committed, stored}
 use Rattle.world_laws.specs.Headline.{Headline, longest, the_list}
 use Rattle.world_laws.specs.Mirrors.{Mirrors}
+use Rattle.world_laws.specs.Said.{IsProper}
+use Rattle.world_laws.proofs.Lists.{in_at, in_taken}
 use Rattle.world_laws.proofs.Prefixes.{prefix_get, prefix_joined, prefix_length, prefix_of_longer}
 
 lt_tells : (a b : ℕ) → ((nat_lt a b ≡ true) × (a < b)) ⊎ ((nat_lt a b ≡ false) × (b ≤ a))
@@ -64,6 +68,17 @@ module _ (choice : ℕ → Bool) (w : Cluster) where
         omega (arith, e, longest_most n ns there)
   ]
 
+-- a list that begins with another has its pairs
+pub still_pair : (list longer : List Entry) → IsPrefix list longer → (uid : List ℕ) (node : ℕ) → HasPair list uid node → HasPair longer uid node
+still_pair list longer front uid node is =
+    let same : slice_index_or longer is.place (blank 0) ≡ slice_index_or list is.place (blank 0) = prefix_get list longer is.place front is.within in record {
+      place = is.place;
+      within = omega (arith, is.within, prefix_length list longer front);
+      pair = subst IsPair (sym same) is.pair;
+      its_uid = ap (λ (e : Entry). e.uid) same ∙ is.its_uid;
+      its_node = ap (λ (e : Entry). e.node) same ∙ is.its_node;
+    }
+
 -- ---- a world and its run
 
 module _ (choice : ℕ → Bool) (w : Cluster) (run : World) (mirrors : Mirrors choice w run) (safe : IsSafe run) (sound : Invariants run) where
@@ -97,34 +112,61 @@ module _ (choice : ℕ → Bool) (w : Cluster) (run : World) (mirrors : Mirrors 
   count_of : (n : ℕ) → length (machine.committed (run.server n).store) ≡ (run.server n).store.commit
   count_of n = length-take-le (run.server n).store.commit (run.server n).store.log (sound.stores n).commit
 
-  pairs_of : (n : ℕ) (place : ℕ) → place < length (machine.committed (run.server n).store)
+  formed_of : (n : ℕ) (place : ℕ) → place < length (machine.committed (run.server n).store)
       → IsWellFormed (slice_index_or (machine.committed (run.server n).store) place (blank 0))
-  pairs_of n place h = subst IsWellFormed (sym (place_in (run.server n).store place (omega (arith, h, count_of n))))
+  formed_of n place h = subst IsWellFormed (sym (place_in (run.server n).store place (omega (arith, h, count_of n))))
       ((sound.stores n).well_formed place (omega (arith, h, count_of n, (sound.stores n).commit)))
 
-  pub are_pairs : (place : ℕ) → place < length (the_list choice w) → IsWellFormed (slice_index_or (the_list choice w) place (blank 0))
-  are_pairs place h = elim (longest_is choice w w.ids) [
+  proper_of : (n : ℕ) (place : ℕ) → place < length (machine.committed (run.server n).store)
+      → IsProper w.ids (slice_index_or (machine.committed (run.server n).store) place (blank 0))
+  proper_of n place h = mirrors.entries n (slice_index_or (machine.committed (run.server n).store) place (blank 0))
+      (in_taken (run.server n).store.commit (run.server n).store.log _ (in_at (machine.committed (run.server n).store) place (blank 0) h))
+
+  -- a fact of each place of the committed logs is one of each place of the list
+  each_listed : (Fact : Entry → Type 0) → ((n place : ℕ) → place < length (machine.committed (run.server n).store)
+      → Fact (slice_index_or (machine.committed (run.server n).store) place (blank 0)))
+      → (place : ℕ) → place < length (the_list choice w) → Fact (slice_index_or (the_list choice w) place (blank 0))
+  each_listed Fact each place h = elim (longest_is choice w w.ids) [
     | inl none ↦ absurd (let e : length (the_list choice w) ≡ 0 = ap length none in omega (arith, h, e))
     | inr some ↦
         let same : the_list choice w ≡ machine.committed (run.server some.0).store = some.2 ∙ sym (same_log some.0 some.1) in
         let inside : place < length (machine.committed (run.server some.0).store) = subst (λ (l : List Entry). place < length l) same h in
-        subst (λ (l : List Entry). IsWellFormed (slice_index_or l place (blank 0))) (sym same) (pairs_of some.0 place inside)
+        subst (λ (l : List Entry). Fact (slice_index_or l place (blank 0))) (sym same) (each some.0 place inside)
   ]
+
+  pub are_formed : (place : ℕ) → place < length (the_list choice w) → IsWellFormed (slice_index_or (the_list choice w) place (blank 0))
+  are_formed = each_listed IsWellFormed formed_of
+
+  pub are_proper : (place : ℕ) → place < length (the_list choice w) → IsProper w.ids (slice_index_or (the_list choice w) place (blank 0))
+  are_proper = each_listed (λ (e : Entry). IsProper w.ids e) proper_of
 
   pub is_shown : (n : ℕ) (server : Timed) → In n w.ids → (w.member n).life ≡ Up server → server.plain.store ≡ stored choice w n
   is_shown n server listed runs = sym (ap (λ (p : Plain). p.store) (mirrors.serves n server listed runs)) ∙ mirrors.stored n listed
 
+  -- what a device was told is a pair of the log that its sender has committed, and so of the list
+  pub pair_committed : (pair : Pair) → In pair.from w.ids → In (Pairs pair) run.bag → HasPair (committed choice w pair.from) pair.uid pair.node
+  pair_committed pair listed there =
+      let found = safe.pairs pair there in
+      let inside : found.0 < length (machine.committed (run.server pair.from).store) = omega (arith, found.1, count_of pair.from) in
+      let same = place_in (run.server pair.from).store found.0 found.1 in
+      let uid = ap (λ (e : Entry). e.uid) same ∙ found.2 in
+      subst (λ (l : List Entry). HasPair l pair.uid pair.node) (same_log pair.from listed) (record {
+        place = found.0;
+        within = inside;
+        pair = formed_of pair.from found.0 inside (λ empty. found.4 (sym uid ∙ empty.1)) (λ reserved. found.4 (sym uid ∙ reserved.uid));
+        its_uid = uid;
+        its_node = ap (λ (e : Entry). e.node) same ∙ found.3;
+      })
+
+  pub pair_listed : (pair : Pair) → In pair.from w.ids → In (Pairs pair) run.bag → HasPair (the_list choice w) pair.uid pair.node
+  pair_listed pair listed there =
+      still_pair (committed choice w pair.from) (the_list choice w) (of_list pair.from listed) pair.uid pair.node (pair_committed pair listed there)
+
   pub is_offered : (n : ℕ) (server : Timed) (answer : Allocation) → In n w.ids → (w.member n).life ≡ Up server
-      → IsOffered server.queue n answer → answer.node ≢ 0 → IsPairOf (committed choice w n) answer
+      → IsOffered server.queue n answer → answer.node ≢ 0 → HasPair (committed choice w n) answer.uid.items answer.node
   is_offered n server answer listed runs offered gives =
       let made = mirrors.offers n server answer listed runs offered gives in
-      let found = safe.pairs (record { step = made.0; from = n; uid = answer.uid.items; node = answer.node }) made.1 in
-      subst (λ (l : List Entry). IsPairOf l answer) (same_log n listed) (record {
-        place = found.0;
-        inside = omega (arith, found.1, count_of n);
-        uid = ap (λ (e : Entry). e.uid) (place_in (run.server n).store found.0 found.1) ∙ found.2;
-        node = ap (λ (e : Entry). e.node) (place_in (run.server n).store found.0 found.1) ∙ found.3;
-      })
+      pair_committed (record { step = made.0; from = n; uid = answer.uid.items; node = answer.node }) listed made.1
 
 -- ---- now and later
 
@@ -185,9 +227,12 @@ module _ (choice : ℕ → Bool) (now later : Cluster) (early : World) (events :
     prefix = of_list choice now early mirrors safe sound;
     kept = kept;
     shown = is_shown choice now early mirrors safe sound;
-    pairs = are_pairs choice now early mirrors safe sound;
+    found = mirrors.found;
+    formed = are_formed choice now early mirrors safe sound;
+    entries = λ place h. (are_proper choice now early mirrors safe sound place h).fits;
     injective = is_injective choice now early mirrors safe sound;
     grows = grows;
+    outside = λ place n h listed e. (are_proper choice now early mirrors safe sound place h).outside (subst (λ (m : ℕ). In m now.ids) (sym e) listed);
     offered = is_offered choice now early mirrors safe sound;
-    leaders = leader_has;
+    leaders = λ n leader server listed led_by leads h. leader_has n leader server listed led_by leads.runs leads.role h;
   }

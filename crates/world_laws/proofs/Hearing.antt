@@ -17,7 +17,7 @@ use Rattle.transfer_rx.specs.Reassembly.Answer.{Continues, Drops, Gives}
 use Rattle.transfer_rx.specs.Sound.{IsDelivered}
 use Rattle.transfer_tx.specs.Queue.{Queued}
 use Rattle.server_laws.specs.Coming.{AnswerFrom, AnswersFrom, SaysFrom, TakesFrom}
-use Rattle.server_parts.specs.Accepted.{setting_for}
+use Rattle.server_parts.specs.Accepted.{rows, setting_for}
 use Rattle.server_parts.specs.Judging.{is_stale, judged, judges}
 use Rattle.server_parts.specs.Services.{is_listed}
 use Rattle.server_parts.specs.Step.{begins}
@@ -53,12 +53,12 @@ fine_from false false stale e = absurd (cc (e))
 eqb_is : (a b : ℕ) → nat_eq a b ≡ true → a ≡ b
 eqb_is a b e = elim (eqb_tells a b) [ inl same ↦ same.1 | inr apart ↦ never (sym apart.0 ∙ e) ]
 
-judged_fine : (t : Timed) (step now : ℕ) (a : Answer) (d : Delivery) → a ≡ Gives d → judged t step now a ≡ Fine → (d.mark.step ≡ step) → IsFine t now d
+pub judged_fine : (t : Timed) (step now : ℕ) (a : Answer) (d : Delivery) → a ≡ Gives d → judged t step now a ≡ Fine → (d.mark.step ≡ step) → IsFine t now d
 judged_fine t step now a d e fine mark =
     let f = fine_from d.whole (nat_eq step 0) (is_stale t d now) (ap (λ (x : Answer). judged t step now x) (sym e) ∙ fine) in
     record { untorn = λ w. mark ∙ eqb_is step 0 (f.0 w); fresh = f.1 }
 
-judges_fine : (t : Timed) (arrival : Arrival) → judges t arrival ≡ Fine
+pub judges_fine : (t : Timed) (arrival : Arrival) → judges t arrival ≡ Fine
     → judged t arrival.mark.step (max t.now arrival.moment) (answer (setting_for t.me) t.sessions (record arrival { moment = max t.now arrival.moment })) ≡ Fine
 unfolding judges
 judges_fine t arrival e = e
@@ -75,9 +75,9 @@ listed_in (first ∷ rest) node e = elim (eqb_tells first node) [
 -- ---- what is delivered
 
 module _ (laws : FrameLaws) (codec : CodecLaws) (ids : List ℕ) (low : (n : ℕ) → In n ids → 1 ≤ n) (high : (n : ℕ) → In n ids → n ≤ 125)
-    (made : List Made) (are : AreTransfers ids made) (bag : List Message) (says : AreSaid made bag) (fits : AreWritable bag)
+    (made : List Made) (are : AreTransfers ids made) (bag : List Message) (says : AreSaid made bag) (fits : AreWritable ids bag)
     (answered : AreAnswered made) (frames : List Queued) (bus : (frame : Queued) → In frame frames → IsOnBus made ids frame)
-    (t : Timed) (some : 1 ≤ t.me) (among : (peer : ℕ) → In peer (members_of t) → In peer ids) (heard : AreHeard frames t.me t.sessions)
+    (t : Timed) (some : 1 ≤ t.me) (among : (peer : ℕ) → In peer (members_of t) → In peer ids) (heard : AreHeard frames (setting_for t.me) t.sessions)
     (called : AreCalled made t) (number : ℕ) (arrival : Arrival) (came : CameFrom frames arrival) (fine : judges t arrival ≡ Fine) where
   abbrev now : ℕ
   now = max t.now arrival.moment
@@ -97,16 +97,16 @@ module _ (laws : FrameLaws) (codec : CodecLaws) (ids : List ℕ) (low : (n : ℕ
 
     -- the transfer, where its frames are members' alone
     pub made_by_member : is_forged ids (Some d.ident) ≡ true → WasMade made d
-    made_by_member forged = was_made laws ids low high made are t.me some frames bus t.sessions heard coming
-        (record { frame = came.frame; there = came.there; id = came.id; bytes = came.bytes; mark = came.mark }) d gives is_fine.untorn forged
+    made_by_member forged = was_made laws ids low high made are (setting_for t.me) frames bus t.sessions heard coming
+        (record { frame = came.frame; there = came.there; id = came.id; bytes = came.bytes; mark = came.mark }) d gives is_fine.untorn forged (inl some)
 
-    pub wants : IsWanted t.me coming.id d.ident
-    wants = subst (λ (i : Ident). IsWanted t.me coming.id i) (sym its.ident) (wanted_is t.me coming.id its.w its.accepted)
+    pub wants : IsWanted rows t.me coming.id d.ident
+    wants = subst (λ (i : Ident). IsWanted rows t.me coming.id i) (sym its.ident) (wanted_is rows t.me coming.id its.w its.accepted)
 
     -- a service is for the server
     pub service_dest : is_service d.ident.kind ≡ true → d.ident.dest ≡ t.me
     service_dest service = service_is t.me some d.ident service
-        (ap (λ (i : Ident). is_for t.me i) its.ident ∙ (wanted_is t.me coming.id its.w its.accepted).for_me)
+        (ap (λ (i : Ident). is_for t.me i) its.ident ∙ (wanted_is rows t.me coming.id its.w its.accepted).for_me)
 
     pub listed_source : is_listed d then_ ≡ true → In d.ident.source ids
     listed_source listed = among d.ident.source (listed_in (members_of t) d.ident.source listed)
@@ -152,7 +152,7 @@ module _ (laws : FrameLaws) (codec : CodecLaws) (ids : List ℕ) (low : (n : ℕ
     says_from Broadcast k = tt
     says_from RequestKind k = λ listed.
         let x = listed_made listed RequestKind k refl refl in
-        requests_from codec made bag says fits t.me d x.0 x.1 x.2 (for_me listed RequestKind k refl refl) (x.2.kind ∙ k)
+        requests_from codec ids made bag says fits t.me d x.0 x.1 x.2 (for_me listed RequestKind k refl refl) (x.2.kind ∙ k)
     says_from Response k = λ listed call pending. answers_from listed k call pending
 
   takes : (a : Answer) → answer (setting_for t.me) t.sessions coming ≡ a → AnswerFrom bag then_ a

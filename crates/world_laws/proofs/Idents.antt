@@ -1,6 +1,6 @@
 -- The identifiers of transfers that members make, and of frames that a server wants.
-use Rattle.std.proofs.Common.{◌≡◌, ℕ, ◌≤◌, Bool, true, false, refl, sym, ◌∙◌, ap, subst, arith, inl, inr}
-use Rattle.std.specs.Prelude.{Option, Some, None, Result, Ok, Err, cond, not, ◌&&◌, ◌||◌, if◌then◌else◌, nat_eq}
+use Rattle.std.proofs.Common.{◌≡◌, ◌⊎◌, ℕ, ◌≤◌, Bool, true, false, refl, sym, ◌∙◌, ap, subst, arith, inl, inr}
+use Rattle.std.specs.Prelude.{List, Option, Some, None, Result, Ok, Err, cond, not, ◌&&◌, ◌||◌, if◌then◌else◌, nat_eq}
 use Rattle.std.proofs.lemmas.Bool.Decides.{eqb_tells}
 use Rattle.can_frame.specs.declared.identifier.Ident.{Ident}
 use Rattle.can_frame.specs.declared.identifier.Kind.{Kind}
@@ -10,6 +10,7 @@ use Rattle.can_frame.specs.declared.step.What.TheVariants.{Alloc, Disc, Stat, In
 use Rattle.can_frame.specs.declared.step.Why.{Why}
 use Rattle.can_frame.specs.declared.step.Why.TheVariants.{NotWanted}
 use Rattle.can_frame.specs.Identifier.{IsIdentifier, identifier_of}
+use Rattle.transfer_rx.specs.declared.accept.AcceptRow.{AcceptRow}
 use Rattle.transfer_rx.specs.declared.accept.Wanted.{Wanted}
 use Rattle.transfer_rx.specs.declared.key.Key.{Key}
 use Rattle.transfer_rx.specs.Acceptance.{accepted, first_signature, is_for, is_service, wanted, with_signature}
@@ -63,26 +64,26 @@ answered x = Ok x
 ok_is : (x y : Wanted) → answered x ≡ answered y → x ≡ y
 ok_is x y e = cc (e)
 
--- a frame that is wanted has an identifier, and is for the server
-pub record IsWanted (me id : ℕ) (ident : Ident) : Type 0 where
+-- a frame that is wanted has an identifier, and is for the receiver
+pub record IsWanted (list : List AcceptRow) (me id : ℕ) (ident : Ident) : Type 0 where
   pub read : identifier_of id ≡ Some ident
   pub for_me : is_for me ident ≡ true
-  pub signature : (s : ℕ) × (first_signature rows ident.kind ident.number ≡ Some s)
+  pub signature : (s : ℕ) × (first_signature list ident.kind ident.number ≡ Some s)
 
-module _ (me id : ℕ) (w : Wanted) where
-  by_signature : (ident : Ident) (s : Option ℕ) → first_signature rows ident.kind ident.number ≡ s → identifier_of id ≡ Some ident
-      → (b : Bool) → is_for me ident ≡ b → cond b (with_signature ident s) (Err NotWanted) ≡ Ok w → IsWanted me id w.ident
+module _ (list : List AcceptRow) (me id : ℕ) (w : Wanted) where
+  by_signature : (ident : Ident) (s : Option ℕ) → first_signature list ident.kind ident.number ≡ s → identifier_of id ≡ Some ident
+      → (b : Bool) → is_for me ident ≡ b → cond b (with_signature ident s) (Err NotWanted) ≡ Ok w → IsWanted list me id w.ident
   by_signature ident None f read true own e = absurd (cc (e))
   by_signature ident (Some s) f read true own e =
       let same : ident ≡ w.ident = ap (λ (x : Wanted). x.ident) (ok_is (record { ident = ident; signature = s }) w e) in
-      subst (λ (i : Ident). IsWanted me id i) same (record { read = read; for_me = own; signature = (s, f) })
+      subst (λ (i : Ident). IsWanted list me id i) same (record { read = read; for_me = own; signature = (s, f) })
   by_signature ident s f read false own e = absurd (cc (e))
 
-  by_ident : (o : Option Ident) → identifier_of id ≡ o → accepted rows me o ≡ Ok w → IsWanted me id w.ident
+  by_ident : (o : Option Ident) → identifier_of id ≡ o → accepted list me o ≡ Ok w → IsWanted list me id w.ident
   by_ident None read e = absurd (cc (e))
-  by_ident (Some ident) read e = by_signature ident (first_signature rows ident.kind ident.number) refl read (is_for me ident) refl e
+  by_ident (Some ident) read e = by_signature ident (first_signature list ident.kind ident.number) refl read (is_for me ident) refl e
 
-  pub wanted_is : wanted rows me id ≡ Ok w → IsWanted me id w.ident
+  pub wanted_is : wanted list me id ≡ Ok w → IsWanted list me id w.ident
   unfolding wanted
   wanted_is e = by_ident (identifier_of id) refl e
 
@@ -117,6 +118,12 @@ module _ (me : ℕ) (low : 1 ≤ me) where
   dest_is n Vote to at e = is_me true (nat_eq n me) to refl e
   dest_is n AppQ to at e = is_me true (nat_eq n me) to refl e
   dest_is n App to at e = is_me true (nat_eq n me) to refl e
+
+-- so does a message, whoever hears it
+pub dest_of : (me n : ℕ) (what : What) (to : ℕ) → (1 ≤ me) ⊎ (kind_of what ≡ Message) → IsDestination (kind_of what) to
+    → is_for me (ident_of n what to) ≡ true → to ≡ to_for (kind_of what) me
+dest_of me n what to (inl low) at e = dest_is me low n what to at e
+dest_of me n what to (inr broadcast) at e = subst (λ (k : Kind). IsDestination k to → to ≡ to_for k me) (sym broadcast) (λ zero_. zero_) at
 
 -- ---- keys
 

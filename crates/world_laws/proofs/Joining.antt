@@ -1,12 +1,13 @@
 -- Two lists, one after the other: events of a run, and rows of a world.
 use Rattle.std.proofs.Common.{◌≡◌, ℕ, Bool, List, [], ◌∷◌, ◌++◌, refl, sym, ap, ◌∙◌}
 use Rattle.std.proofs.lemmas.List.{append_assoc}
+use Rattle.std.specs.Prelude.{None}
 use Rattle.raft_model.specs.Runs as machine
 use Rattle.raft_model.specs.Runs.{Event, after, run}
 use Rattle.replay_text.specs.declared.row.Row.{Row}
-use Rattle.replay_text.specs.declared.row.Row.TheVariants.{Open, Tick, Rx, Send, Ext, Crash, Fault}
+use Rattle.replay_text.specs.declared.row.Row.TheVariants.{Open, Tick, Rx, Send, Ext, Crash, Fault, AOpen, ATick, ARx, ASend, AEnd}
 use Rattle.world_parts.specs.Cluster.{Cluster, after_rows, next}
-use Rattle.world_parts.specs.Lawful.{Lawful}
+use Rattle.world_parts.specs.Lawful.{Lawful, cause}
 use Rattle.world_parts.specs.Choices.{Fits}
 use Rattle.world_parts.specs.Refinement.{events, row_events}
 
@@ -30,6 +31,10 @@ pub first_lawful : (w : Cluster) (rows more : List Row) → Lawful w (rows ++ mo
 first_lawful w [] more all = tt
 first_lawful w (row ∷ rows) more all = (all.0, first_lawful (next w row) rows more all.1)
 
+pub cause_at : (w : Cluster) (rows rest : List Row) (row : Row) → Lawful w (rows ++ (row ∷ rest)) → cause (after_rows w rows) row ≡ None
+cause_at w [] rest row all = all.0
+cause_at w (first ∷ rows) rest row all = cause_at (next w first) rows rest row all.1
+
 pub first_fits : (choice : ℕ → Bool) (w : Cluster) (rows more : List Row) → Fits choice w (rows ++ more) → Fits choice w rows
 first_fits choice w [] more all = tt
 first_fits choice w (row ∷ rows) more all = (all.0, first_fits choice (next w row) rows more all.1)
@@ -47,6 +52,11 @@ same_ids w (Send n) = refl
 same_ids w (Ext frame) = refl
 same_ids w (Crash n calls pattern) = refl
 same_ids w (Fault n call) = refl
+same_ids w (AOpen a uid pref ms word) = refl
+same_ids w (ATick a ms word) = refl
+same_ids w (ARx a k ms word) = refl
+same_ids w (ASend a) = refl
+same_ids w (AEnd a) = refl
 
 pub ids_stay : (w : Cluster) (rows : List Row) → (after_rows w rows).ids ≡ w.ids
 ids_stay w [] = refl

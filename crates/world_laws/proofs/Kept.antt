@@ -8,12 +8,17 @@ use Rattle.raft_model.specs.Lists.{In, at, at_here, at_other}
 use Rattle.raft_model.specs.Messages.{Request}
 use Rattle.raft_model.specs.Runs as machine
 use Rattle.raft_model.specs.Server.{Plain}
+use Rattle.transfer_rx.specs.Reassembly.{Setting}
 use Rattle.transfer_rx.specs.Sessions.{Session}
 use Rattle.transfer_tx.specs.Queue.{Queued}
+use Rattle.allocatee.specs.Accepted as device
+use Rattle.allocatee.specs.Allocatee.{Device}
+use Rattle.server_parts.specs.Accepted.{setting_for}
 use Rattle.server_parts.specs.TimedServer.{Timed}
 use Rattle.server_parts.specs.Transfers.{Made}
 use Rattle.world_parts.specs.Members.{Life, Member}
 use Rattle.world_parts.specs.Members.Life.{Down, Up, Failed}
+use Rattle.world_laws.specs.Asking.{IsAsking, IsGiven}
 use Rattle.world_laws.specs.Frames.{AreHeard, IsOnBus, IsPiece}
 use Rattle.world_laws.specs.Said.{AreCalled, IsCalled, carrier}
 use Rattle.world_laws.specs.Shows.{IsAtWork, ShowsLife}
@@ -46,21 +51,41 @@ module _ (made more : List Made) (still : IsIn made more) where
   pub called_more : (t : Timed) → AreCalled made t → AreCalled more t
   called_more t called peer request pending = let c = called peer request pending in (c.0, c.1, call_more t peer request c.0 c.2)
 
-pub heard_more : (frames longer : List Queued) → IsIn frames longer → (me : ℕ) (sessions : List Session) → AreHeard frames me sessions
-    → AreHeard longer me sessions
-heard_more frames longer still me sessions is = record {
+pub heard_more : (frames longer : List Queued) → IsIn frames longer → (setting : Setting) (sessions : List Session) → AreHeard frames setting sessions
+    → AreHeard longer setting sessions
+heard_more frames longer still setting sessions is = record {
   arrivals = is.arrivals;
   come = λ arrival there. let c = is.come arrival there in
       record { frame = c.frame; there = still c.frame c.there; id = c.id; bytes = c.bytes; mark = c.mark };
   kept = is.kept;
 }
 
+module _ (made more : List Made) (still : IsIn made more) (frames longer : List Queued) (there : IsIn frames longer) where
+  pub given_more : (uid : List ℕ) (node : ℕ) → IsGiven made uid node → IsGiven more uid node
+  given_more uid node is = record {
+    whose = is.whose;
+    was_made = still is.whose is.was_made;
+    what = is.what;
+    answer = is.answer;
+    reads = is.reads;
+    own = is.own;
+    gives = is.gives;
+    some = is.some;
+  }
+
+  pub asking_more : (x : Device) → IsAsking made frames x → IsAsking more longer x
+  asking_more x is = record {
+    queue = is.queue;
+    heard = heard_more frames longer there device.setting x.sessions is.heard;
+    held = λ node e. given_more x.asking.uid node (is.held node e);
+  }
+
 module _ (choice : ℕ → Bool) (made more : List Made) (still : IsIn made more) (ids : List ℕ) (frames longer : List Queued) (there : IsIn frames longer)
     (run other : machine.World) where
   pub work_more : (m : ℕ) (t : Timed) → IsAtWork made ids frames m t → IsAtWork more ids longer m t
   work_more m t is = record {
     queue = λ frame i. piece_more made more still m frame (is.queue frame i);
-    heard = heard_more frames longer there m t.sessions is.heard;
+    heard = heard_more frames longer there (setting_for m) t.sessions is.heard;
     called = called_more made more still t is.called;
     among = is.among;
   }

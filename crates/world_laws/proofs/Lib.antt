@@ -29,3 +29,7 @@ pub mod Failures
 pub mod Choosing
 pub mod Mirroring
 pub mod Offering
+pub mod Devices
+pub mod Held
+pub mod Dutiful
+pub mod OneTransfer

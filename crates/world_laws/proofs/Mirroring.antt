@@ -1,47 +1,73 @@
 -- What the run of a list of rows tells of two of its moments.
-use Rattle.std.proofs.Common.{◌≡◌, ℕ, Bool, List, [], ◌++◌, sym, ap, subst, ◌∙◌}
+use Rattle.std.proofs.Common.{◌≡◌, ◌⊎◌, ℕ, zero, suc, ◌≤◌, Bool, List, [], ◌++◌, refl, sym, ap, subst, ◌∙◌, arith, inl, inr}
 use Rattle.std.proofs.lemmas.List.{append_assoc}
-use Rattle.kv_store.specs.Shelf.{Shelf}
+use Rattle.kv_store.specs.Shelf.{Shelf, restarted_on}
+use Rattle.outside.specs.declared.pattern.Pattern.{Pattern}
+use Rattle.raft_core.specs.StoredPuts.{store_of}
+use Rattle.raft_log.specs.Shelf.{found_by}
 use Rattle.raft_log.specs.Stored.{Stored}
 use Rattle.raft_model.specs.Lists.{In}
 use Rattle.raft_model.specs.Runs as machine
-use Rattle.raft_model.specs.Runs.{Event, beginning}
+use Rattle.raft_model.specs.Invariants.{Invariants}
+use Rattle.raft_model.specs.Runs.{Event, InEveryRun, beginning}
+use Rattle.raft_model.specs.Safety.{IsSafe}
 use Rattle.raft_model.specs.Server.{Plain}
 use Rattle.replay_text.specs.declared.row.Row.{Row}
 use Rattle.server_parts.specs.TimedServer.{Timed}
 use Rattle.server_parts.specs.Transfers.{Made}
 use Rattle.world_parts.specs.Cluster.{AreMembers, Cluster, cluster, world_of}
 use Rattle.world_parts.specs.Lawful.{Lawful}
-use Rattle.world_parts.specs.Logs.{stored_on}
-use Rattle.world_parts.specs.Members.{Life}
+use Rattle.world_parts.specs.Logs.{IsFound, IsGivenFrom, IsOfAllocation, committed, stored_on}
+use Rattle.world_parts.specs.Members.{Life, stored_after}
 use Rattle.world_parts.specs.Members.Life.{Down, Failed, Up}
 use Rattle.world_parts.specs.Choices.{Fits}
 use Rattle.world_parts.specs.Refinement.{events, made}
 use Rattle.world_laws.specs.Continues.{Continues}
 use Rattle.world_laws.specs.Headline.{HasHeadline, Headline}
-use Rattle.world_laws.specs.Mirrors.{Mirrors, OffersAreMade}
+use Rattle.world_laws.specs.Mirrors.{BusIsMade, Mirrors, OffersAreMade}
+use Rattle.world_laws.specs.Said.{IsRunWritable}
 use Rattle.world_laws.specs.Shows.{Shows, ShowsLife, ShowsUp}
+use Rattle.transfer_tx.specs.Queue.{Queued}
+use Rattle.world_laws.proofs.CutOff.{found_few}
+use Rattle.world_laws.proofs.Heading.{pair_committed}
+use Rattle.world_laws.proofs.Starting.{down_finds, firm_finds}
 use Rattle.world_laws.proofs.Joining.{events_joined, first_fits, first_lawful, ids_stay, lawful_parted, run_joined}
 
 -- ---- a world that is shown mirrors its run
 
 module _ (choice : ℕ → Bool) (made : List Made) (w : Cluster) (run : machine.World) (shows : Shows choice made w run) where
-  same_store : (n : ℕ) (life : Life) (disk : Shelf Stored) → ShowsLife choice made w.ids w.frames run n life disk
+  pub same_store : (n : ℕ) (life : Life) (disk : Shelf Stored) → ShowsLife choice made w.ids w.frames run n life disk
       → (run.server n).store ≡ stored_on choice life disk
   same_store n Down disk is = is.stored
   same_store n (Up t) disk is = ap (λ (p : Plain). p.store) is.runs.plain ∙ sym is.runs.stored
   same_store n (Failed failure) disk is = is.stored
 
-  same_server : (n : ℕ) (t : Timed) → In n w.ids → (w.member n).life ≡ Up t → run.server n ≡ t.plain
+  pub same_server : (n : ℕ) (t : Timed) → In n w.ids → (w.member n).life ≡ Up t → run.server n ≡ t.plain
   same_server n t listed runs =
       let is : ShowsUp made w.ids w.frames run n t (w.member n).disk
       = subst (λ (life : Life). ShowsLife choice made w.ids w.frames run n life (w.member n).disk) runs (shows.lives n listed) in
       is.runs.plain
 
-  pub mirrors : OffersAreMade w run → Mirrors choice w run
-  mirrors offers = record {
+  zero_or_one : (k : ℕ) → k ≤ 1 → (k ≡ 0) ⊎ (k ≡ 1)
+  zero_or_one zero few = inl refl
+  zero_or_one (suc zero) few = inr refl
+  zero_or_one (suc (suc k)) few = absurd (omega (arith, few))
+
+  is_found : (n : ℕ) (pattern : Pattern) (life : Life) (disk : Shelf Stored) → ShowsLife choice made w.ids w.frames run n life disk
+      → IsFound life disk (store_of (restarted_on pattern disk).store)
+  is_found n pattern Down disk is = down_finds run n disk is pattern ∙ is.stored
+  is_found n pattern (Up t) disk is = firm_finds disk is.runs.firm pattern
+  is_found n pattern (Failed failure) disk is = elim (zero_or_one (found_by pattern disk) (found_few pattern disk.loose disk)) [
+    | inl none ↦ inl (is.found pattern ∙ ap (λ (k : ℕ). stored_after failure k) none)
+    | inr one ↦ inr (is.found pattern ∙ ap (λ (k : ℕ). stored_after failure k) one)
+  ]
+
+  pub mirrors : IsRunWritable w.ids run → OffersAreMade w run → Mirrors choice w run
+  mirrors written offers = record {
     stored = λ n listed. same_store n (w.member n).life (w.member n).disk (shows.lives n listed);
     serves = same_server;
+    found = λ n pattern listed. is_found n pattern (w.member n).life (w.member n).disk (shows.lives n listed);
+    entries = λ n entry there. (written.stores n).entries entry there;
     offers = offers;
   }
 
@@ -53,6 +79,10 @@ pub record ListLaws : Type 0 where
       → Continues choice (made (cluster ids) rows []) (world_of ids rows) (beginning ids) (events choice (cluster ids) rows)
   pub offers : (choice : ℕ → Bool) (made : List Made) (w : Cluster) (run : machine.World) → AreMembers w.ids → Shows choice made w run
       → OffersAreMade w run
+  pub bus : (choice : ℕ → Bool) (made : List Made) (w : Cluster) (run : machine.World) → AreMembers w.ids → Shows choice made w run
+      → BusIsMade made w run
+  pub safe : InEveryRun IsSafe
+  pub sound : InEveryRun Invariants
   pub headline : (choice : ℕ → Bool) (members : List ℕ) (first rest : List Event) (now later : Cluster)
       → machine.Lawful (beginning members) first → machine.Lawful (machine.run (beginning members) first) rest → later.ids ≡ now.ids
       → Mirrors choice now (machine.run (beginning members) first)
@@ -64,7 +94,7 @@ module _ (laws : ListLaws) (ids : List ℕ) (members : AreMembers ids) (choice :
       → Mirrors choice (world_of ids rows) (machine.run (beginning ids) (events choice (cluster ids) rows))
   mirrored rows lawful fits =
       let is = laws.rows choice ids rows members lawful fits in
-      mirrors choice (made (cluster ids) rows []) (world_of ids rows) (machine.run (beginning ids) (events choice (cluster ids) rows)) is.shows
+      mirrors choice (made (cluster ids) rows []) (world_of ids rows) (machine.run (beginning ids) (events choice (cluster ids) rows)) is.shows is.writable
       (laws.offers choice (made (cluster ids) rows []) (world_of ids rows) (machine.run (beginning ids) (events choice (cluster ids) rows))
       (subst AreMembers (sym (ids_stay (cluster ids) rows)) members) is.shows)
 
@@ -89,10 +119,36 @@ module _ (laws : ListLaws) (ids : List ℕ) (members : AreMembers ids) (choice :
         (mirrored first (first_lawful (cluster ids) first more lawful) (first_fits choice (cluster ids) first more fits))
         (subst (λ (r : machine.World). Mirrors choice (world_of ids (first ++ more)) r) same_run (mirrored (first ++ more) lawful fits))
 
+  -- ---- the bus at one moment
+
+  module _ (rows : List Row) (lawful : Lawful (cluster ids) rows) (fits : Fits choice (cluster ids) rows) where
+    pub on_bus : (frame : Queued) (n : ℕ) → In frame (world_of ids rows).frames → IsOfAllocation frame n
+        → In n ids × IsGivenFrom (committed choice (world_of ids rows) n) (made (cluster ids) rows []) frame n
+    on_bus frame n there of =
+        let so_far = events choice (cluster ids) rows in
+        let is = laws.rows choice ids rows members lawful fits in
+        let run = machine.run (beginning ids) so_far in
+        let its = laws.bus choice (made (cluster ids) rows []) (world_of ids rows) run
+        (subst AreMembers (sym (ids_stay (cluster ids) rows)) members) is.shows frame n there of in (
+          subst (λ (l : List ℕ). In n l) (ids_stay (cluster ids) rows) its.0,
+          record {
+            whose = its.1.whose;
+            was_made = its.1.was_made;
+            by = its.1.by;
+            what = its.1.what;
+            one = its.1.one;
+            pair = λ answer reads gives. pair_committed choice (world_of ids rows) run (mirrored rows lawful fits) (laws.safe ids so_far is.lawful)
+                (laws.sound ids so_far is.lawful)
+                (record { step = its.1.whose.step; from = n; uid = answer.uid.items; node = answer.node }) its.0 (its.1.said answer reads gives);
+          },
+        )
+
 pub has_headline : ListLaws → (ids : List ℕ) (rows : List Row) → AreMembers ids → Lawful (cluster ids) rows → HasHeadline ids rows
 has_headline laws ids rows members lawful = record {
   some = laws.choices ids rows members lawful;
   holds = λ first more rest choice cut fits. between laws ids members choice first more
       (first_lawful (cluster ids) (first ++ more) rest
       (subst (λ (l : List Row). Lawful (cluster ids) l) (cut ∙ sym (append_assoc first more rest)) lawful)) fits;
+  bus = λ first rest choice cut fits. on_bus laws ids members choice first
+      (first_lawful (cluster ids) first rest (subst (λ (l : List Row). Lawful (cluster ids) l) cut lawful)) fits;
 }

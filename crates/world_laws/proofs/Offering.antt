@@ -3,7 +3,7 @@ use Rattle.std.proofs.Common.{◌≡◌, ◌≢◌, ℕ, ◌<◌, ◌≤◌, Boo
 use Rattle.std.specs.Prelude.{◌++◌, nat_eq, nat_le, slice_index_or}
 use Rattle.std.proofs.lemmas.Bool.Decides.{eqb_tells, leb_tells}
 use Rattle.can_frame.specs.declared.identifier.Ident.{Ident}
-use Rattle.can_frame.specs.declared.identifier.Kind.TheVariants.{Message}
+use Rattle.can_frame.specs.declared.identifier.Kind.TheVariants.{Message as Broadcast}
 use Rattle.can_frame.specs.declared.step.What.{What}
 use Rattle.can_frame.specs.declared.step.What.TheVariants.{Alloc}
 use Rattle.can_frame.specs.Cutting.{Piece, frame_bytes, frames_of as pieces_of, piece_from}
@@ -11,24 +11,26 @@ use Rattle.can_frame.specs.Identifier.{identifier_number, identifier_of}
 use Rattle.dsdl_codec.specs.declared.allocation.Allocation.{Allocation}
 use Rattle.dsdl_codec.specs.Allocation.{allocation_of}
 use Rattle.raft_model.specs.Lists.{In}
+use Rattle.raft_model.specs.Messages.{Message}
 use Rattle.raft_model.specs.Messages.Message.{Pairs}
 use Rattle.raft_model.specs.Runs as machine
 use Rattle.transfer_rx.specs.Reassembly.{Arrival}
 use Rattle.transfer_tx.specs.Queue.{Queued, queued_frames}
-use Rattle.server_parts.specs.Transfers.{Made, given_by, ident_of, message_by, message_of, outgoing, pair_message, signature_of}
+use Rattle.server_parts.specs.Transfers.{Made, frames_of, given_by, ident_of, message_by, message_of, outgoing, pair_message, signature_of}
 use Rattle.world_parts.specs.Cluster.{AreMembers, Cluster, no_frame}
-use Rattle.world_parts.specs.Logs.{IsOffered}
+use Rattle.world_parts.specs.Lawful.{is_forged}
+use Rattle.world_parts.specs.Logs.{IsOfAllocation, IsOffered}
 use Rattle.world_parts.specs.Members.{Life}
-use Rattle.world_laws.specs.Frames.{AreTransfers, IsPiece}
-use Rattle.world_laws.specs.Mirrors.{OffersAreMade}
-use Rattle.world_laws.specs.Shows.{Shows, ShowsLife, ShowsUp}
+use Rattle.world_laws.specs.Frames.{AreTransfers, IsOnBus, IsPiece}
+use Rattle.world_laws.specs.Mirrors.{BusIsMade, IsMadeBy, OffersAreMade}
+use Rattle.world_laws.specs.Shows.{HoldsOfMade, Shows, ShowsLife, ShowsUp}
 use Rattle.world_laws.proofs.Idents.{ident_ok, one_what}
 use Rattle.world_laws.proofs.LawsBelow.{FrameLaws}
 use Rattle.world_laws.proofs.Lists.{in_at, in_back, in_front}
 use Rattle.world_laws.proofs.Namesakes as namesakes
 use Rattle.world_laws.proofs.Namesakes.{IsOfNamesake}
 use Rattle.world_laws.proofs.Pieces.{IsPieceOf, no_piece, piece_id, piece_of, piece_read, theirs}
-use Rattle.world_laws.proofs.Whole.{read_back, some_is}
+use Rattle.world_laws.proofs.Whole.{forged_allocation, read_back, some_is}
 
 -- a frame as it would come
 abbrev as_it_comes : Queued → Arrival
@@ -48,7 +50,7 @@ module _ (laws : FrameLaws) (ids : List ℕ) (low : (n : ℕ) → In n ids → 1
     (made : List Made) (are : AreTransfers ids made) (n : ℕ) (listed : In n ids) (queue : List Queued)
     (pieces : (frame : Queued) → In frame queue → IsPiece made n frame) (answer : Allocation) (offered : IsOffered queue n answer) where
   abbrev frames : List Queued
-  frames = queued_frames (outgoing n Alloc 0 offered.id offered.payload) offered.step 0
+  frames = queued_frames (outgoing n Alloc 0 offered.id offered.payload) offered.step offered.re
 
   abbrev frame : ℕ → Queued
   frame i = slice_index_or frames i no_frame
@@ -60,7 +62,7 @@ module _ (laws : FrameLaws) (ids : List ℕ) (low : (n : ℕ) → In n ids → 1
   piece i = slice_index_or cutting i no_piece
 
   as_many : length frames ≡ length cutting
-  as_many = laws.queued_count (outgoing n Alloc 0 offered.id offered.payload) offered.step 0
+  as_many = laws.queued_count (outgoing n Alloc 0 offered.id offered.payload) offered.step offered.re
       ∙ sym (laws.cut_count (signature_of Alloc) offered.id offered.payload)
 
   waits : (i : ℕ) → i < length cutting → In (frame i) queue
@@ -70,9 +72,9 @@ module _ (laws : FrameLaws) (ids : List ℕ) (low : (n : ℕ) → In n ids → 1
   frame_is : (i : ℕ) → i < length cutting → frame i ≡ record {
     id = identifier_number (ident_of n Alloc 0);
     bytes = frame_bytes (piece i);
-    mark = record { step = offered.step; re = 0; place = i };
+    mark = record { step = offered.step; re = offered.re; place = i };
   }
-  frame_is i h = laws.queued_frame (outgoing n Alloc 0 offered.id offered.payload) offered.step 0 i no_frame no_piece
+  frame_is i h = laws.queued_frame (outgoing n Alloc 0 offered.id offered.payload) offered.step offered.re i no_frame no_piece
       (omega (arith, h, laws.cut_count (signature_of Alloc) offered.id offered.payload))
 
   -- the frame at a place is one of a transfer of this member
@@ -97,7 +99,7 @@ module _ (laws : FrameLaws) (ids : List ℕ) (low : (n : ℕ) → In n ids → 1
 
   its_what : (i : ℕ) (h : i < length cutting) → (its i h).whose.offer.what ≡ Alloc
   its_what i h = let e = its_ident i h in
-      one_what (its i h).whose.offer.what Alloc Message 1 (ap (λ (ident : Ident). ident.kind) e) refl (ap (λ (ident : Ident). ident.number) e) refl
+      one_what (its i h).whose.offer.what Alloc Broadcast 1 (ap (λ (ident : Ident). ident.kind) e) refl (ap (λ (ident : Ident). ident.number) e) refl
 
   its_to : (i : ℕ) (h : i < length cutting) → (its i h).whose.offer.to ≡ 0
   its_to i h = ap (λ (ident : Ident). ident.dest) (its_ident i h)
@@ -157,7 +159,7 @@ pair_said : (step n : ℕ) (answer : Allocation) → answer.node ≢ 0 → lengt
     → pair_message step n (given_by (Some answer)) ≡ Some (Pairs (record { step = step; from = n; uid = answer.uid.items; node = answer.node }))
 pair_said step n answer gives whole = rw (positive answer.node gives, equals (length answer.uid.items) 16 whole) refl
 
-says_pair : (x : Made) (answer : Allocation) → x.offer.what ≡ Alloc → allocation_of x.offer.payload ≡ Some answer → answer.node ≢ 0
+pub says_pair : (x : Made) (answer : Allocation) → x.offer.what ≡ Alloc → allocation_of x.offer.payload ≡ Some answer → answer.node ≢ 0
     → length answer.uid.items ≡ 16
     → message_of x.step x.by x.offer ≡ Some (Pairs (record { step = x.step; from = x.by; uid = answer.uid.items; node = answer.node }))
 says_pair x answer what reads gives whole =
@@ -179,3 +181,49 @@ offers_are_made laws choice made w run members shows n server answer listed runs
           (shows.holds.said.said one.x (Pairs (record { step = one.x.step; from = one.x.by; uid = answer.uid.items; node = answer.node })) one.was_made
           (says_pair one.x answer one.what one.reads gives whole)),
     )
+
+-- ---- frames on the bus
+
+module _ (laws : FrameLaws) (ids : List ℕ) (low : (n : ℕ) → In n ids → 1 ≤ n) (high : (n : ℕ) → In n ids → n ≤ 125)
+    (made : List Made) (bag : List Message) (holds : HoldsOfMade made ids bag) (frame : Queued) (n : ℕ) (of : IsOfAllocation frame n) where
+  -- a member's frame with the identifier of an Allocation is of an Allocation, of the node that the identifier names
+  its_frame : (m : ℕ) → In m ids → IsPiece made m frame → In n ids × IsMadeBy made bag frame n
+  its_frame m listed piece = (
+    subst (λ (k : ℕ). In k ids) (sym piece.maker ∙ by) listed,
+    record {
+      whose = x;
+      was_made = piece.was_made;
+      by = by;
+      what = what;
+      one = subst (λ (f : Queued). In f (frames_of x)) piece.same (in_at (frames_of x) frame.mark.place no_frame piece.place);
+      said = λ answer reads gives. subst (λ (k : ℕ). In (Pairs (record { step = x.step; from = k; uid = answer.uid.items; node = answer.node })) bag) by
+          (holds.said.said x (Pairs (record { step = x.step; from = x.by; uid = answer.uid.items; node = answer.node })) piece.was_made
+          (says_pair x answer what reads gives (holds.allocations x answer piece.was_made what reads gives)));
+    },
+  )
+    where
+      x : Made
+      x = piece.whose
+
+      is : IsPieceOf x (as_it_comes frame)
+      is = piece_of laws made m frame piece (as_it_comes frame) refl refl refl
+
+      own : ident_of x.by x.offer.what x.offer.to ≡ of.ident
+      own = some_is (ident_of x.by x.offer.what x.offer.to) of.ident
+          (sym (read_back laws ids low high made holds.transfers x piece.was_made) ∙ (ap (λ (k : ℕ). identifier_of k) (sym is.id) ∙ of.read))
+
+      by : x.by ≡ n
+      by = ap (λ (i : Ident). i.source) own ∙ of.source
+
+      what : x.offer.what ≡ Alloc
+      what = one_what x.offer.what Alloc Broadcast 1 (ap (λ (i : Ident). i.kind) own ∙ of.kind) refl (ap (λ (i : Ident). i.number) own ∙ of.number) refl
+
+  -- and one from elsewhere is none
+  pub on_bus : IsOnBus made ids frame → In n ids × IsMadeBy made bag frame n
+  on_bus (inl (m, listed, piece)) = its_frame m listed piece
+  on_bus (inr foreign) = absurd (cc (sym (forged_allocation ids of.ident of.kind of.number), ap (λ (o : Option Ident). is_forged ids o) (sym of.read), foreign))
+
+pub bus_is_made : (laws : FrameLaws) (choice : ℕ → Bool) (made : List Made) (w : Cluster) (run : machine.World) → AreMembers w.ids
+    → Shows choice made w run → BusIsMade made w run
+bus_is_made laws choice made w run members shows frame n there of =
+    on_bus laws w.ids (λ m i. (members.nodes m i).0) (λ m i. (members.nodes m i).1) made run.bag shows.holds frame n of (shows.bus frame there)

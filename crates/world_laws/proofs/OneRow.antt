@@ -1,5 +1,5 @@
 -- Any row without a cause against it: its events continue the run.
-use Rattle.std.proofs.Common.{◌≡◌, ℕ, zero, suc, ◌+◌, ◌-◌, ◌≤◌, Bool, true, false, List, [], ◌∷◌, length, refl, sym, ap, subst, arith, inl, inr, None}
+use Rattle.std.proofs.Common.{◌≡◌, ℕ, zero, suc, ◌+◌, ◌-◌, ◌≤◌, Bool, true, false, List, [], ◌∷◌, length, refl, sym, ap, subst, ◌∙◌, arith, inl, inr, None}
 use Rattle.std.specs.Prelude.{◌==◌, ◌||◌, nat_lt, if◌then◌else◌}
 use Rattle.std.proofs.lemmas.Bool.{ltb-false}
 use Rattle.can_frame.specs.declared.frame.Frame.{Frame}
@@ -13,7 +13,7 @@ use Rattle.raft_model.specs.Runs as machine
 use Rattle.raft_model.specs.Runs.{MayCome, after}
 use Rattle.raft_model.specs.Runs.Event.{Opens, Steps, Stops}
 use Rattle.replay_text.specs.declared.row.Row.{Row}
-use Rattle.replay_text.specs.declared.row.Row.TheVariants.{Crash, Ext, Fault, Open, Rx, Send, Tick}
+use Rattle.replay_text.specs.declared.row.Row.TheVariants.{AEnd, AOpen, ARx, ASend, ATick, Crash, Ext, Fault, Open, Rx, Send, Tick}
 use Rattle.server_laws.specs.Sound.{IsOnTheBus}
 use Rattle.server_parts.specs.Going.{messages}
 use Rattle.server_parts.specs.Step.{Event, step}
@@ -47,30 +47,41 @@ pub record RowLaws : Type 0 where
       → (n calls : ℕ) (pattern : Pattern) → (calls == 0) ≡ false → Shows choice made (next w (Crash n calls pattern)) run
   pub failure_armed : (choice : ℕ → Bool) (made : List Made) (w : Cluster) (run : machine.World) → Shows choice made w run
       → (n call : ℕ) → Shows choice made (next w (Fault n call)) run
-  pub stopped : (choice : ℕ → Bool) (made : List Made) (w : Cluster) (run : machine.World) → Shows choice made w run → IsRunWritable run
+  pub stopped : (choice : ℕ → Bool) (made : List Made) (w : Cluster) (run : machine.World) → Shows choice made w run → IsRunWritable w.ids run
       → (n : ℕ) (pattern : Pattern) → In n w.ids → (t : Timed) → (w.member n).life ≡ Up t → let stop = Stops n (w.rows + 1) [] in
-      MayCome run stop × IsRunWritable (after run stop) × Shows choice made (next w (Crash n 0 pattern)) (after run stop)
+      MayCome run stop × IsRunWritable w.ids (after run stop) × Shows choice made (next w (Crash n 0 pattern)) (after run stop)
   pub failed_stopped : (choice : ℕ → Bool) (made : List Made) (w : Cluster) (run : machine.World) → Shows choice made w run
       → (n : ℕ) (pattern : Pattern) → In n w.ids → (failure : Failure) → (w.member n).life ≡ Failed failure
       → FitsRow choice w (Crash n 0 pattern) → Shows choice made (next w (Crash n 0 pattern)) run
   pub opened : (choice : ℕ → Bool) (made : List Made) (w : Cluster) (run : machine.World) → AreMembers w.ids → Shows choice made w run
-      → IsRunWritable run → (n ms word : ℕ) → In n w.ids → (w.member n).life ≡ Down → is_open_on (w.member n).disk ≡ true
-      → MayCome run (Opens n) × IsRunWritable (after run (Opens n)) × Shows choice made (next w (Open n ms word)) (after run (Opens n))
+      → IsRunWritable w.ids run → (n ms word : ℕ) → In n w.ids → (w.member n).life ≡ Down → is_open_on (w.member n).disk ≡ true
+      → MayCome run (Opens n) × IsRunWritable w.ids (after run (Opens n)) × Shows choice made (next w (Open n ms word)) (after run (Opens n))
   pub not_opened : (choice : ℕ → Bool) (made : List Made) (w : Cluster) (run : machine.World) → AreMembers w.ids → Shows choice made w run
       → (n ms word : ℕ) → In n w.ids → (w.member n).life ≡ Down → is_open_on (w.member n).disk ≡ false
       → Shows choice made (next w (Open n ms word)) run
   pub finished : (choice : ℕ → Bool) (made : List Made) (w : Cluster) (run : machine.World) → AreMembers w.ids → Shows choice made w run
-      → Invariants run → IsRunWritable run → (n : ℕ) (t : Timed) (event : Event) → In n w.ids → (w.member n).life ≡ Up t
+      → Invariants run → IsRunWritable w.ids run → (n : ℕ) (t : Timed) (event : Event) → In n w.ids → (w.member n).life ≡ Up t
       → MayHappen w.frames t event → IsOnTheBus event → let number = w.rows + 1 in let going = (step t number event).going in
       are_put (puts_of (w.member n) going) (w.member n).disk.calls ≡ true
-      → let whole = Steps n number going.moves (messages number going) in MayCome run whole × IsRunWritable (after run whole)
+      → let whole = Steps n number going.moves (messages number going) in MayCome run whole × IsRunWritable w.ids (after run whole)
       × Shows choice (made_of number n going.offers made) (record (steps w n event) { rows = number }) (after run whole)
   pub cut_off : (choice : ℕ → Bool) (made : List Made) (w : Cluster) (run : machine.World) → AreMembers w.ids → Shows choice made w run
-      → Invariants run → IsRunWritable run → (n : ℕ) (t : Timed) (event : Event) → In n w.ids → (w.member n).life ≡ Up t
+      → Invariants run → IsRunWritable w.ids run → (n : ℕ) (t : Timed) (event : Event) → In n w.ids → (w.member n).life ≡ Up t
       → MayHappen w.frames t event → IsOnTheBus event → let number = w.rows + 1 in let going = (step t number event).going in
       are_put (puts_of (w.member n) going) (w.member n).disk.calls ≡ false
       → (stop : machine.Event) × (cut_events choice w.ids n number (w.member n) t going ≡ stop ∷ []) × MayCome run stop
-      × IsRunWritable (after run stop) × Shows choice made (record (steps w n event) { rows = number }) (after run stop)
+      × IsRunWritable w.ids (after run stop) × Shows choice made (record (steps w n event) { rows = number }) (after run stop)
+  -- of allocatees
+  pub came : (choice : ℕ → Bool) (made : List Made) (w : Cluster) (run : machine.World) → Shows choice made w run
+      → (a : ℕ) (uid : List ℕ) (pref ms word : ℕ) → Shows choice made (next w (AOpen a uid pref ms word)) run
+  pub ticked : (choice : ℕ → Bool) (made : List Made) (w : Cluster) (run : machine.World) → AreMembers w.ids → Shows choice made w run
+      → (a ms word : ℕ) → Shows choice made (next w (ATick a ms word)) run
+  pub received : (choice : ℕ → Bool) (made : List Made) (w : Cluster) (run : machine.World) → AreMembers w.ids → Shows choice made w run
+      → (a k ms word : ℕ) → cause w (ARx a k ms word) ≡ None → Shows choice made (next w (ARx a k ms word)) run
+  pub put : (choice : ℕ → Bool) (made : List Made) (w : Cluster) (run : machine.World) → Shows choice made w run
+      → (a : ℕ) → cause w (ASend a) ≡ None → Shows choice made (next w (ASend a)) run
+  pub left : (choice : ℕ → Bool) (made : List Made) (w : Cluster) (run : machine.World) → Shows choice made w run
+      → (a : ℕ) → Shows choice made (next w (AEnd a)) run
 
 -- ---- a frame that may be received
 
@@ -82,20 +93,20 @@ above_zero : (k : ℕ) → (k == 0) ≡ false → 1 ≤ k
 above_zero zero e = absurd (cc (e))
 above_zero (suc k) e = omega arith
 
-stands : (w : Cluster) (k : ℕ) → no_such_frame w k ≡ None → In (frame_at w.frames k) w.frames
+pub stands : (w : Cluster) (k : ℕ) → no_such_frame w k ≡ None → In (frame_at w.frames k) w.frames
 stands w k e =
     let r = none_of (k == 0) (nat_lt (length w.frames) k) (not_because NoFrame ((k == 0) || nat_lt (length w.frames) k) e) in
     in_at w.frames (k - 1) no_frame (omega (arith, above_zero k r.0, ltb-false (length w.frames) k r.1))
 
-is_fine : (judgement : Judged) → of_judged judgement ≡ None → judgement ≡ Fine
+pub is_fine : (judgement : Judged) → of_judged judgement ≡ None → judgement ≡ Fine
 is_fine Fine e = refl
 is_fine Torn e = absurd (cc (e))
 is_fine Stale e = absurd (cc (e))
 
-may_tick : (w : Cluster) (t : Timed) (moment word : ℕ) → MayHappen w.frames t (tick_of moment word)
+pub may_tick : (w : Cluster) (t : Timed) (moment word : ℕ) → MayHappen w.frames t (tick_of moment word)
 may_tick w t moment word = record { came = λ arrival e. absurd (cc (e)); fine = λ arrival e. absurd (cc (e)) }
 
-may_receive : (w : Cluster) (t : Timed) (k moment : ℕ) → In (frame_at w.frames k) w.frames
+pub may_receive : (w : Cluster) (t : Timed) (k moment : ℕ) → In (frame_at w.frames k) w.frames
     → of_judged (judges t (arriving (frame_at w.frames k) moment)) ≡ None → MayHappen w.frames t (receipt_of w k moment)
 may_receive w t k moment there passes = record {
   came = λ arrival e. subst (λ (a : Arrival). CameFrom w.frames a) (one_arrival (arriving (frame_at w.frames k) moment) arrival e)
@@ -107,10 +118,14 @@ may_receive w t k moment there passes = record {
 -- ---- rows
 
 module _ (laws : RowLaws) (choice : ℕ → Bool) (made : List Made) (w : Cluster) (run : machine.World) (members : AreMembers w.ids)
-    (shows : Shows choice made w run) (sound : Invariants run) (written : IsRunWritable run) where
+    (shows : Shows choice made w run) (sound : Invariants run) (written : IsRunWritable w.ids run) where
   -- no event
   quiet : (later : Cluster) → Shows choice made later run → Continues choice made later run []
-  quiet later is = record { lawful = tt; shows = is; writable = written }
+  quiet later is = record {
+    lawful = tt;
+    shows = is;
+    writable = subst (λ (ids : List ℕ). IsRunWritable ids run) (sym shows.members ∙ is.members) written;
+  }
 
   abbrev number : ℕ
   number = w.rows + 1
@@ -209,3 +224,8 @@ module _ (laws : RowLaws) (choice : ℕ → Bool) (made : List Made) (w : Cluste
   row_shown (Ext frame) lawful fits = quiet (next w (Ext frame)) (laws.outside choice made w run shows frame lawful)
   row_shown (Crash n calls pattern) lawful fits = crash_row n calls pattern lawful fits
   row_shown (Fault n call) lawful fits = quiet (next w (Fault n call)) (laws.failure_armed choice made w run shows n call)
+  row_shown (AOpen a uid pref ms word) lawful fits = quiet (next w (AOpen a uid pref ms word)) (laws.came choice made w run shows a uid pref ms word)
+  row_shown (ATick a ms word) lawful fits = quiet (next w (ATick a ms word)) (laws.ticked choice made w run members shows a ms word)
+  row_shown (ARx a k ms word) lawful fits = quiet (next w (ARx a k ms word)) (laws.received choice made w run members shows a k ms word lawful)
+  row_shown (ASend a) lawful fits = quiet (next w (ASend a)) (laws.put choice made w run shows a lawful)
+  row_shown (AEnd a) lawful fits = quiet (next w (AEnd a)) (laws.left choice made w run shows a)

@@ -21,6 +21,8 @@ use Rattle.replay_text.specs.declared.row.Row.TheVariants.{Crash, Ext, Fault, Se
 use Rattle.transfer_tx.specs.Queue.{Queued, is_least, left_behind, next_out}
 use Rattle.server_laws.specs.Coming.{KeepsOrder}
 use Rattle.server_laws.specs.Sound.{IsDestination, IsSound}
+use Rattle.allocatee.specs.Allocatee.{Device}
+use Rattle.server_parts.specs.Accepted.{setting_for}
 use Rattle.server_parts.specs.TimedServer.{Timed}
 use Rattle.server_parts.specs.Step.{popped}
 use Rattle.server_parts.specs.Transfers.{Made, ident_of, kind_of}
@@ -30,10 +32,11 @@ use Rattle.world_parts.specs.Cluster.{Cluster, arriving, from_outside, in_list, 
 use Rattle.world_parts.specs.Lawful.{because, cause, is_forged, no_node, not_running, nothing_to_send, or_else}
 use Rattle.world_parts.specs.Members.{Life, Member, after_sending, armed, failing, is_running, next_frame, stopped_with, stored_after}
 use Rattle.world_parts.specs.Members.Life.{Down, Up, Failed}
-use Rattle.world_laws.specs.Frames.{IsOnBus, IsPiece}
+use Rattle.world_laws.specs.Asking.{IsAsking}
+use Rattle.world_laws.specs.Frames.{IsForeign, IsOnBus, IsPiece}
 use Rattle.world_laws.specs.Said.{IsCalled, carrier}
 use Rattle.world_laws.specs.Shows.{IsAtWork, IsInRun, Shows, ShowsLife, ShowsUp}
-use Rattle.world_laws.proofs.Kept.{IsIn, heard_more, life_more, with_one}
+use Rattle.world_laws.proofs.Kept.{IsIn, asking_more, heard_more, life_more, with_one}
 use Rattle.world_laws.proofs.LawsBelow.{FrameLaws}
 use Rattle.world_laws.proofs.Pieces.{IsPieceOf, piece_of}
 use Rattle.world_laws.proofs.Lists.{in_append, in_front, never, tell}
@@ -73,10 +76,56 @@ is_down Down e = refl
 is_down (Up t) e = absurd (cc (not_because Running true e))
 is_down (Failed failure) e = absurd (cc (not_because Running true e))
 
--- ---- a frame from outside
+-- ---- a frame more on the bus, from elsewhere
 
-one_more : (frames : List Queued) (frame : Queued) → IsIn frames (frames ++ frame ∷ [])
+pub one_more : (frames : List Queued) (frame : Queued) → IsIn frames (frames ++ frame ∷ [])
 one_more frames frame x i = in_front x frames (frame ∷ []) i
+
+module _ (choice : ℕ → Bool) (made : List Made) (w : Cluster) (run : machine.World) (shows : Shows choice made w run) where
+  -- with other allocatees, each of which is shown
+  abbrev pub AreShown : (ℕ → Option Device) → List Queued → Type 0
+  AreShown others frames = (a : ℕ) (x : Device) → others a ≡ Some x → IsAsking made frames x
+
+  pub others_shown : (others : ℕ → Option Device) → AreShown others w.frames
+      → Shows choice made (record w { allocatee = others; rows = w.rows + 1 }) run
+  others_shown others each = record {
+    members = shows.members;
+    steps = omega (arith, shows.steps);
+    lives = shows.lives;
+    asking = each;
+    bus = shows.bus;
+    narrow = shows.narrow;
+    holds = shows.holds;
+    past = λ x i. omega (arith, shows.past x i);
+  }
+
+  pub frame_shown : (frame : Queued) (others : ℕ → Option Device) → IsForeign w.ids frame → frame.id < 2 ^ 29 → AreShown others (w.frames ++ frame ∷ [])
+      → Shows choice made (record w { allocatee = others; frames = w.frames ++ frame ∷ []; rows = w.rows + 1 }) run
+  frame_shown frame others foreign small each = record {
+    members = shows.members;
+    steps = omega (arith, shows.steps);
+    lives = λ m i. life_more choice made made (λ x j. j) w.ids w.frames (w.frames ++ frame ∷ []) (one_more w.frames frame) run run m
+        (w.member m).life (w.member m).disk refl (shows.lives m i);
+    asking = each;
+    bus = λ f i. elim (in_append f w.frames (frame ∷ []) i) [
+      | inl before ↦ shows.bus f before
+      | inr (inl e) ↦ inr (ap (λ (q : Queued). is_forged w.ids (identifier_of q.id)) e ∙ foreign)
+      | inr (inr j) ↦ absurd j
+    ];
+    narrow = λ f i. elim (in_append f w.frames (frame ∷ []) i) [
+      | inl before ↦ shows.narrow f before
+      | inr (inl e) ↦ subst (λ (q : Queued). q.id < 2 ^ 29) (sym e) small
+      | inr (inr j) ↦ absurd j
+    ];
+    holds = shows.holds;
+    past = λ x i. omega (arith, shows.past x i);
+  }
+
+  -- those that were there heard no less, and hold what they held
+  pub still_asking : (frame : Queued) → AreShown w.allocatee (w.frames ++ frame ∷ [])
+  still_asking frame a x e = asking_more made made (λ y i. i) w.frames (w.frames ++ frame ∷ []) (one_more w.frames frame) x (shows.asking a x e)
+
+-- ---- a frame from outside
 
 module _ (choice : ℕ → Bool) (made : List Made) (w : Cluster) (run : machine.World) (shows : Shows choice made w run) (frame : Frame)
     (lawful : cause w (Ext frame) ≡ None) where
@@ -84,24 +133,8 @@ module _ (choice : ℕ → Bool) (made : List Made) (w : Cluster) (run : machine
   added = from_outside frame.id frame.bytes.items
 
   pub outside_shown : Shows choice made (next w (Ext frame)) run
-  outside_shown = record {
-    members = shows.members;
-    steps = omega (arith, shows.steps);
-    lives = λ m i. life_more choice made made (λ x j. j) w.ids w.frames (w.frames ++ added ∷ []) (one_more w.frames added) run run m
-        (w.member m).life (w.member m).disk refl (shows.lives m i);
-    bus = λ f i. elim (in_append f w.frames (added ∷ []) i) [
-      | inl before ↦ shows.bus f before
-      | inr (inl e) ↦ inr (ap (λ (q : Queued). is_forged w.ids (identifier_of q.id)) e ∙ not_because Forged (is_forged w.ids (identifier_of frame.id)) lawful)
-      | inr (inr j) ↦ absurd j
-    ];
-    narrow = λ f i. elim (in_append f w.frames (added ∷ []) i) [
-      | inl before ↦ shows.narrow f before
-      | inr (inl e) ↦ subst (λ (q : Queued). q.id < 2 ^ 29) (sym e) frame.narrow
-      | inr (inr j) ↦ absurd j
-    ];
-    holds = shows.holds;
-    past = λ x i. omega (arith, shows.past x i);
-  }
+  outside_shown = frame_shown choice made w run shows added w.allocatee (not_because Forged (is_forged w.ids (identifier_of frame.id)) lawful) frame.narrow
+      (still_asking choice made w run shows added)
 
 -- ---- armed disks
 
@@ -157,6 +190,7 @@ module _ (choice : ℕ → Bool) (made : List Made) (w : Cluster) (run : machine
     members = shows.members;
     steps = omega (arith, shows.steps);
     lives = with_one choice made made (λ x i. i) w.ids w.frames w.frames (λ f i. i) run run w.member shows.lives n x here (λ m apart. refl);
+    asking = shows.asking;
     bus = shows.bus;
     narrow = shows.narrow;
     holds = shows.holds;
@@ -250,6 +284,7 @@ module _ (laws : FrameLaws) (popped_sound : (t : Timed) → IsSound t → IsSoun
     steps = omega (arith, shows.steps);
     lives = with_one choice made made (λ x i. i) w.ids w.frames (w.frames ++ frame ∷ []) (one_more w.frames frame) run run w.member shows.lives n
         (record (w.member n) { life = Up (popped t) }) (λ listed. record { runs = runs; works = works }) (λ m apart. refl);
+    asking = still_asking choice made w run shows frame;
     bus = λ f i. elim (in_append f w.frames (frame ∷ []) i) [
       | inl before ↦ shows.bus f before
       | inr (inl e) ↦ subst (λ (q : Queued). IsOnBus made w.ids q) (sym e) (inl (n, listed, piece))
@@ -291,7 +326,7 @@ module _ (laws : FrameLaws) (popped_sound : (t : Timed) → IsSound t → IsSoun
       works : IsAtWork made w.ids (w.frames ++ frame ∷ []) n (popped t)
       works = record {
         queue = λ f i. is.works.queue f (left_in_queue t.queue f i);
-        heard = heard_more w.frames (w.frames ++ frame ∷ []) (one_more w.frames frame) n t.sessions is.works.heard;
+        heard = heard_more w.frames (w.frames ++ frame ∷ []) (one_more w.frames frame) (setting_for n) t.sessions is.works.heard;
         called = λ peer request pending. let c = is.works.called peer request pending in (c.0, c.1, same_call t peer request c.0 c.2);
         among = is.works.among;
       }

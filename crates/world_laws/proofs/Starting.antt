@@ -123,6 +123,7 @@ module _ (choice : ℕ → Bool) (made : List Made) (w : Cluster) (run : machine
           (firm_finds (w.member n).disk up.runs.firm pattern ∙ (up.runs.stored
           ∙ (sym (ap (λ (p : Plain). p.store) up.runs.plain) ∙ sym (ap (λ (p : Plain). p.store) (at_here run.server n n stopped_plain refl))))))
           (λ m apart. at_other run.server n m stopped_plain apart);
+      asking = shows.asking;
       bus = shows.bus;
       narrow = shows.narrow;
       holds = shows.holds;
@@ -137,6 +138,7 @@ module _ (choice : ℕ → Bool) (made : List Made) (w : Cluster) (run : machine
     steps = omega (arith, shows.steps);
     lives = with_one choice made made (λ x i. i) w.ids w.frames w.frames (λ f i. i) run run w.member shows.lives n stopped_member
         (λ there. restarted_down run n (w.member n).disk pattern is.down (sym agrees ∙ sym is.stored)) (λ m apart. refl);
+    asking = shows.asking;
     bus = shows.bus;
     narrow = shows.narrow;
     holds = shows.holds;
@@ -279,6 +281,7 @@ module _ (laws : DiskLaws) (fit : (me size : ℕ) (store : Store) (now word : �
       steps = omega (arith, shows.steps);
       lives = with_one choice made made (λ x i. i) w.ids w.frames w.frames (λ f i. i) run (after run (Opens n)) w.member shows.lives n up_member
           (λ there. here) (λ m apart. at_other run.server n m opened_plain apart);
+      asking = shows.asking;
       bus = shows.bus;
       narrow = shows.narrow;
       holds = shows.holds;
@@ -304,6 +307,7 @@ module _ (laws : DiskLaws) (fit : (me size : ℕ) (store : Store) (now word : �
       steps = omega (arith, shows.steps);
       lives = with_one choice made made (λ x i. i) w.ids w.frames w.frames (λ f i. i) run run w.member shows.lives n (unopened (w.member n) (opening_on disk))
           (λ there. still_down (opening_on disk).calls.stopped) (λ m apart. refl);
+      asking = shows.asking;
       bus = shows.bus;
       narrow = shows.narrow;
       holds = shows.holds;
@@ -317,6 +321,7 @@ beginning_shown choice ids = record {
   members = refl;
   steps = omega arith;
   lives = λ m there. record { down = refl; stored = refl; firm = λ loose e. absurd (cc (e)) };
+  asking = λ a x e. absurd (cc (e));
   bus = λ frame there. absurd there;
   narrow = λ frame there. absurd there;
   holds = record {

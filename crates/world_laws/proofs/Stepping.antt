@@ -79,9 +79,9 @@ forged_discovery ids ident kind number = ap (λ (k : Kind). is_forged_by ids k i
   same : (ident.number == 390) ≡ true
   same = elim (eqb_tells ident.number 390) [ inl e ↦ e.0 | inr apart ↦ absurd (apart.1 number) ]
 
-  by : (b : Bool) → (b || (ident.number == 390)) ≡ true
+  by : (b : Bool) → (b || ((ident.number == 390) || (ident.number == 1))) ≡ true
   by true = refl
-  by false = same
+  by false = ap (λ (c : Bool). c || (ident.number == 1)) same
 
 contained : (xs : List ℕ) (x : ℕ) → Contains xs x → In x xs
 contained xs x (k, inside, e) = subst (λ (y : ℕ). In y xs) e (in_at xs k x inside)
@@ -89,9 +89,9 @@ contained xs x (k, inside, e) = subst (λ (y : ℕ). In y xs) e (in_at xs k x in
 -- ---- what it hears
 
 module _ (laws : StepLaws) (frames : List Queued) (t : Timed) (number : ℕ) where
-  pub heard_after : (event : Event) → MayHappen frames t event → AreHeard frames t.me t.sessions
-      → AreHeard frames t.me (step t number event).going.timed.sessions
-  heard_after (Tick now word) may is = subst (λ (s : List Session). AreHeard frames t.me s) (sym (laws.ticked t number now word)) is
+  pub heard_after : (event : Event) → MayHappen frames t event → AreHeard frames (setting_for t.me) t.sessions
+      → AreHeard frames (setting_for t.me) (step t number event).going.timed.sessions
+  heard_after (Tick now word) may is = subst (λ (s : List Session). AreHeard frames (setting_for t.me) s) (sym (laws.ticked t number now word)) is
   heard_after (Rx arrival) may is = record {
     arrivals = is.arrivals ++ coming ∷ [];
     come = λ a i. elim (in_append a is.arrivals (coming ∷ []) i) [
@@ -128,7 +128,7 @@ module _ (laws : StepLaws) (frame_laws : FrameLaws) (codec : CodecLaws) (ids : L
 
   -- what is delivered of a member was made, and a service is for this one
   record IsKnown (d : Delivery) : Type 0 where
-    wants : (id : ℕ) × IsWanted t.me id d.ident
+    wants : (id : ℕ) × IsWanted rows t.me id d.ident
     source : is_forged ids (Some d.ident) ≡ true → WasMade made d
     own : is_service d.ident.kind ≡ true → d.ident.dest ≡ t.me
 
@@ -199,7 +199,7 @@ module _ (laws : StepLaws) (frame_laws : FrameLaws) (codec : CodecLaws) (ids : L
       let at : number_of z.offer.what ≡ 31 = is.number ∙ (service ∙ ap number_of what) in
       let is_it : z.offer.what ≡ VoteQ = is_vote_request z.offer.what kind (λ e. absurd (omega (arith, at, e))) (λ e. absurd (omega (arith, at, e))) in (
         is_it,
-        vote_says codec made bag holds.said holds.written t.me d z there is own is_it v.asked v.read
+        vote_says codec ids made bag holds.said holds.written t.me d z there is own is_it v.asked v.read
             ∙ ap (λ (r : Request). Some (Requests r)) (sym v.request ∙ ap (λ (x : Answer). x.request) (some_answer v.answer answer (sym v.is ∙ says))),
       ))
     where
@@ -213,7 +213,7 @@ module _ (laws : StepLaws) (frame_laws : FrameLaws) (codec : CodecLaws) (ids : L
       let v = as_append d a in
       let is_it : z.offer.what ≡ AppQ = is_append_request z.offer.what kind (is.number ∙ (service ∙ ap number_of what)) in (
         is_it,
-        append_says codec made bag holds.said holds.written t.me d z there is own is_it v.asked v.read
+        append_says codec ids made bag holds.said holds.written t.me d z there is own is_it v.asked v.read
             ∙ ap (λ (r : Request). Some (Requests r)) (sym v.request ∙ ap (λ (x : Answer). x.request) (some_answer v.answer answer (sym v.is ∙ says))),
       ))
     where

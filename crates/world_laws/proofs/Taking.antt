@@ -1,7 +1,8 @@
 -- What a server takes from members was said by them: requests are in the bag, and an answer that a call takes answers that very call.
 use Rattle.std.proofs.Common.{◌≡◌, ◌≢◌, ℕ, ◌<◌, ◌≤◌, ◌^◌, Bool, true, false, List, refl, sym, ap, subst, ◌∙◌, arith, inl, inr, Option, Some, None}
-use Rattle.std.specs.Prelude.{◌-◌, ◌==◌, ◌&&◌, not, nat_eq, nat_le, nat_lt, if◌then◌else◌}
+use Rattle.std.specs.Prelude.{◌-◌, ◌==◌, ◌&&◌, not, nat_eq, nat_le, nat_lt, if◌then◌else◌, IfSome}
 use Rattle.std.proofs.lemmas.Bool.Decides.{eqb_tells, leb_tells}
+use Rattle.can_frame.specs.declared.entry.Entry.{Entry}
 use Rattle.can_frame.specs.declared.identifier.Kind.TheVariants.{Request as RequestKind, Response}
 use Rattle.can_frame.specs.declared.step.What.{What}
 use Rattle.can_frame.specs.declared.step.What.TheVariants.{Alloc, Disc, Stat, InfoQ, Info, VoteQ, Vote, AppQ, App}
@@ -11,6 +12,7 @@ use Rattle.dsdl_codec.specs.declared.vote_answer.VoteAnswer.{VoteAnswer}
 use Rattle.dsdl_codec.specs.declared.vote_request.VoteRequest.{VoteRequest}
 use Rattle.dsdl_codec.specs.AppendAnswer.{append_answer_bytes, append_answer_of}
 use Rattle.dsdl_codec.specs.AppendRequest.{IsAppendRequest, append_request_bytes, append_request_of}
+use Rattle.dsdl_codec.specs.Entry.{IsEntry}
 use Rattle.dsdl_codec.specs.VoteAnswer.{vote_answer_bytes, vote_answer_of}
 use Rattle.dsdl_codec.specs.VoteRequest.{IsVoteRequest, vote_request_bytes, vote_request_of}
 use Rattle.raft_core.specs.Handled as handled
@@ -26,7 +28,7 @@ use Rattle.server_parts.specs.Judging.{is_response, is_stale, misses, service_of
 use Rattle.server_parts.specs.TimedServer.{Timed}
 use Rattle.server_parts.specs.Transfers.{Made, kind_of, message_by, number_of}
 use Rattle.world_laws.specs.Frames.{AreTransfers, IsTransferOf}
-use Rattle.world_laws.specs.Said.{AreAnswered, AreCalled, AreSaid, AreWritable, IsAnswered, IsCalled, IsWritable, carrier}
+use Rattle.world_laws.specs.Said.{AreAnswered, AreCalled, AreSaid, AreWritable, IsAnswered, IsCalled, IsProper, IsWritable, carrier}
 use Rattle.world_laws.proofs.Lists.{both, never}
 use Rattle.world_laws.proofs.Waiting.{Waits}
 
@@ -101,7 +103,11 @@ is_append App k a = refl
 
 -- ---- requests
 
-module _ (codec : CodecLaws) (made : List Made) (bag : List Message) (says : AreSaid made bag) (fits : AreWritable bag) (me : ℕ) (d : Delivery) (x : Made)
+entry_fits : (ids : List ℕ) (entry : Option Entry) → IfSome entry (IsProper ids) → IfSome entry IsEntry
+entry_fits ids None is = tt
+entry_fits ids (Some entry) is = is.fits
+
+module _ (codec : CodecLaws) (ids : List ℕ) (made : List Made) (bag : List Message) (says : AreSaid made bag) (fits : AreWritable ids bag) (me : ℕ) (d : Delivery) (x : Made)
     (there : In x made) (is : IsTransferOf d x) (to_me : d.ident.dest ≡ me) where
   carried_as : (what : What) → x.offer.what ≡ what → IsSaid x.step x.by what x.offer.to x.offer.re x.offer.payload x.offer.says
   carried_as what e = subst (λ (w : What). IsSaid x.step x.by w x.offer.to x.offer.re x.offer.payload x.offer.says) e (says.carried x there)
@@ -127,7 +133,7 @@ module _ (codec : CodecLaws) (made : List Made) (bag : List Message) (says : Are
       inside : In (Requests said.request) bag
       inside = said_as VoteQ what (Requests said.request) said.is
 
-      fit : IsWritable said.request
+      fit : IsWritable ids said.request
       fit = fits.requests said.request inside
 
       plain : (said.request.commit ≡ 0) × (said.request.entry ≡ None)
@@ -157,7 +163,7 @@ module _ (codec : CodecLaws) (made : List Made) (bag : List Message) (says : Are
       inside : In (Requests said.request) bag
       inside = said_as AppQ what (Requests said.request) said.is
 
-      fit : IsWritable said.request
+      fit : IsWritable ids said.request
       fit = fits.requests said.request inside
 
       value : AppendRequest
@@ -170,7 +176,7 @@ module _ (codec : CodecLaws) (made : List Made) (bag : List Message) (says : Are
       }
 
       same : value ≡ request
-      same = append_is value request (sym (codec.append_requests value (record { term = fit.term; prev_term = fit.previous_term; entry = fit.entry }))
+      same = append_is value request (sym (codec.append_requests value (record { term = fit.term; prev_term = fit.previous_term; entry = entry_fits ids said.request.entry fit.entry }))
           ∙ (ap append_request_of (sym said.written ∙ is.payload) ∙ read))
 
       whole : said.request ≡ handled.append_request_of request d.mark.step d.ident.source me
@@ -273,7 +279,7 @@ one_sending x y e = cc (e)
 -- ---- answers
 
 module _ (codec : CodecLaws) (ids : List ℕ) (made : List Made) (are : AreTransfers ids made) (bag : List Message) (says : AreSaid made bag)
-    (fits : AreWritable bag) (answered : AreAnswered made) (t : Timed) (called : AreCalled made t) (now : ℕ) (d : Delivery)
+    (fits : AreWritable ids bag) (answered : AreAnswered made) (t : Timed) (called : AreCalled made t) (now : ℕ) (d : Delivery)
     (fresh : IsFresh t d now) (x : Made) (there : In x made) (is : IsTransferOf d x) (to_me : d.ident.dest ≡ t.me) (call : Request) where
   -- the call that waits is the one that the response answers
   one_call : (sent : Sending) → Waits t now d.ident.source call sent → d.ident.number ≡ service_of call → sent.id ≡ d.id
@@ -299,10 +305,10 @@ module _ (codec : CodecLaws) (ids : List ℕ) (made : List Made) (are : AreTrans
           (z.id ∙ (is.id ∙ (sym id ∙ (ap (λ (s : Sending). s.id) (one_sending sent made_call.0 (sym waits.sent ∙ made_call.1)) ∙ sym y.id))))
 
   said_of : (what : What) → x.offer.what ≡ what → IsSaid x.step x.by what x.offer.to x.offer.re x.offer.payload x.offer.says
-  said_of what e = carried_as codec made bag says fits t.me d x there is to_me what e
+  said_of what e = carried_as codec ids made bag says fits t.me d x there is to_me what e
 
   in_bag : (what : What) → x.offer.what ≡ what → (message : Message) → message_by x.step x.by what x.offer.payload x.offer.says ≡ Some message → In message bag
-  in_bag what e = said_as codec made bag says fits t.me d x there is to_me what e
+  in_bag what e = said_as codec ids made bag says fits t.me d x there is to_me what e
 
   pub vote_said : x.offer.what ≡ Vote → (value : VoteAnswer) → vote_answer_of d.payload ≡ Some value → call.append ≡ false
       → (sent : Sending) → Waits t now d.ident.source call sent → sent.id ≡ d.id

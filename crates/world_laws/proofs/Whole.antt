@@ -1,6 +1,7 @@
 -- Frames that came together, whole, are those of one transfer that was made.
-use Rattle.std.proofs.Common.{◌≡◌, ℕ, ◌+◌, ◌<◌, ◌≤◌, Bool, true, false, List, [], ◌∷◌, ◌++◌, length, refl, sym, ap, subst, ◌∙◌, arith, inl, inr, length-append}
+use Rattle.std.proofs.Common.{◌≡◌, ◌⊎◌, ℕ, ◌+◌, ◌<◌, ◌≤◌, Bool, true, false, List, [], ◌∷◌, ◌++◌, length, refl, sym, ap, subst, ◌∙◌, arith, inl, inr, length-append}
 use Rattle.std.specs.Prelude.{Option, Some, ◌||◌, ◌==◌, map, slice_index_or}
+use Rattle.std.proofs.lemmas.Bool.Decides.{eqb_tells}
 use Rattle.std.proofs.lemmas.List.{get_or-map, length-map, map-append}
 use Rattle.can_frame.specs.declared.identifier.Ident.{Ident}
 use Rattle.can_frame.specs.declared.identifier.Kind.{Kind}
@@ -9,6 +10,7 @@ use Rattle.can_frame.specs.declared.mark.Mark.{Mark}
 use Rattle.can_frame.specs.Cutting.{Piece, frames_of as pieces_of}
 use Rattle.can_frame.specs.Identifier.{identifier_number, identifier_of}
 use Rattle.raft_model.specs.Lists.{In}
+use Rattle.transfer_rx.specs.declared.accept.AcceptRow.{AcceptRow}
 use Rattle.transfer_rx.specs.declared.key.Key.{Key}
 use Rattle.transfer_rx.specs.Acceptance.{is_for}
 use Rattle.transfer_rx.specs.Keys.{is_anonymous}
@@ -19,7 +21,7 @@ use Rattle.server_parts.specs.Transfers.{Made, ident_of, kind_of, number_of, sig
 use Rattle.world_parts.specs.Cluster.{is_member}
 use Rattle.world_parts.specs.Lawful.{is_forged, is_forged_by}
 use Rattle.world_laws.specs.Frames.{AreTransfers, CameFrom, IsOnBus, IsPiece}
-use Rattle.world_laws.proofs.Idents.{IsWanted, dest_is, ident_ok, one_what, to_for}
+use Rattle.world_laws.proofs.Idents.{IsWanted, dest_of, ident_ok, one_what, to_for}
 use Rattle.world_laws.proofs.LawsBelow.{FrameLaws}
 use Rattle.world_laws.proofs.Lists.{in_at, is_any, never}
 use Rattle.world_laws.proofs.Namesakes as namesakes
@@ -47,10 +49,21 @@ members_own ids ident there known = by ident.kind known (is_member ids ident.sou
   or_true false b e = never e
 
   by : (kind : Kind) → is_anonymous kind ≡ false → (member : Bool) → is_member ids ident.source ≡ true → is_forged_by ids kind ident ≡ true
-  by Message known member e = or_true (is_member ids ident.source) (ident.number == 390) e
+  by Message known member e = or_true (is_member ids ident.source) ((ident.number == 390) || (ident.number == 1)) e
   by Anonymous known member e = never (sym known)
   by Request known member e = or_true (is_member ids ident.source) ((ident.number == 30) || (ident.number == 31)) e
   by Response known member e = or_true (is_member ids ident.source) ((ident.number == 30) || (ident.number == 31)) e
+
+-- an Allocation with a source is a member's, or forged
+pub forged_allocation : (ids : List ℕ) (ident : Ident) → ident.kind ≡ Message → ident.number ≡ 1 → is_forged ids (Some ident) ≡ true
+forged_allocation ids ident kind number = ap (λ (k : Kind). is_forged_by ids k ident) kind ∙ by (is_member ids ident.source) (ident.number == 390) where
+  same : (ident.number == 1) ≡ true
+  same = elim (eqb_tells ident.number 1) [ inl e ↦ e.0 | inr apart ↦ absurd (apart.1 number) ]
+
+  by : (a b : Bool) → (a || (b || (ident.number == 1))) ≡ true
+  by true b = refl
+  by false true = refl
+  by false false = same
 
 pub some_is : (x y : Ident) → Some x ≡ Some y → x ≡ y
 some_is x y e = cc (e)
@@ -64,11 +77,12 @@ read_back laws ids low high made are x there =
     laws.ident_read (ident_of x.by x.offer.what x.offer.to) (ident_ok x.by x.offer.what x.offer.to (low x.by n) (high x.by n) (are.ranges x there).to)
 
 module _ (laws : FrameLaws) (ids : List ℕ) (low : (n : ℕ) → In n ids → 1 ≤ n) (high : (n : ℕ) → In n ids → n ≤ 125)
-    (made : List Made) (are : AreTransfers ids made) (me : ℕ) (some : 1 ≤ me) where
+    (made : List Made) (are : AreTransfers ids made) (list : List AcceptRow) (me : ℕ) where
   from_piece : (by : ℕ) (frame : Queued) (piece : IsPiece made by frame) (arrival : Arrival)
-      → arrival.id ≡ frame.id → arrival.bytes ≡ frame.bytes → arrival.mark ≡ frame.mark → (ident : Ident) → IsWanted me arrival.id ident
-      → (key : Key) → ident.kind ≡ key.kind → ident.number ≡ key.number → ident.source ≡ key.source → IsFrom made me key arrival
-  from_piece by frame piece arrival id bytes mark ident wants key kind number source = record {
+      → arrival.id ≡ frame.id → arrival.bytes ≡ frame.bytes → arrival.mark ≡ frame.mark → (ident : Ident) → IsWanted list me arrival.id ident
+      → (key : Key) → (1 ≤ me) ⊎ (key.kind ≡ Message) → ident.kind ≡ key.kind → ident.number ≡ key.number → ident.source ≡ key.source
+      → IsFrom made me key arrival
+  from_piece by frame piece arrival id bytes mark ident wants key served kind number source = record {
     whose = piece.whose;
     was_made = piece.was_made;
     piece = is;
@@ -76,7 +90,7 @@ module _ (laws : FrameLaws) (ids : List ℕ) (low : (n : ℕ) → In n ids → 1
     by = ap (λ (i : Ident). i.source) own ∙ source;
     kind = ap (λ (i : Ident). i.kind) own ∙ kind;
     number = ap (λ (i : Ident). i.number) own ∙ number;
-    to = dest_is me some piece.whose.by piece.whose.offer.what piece.whose.offer.to (are.ranges piece.whose piece.was_made).to
+    to = dest_of me piece.whose.by piece.whose.offer.what piece.whose.offer.to its_kind (are.ranges piece.whose piece.was_made).to
         (ap (λ (i : Ident). is_for me i) own ∙ wants.for_me)
         ∙ ap (λ (k : Kind). to_for k me) (ap (λ (i : Ident). i.kind) own ∙ kind);
   }
@@ -90,12 +104,18 @@ module _ (laws : FrameLaws) (ids : List ℕ) (low : (n : ℕ) → In n ids → 1
       own : ident_of piece.whose.by piece.whose.offer.what piece.whose.offer.to ≡ ident
       own = some_is (ident_of piece.whose.by piece.whose.offer.what piece.whose.offer.to) ident (sym read ∙ wants.read)
 
+      its_kind : (1 ≤ me) ⊎ (kind_of piece.whose.offer.what ≡ Message)
+      its_kind = elim served [
+        | inl low ↦ inl low
+        | inr broadcast ↦ inr (ap (λ (i : Ident). i.kind) own ∙ (kind ∙ broadcast))
+      ]
+
   pub from_bus : (frames : List Queued) → ((frame : Queued) → In frame frames → IsOnBus made ids frame) → (arrival : Arrival) → CameFrom frames arrival
-      → (ident : Ident) → IsWanted me arrival.id ident → is_forged ids (Some ident) ≡ true
-      → (key : Key) → ident.kind ≡ key.kind → ident.number ≡ key.number → ident.source ≡ key.source → IsFrom made me key arrival
-  from_bus frames bus arrival came ident wants forged key kind number source = by (bus came.frame came.there) where
+      → (ident : Ident) → IsWanted list me arrival.id ident → is_forged ids (Some ident) ≡ true
+      → (key : Key) → (1 ≤ me) ⊎ (key.kind ≡ Message) → ident.kind ≡ key.kind → ident.number ≡ key.number → ident.source ≡ key.source → IsFrom made me key arrival
+  from_bus frames bus arrival came ident wants forged key served kind number source = by (bus came.frame came.there) where
     by : IsOnBus made ids came.frame → IsFrom made me key arrival
-    by (inl (n, there, piece)) = from_piece n came.frame piece arrival came.id came.bytes came.mark ident wants key kind number source
+    by (inl (n, there, piece)) = from_piece n came.frame piece arrival came.id came.bytes came.mark ident wants key served kind number source
     by (inr foreign) = never (sym foreign ∙ (ap (λ (o : Option Ident). is_forged ids o) (ap (λ (k : ℕ). identifier_of k) (sym came.id) ∙ wants.read) ∙ forged))
 
 -- ---- frames that are whole

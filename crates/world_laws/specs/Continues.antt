@@ -8,10 +8,10 @@ use Rattle.world_laws.specs.Said.{IsRunWritable}
 use Rattle.world_laws.specs.Shows.{Shows}
 
 -- by these events, each of which may come when its turn is there, to a run that this world shows, and in which all
--- that is stored and said has bytes
+-- that is stored and said has bytes, and nothing of it a member's node ID
 pub record Continues (choice : ℕ → Bool) (made : List Made) (w : Cluster) (run : machine.World)
     (events : List Event)
     : Type 0 where
   pub lawful : machine.Lawful run events
   pub shows : Shows choice made w (machine.run run events)
-  pub writable : IsRunWritable (machine.run run events)
+  pub writable : IsRunWritable w.ids (machine.run run events)

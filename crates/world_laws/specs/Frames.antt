@@ -1,4 +1,4 @@
--- What stands on the bus of a cluster, and what its members hear of it.
+-- What stands on the bus of a cluster, and what its members and allocatees hear of it.
 --
 -- Facts about frames go by the source that a frame's identifier names: one with a member's source is a frame of a
 -- transfer that this member made; of one from elsewhere nothing is said but that it is not forged.
@@ -6,11 +6,10 @@ use Rattle.std.specs.Prelude.{◌≡◌, ◌⊎◌, ℕ, ◌<◌, ◌≤◌, fal
 use Rattle.can_frame.specs.Identifier.{identifier_of}
 use Rattle.raft_model.specs.Lists.{In}
 use Rattle.transfer_rx.specs.Origin.{CameWithKey}
-use Rattle.transfer_rx.specs.Reassembly.{Arrival, Delivery}
+use Rattle.transfer_rx.specs.Reassembly.{Arrival, Delivery, Setting}
 use Rattle.transfer_rx.specs.Sessions.{Session}
 use Rattle.transfer_tx.specs.Queue.{Queued}
 use Rattle.server_laws.specs.Sound.{IsInRange}
-use Rattle.server_parts.specs.Accepted.{setting_for}
 use Rattle.server_parts.specs.Transfers.{Made, frames_of, kind_of, number_of}
 use Rattle.world_parts.specs.Cluster.{no_frame}
 use Rattle.world_parts.specs.Lawful.{is_forged}
@@ -48,7 +47,7 @@ pub record AreTransfers (ids : List ℕ) (made : List Made) : Type 0 where
   pub makers : (x : Made) → In x made → In x.by ids
   pub ranges : (x : Made) → In x made → IsInRange x.offer
 
--- ---- what a server hears
+-- ---- what is heard
 
 -- a frame as it came is one of these
 pub record CameFrom (frames : List Queued) (arrival : Arrival) : Type 0 where
@@ -58,11 +57,11 @@ pub record CameFrom (frames : List Queued) (arrival : Arrival) : Type 0 where
   pub bytes : arrival.bytes ≡ frame.bytes
   pub mark : arrival.mark ≡ frame.mark
 
--- all that the sessions of node `me` keep are frames that stood on the bus, and came with the session's key
-pub record AreHeard (frames : List Queued) (me : ℕ) (sessions : List Session) : Type 0 where
+-- all that the sessions of a receiver keep are frames that stood on the bus, and came with the session's key
+pub record AreHeard (frames : List Queued) (setting : Setting) (sessions : List Session) : Type 0 where
   pub arrivals : List Arrival
   pub come : (arrival : Arrival) → In arrival arrivals → CameFrom frames arrival
-  pub kept : All (CameWithKey (setting_for me) arrivals) sessions
+  pub kept : All (CameWithKey setting arrivals) sessions
 
 -- what is delivered is this transfer
 pub record IsTransferOf (d : Delivery) (x : Made) : Type 0 where

@@ -1,9 +1,12 @@
+pub mod Allocatees
+pub mod Asking
 pub mod Frames
 pub mod Headline
 pub mod Mirrors
 pub mod Safe
 pub mod Said
 pub mod Shows
+pub mod Duty
 pub mod Events
 pub mod Cuts
 pub mod Continues

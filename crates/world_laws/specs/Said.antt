@@ -16,16 +16,21 @@ use Rattle.server_laws.specs.Saying.{IsSaid}
 use Rattle.server_parts.specs.TimedServer.{Timed}
 use Rattle.server_parts.specs.Transfers.{Made, message_of}
 
--- a request has bytes: its numbers fit, and a vote request has neither commit nor entry
-pub record IsWritable (request : Request) : Type 0 where
+-- the entry has bytes, and no node ID of these
+pub record IsProper (ids : List ℕ) (entry : Entry) : Type 0 where
+  pub fits : IsEntry entry
+  pub outside : In entry.node ids → ⊥
+
+-- a request has bytes: its numbers fit, and a vote request has neither commit nor entry; its entry is of no member
+pub record IsWritable (ids : List ℕ) (request : Request) : Type 0 where
   pub term : request.term < 2 ^ 32
   pub previous_term : request.previous_term < 2 ^ 32
-  pub entry : IfSome request.entry IsEntry
+  pub entry : IfSome request.entry (IsProper ids)
   pub vote : request.append ≡ false → (request.commit ≡ 0) × (request.entry ≡ None)
 
 -- all requests and answers of the bag have bytes, and requests are of nodes
-pub record AreWritable (bag : List Message) : Type 0 where
-  pub requests : (request : Request) → In (Requests request) bag → IsWritable request
+pub record AreWritable (ids : List ℕ) (bag : List Message) : Type 0 where
+  pub requests : (request : Request) → In (Requests request) bag → IsWritable ids request
   pub senders : (request : Request) → In (Requests request) bag → 1 ≤ request.from
   pub answers : (answer : Answer) → In (Answers answer) bag → answer.term < 2 ^ 32
 
@@ -81,16 +86,17 @@ AreCalled made server = (peer : ℕ) (request : Request) → server.plain.memory
 
 -- ---- what is stored
 
--- the term and each entry have bytes
-pub record IsStoreWritable (store : Store) : Type 0 where
+-- the term and each entry have bytes, and no entry is of a member
+pub record IsStoreWritable (ids : List ℕ) (store : Store) : Type 0 where
   pub term : store.term < 2 ^ 32
-  pub entries : (entry : Entry) → In entry store.log → IsEntry entry
+  pub entries : (entry : Entry) → In entry store.log → IsProper ids entry
 
 -- of a run: what each member has stored, and the bag
-pub record IsRunWritable (run : World) : Type 0 where
-  pub stores : (member : ℕ) → IsStoreWritable (run.server member).store
-  pub bag : AreWritable run.bag
+pub record IsRunWritable (ids : List ℕ) (run : World) : Type 0 where
+  pub stores : (member : ℕ) → IsStoreWritable ids (run.server member).store
+  pub bag : AreWritable ids run.bag
 
--- what is proposed has a unique ID of 16 bytes
-abbrev pub ProposesWell : List Move → Type 0
-ProposesWell moves = (entry : Entry) → In (ProposeEntry entry) moves → length entry.uid ≡ 16
+-- what is proposed has a unique ID of 16 bytes, and no member's node ID
+abbrev pub ProposesWell : List ℕ → List Move → Type 0
+ProposesWell ids moves = (entry : Entry) → In (ProposeEntry entry) moves →
+    (length entry.uid ≡ 16) × (In entry.node ids → ⊥)

@@ -16,15 +16,18 @@ use Rattle.raft_model.specs.Messages.{Message}
 use Rattle.raft_model.specs.Runs as machine
 use Rattle.raft_model.specs.Server.{lost}
 use Rattle.transfer_tx.specs.Queue.{Queued}
+use Rattle.allocatee.specs.Allocatee.{Device}
 use Rattle.server_laws.specs.Coming.{KeepsOrder}
 use Rattle.server_laws.specs.Proposals.{HasUids}
 use Rattle.server_laws.specs.Sound.{IsSound}
+use Rattle.server_parts.specs.Accepted.{setting_for}
 use Rattle.server_parts.specs.TimedServer.{Timed, members_of}
 use Rattle.server_parts.specs.Transfers.{Made}
 use Rattle.world_parts.specs.Cluster.{Cluster}
 use Rattle.world_parts.specs.Members.{Failure, Life, stored_after}
 use Rattle.world_parts.specs.Members.Life.{Down, Up, Failed}
 use Rattle.world_parts.specs.Choices.{chosen_store}
+use Rattle.world_laws.specs.Asking.{IsAsking}
 use Rattle.world_laws.specs.Frames.{AreHeard, AreTransfers, IsOnBus, IsPiece}
 use Rattle.world_laws.specs.Said.{AreAnswered, AreCalled, AreSaid, AreWritable}
 
@@ -49,7 +52,7 @@ pub record IsInRun (ids : List ℕ) (run : machine.World) (m : ℕ) (server : Ti
 -- frames of the bus; its pending calls were made; it lists members alone
 pub record IsAtWork (made : List Made) (ids : List ℕ) (frames : List Queued) (m : ℕ) (server : Timed) : Type 0 where
   pub queue : (frame : Queued) → In frame server.queue → IsPiece made m frame
-  pub heard : AreHeard frames m server.sessions
+  pub heard : AreHeard frames (setting_for m) server.sessions
   pub called : AreCalled made server
   pub among : (peer : ℕ) → In peer (members_of server) → In peer ids
 
@@ -85,7 +88,7 @@ ShowsLife choice made ids frames run m (Failed failure) disk = ShowsFailed choic
 pub record HoldsOfMade (made : List Made) (ids : List ℕ) (bag : List Message) : Type 0 where
   pub transfers : AreTransfers ids made
   pub said : AreSaid made bag
-  pub written : AreWritable bag
+  pub written : AreWritable ids bag
   pub answered : AreAnswered made
   -- a Discovery names members alone
   pub discoveries : (x : Made) (message : Discovery) (peer : ℕ) → In x made → x.offer.what ≡ Disc
@@ -101,6 +104,7 @@ pub record Shows (choice : ℕ → Bool) (made : List Made) (w : Cluster) (run :
   pub steps : run.steps ≤ w.rows
   pub lives : (m : ℕ) → In m w.ids →
       ShowsLife choice made w.ids w.frames run m (w.member m).life (w.member m).disk
+  pub asking : (a : ℕ) (x : Device) → w.allocatee a ≡ Some x → IsAsking made w.frames x
   pub bus : (frame : Queued) → In frame w.frames → IsOnBus made w.ids frame
   -- identifiers of 29 bits
   pub narrow : (frame : Queued) → In frame w.frames → frame.id < 2 ^ 29

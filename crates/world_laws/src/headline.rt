@@ -5,8 +5,9 @@ ghost use Rattle.raft_model.specs.Runs.{Event, World, beginning, run};
 ghost use Rattle.raft_model.specs.Runs.{Lawful as RunsLawfully};
 ghost use Rattle.replay_text.specs.declared.row.Row.{Row};
 ghost use Rattle.world_laws.specs.Continues.{Continues};
+ghost use Rattle.world_laws.specs.Duty.{AreDutiful};
 ghost use Rattle.world_laws.specs.Headline.{HasHeadline, Headline};
-ghost use Rattle.world_laws.specs.Mirrors.{Mirrors, OffersAreMade};
+ghost use Rattle.world_laws.specs.Mirrors.{BusIsMade, Mirrors, OffersAreMade};
 ghost use Rattle.world_laws.specs.Safe.{AreSafe};
 ghost use Rattle.world_laws.specs.Shows.{Shows};
 ghost use Rattle.world_parts.specs.Cluster.{AreMembers, Cluster, cluster};
@@ -16,12 +17,13 @@ ghost use Rattle.world_parts.specs.Choices.{Fits, FitsRow};
 ghost use Rattle.world_parts.specs.Refinement.{events, made, made_in, row_events};
 ghost use Rattle.server_parts.specs.Transfers.{Made};
 
-use crate::rows::{a_row_is_shown, the_beginning_is_shown};
+use crate::rows::{a_row_is_shown, steps_are_dutiful, the_beginning_is_shown};
+use crate::transfers::what_a_row_delivers_is_one_transfer;
 use can_frame::laws::{
     frames_give_the_payload, frames_in_order, frames_read_as_their_pieces, identifiers_both_ways,
     lengths_of_cuttings,
 };
-use raft_model::laws::{law_commit, law_every_run};
+use raft_model::laws::{law_commit, law_duty, law_every_run};
 use transfer_rx::laws::{a_frame_comes_to_the_session_of_its_key, deliveries_are_whole_transfers};
 use transfer_tx::laws::frames_by_place;
 
@@ -44,10 +46,14 @@ pub fn rows_grow_by_one()
 {}
 
 /// An Allocation with a node ID that waits in a running member's queue, its frames one after another, is a
-/// transfer that this member made, and so a pair from it in the bag of the run.
+/// transfer that this member made, and so a pair from it in the bag of the run. So is one of which a frame
+/// is on the bus: whatever frame has the identifier of an Allocation of a node is of a transfer that this
+/// node made, and it is a member.
 pub fn offers_are_pairs()
-    ensures { (choice : ℕ → Bool) (made : List Made) (w : Cluster) (run : World) →
+    ensures waiting { (choice : ℕ → Bool) (made : List Made) (w : Cluster) (run : World) →
         AreMembers w.ids → Shows choice made w run → OffersAreMade w run }
+    ensures bus { (choice : ℕ → Bool) (made : List Made) (w : Cluster) (run : World) →
+        AreMembers w.ids → Shows choice made w run → BusIsMade made w run }
 {
     a_frame_comes_to_the_session_of_its_key();
     deliveries_are_whole_transfers();
@@ -87,13 +93,28 @@ pub fn rows_are_shown()
     the_beginning_is_shown();
 }
 
-/// The run that a list of lawful rows shows is lawful and safe, whatever choice fits.
+/// The run that a list of lawful rows shows is lawful and safe, whatever choice fits; and what a row delivers
+/// of a member's transfer is one transfer that a member made by then, for this receiver, and is in the bag.
 pub fn rows_are_safe()
     ensures { (ids : List ℕ) (rows : List Row) → AreMembers ids → Lawful (cluster ids) rows →
         AreSafe ids rows }
 {
     law_every_run();
     rows_are_shown();
+    what_a_row_delivers_is_one_transfer();
+}
+
+/// Each step of a list of lawful rows does its duty: a leader commits as far as a quorum of the members lets
+/// it, and tells one place where there is room; who has waited stands for election; who counts a quorum leads.
+pub fn rows_are_dutiful()
+    ensures { (ids : List ℕ) (rows : List Row) → AreMembers ids → Lawful (cluster ids) rows →
+        AreDutiful ids rows }
+{
+    a_choice_fits();
+    law_duty();
+    law_every_run();
+    rows_are_shown();
+    steps_are_dutiful();
 }
 
 /// For every list of rows that are lawful there is a choice that fits: what a choice says of a failed step is
@@ -106,12 +127,14 @@ pub fn a_choice_fits()
 }
 
 /// The headline, for every cluster and every list of rows that are lawful: it holds from each moment of the
-/// list to each later one, for every choice that fits by then; and a choice that fits exists.
+/// list to each later one, for every choice that fits by then; and a choice that fits exists. At each moment,
+/// what gives a node ID on the bus is a pair of its member's committed log.
 pub fn the_headline()
     ensures { (ids : List ℕ) (rows : List Row) → AreMembers ids → Lawful (cluster ids) rows →
         HasHeadline ids rows }
 {
     a_choice_fits();
+    law_every_run();
     offers_are_pairs();
     rows_are_shown();
     what_is_mirrored_has_the_headline();

@@ -2,9 +2,9 @@
 //! There is no code here that runs.
 //!
 //! The headline ([`headline::the_headline`]): for every cluster and every list of lawful rows each committed
-//! log is a prefix of one injective list, at every moment; the list only grows; every allocation that waits
-//! to go out is a pair of it by then; and every later leader, but one of an older term, has what was
-//! committed. `specs/Headline` says it.
+//! log is a prefix of one injective list, at every moment; the list only grows, and has no member's node ID;
+//! every allocation that waits to go out, or is on the bus, is a pair of it by then; and every later leader,
+//! but one of an older term, has what was committed. `specs/Headline` says it.
 //!
 //! Why it holds: a list of rows makes a world, and shows a run of the message machine (`raft_model`), whose
 //! laws have the rest. `specs/Shows` says what holds between the two: each member that runs is its server in
@@ -22,15 +22,25 @@
 //! - so for any row without a cause against it ([`rows::a_row_is_shown`]), and for all rows, one after
 //!   another ([`headline::rows_are_shown`]).
 //!
-//! From a run to the headline: an Allocation with a node ID that waits in a queue is a pair in the bag of the
-//! run ([`headline::offers_are_pairs`]), and two worlds that mirror a run and its continuation have the
+//! A row of an allocatee leaves the run as it is ([`rows::rows_of_allocatees_are_shown`]).
+//!
+//! From a run to the headline: an Allocation with a node ID that waits in a queue or is on the bus is a pair in
+//! the bag of the run ([`headline::offers_are_pairs`]), and two worlds that mirror a run and its continuation have the
 //! headline ([`headline::what_is_mirrored_has_the_headline`]). What a failed step stored, only the next stop
 //! finds: till then a choice says it, and one that fits every stop exists ([`headline::a_choice_fits`]).
 //!
-//! What a reader must believe: `specs/Headline`, and of the definitions of the world what it cites. The
-//! other files of `specs/` are means of the proof.
+//! Beside it: the run is safe, and what a row delivers of a member's transfer is one that this member made
+//! ([`headline::rows_are_safe`]); and each step does its duty ([`headline::rows_are_dutiful`], from
+//! [`rows::steps_are_dutiful`]).
+//!
+//! From there to devices ([`allocatees::the_allocatees`], `specs/Allocatees`): the node ID that an allocatee
+//! holds was given by an Allocation that a member made, and so by a pair in the bag, which the list has.
+//!
+//! What a reader must believe: `specs/Headline`, `specs/Allocatees`, `specs/Duty` and `specs/Safe`, and of the
+//! definitions of the world what they cite. The other files of `specs/` are means of the proof.
 #![tactic(auto)]
 
+pub mod allocatees;
 pub mod headline;
 pub mod rows;
 pub mod transfers;

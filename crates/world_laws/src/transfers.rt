@@ -1,22 +1,25 @@
 //! Laws of what a member is delivered, each the contract of a function that does nothing.
 
-ghost use Rattle.std.specs.Prelude.{◌≡◌, ℕ, List, Some, true, false};
+ghost use Rattle.std.specs.Prelude.{◌≡◌, ◌⊎◌, ◌≤◌, ℕ, Bool, List, None, Some, true, false};
+ghost use Rattle.can_frame.specs.declared.identifier.Kind.TheVariants.{Message as Broadcast};
 ghost use Rattle.can_frame.specs.declared.step.Judged.TheVariants.{Fine};
 ghost use Rattle.raft_model.specs.Lists.{In};
 ghost use Rattle.raft_model.specs.Messages.{Message};
+ghost use Rattle.raft_model.specs.Runs.{World};
+ghost use Rattle.replay_text.specs.declared.row.Row.TheVariants.{Rx as RxRow};
 ghost use Rattle.server_laws.specs.Coming.{TakesFrom};
-ghost use Rattle.server_parts.specs.Accepted.{setting_for};
 ghost use Rattle.server_parts.specs.Judging.{judges};
 ghost use Rattle.server_parts.specs.Step.Event.{Rx};
 ghost use Rattle.server_parts.specs.TimedServer.{Timed};
 ghost use Rattle.server_parts.specs.Transfers.{Made};
-ghost use Rattle.transfer_rx.specs.Reassembly.{Arrival, Delivery, Gives, answer};
+ghost use Rattle.transfer_rx.specs.Reassembly.{Arrival, Delivery, Gives, Setting, answer};
 ghost use Rattle.transfer_rx.specs.Sessions.{Session};
 ghost use Rattle.transfer_tx.specs.Queue.{Queued};
 ghost use Rattle.world_laws.specs.Frames.{AreHeard, AreTransfers, CameFrom, IsOnBus, WasMade};
-ghost use Rattle.world_laws.specs.Shows.{HoldsOfMade, IsAtWork};
-ghost use Rattle.world_parts.specs.Cluster.{AreMembers};
-ghost use Rattle.world_parts.specs.Lawful.{is_forged};
+ghost use Rattle.world_laws.specs.Safe.{IsDeliveredTo, IsOneTransfer};
+ghost use Rattle.world_laws.specs.Shows.{HoldsOfMade, IsAtWork, Shows};
+ghost use Rattle.world_parts.specs.Cluster.{AreMembers, Cluster};
+ghost use Rattle.world_parts.specs.Lawful.{cause, is_forged};
 
 use can_frame::laws::{
     frames_give_the_payload, frames_in_order, frames_read_as_their_pieces, identifiers_both_ways,
@@ -31,15 +34,34 @@ use transfer_tx::laws::frames_by_place;
 
 /// What is delivered of a member's frames is the transfer that this member made: step, kind, destination,
 /// transfer ID and payload. The frames are those that stood on the bus; the delivery is whole, or has no step;
-/// and its source is a member, or its data type one that members alone may send.
+/// and its source is a member, or its data type one that members alone may send. The receiver is that of a
+/// member, which has a node ID, or of an allocatee, which has none and is delivered messages alone.
 pub fn what_is_delivered_was_made()
-    ensures { (ids : List ℕ) (made : List Made) (frames : List Queued) (me : ℕ)
+    ensures { (ids : List ℕ) (made : List Made) (frames : List Queued) (setting : Setting)
         (sessions : List Session) (arrival : Arrival) (d : Delivery) →
-        AreMembers ids → AreTransfers ids made → In me ids →
+        AreMembers ids → AreTransfers ids made → (1 ≤ setting.me) ⊎ (d.ident.kind ≡ Broadcast) →
         ((frame : Queued) → In frame frames → IsOnBus made ids frame) →
-        AreHeard frames me sessions → CameFrom frames arrival →
-        answer (setting_for me) sessions arrival ≡ Gives d →
+        AreHeard frames setting sessions → CameFrom frames arrival →
+        answer setting sessions arrival ≡ Gives d →
         (d.whole ≡ false → d.mark.step ≡ 0) → is_forged ids (Some d.ident) ≡ true → WasMade made d }
+{
+    a_frame_comes_to_the_session_of_its_key();
+    deliveries_are_whole_transfers();
+    frames_by_place();
+    frames_give_the_payload();
+    frames_in_order();
+    frames_read_as_their_pieces();
+    identifiers_both_ways();
+    lengths_of_cuttings();
+}
+
+/// What a lawful row delivers to a running member, with a member's source or of a data type that members alone
+/// send, is one transfer that a member made by then, and no other; a request or a response is for the receiver;
+/// and what it says is in the bag of the run that the world shows.
+pub fn what_a_row_delivers_is_one_transfer()
+    ensures { (choice : ℕ → Bool) (made : List Made) (w : Cluster) (run : World) → AreMembers w.ids →
+        Shows choice made w run → (n k ms : ℕ) (d : Delivery) → cause w (RxRow n k ms) ≡ None →
+        IsDeliveredTo w n k ms d → IsOneTransfer made run.bag n d }
 {
     a_frame_comes_to_the_session_of_its_key();
     deliveries_are_whole_transfers();

@@ -1,3 +1,4 @@
+pub mod Allocatees
 pub mod Choices
 pub mod Cluster
 pub mod Lawful

@@ -1,15 +1,15 @@
 -- What a vehicle maker relies on of each allocator: its log gives no ID twice, and whatever pair it offers to the bus
 -- is one of its own committed log by then.
-use Rattle.std.specs.Prelude.{◌≡◌, ℕ, ◌+◌, ◌<◌, List, [], ◌∷◌, length, slice_index_or, if◌then◌else◌}
+use Rattle.std.specs.Prelude.{ℕ, ◌+◌, List, [], ◌∷◌, if◌then◌else◌}
 use Rattle.can_frame.specs.declared.entry.Entry.{Entry}
-use Rattle.can_frame.specs.Log.{IsInjective, blank}
+use Rattle.can_frame.specs.Log.{HasPair, IsInjective}
 use Rattle.kv_store.specs.Shelf.{Shelf}
 use Rattle.raft_log.specs.Shelf.{are_put}
 use Rattle.raft_log.specs.Stored.{Stored}
 use Rattle.raft_model.specs.Lists.{In}
 use Rattle.raft_model.specs.Server.{committed}
 use Rattle.replay_text.specs.declared.row.Row.{Row}
-use Rattle.replay_text.specs.declared.row.Row.TheVariants.{Open, Tick, Rx, Send, Ext, Crash, Fault}
+use Rattle.replay_text.specs.declared.row.Row.TheVariants.{Open, Tick, Rx, Send, Ext, Crash, Fault, AOpen, ATick, ARx, ASend, AEnd}
 use Rattle.server_parts.specs.Delivered.{Sight}
 use Rattle.server_parts.specs.Going.{pairs}
 use Rattle.server_parts.specs.Step.{Event, step}
@@ -35,15 +35,8 @@ committed_by Down = []
 committed_by (Up server) = committed server.plain.store
 committed_by (Failed failure) = []
 
--- the pair is that of an entry of the list
-pub record IsGivenIn (list : List Entry) (given : Given) : Type 0 where
-  pub place : ℕ
-  pub inside : place < length list
-  pub uid : (slice_index_or list place (blank 0)).uid ≡ given.0
-  pub node : (slice_index_or list place (blank 0)).node ≡ given.1
-
 abbrev pub AreOwn : List Given → Life → Type 0
-AreOwn givens life = (given : Given) → In given givens → IsGivenIn (committed_by life) given
+AreOwn givens life = (given : Given) → In given givens → HasPair (committed_by life) given.0 given.1
 
 -- whatever pair a lawful row offers, it is committed when the row is done
 abbrev pub OffersItsOwn : Cluster → Row → Type 0
@@ -58,6 +51,11 @@ OffersItsOwn w (Send n) = Unit {0}
 OffersItsOwn w (Ext frame) = Unit {0}
 OffersItsOwn w (Crash n calls pattern) = Unit {0}
 OffersItsOwn w (Fault n call) = Unit {0}
+OffersItsOwn w (AOpen a uid pref ms word) = Unit {0}
+OffersItsOwn w (ATick a ms word) = Unit {0}
+OffersItsOwn w (ARx a k ms word) = Unit {0}
+OffersItsOwn w (ASend a) = Unit {0}
+OffersItsOwn w (AEnd a) = Unit {0}
 
 -- ---- each log
 

@@ -14,7 +14,7 @@ use Rattle.raft_model.specs.Runs.{Event as RunEvent}
 use Rattle.raft_model.specs.Runs.Event.{Opens, Steps, Stops, StopsWithin}
 use Rattle.raft_model.specs.Server.{Plain}
 use Rattle.replay_text.specs.declared.row.Row.{Row}
-use Rattle.replay_text.specs.declared.row.Row.TheVariants.{Open, Tick, Rx, Send, Ext, Crash, Fault}
+use Rattle.replay_text.specs.declared.row.Row.TheVariants.{Open, Tick, Rx, Send, Ext, Crash, Fault, AOpen, ATick, ARx, ASend, AEnd}
 use Rattle.server_parts.specs.Going.{Going, messages}
 use Rattle.server_parts.specs.Step.{Event, step}
 use Rattle.server_parts.specs.TimedServer.{Timed}
@@ -68,7 +68,7 @@ stop_events m row Down = []
 stop_events m row (Up server) = Stops m row [] ∷ []
 stop_events m row (Failed failure) = []
 
--- an opening that succeeded opens; what sends, comes from outside, or arms a disk shows nothing
+-- an opening that succeeded opens; what sends, comes from outside, or arms a disk shows nothing, nor does an allocatee
 abbrev pub row_events : (ℕ → Bool) → Cluster → Row → List RunEvent
 row_events choice w (Open n ms word) = if is_open_on (w.member n).disk then Opens n ∷ [] else []
 row_events choice w (Tick n ms word) =
@@ -79,6 +79,11 @@ row_events choice w (Send n) = []
 row_events choice w (Ext frame) = []
 row_events choice w (Crash n calls pattern) = if calls == 0 then stop_events n (w.rows + 1) (w.member n).life else []
 row_events choice w (Fault n call) = []
+row_events choice w (AOpen a uid pref ms word) = []
+row_events choice w (ATick a ms word) = []
+row_events choice w (ARx a k ms word) = []
+row_events choice w (ASend a) = []
+row_events choice w (AEnd a) = []
 
 abbrev pub events : (ℕ → Bool) → Cluster → List Row → List RunEvent
 events choice w [] = []

@@ -7,18 +7,21 @@ use Rattle.raft_log.specs.Shelf.{are_put, is_open_on, opening_on, puts_on}
 use Rattle.raft_log.specs.Stored.{Stored}
 use Rattle.raft_model.specs.Server.{Store, committed}
 use Rattle.replay_text.specs.declared.row.Row.{Row}
-use Rattle.replay_text.specs.declared.row.Row.TheVariants.{Open, Tick, Rx, Send, Ext, Crash, Fault}
+use Rattle.replay_text.specs.declared.row.Row.TheVariants.{Open, Tick, Rx, Send, Ext, Crash, Fault, AOpen, ATick, ARx, ASend, AEnd}
+use Rattle.allocatee.specs.Allocatee as device
+use Rattle.allocatee.specs.Allocatee.{Device}
 use Rattle.transfer_tx.specs.Queue.{Queued}
 use Rattle.server_parts.specs.declared.event.View.{View}
 use Rattle.server_parts.specs.Delivered.{Sight}
 use Rattle.server_parts.specs.Going.{sents}
 use Rattle.server_parts.specs.Step.{Event, step}
 use Rattle.server_parts.specs.TimedServer.{Timed, entry_of as timed_entry, view_of}
-use Rattle.world_parts.specs.Cluster.{Cluster, cluster, is_member, next, receipt_of, tick_of, world_of}
+use Rattle.world_parts.specs.Allocatees.{next_from}
+use Rattle.world_parts.specs.Cluster.{Cluster, cluster, is_member, next, receipt_at, receipt_of, tick_of, world_of}
 use Rattle.world_parts.specs.Members.{Life, Member, next_frame, puts_of}
 use Rattle.world_parts.specs.Members.Life.{Down, Up, Failed}
 use Rattle.world_parts.specs.Telling.{Telling, telling_line}
-use Rattle.world_parts.specs.Telling.Telling.{HasOpened, HasStepped, HasFailed, HasStopped, IsArmed, HasSent, IsOutside}
+use Rattle.world_parts.specs.Telling.Telling.{HasOpened, HasStepped, HasFailed, HasStopped, IsArmed, HasSent, IsOutside, HasCome, HasAsked, HasPut, HasLeft}
 
 -- ---- a row
 
@@ -55,6 +58,21 @@ abbrev pub sending_told : ℕ → ℕ → Option Queued → Telling
 sending_told n k None = HasStopped n
 sending_told n k (Some frame) = HasSent n k frame.id frame.bytes
 
+-- a step of an allocatee: what it holds and how many frames wait after it, what it saw, and what it offered
+abbrev pub asking_told : ℕ → device.Sight → Telling
+asking_told a sight =
+    HasAsked a sight.device.asking.holds (length sight.device.asking.queue) sight.seen sight.sent
+
+-- no step of one that is not there is lawful
+abbrev pub step_told_at : ℕ → ℕ → device.Event → Option Device → Telling
+step_told_at a row event None = HasLeft a
+step_told_at a row event (Some x) = asking_told a (device.step x row event)
+
+-- its frame k of the bus; without a frame no sending is lawful
+abbrev pub putting_told : ℕ → ℕ → Option Queued → Telling
+putting_told a k None = HasLeft a
+putting_told a k (Some frame) = HasPut a k frame.id frame.bytes
+
 -- what a lawful row tells
 abbrev pub told : Cluster → Row → Telling
 told w (Open n ms word) = opening_told n (w.member n).disk
@@ -64,6 +82,11 @@ told w (Send n) = sending_told n (length w.frames + 1) (next_frame (w.member n).
 told w (Ext frame) = IsOutside (length w.frames + 1)
 told w (Crash n calls pattern) = if calls == 0 then HasStopped n else IsArmed n
 told w (Fault n call) = IsArmed n
+told w (AOpen a uid pref ms word) = HasCome a
+told w (ATick a ms word) = step_told_at a (w.rows + 1) (device.Tick ms word) (w.allocatee a)
+told w (ARx a k ms word) = step_told_at a (w.rows + 1) (receipt_at w k ms word) (w.allocatee a)
+told w (ASend a) = putting_told a (length w.frames + 1) (next_from (w.allocatee a))
+told w (AEnd a) = HasLeft a
 
 -- ---- what a member shows
 

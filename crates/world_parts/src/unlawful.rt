@@ -17,23 +17,32 @@ pub enum Unlawful {
     /// No frame has this number yet.
     NoFrame = 4,
 
-    /// Nothing waits in the node's queue.
+    /// Nothing waits in the queue of the node or allocatee.
     NothingQueued = 5,
 
-    /// The frame from outside has a member's source, or is of a data type that members send each other.
+    /// The frame from outside has a member's source, or is of a data type that members alone send.
     Forged = 6,
 
-    /// The node would take a transfer whose frames were not made together.
+    /// The node or allocatee would take a transfer whose frames were not made together.
     Torn = 7,
 
     /// The node would take the response to an earlier call.
     Stale = 8,
+
+    /// No allocatee has this number.
+    NoAllocatee = 9,
+
+    /// The allocatee is not there.
+    Absent = 10,
+
+    /// The allocatee is there, and cannot come.
+    Present = 11,
 }
 
 impl Unlawful {
     ghost use Rattle.world_parts.specs.Lawful.{number_of};
 
-    /// 1 to 8.
+    /// 1 to 11.
     pub fn number(self) -> u8
         ensures { result ≡ number_of self }
     {

@@ -2,8 +2,9 @@ ghost use Rattle.std.specs.Prelude.{◌≡◌, IsTrue};
 ghost use Rattle.disk_model.specs.Pattern.{IsUsable};
 ghost use Rattle.transfer_rx.specs.Acceptance.{AnswersByRows, first_signature};
 ghost use Rattle.transfer_rx.specs.Memory.{ReceiverFitsInMemory};
+ghost use Rattle.allocatee.specs.Accepted as device;
 ghost use Rattle.server_parts.specs.Accepted as accepted;
-ghost use Rattle.bus_world.specs.World.{accepts};
+ghost use Rattle.bus_world.specs.World.{AcceptsAs, accepts, allocatees_accept};
 ghost use Rattle.world_rows.specs.Rows.{HasPattern};
 
 use bus_world::World;
@@ -18,16 +19,26 @@ pub(crate) fn accept(kind: Kind, number: u16) -> Option<u64>
     server_parts::accept(kind, number)
 }
 
+/// What an allocatee receives.
+pub(crate) fn device_accept(kind: Kind, number: u16) -> Option<u64>
+    ensures { result ≡ first_signature device.rows kind number }
+{
+    allocatee::allocatee_accept(kind, number)
+}
+
 /// Gives a row to the world: what it told. A row that is refused is passed over, and so is one for
 /// which there is no room.
-pub(crate) fn give<F: Fn(Kind, u16) -> Option<u64> + Copy>(
-    world: &mut World<F>,
+pub(crate) fn give<F: Fn(Kind, u16) -> Option<u64> + Copy, G: Fn(Kind, u16) -> Option<u64> + Copy>(
+    world: &mut World<F, G>,
     row: &Row,
 ) -> Option<Told>
     requires memory { ReceiverFitsInMemory F.row 160 128 }
     requires callable { F.IsAlwaysCallable (accepts world.old) }
     requires answers { AnswersByRows (F.post (accepts world.old)) accepted.rows }
-    ensures { accepts world.new ≡ accepts world.old }
+    requires amemory { ReceiverFitsInMemory G.row 8 8 }
+    requires acallable { G.IsAlwaysCallable (allocatees_accept world.old) }
+    requires aanswers { AnswersByRows (G.post (allocatees_accept world.old)) device.rows }
+    ensures { AcceptsAs world.new world.old }
 {
     if world.frames_left() == 0 || world.rows_left() == 0 {
         return None;
@@ -41,7 +52,7 @@ pub(crate) fn give<F: Fn(Kind, u16) -> Option<u64> + Copy>(
     }
 }
 
-/// A pattern of bytes has one at least.
+/// A pattern of bytes has one at least, and a node ID that is preferred is below 128.
 fn is_filled(row: &Row) -> bool
     ensures { IsTrue result → HasPattern row.now }
 {
@@ -65,6 +76,26 @@ fn is_filled(row: &Row) -> bool
         Row::Send { n: _ } => true,
         Row::Ext { frame: _ } => true,
         Row::Fault { n: _, call: _ } => true,
+        Row::AOpen {
+            a: _,
+            uid: _,
+            pref,
+            ms: _,
+            word: _,
+        } => *pref < 128,
+        Row::ATick {
+            a: _,
+            ms: _,
+            word: _,
+        } => true,
+        Row::ARx {
+            a: _,
+            k: _,
+            ms: _,
+            word: _,
+        } => true,
+        Row::ASend { a: _ } => true,
+        Row::AEnd { a: _ } => true,
     }
 }
 
@@ -78,15 +109,17 @@ fn is_usable(pattern: &Pattern) -> bool
 }
 
 /// Where a row was a stop or a failure, the member opens again. Says whether it was.
-pub(crate) fn open_again<F: Fn(Kind, u16) -> Option<u64> + Copy>(
-    world: &mut World<F>,
-    told: &Told,
-    ms: u64,
-) -> bool
+pub(crate) fn open_again<
+    F: Fn(Kind, u16) -> Option<u64> + Copy,
+    G: Fn(Kind, u16) -> Option<u64> + Copy,
+>(world: &mut World<F, G>, told: &Told, ms: u64) -> bool
     requires memory { ReceiverFitsInMemory F.row 160 128 }
     requires callable { F.IsAlwaysCallable (accepts world.old) }
     requires answers { AnswersByRows (F.post (accepts world.old)) accepted.rows }
-    ensures { accepts world.new ≡ accepts world.old }
+    requires amemory { ReceiverFitsInMemory G.row 8 8 }
+    requires acallable { G.IsAlwaysCallable (allocatees_accept world.old) }
+    requires aanswers { AnswersByRows (G.post (allocatees_accept world.old)) device.rows }
+    ensures { AcceptsAs world.new world.old }
 {
     match told {
         Told::Stopped { n } => {
@@ -110,8 +143,8 @@ pub(crate) fn open_again<F: Fn(Kind, u16) -> Option<u64> + Copy>(
 }
 
 /// The committed entries of two members agree, up to the shorter of the two lists.
-pub(crate) fn agree<F: Fn(Kind, u16) -> Option<u64> + Copy>(
-    world: &World<F>,
+pub(crate) fn agree<F: Fn(Kind, u16) -> Option<u64> + Copy, G: Fn(Kind, u16) -> Option<u64> + Copy>(
+    world: &World<F, G>,
     one: u8,
     other: u8,
 ) -> bool {
@@ -127,6 +160,9 @@ pub(crate) fn agree<F: Fn(Kind, u16) -> Option<u64> + Copy>(
 }
 
 /// All of members 1, 2 and 3 do.
-pub(crate) fn all_agree<F: Fn(Kind, u16) -> Option<u64> + Copy>(world: &World<F>) -> bool {
+pub(crate) fn all_agree<
+    F: Fn(Kind, u16) -> Option<u64> + Copy,
+    G: Fn(Kind, u16) -> Option<u64> + Copy,
+>(world: &World<F, G>) -> bool {
     agree(world, 1, 2) && agree(world, 1, 3) && agree(world, 2, 3)
 }

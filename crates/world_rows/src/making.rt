@@ -1,4 +1,5 @@
-use crate::cluster::accept;
+use crate::cluster::{accept, device_accept};
+use allocatee::allocatee_rows;
 use bus_world::{World, WorldFault};
 use server_parts::accept_rows;
 use std::mem::size_of;
@@ -8,7 +9,15 @@ use transfer_tx::Marked;
 /// The node IDs of members are different.
 #[test]
 fn members_are_different(rt: HostRuntime) -> Result<(), Fail> {
-    let made = World::new(rt.alloc(), &[1, 1], 1, accept_rows(), accept);
+    let made = World::new(
+        rt.alloc(),
+        &[1, 1],
+        1,
+        accept_rows(),
+        accept,
+        allocatee_rows(),
+        device_accept,
+    );
     assert!(rt; matches!(made, Err(WorldFault::BadIds)));
     Ok(())
 }

@@ -1,8 +1,8 @@
-ghost use Rattle.std.specs.Prelude.{◌≡◌};
 ghost use Rattle.transfer_rx.specs.Acceptance.{AnswersByRows};
 ghost use Rattle.transfer_rx.specs.Memory.{ReceiverFitsInMemory};
+ghost use Rattle.allocatee.specs.Accepted as device;
 ghost use Rattle.server_parts.specs.Accepted as accepted;
-ghost use Rattle.bus_world.specs.World.{accepts};
+ghost use Rattle.bus_world.specs.World.{AcceptsAs, accepts, allocatees_accept};
 
 use crate::cluster::{all_agree, give, open_again};
 use arrayvec::ArrayVec;
@@ -66,8 +66,8 @@ impl Course {
 
 /// Gives a row to the world, of which a schedule says that it comes at this moment. A member that
 /// stops or fails in it opens again, at the same moment. Says whether the row was lawful.
-pub(crate) fn take<F: Fn(Kind, u16) -> Option<u64> + Copy>(
-    world: &mut World<F>,
+pub(crate) fn take<F: Fn(Kind, u16) -> Option<u64> + Copy, G: Fn(Kind, u16) -> Option<u64> + Copy>(
+    world: &mut World<F, G>,
     row: &Row,
     ms: u64,
     course: &mut Course,
@@ -75,7 +75,10 @@ pub(crate) fn take<F: Fn(Kind, u16) -> Option<u64> + Copy>(
     requires memory { ReceiverFitsInMemory F.row 160 128 }
     requires callable { F.IsAlwaysCallable (accepts world.old) }
     requires answers { AnswersByRows (F.post (accepts world.old)) accepted.rows }
-    ensures { accepts world.new ≡ accepts world.old }
+    requires amemory { ReceiverFitsInMemory G.row 8 8 }
+    requires acallable { G.IsAlwaysCallable (allocatees_accept world.old) }
+    requires aanswers { AnswersByRows (G.post (allocatees_accept world.old)) device.rows }
+    ensures { AcceptsAs world.new world.old }
 {
     let Some(told) = give(world, row) else {
         return false;
@@ -90,14 +93,17 @@ pub(crate) fn take<F: Fn(Kind, u16) -> Option<u64> + Copy>(
 }
 
 /// Runs a schedule on a world of members 1, 2 and 3, with this row behind the third.
-pub(crate) fn play<F: Fn(Kind, u16) -> Option<u64> + Copy>(
-    world: &mut World<F>,
+pub(crate) fn play<F: Fn(Kind, u16) -> Option<u64> + Copy, G: Fn(Kind, u16) -> Option<u64> + Copy>(
+    world: &mut World<F, G>,
     schedule: &str,
     arming: &Row,
 ) -> Course
     requires memory { ReceiverFitsInMemory F.row 160 128 }
     requires callable { F.IsAlwaysCallable (accepts world.old) }
     requires answers { AnswersByRows (F.post (accepts world.old)) accepted.rows }
+    requires amemory { ReceiverFitsInMemory G.row 8 8 }
+    requires acallable { G.IsAlwaysCallable (allocatees_accept world.old) }
+    requires aanswers { AnswersByRows (G.post (allocatees_accept world.old)) device.rows }
 {
     let mut course = Course::BEGUN;
     'lines: for (i, line) in schedule.lines().enumerate() {
@@ -111,11 +117,18 @@ pub(crate) fn play<F: Fn(Kind, u16) -> Option<u64> + Copy>(
 }
 
 /// Behind the third row.
-fn arm_at<F: Fn(Kind, u16) -> Option<u64> + Copy>(world: &mut World<F>, i: usize, arming: &Row)
+fn arm_at<F: Fn(Kind, u16) -> Option<u64> + Copy, G: Fn(Kind, u16) -> Option<u64> + Copy>(
+    world: &mut World<F, G>,
+    i: usize,
+    arming: &Row,
+)
     requires memory { ReceiverFitsInMemory F.row 160 128 }
     requires callable { F.IsAlwaysCallable (accepts world.old) }
     requires answers { AnswersByRows (F.post (accepts world.old)) accepted.rows }
-    ensures { accepts world.new ≡ accepts world.old }
+    requires amemory { ReceiverFitsInMemory G.row 8 8 }
+    requires acallable { G.IsAlwaysCallable (allocatees_accept world.old) }
+    requires aanswers { AnswersByRows (G.post (allocatees_accept world.old)) device.rows }
+    ensures { AcceptsAs world.new world.old }
 {
     if i == 3 {
         let _armed = give(world, arming);

@@ -1,8 +1,9 @@
-ghost use Rattle.std.specs.Prelude.{◌≡◌, ◌≤◌};
+ghost use Rattle.std.specs.Prelude.{◌≤◌};
 ghost use Rattle.transfer_rx.specs.Acceptance.{AnswersByRows};
 ghost use Rattle.transfer_rx.specs.Memory.{ReceiverFitsInMemory};
+ghost use Rattle.allocatee.specs.Accepted as device;
 ghost use Rattle.server_parts.specs.Accepted as accepted;
-ghost use Rattle.bus_world.specs.World.{accepts};
+ghost use Rattle.bus_world.specs.World.{AcceptsAs, accepts, allocatees_accept};
 
 use crate::cluster::give;
 use crate::play::{Course, take};
@@ -22,13 +23,16 @@ const ASKS: u64 = 10;
 /// Rounds of 400 ms on a world of members 1, 2 and 3, with this row behind their openings. In each
 /// round every member reads its clock and sends all that waits, and then every member hears all
 /// that was sent: so all three vote, store and commit. Member 1 waits for the shortest time.
-pub(crate) fn rounds<F: Fn(Kind, u16) -> Option<u64> + Copy>(
-    world: &mut World<F>,
-    arming: &Row,
-) -> Course
+pub(crate) fn rounds<
+    F: Fn(Kind, u16) -> Option<u64> + Copy,
+    G: Fn(Kind, u16) -> Option<u64> + Copy,
+>(world: &mut World<F, G>, arming: &Row) -> Course
     requires memory { ReceiverFitsInMemory F.row 160 128 }
     requires callable { F.IsAlwaysCallable (accepts world.old) }
     requires answers { AnswersByRows (F.post (accepts world.old)) accepted.rows }
+    requires amemory { ReceiverFitsInMemory G.row 8 8 }
+    requires acallable { G.IsAlwaysCallable (allocatees_accept world.old) }
+    requires aanswers { AnswersByRows (G.post (allocatees_accept world.old)) device.rows }
 {
     let mut course = Course::BEGUN;
     'openings: for n in 1..=3 {
@@ -48,8 +52,8 @@ fn word_of(n: u8) -> u32 {
 }
 
 /// A round, and how many frames all members have heard then.
-fn one_round<F: Fn(Kind, u16) -> Option<u64> + Copy>(
-    world: &mut World<F>,
+fn one_round<F: Fn(Kind, u16) -> Option<u64> + Copy, G: Fn(Kind, u16) -> Option<u64> + Copy>(
+    world: &mut World<F, G>,
     round: u64,
     heard: u32,
     course: &mut Course,
@@ -57,8 +61,11 @@ fn one_round<F: Fn(Kind, u16) -> Option<u64> + Copy>(
     requires memory { ReceiverFitsInMemory F.row 160 128 }
     requires callable { F.IsAlwaysCallable (accepts world.old) }
     requires answers { AnswersByRows (F.post (accepts world.old)) accepted.rows }
+    requires amemory { ReceiverFitsInMemory G.row 8 8 }
+    requires acallable { G.IsAlwaysCallable (allocatees_accept world.old) }
+    requires aanswers { AnswersByRows (G.post (allocatees_accept world.old)) device.rows }
     requires few { round ≤ 1000 }
-    ensures { accepts world.new ≡ accepts world.old }
+    ensures { AcceptsAs world.new world.old }
 {
     let ms = round * 400;
     ask(world, round);
@@ -78,8 +85,8 @@ fn one_round<F: Fn(Kind, u16) -> Option<u64> + Copy>(
 }
 
 /// All that waits in a member's queue, which has 32 places.
-fn send_all<F: Fn(Kind, u16) -> Option<u64> + Copy>(
-    world: &mut World<F>,
+fn send_all<F: Fn(Kind, u16) -> Option<u64> + Copy, G: Fn(Kind, u16) -> Option<u64> + Copy>(
+    world: &mut World<F, G>,
     n: u8,
     ms: u64,
     course: &mut Course,
@@ -87,7 +94,10 @@ fn send_all<F: Fn(Kind, u16) -> Option<u64> + Copy>(
     requires memory { ReceiverFitsInMemory F.row 160 128 }
     requires callable { F.IsAlwaysCallable (accepts world.old) }
     requires answers { AnswersByRows (F.post (accepts world.old)) accepted.rows }
-    ensures { accepts world.new ≡ accepts world.old }
+    requires amemory { ReceiverFitsInMemory G.row 8 8 }
+    requires acallable { G.IsAlwaysCallable (allocatees_accept world.old) }
+    requires aanswers { AnswersByRows (G.post (allocatees_accept world.old)) device.rows }
+    ensures { AcceptsAs world.new world.old }
 {
     'sends: for _ in 0..32 {
         if !take(world, &Row::Send { n }, ms, course) {
@@ -97,11 +107,17 @@ fn send_all<F: Fn(Kind, u16) -> Option<u64> + Copy>(
 }
 
 /// The device's request of this round, if there is one.
-fn ask<F: Fn(Kind, u16) -> Option<u64> + Copy>(world: &mut World<F>, round: u64)
+fn ask<F: Fn(Kind, u16) -> Option<u64> + Copy, G: Fn(Kind, u16) -> Option<u64> + Copy>(
+    world: &mut World<F, G>,
+    round: u64,
+)
     requires memory { ReceiverFitsInMemory F.row 160 128 }
     requires callable { F.IsAlwaysCallable (accepts world.old) }
     requires answers { AnswersByRows (F.post (accepts world.old)) accepted.rows }
-    ensures { accepts world.new ≡ accepts world.old }
+    requires amemory { ReceiverFitsInMemory G.row 8 8 }
+    requires acallable { G.IsAlwaysCallable (allocatees_accept world.old) }
+    requires aanswers { AnswersByRows (G.post (allocatees_accept world.old)) device.rows }
+    ensures { AcceptsAs world.new world.old }
 {
     let Some(place) = round.checked_sub(ASKS) else {
         return;

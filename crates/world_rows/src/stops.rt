@@ -1,7 +1,8 @@
-use crate::cluster::accept;
+use crate::cluster::{accept, device_accept};
 use crate::play::{ARMINGS, Arming, Course, arming_row, play};
 use crate::rounds::{ROOM, rounds};
 use crate::schedule::WORKED_CLUSTER;
+use allocatee::allocatee_rows;
 use bus_world::World;
 use replay_text::Row;
 use server_parts::accept_rows;
@@ -16,7 +17,15 @@ enum Schedule {
 }
 
 fn course(alloc: Global, schedule: Schedule, arming: &Row) -> Result<Course, Fail> {
-    let mut world = World::new(alloc, &[1, 2, 3], ROOM, accept_rows(), accept)?;
+    let mut world = World::new(
+        alloc,
+        &[1, 2, 3],
+        ROOM,
+        accept_rows(),
+        accept,
+        allocatee_rows(),
+        device_accept,
+    )?;
     match schedule {
         Schedule::Worked => Ok(play(&mut world, WORKED_CLUSTER, arming)),
         Schedule::Rounds => Ok(rounds(&mut world, arming)),

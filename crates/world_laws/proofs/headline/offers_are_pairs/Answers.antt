@@ -1,5 +1,5 @@
 use Rattle.world_laws.proofs.LawsBelow.{FrameLaws}
-use Rattle.world_laws.proofs.Offering.{offers_are_made}
+use Rattle.world_laws.proofs.Offering.{bus_is_made, offers_are_made}
 use Rattle.world_laws.proofs.headline.offers_are_pairs.Goals as goal
 
 pub returns : goal.returns
@@ -17,4 +17,7 @@ returns c =
       delivered = c.deliveries_are_whole_transfers.ensures;
       comes = c.a_frame_comes_to_the_session_of_its_key.ensures;
     } in
-    λ choice made w run members shows. offers_are_made laws choice made w run members shows
+    record {
+      waiting = λ choice made w run members shows. offers_are_made laws choice made w run members shows;
+      bus = λ choice made w run members shows. bus_is_made laws choice made w run members shows;
+    }

@@ -14,5 +14,10 @@ returns c =
       not_opened = c.openings_are_shown.ensures.failed;
       finished = c.finished_steps_are_shown.ensures;
       cut_off = c.cut_steps_are_shown.ensures;
+      came = c.rows_of_allocatees_are_shown.ensures.came;
+      ticked = c.rows_of_allocatees_are_shown.ensures.ticked;
+      received = c.rows_of_allocatees_are_shown.ensures.received;
+      put = c.rows_of_allocatees_are_shown.ensures.sent;
+      left = c.rows_of_allocatees_are_shown.ensures.left;
     } in
     λ choice made w run members shows sound written row lawful fits. row_shown laws choice made w run members shows sound written row lawful fits

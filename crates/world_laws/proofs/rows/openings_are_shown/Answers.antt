@@ -13,7 +13,7 @@ returns c =
     let sound = c.steps_stay_in_range.ensures.opening in record {
       opened = λ choice made w run members shows written n ms word listed stopped opens. (
         may_open disk order sound choice made w members.five run shows n ms word listed stopped opens,
-        opened_written run n written,
+        opened_written w.ids run n written,
         open_shown disk order sound choice made w members.five run shows n ms word listed stopped opens,
       );
       failed = λ choice made w run members shows n ms word listed stopped fails.

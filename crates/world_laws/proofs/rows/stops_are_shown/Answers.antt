@@ -7,7 +7,7 @@ pub returns : goal.returns
 returns c = record {
   running = λ choice made w run shows written n pattern listed t runs. (
     may_stop choice made w run shows n pattern listed t runs,
-    stopped_written run n (w.rows + 1) written,
+    stopped_written w.ids run n (w.rows + 1) written,
     stop_shown choice made w run shows n pattern listed t runs,
   );
   failed = λ choice made w run shows n pattern listed failure runs fits. failed_stop_shown choice made w run shows n pattern listed failure runs fits;

@@ -17,6 +17,6 @@ returns c =
       delivered = c.deliveries_are_whole_transfers.ensures;
       comes = c.a_frame_comes_to_the_session_of_its_key.ensures;
     } in
-    λ ids made frames me sessions arrival d members are there bus heard came gives untorn forged.
-    was_made laws ids (λ n i. (members.nodes n i).0) (λ n i. (members.nodes n i).1) made are me (members.nodes me there).0 frames bus sessions heard
-    arrival came d gives untorn forged
+    λ ids made frames setting sessions arrival d members are served bus heard came gives untorn forged.
+    was_made laws ids (λ n i. (members.nodes n i).0) (λ n i. (members.nodes n i).1) made are setting frames bus sessions heard
+    arrival came d gives untorn forged served

@@ -1,6 +1,5 @@
-use Rattle.std.proofs.Common.{◌≡◌}
-use Rattle.bus_world.specs.World.{accepts}
+use Rattle.bus_world.specs.World.{AcceptsAs}
 use Rattle.world_rows.proofs.rounds.send_all.Given as goal
 
 abbrev pub invariant-sends : goal.invariant-sends
-invariant-sends g l = accepts l.world ≡ accepts l.fn.world
+invariant-sends g l = AcceptsAs l.world l.fn.world

@@ -1,20 +1,35 @@
 use Rattle.std.proofs.Common.{subst}
-use Rattle.world_parts.specs.Cluster.{AreMembers, cluster, world_of}
-use Rattle.bus_world.proofs.Giving.{offers_own}
+use Rattle.world_parts.specs.Cluster.{AreMembers, changed, cluster, world_of}
+use Rattle.bus_world.proofs.Giving.{formed_at, offers_own}
 use Rattle.bus_world.proofs.world.World.row.Goals as goal
 
 pub returns-in-Ok-clause-kept : goal.returns-in-Ok-clause-kept
 returns-in-Ok-clause-kept g c = λ w stands.
-    offers_own c.args.self.now w stands c.pairs_of_a_step.ensures.committed c.args.row.now (c.in-Ok.ensures.told w stands).0
+    let row = c.args.row.now in
+    let then_ = (c.in-Ok.ensures.leaves w stands).0 in
+    offers_own c.args.self.now.members w stands.members c.pairs_of_a_step.ensures.committed row
+    (formed_at c.change.new.self.members.members.items (changed w row) then_.members then_.ids) (c.in-Ok.ensures.told w stands).0
 
 pub returns-in-Ok-clause-headline : goal.returns-in-Ok-clause-headline
 returns-in-Ok-clause-headline g c = λ ids rows lawful stands.
     let grows = c.rows_grow_by_one.ensures in
-    c.the_headline.ensures ids _ (subst AreMembers (grows.members (cluster ids) rows) stands.holds.lawful)
+    c.the_headline.ensures ids _ (subst AreMembers (grows.members (cluster ids) rows) stands.members.holds.lawful)
     (grows.lawful (cluster ids) rows c.args.row.now lawful (c.in-Ok.ensures.told (world_of ids rows) stands).0)
 
 pub returns-in-Ok-clause-safe : goal.returns-in-Ok-clause-safe
 returns-in-Ok-clause-safe g c = λ ids rows lawful stands.
     let grows = c.rows_grow_by_one.ensures in
-    c.rows_are_safe.ensures ids _ (subst AreMembers (grows.members (cluster ids) rows) stands.holds.lawful)
+    c.rows_are_safe.ensures ids _ (subst AreMembers (grows.members (cluster ids) rows) stands.members.holds.lawful)
+    (grows.lawful (cluster ids) rows c.args.row.now lawful (c.in-Ok.ensures.told (world_of ids rows) stands).0)
+
+pub returns-in-Ok-clause-duty : goal.returns-in-Ok-clause-duty
+returns-in-Ok-clause-duty g c = λ ids rows lawful stands.
+    let grows = c.rows_grow_by_one.ensures in
+    c.rows_are_dutiful.ensures ids _ (subst AreMembers (grows.members (cluster ids) rows) stands.members.holds.lawful)
+    (grows.lawful (cluster ids) rows c.args.row.now lawful (c.in-Ok.ensures.told (world_of ids rows) stands).0)
+
+pub returns-in-Ok-clause-allocatees : goal.returns-in-Ok-clause-allocatees
+returns-in-Ok-clause-allocatees g c = λ ids rows lawful stands.
+    let grows = c.rows_grow_by_one.ensures in
+    c.the_allocatees.ensures ids _ (subst AreMembers (grows.members (cluster ids) rows) stands.members.holds.lawful)
     (grows.lawful (cluster ids) rows c.args.row.now lawful (c.in-Ok.ensures.told (world_of ids rows) stands).0)

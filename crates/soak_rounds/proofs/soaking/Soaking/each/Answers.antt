@@ -27,6 +27,7 @@ loop-place-preserved g c = record {
   keeps = record {
     room = c.member.ensures.keeps.room ∙ c.loop-place.invariant.keeps.room;
     accepts = c.member.ensures.keeps.accepts ∙ c.loop-place.invariant.keeps.accepts;
+    allocatees = c.member.ensures.keeps.allocatees ∙ c.loop-place.invariant.keeps.allocatees;
   };
 }
 

@@ -25,6 +25,7 @@ loop-more-preserved g c = record {
   keeps = record {
     room = c.hear_frame.ensures.keeps.room ∙ c.loop-more.invariant.keeps.room;
     accepts = c.hear_frame.ensures.keeps.accepts ∙ c.loop-more.invariant.keeps.accepts;
+    allocatees = c.hear_frame.ensures.keeps.allocatees ∙ c.loop-more.invariant.keeps.allocatees;
   };
 }
 

@@ -25,6 +25,7 @@ loop-done-preserved g c = record {
   keeps = record {
     room = c.round.ensures.keeps.room ∙ c.loop-done.invariant.keeps.room;
     accepts = c.round.ensures.keeps.accepts ∙ c.loop-done.invariant.keeps.accepts;
+    allocatees = c.round.ensures.keeps.allocatees ∙ c.loop-done.invariant.keeps.allocatees;
   };
 }
 

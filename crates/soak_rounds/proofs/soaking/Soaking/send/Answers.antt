@@ -11,7 +11,7 @@ pub loop-left-init : goal.loop-left-init
 loop-left-init g c = record {
   sending = λ s is. begins_sending c.args.n s c.args.self.now is;
   few = omega arith;
-  keeps = record { room = refl; accepts = refl };
+  keeps = record { room = refl; accepts = refl; allocatees = refl };
 }
 
 pub take-requires-clause-room : goal.take-requires-clause-room
@@ -48,6 +48,7 @@ loop-left-preserved g c =
       keeps = record {
         room = c.take.ensures.keeps.room ∙ so_far.keeps.room;
         accepts = c.take.ensures.keeps.accepts ∙ so_far.keeps.accepts;
+        allocatees = c.take.ensures.keeps.allocatees ∙ so_far.keeps.allocatees;
       };
     }
 

@@ -1,0 +1,44 @@
+use Rattle.std.proofs.Common.{◌≡◌, ℕ, List, length, ◌∙◌, ap, sym, subst}
+use Rattle.std.proofs.lemmas.List.{length-map}
+use Rattle.bus_world.specs.Stands.{StandsFor}
+use Rattle.world_parts.specs.Telling.{telling_of}
+use Rattle.bus_world.specs.declared.member.Member.{Member}
+use Rattle.world_parts.specs.Cluster.{is_member}
+use Rattle.world_parts.specs.Members.{is_running, opened}
+use Rattle.world_parts.specs.Report.{opening_told}
+use Rattle.bus_world.proofs.Finding.{alike_there, set_alike, set_few, its_id, set_holds, stands_there, stopped_from}
+use Rattle.bus_world.proofs.members.Members.open.Goals as goal
+
+pub returns-in-Ok-clause-told : goal.returns-in-Ok-clause-told
+returns-in-Ok-clause-told g c = λ w stands.
+    let xs = c.args.self.now.members.items in let bus = c.args.self.now.frames.items in let n = c.args.n in let m = c.index_mut.result.now in
+    let here = subst (λ (m : Member g.row.F.Denot). StandsFor m (w.member n)) (sym c.index_mut.ensures.value)
+    (stands_there xs bus w stands.holds n c.in-Ok.place c.in-Ok.ensures.place m) in
+    let id = ap (λ (m : Member g.row.F.Denot). m.id) c.index_mut.ensures.value ∙ its_id xs bus w stands.holds n c.in-Ok.place c.in-Ok.ensures.place m in
+    let lawful = c.in-Ok.ensures.lawful w stands in (
+      lawful,
+      subst (λ (k : ℕ). telling_of c.open.result ≡ opening_told k (w.member n).disk) id
+          (c.open.ensures.told (w.member n) here (stopped_from (is_member w.ids n) (is_running (w.member n).life) lawful)),
+    )
+
+pub returns-in-Ok-clause-leaves : goal.returns-in-Ok-clause-leaves
+returns-in-Ok-clause-leaves g c = λ w stands.
+    let xs = c.args.self.now.members.items in let bus = c.args.self.now.frames.items in let n = c.args.n in let m = c.index_mut.result.now in
+    let here = subst (λ (m : Member g.row.F.Denot). StandsFor m (w.member n)) (sym c.index_mut.ensures.value)
+    (stands_there xs bus w stands.holds n c.in-Ok.place c.in-Ok.ensures.place m) in
+    let id = ap (λ (m : Member g.row.F.Denot). m.id) c.index_mut.ensures.value ∙ its_id xs bus w stands.holds n c.in-Ok.place c.in-Ok.ensures.place m in
+    let size : length c.as_slice.result.now ≡ length w.ids = ap (λ (l : List (Member g.row.F.Denot)). length l) c.as_slice.ensures.value ∙ (sym (length-map xs (λ (m : Member g.row.F.Denot). m.id)) ∙ ap (λ (ids : List ℕ). length ids) stands.holds.ids) in
+    set_holds xs bus w stands.holds n c.in-Ok.place c.in-Ok.ensures.place c.open.new.self
+    (opened n (length w.ids) c.args.moment c.args.word (w.member n)) (c.open.ensures.id ∙ id)
+    (subst (λ (k : ℕ). StandsFor c.open.new.self (opened k (length w.ids) c.args.moment c.args.word (w.member n))) id
+    (subst (λ (k : ℕ). StandsFor c.open.new.self (opened m.id k c.args.moment c.args.word (w.member n))) size
+    (c.open.ensures.stands (w.member n) here (stopped_from (is_member w.ids n) (is_running (w.member n).life) (c.in-Ok.ensures.lawful w stands)))))
+
+pub invariant_of-self-clause-alike : goal.invariant_of-self-clause-alike
+invariant_of-self-clause-alike g c =
+    let xs = c.args.self.now.members.items in let accept = c.args.self.now.accept in
+    let own = alike_there xs c.args.n c.in-Ok.place c.index_mut.result.now accept c.args.self.now.alike c.in-Ok.ensures.place c.index_mut.ensures.value in
+    set_alike xs c.in-Ok.place c.open.new.self accept c.args.self.now.alike (c.open.ensures.accepts own)
+
+pub invariant_of-self-clause-five : goal.invariant_of-self-clause-five
+invariant_of-self-clause-five g c = set_few c.args.self.now.members.items c.in-Ok.place c.open.new.self c.args.self.now.five

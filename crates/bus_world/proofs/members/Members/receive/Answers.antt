@@ -1,0 +1,50 @@
+use Rattle.std.proofs.Common.{◌≡◌, ℕ, ◌+◌, ◌∙◌, ap, sym, subst}
+use Rattle.server_parts.specs.Step.{Event}
+use Rattle.world_parts.specs.Cluster.{arriving, frame_at, is_member}
+use Rattle.world_parts.specs.Members.{is_running, stepped}
+use Rattle.world_parts.specs.Report.{step_told}
+use Rattle.bus_world.specs.Stands.{StandsFor}
+use Rattle.world_parts.specs.Telling.{telling_of}
+use Rattle.bus_world.specs.declared.member.Member.{Member}
+use Rattle.bus_world.proofs.Finding.{alike_there, serves, set_alike, set_few, its_id, runs_from, set_holds, stands_there}
+use Rattle.bus_world.proofs.members.Members.receive.Goals as goal
+
+pub returns-in-Ok-clause-told : goal.returns-in-Ok-clause-told
+returns-in-Ok-clause-told g c = λ w stands.
+    let xs = c.args.self.now.members.items in let bus = c.args.self.now.frames.items in let n = c.args.n in let m = c.index_mut.result.now in
+    let event : Event = Event.Rx (arriving (frame_at w.frames c.args.k) c.args.moment) in
+    let here = subst (λ (m : Member g.row.F.Denot). StandsFor m (w.member n)) (sym c.index_mut.ensures.value)
+    (stands_there xs bus w stands.holds n c.in-Ok.place c.in-Ok.ensures.place m) in
+    let id = ap (λ (m : Member g.row.F.Denot). m.id) c.index_mut.ensures.value ∙ its_id xs bus w stands.holds n c.in-Ok.place c.in-Ok.ensures.place m in
+    let both = c.in-Ok.ensures.lawful w stands in let lawful = both.0 in (
+      both.1,
+      subst (λ (k : ℕ). telling_of c.step.result ≡ step_told k (w.rows + 1) event (w.member n).life (w.member n)) id
+          (subst (λ (r : ℕ). telling_of c.step.result ≡ step_told m.id (r + 1) event (w.member n).life (w.member n)) stands.rows
+          (subst (λ (e : Event). telling_of c.step.result ≡ step_told m.id (c.args.self.now.taken + 1) e (w.member n).life (w.member n)) (c.in-Ok.ensures.event w stands) (c.step.ensures.told (w.member n) here (runs_from (is_member w.ids n) (is_running (w.member n).life) lawful)))),
+    )
+
+pub returns-in-Ok-clause-leaves : goal.returns-in-Ok-clause-leaves
+returns-in-Ok-clause-leaves g c = λ w stands.
+    let xs = c.args.self.now.members.items in let bus = c.args.self.now.frames.items in let n = c.args.n in let m = c.index_mut.result.now in
+    let event : Event = Event.Rx (arriving (frame_at w.frames c.args.k) c.args.moment) in
+    let here = subst (λ (m : Member g.row.F.Denot). StandsFor m (w.member n)) (sym c.index_mut.ensures.value)
+    (stands_there xs bus w stands.holds n c.in-Ok.place c.in-Ok.ensures.place m) in
+    let id = ap (λ (m : Member g.row.F.Denot). m.id) c.index_mut.ensures.value ∙ its_id xs bus w stands.holds n c.in-Ok.place c.in-Ok.ensures.place m in
+    set_holds xs bus w stands.holds n c.in-Ok.place c.in-Ok.ensures.place c.step.new.self
+    (stepped (w.rows + 1) event (w.member n).life (w.member n)) (c.step.ensures.id ∙ id)
+    (subst (λ (r : ℕ). StandsFor c.step.new.self (stepped (r + 1) event (w.member n).life (w.member n))) stands.rows
+    (subst (λ (e : Event). StandsFor c.step.new.self (stepped (c.args.self.now.taken + 1) e (w.member n).life (w.member n))) (c.in-Ok.ensures.event w stands) (c.step.ensures.stands (w.member n) here (runs_from (is_member w.ids n) (is_running (w.member n).life) (c.in-Ok.ensures.lawful w stands).0))))
+
+pub step-requires-clause-answers : goal.step-requires-clause-answers
+step-requires-clause-answers g c =
+    let xs = c.args.self.now.members.items in let accept = c.args.self.now.accept in let m = c.index_mut.result.now in
+    serves _ m.place accept (alike_there xs c.args.n c.in-Ok.place m accept c.args.self.now.alike c.in-Ok.ensures.place c.index_mut.ensures.value) c.requires.answers
+
+pub invariant_of-self-clause-alike : goal.invariant_of-self-clause-alike
+invariant_of-self-clause-alike g c =
+    let xs = c.args.self.now.members.items in let accept = c.args.self.now.accept in
+    let own = alike_there xs c.args.n c.in-Ok.place c.index_mut.result.now accept c.args.self.now.alike c.in-Ok.ensures.place c.index_mut.ensures.value in
+    set_alike xs c.in-Ok.place c.step.new.self accept c.args.self.now.alike (c.step.ensures.accepts accept own)
+
+pub invariant_of-self-clause-five : goal.invariant_of-self-clause-five
+invariant_of-self-clause-five g c = set_few c.args.self.now.members.items c.in-Ok.place c.step.new.self c.args.self.now.five

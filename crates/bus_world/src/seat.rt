@@ -1,0 +1,135 @@
+ghost use Rattle.std.specs.Prelude.{◌≡◌, ◌<◌, None, Some, Option, IsNone, is_some, option_map};
+ghost use Rattle.transfer_rx.specs.Acceptance.{AnswersByRows};
+ghost use Rattle.transfer_rx.specs.Memory.{ReceiverFitsInMemory};
+ghost use Rattle.transfer_rx.specs.Reassembly.{arrival_of};
+ghost use Rattle.transfer_tx.specs.Views.{queued_of};
+ghost use Rattle.allocatee.specs.Accepted as accepted;
+ghost use Rattle.allocatee.specs.Allocatee.{Device, opening};
+ghost use Rattle.allocatee.specs.Stands.{event_of};
+ghost use Rattle.world_parts.specs.Allocatees.{after_sending_from, next_from, stepped_at};
+ghost use Rattle.world_parts.specs.Lawful.{judged_at, of_judged};
+ghost use Rattle.world_parts.specs.Report.{step_told_at};
+ghost use Rattle.world_parts.specs.Telling.{telling_of};
+ghost use Rattle.world_parts.specs.Telling.Telling.{HasCome, HasLeft};
+
+use allocatee::{AEvent, Allocatee};
+use arrayvec::ArrayVec;
+use can_frame::{Frame, Judged, Kind, Mark, Uid};
+use replay_text::Told;
+use transfer_rx::AcceptRow;
+use transfer_tx::Marked;
+
+/// A place for an allocatee, and the one that is there, if any.
+#[derive(Drop)]
+pub(crate) struct Seat<G> {
+    pub(crate) device: Option<Allocatee<G>>,
+}
+
+impl<G: Fn(Kind, u16) -> Option<u64> + Copy> Seat<G> {
+    ghost use Rattle.bus_world.specs.Seats.{Accepts, Serves, StandsFor};
+
+    /// An empty place.
+    pub fn new() -> Seat<G>
+        ensures stands { StandsFor result None }
+        ensures accepts { (accept : G) → Accepts result accept }
+    {
+        Seat { device: None }
+    }
+
+    pub fn is_taken(&self) -> bool
+        ensures { (x : Option Device) → StandsFor self.now x → result ≡ is_some x }
+    {
+        self.device.is_some()
+    }
+
+    /// An allocatee comes.
+    pub fn open(
+        &mut self,
+        a: u8,
+        uid: Uid,
+        preferred: u8,
+        moment: u64,
+        word: u32,
+        rows: ArrayVec<AcceptRow, 16>,
+        accept: G,
+    ) -> Told
+        requires preferred { preferred < 128 }
+        requires rows { rows.items ≡ accepted.rows }
+        requires memory { ReceiverFitsInMemory G.row 8 8 }
+        requires callable { G.IsAlwaysCallable accept }
+        requires answers { AnswersByRows (G.post accept) rows.items }
+        ensures told { telling_of result ≡ HasCome a }
+        ensures stands { StandsFor self.new (Some (opening uid preferred moment word)) }
+        ensures accepts { Accepts self.new accept }
+    {
+        self.device = Some(Allocatee::new(uid, preferred, rows, accept, moment, word));
+        Told::AOpened { a }
+    }
+
+    /// The allocatee takes an event, in the step with this number; what that tells.
+    pub fn step(&mut self, a: u8, event: AEvent, number: u64) -> Told
+        requires memory { ReceiverFitsInMemory G.row 8 8 }
+        requires callable { Serves (λ accept. G.IsAlwaysCallable accept) self.old }
+        requires answers { Serves (λ accept. AnswersByRows (G.post accept) accepted.rows)
+            self.old }
+        ensures told { (x : Option Device) → StandsFor self.old x →
+            telling_of result ≡ step_told_at a number (event_of event) x }
+        ensures stands { (x : Option Device) → StandsFor self.old x →
+            StandsFor self.new (stepped_at number (event_of event) x) }
+        ensures accepts { (accept : G) → Accepts self.old accept → Accepts self.new accept }
+    {
+        match &mut self.device {
+            Some(device) => {
+                let outcome = device.step(event, number);
+                Told::AStepped {
+                    a,
+                    holds: device.holds(),
+                    queued: device.queued(),
+                    seen: outcome.seen,
+                    sent: outcome.sent,
+                }
+            }
+            None => Told::AEnded { a },
+        }
+    }
+
+    /// Whether a frame may be given to the allocatee. Nothing changes.
+    pub fn judge(&self, frame: &Frame, mark: Mark, moment: u64) -> Judged
+        requires memory { ReceiverFitsInMemory G.row 8 8 }
+        requires callable { Serves (λ accept. G.IsAlwaysCallable accept) self.now }
+        requires answers { Serves (λ accept. AnswersByRows (G.post accept) accepted.rows)
+            self.now }
+        ensures { (x : Option Device) → StandsFor self.now x →
+            of_judged result ≡ judged_at x (arrival_of frame.now mark moment) }
+    {
+        match &self.device {
+            Some(device) => device.judge(frame, mark, moment),
+            None => Judged::Fine,
+        }
+    }
+
+    /// The allocatee's next frame for the bus.
+    pub fn pop(&mut self) -> Option<Marked>
+        ensures next { (x : Option Device) → StandsFor self.old x →
+            option_map queued_of result ≡ next_from x }
+        ensures stands { (x : Option Device) → StandsFor self.old x →
+            StandsFor self.new (after_sending_from x) }
+        ensures none { IsNone result → self.new ≡ self.old }
+        ensures accepts { (accept : G) → Accepts self.old accept → Accepts self.new accept }
+    {
+        match &mut self.device {
+            Some(device) => device.pop(),
+            None => None,
+        }
+    }
+
+    /// The allocatee leaves.
+    pub fn end(&mut self, a: u8) -> Told
+        ensures told { telling_of result ≡ HasLeft a }
+        ensures stands { StandsFor self.new None }
+        ensures accepts { (accept : G) → Accepts self.new accept }
+    {
+        self.device = None;
+        Told::AEnded { a }
+    }
+}
