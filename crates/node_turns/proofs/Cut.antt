@@ -10,8 +10,8 @@ use Rattle.raft_log.specs.DurableViews.{durable_state}
 use Rattle.alloc_server.specs.Server.{LeavesSome, StandsFor, durable_of}
 use Rattle.node_turns.specs.Cut.{IsCutAt}
 use Rattle.node_turns.specs.Ends.{fault_id}
-use Rattle.node_turns.specs.CutRun.{HoldsStoreInPart, TakesAtMostOne}
-use Rattle.node_turns.specs.Puts.{turn_puts}
+use Rattle.node_turns.specs.CutRun.{HoldsStoreInPart}
+use Rattle.node_turns.specs.Puts.{IsCutIn}
 use Rattle.node_turns.specs.Stands.{Stand, runner_disk}
 use Rattle.node_turns.specs.Taking.{HasCause}
 use Rattle.node_turns.specs.Turns.{Together, turning_at}
@@ -19,6 +19,7 @@ use Rattle.node_turns.specs.declared.fault.Fault.{Fault}
 use Rattle.node_turns.specs.declared.fault.Fault.TheVariants.{Link, Disk, Damaged}
 use Rattle.node_turns.specs.declared.runner.Runner.{Runner}
 use Rattle.node_turns.specs.declared.steps.LastSteps.{LastSteps}
+use Rattle.node_turns.proofs.Parts.{cut_as}
 use Rattle.node_turns.proofs.Together.{set_elsewhere, set_here}
 
 -- of the one at a place
@@ -26,17 +27,16 @@ module _ {D F : Type 0} {disk : Ghosts D} {L : Type 0} (runners : List (Runner D
     (runner some : Runner D F disk) (link some_link : L) (here : place < length runners) (there : place < length links)
     (coming : L → Option (List Received)) (sent : L → Option (List RawFrame)) (readings : Option (List ℕ)) (steps : LastSteps) (before : Together)
     (stand : Stand coming sent runners links readings steps before) where
-  pub cut_at : (now : Option (List ℕ)) → now ≡ Some (readings_behind before.readings) → TakesAtMostOne (before.running place).coming (coming link) →
+  pub cut_at : (now : Option (List ℕ)) → now ≡ Some (readings_behind before.readings) →
       sent link ≡ sent (slice_index_or links place some_link) →
       disk.tells (runner_disk runner) ≡ disk.tells (runner_disk (slice_index_or runners place some)) →
-      LeavesSome (slice_index_or runners place some).server runner.server (turn_puts (next_reading before.readings) (turning_at place before)) →
+      IsCutIn (next_reading before.readings) (turning_at place before) (coming link) (LeavesSome (slice_index_or runners place some).server runner.server) →
       IsCutAt coming sent (slice_set runners place runner) (slice_set links place link) now before place
-  cut_at now read taken unsent tells leaves = record {
+  cut_at now read unsent tells cut = record {
     readings_are = read;
     coming_is = λ i l low other.
         let within : i < length runners = (let size = length-set runners place runner in omega (arith, size, low)) in
         subst (λ x. coming x ≡ Some (before.running i).coming) (set_elsewhere links place i link l other) (stand.each i some l within).coming_is;
-    own_is = λ l. subst (λ x. TakesAtMostOne (before.running place).coming (coming x)) (set_here links place place link l refl there) taken;
     sent_is = λ i l low.
         let within : i < length runners = (let size = length-set runners place runner in omega (arith, size, low)) in
         elim (eqb_tells i place) [
@@ -47,14 +47,19 @@ module _ {D F : Type 0} {disk : Ghosts D} {L : Type 0} (runners : List (Runner D
     others = λ i r low other.
         let within : i < length runners = (let size = length-set runners place runner in omega (arith, size, low)) in
         subst (λ (x : Runner D F disk). StandsFor x.server (before.running i).timed) (set_elsewhere runners place i runner r other) (stand.each i r some_link within).server;
-    part = λ r. subst (λ (x : Runner D F disk). disk.tells (runner_disk x) ≡ true →
-        HoldsStoreInPart disk (runner_disk x) (before.running place).timed.plain.store (turn_puts (next_reading before.readings) (turning_at place before)))
-        (set_here runners place place runner r refl here) (λ told. record {
+    own = λ l r. subst (λ (x : Runner D F disk). disk.tells (runner_disk x) ≡ true →
+        IsCutIn (next_reading before.readings) (turning_at place before) (coming (slice_index_or (slice_set links place link) place l))
+        (HoldsStoreInPart disk (runner_disk x) (before.running place).timed.plain.store))
+        (set_here runners place place runner r refl here) (λ told.
+        cut_as (LeavesSome (slice_index_or runners place some).server runner.server) (HoldsStoreInPart disk (runner_disk runner) (before.running place).timed.plain.store)
+        (λ puts leaves. record {
           tells = told;
           state = durable_state (durable_of (slice_index_or runners place some).server);
           store_is = sym (stand.each place some some_link here).server.member.raft.store;
           stands = leaves (sym tells ∙ told);
-        });
+        }) (next_reading before.readings) (turning_at place before) (coming (slice_index_or (slice_set links place link) place l))
+        (subst (λ x. IsCutIn (next_reading before.readings) (turning_at place before) (coming x) (LeavesSome (slice_index_or runners place some).server runner.server))
+        (set_here links place place link l refl there) cut));
   }
 
 pub at_node : (fault : Fault) (id : ℕ) → ((node : ℕ) → fault ≡ Link node → node ≡ id) → ((node : ℕ) → fault ≡ Disk node → node ≡ id) →

@@ -16,7 +16,7 @@ use Rattle.node_turns.specs.Cut.{IsCut, IsCutOpening, IsCutTurning}
 use Rattle.node_turns.specs.CutRun.{HoldsOpeningInPart, HoldsStoreInPart, IsCutInOpening, IsCutInTurns, IsCutRun, IsLeft, IsLeftDamaged, IsLeftUnopened, KeepsImages, KeepsOrOpens}
 use Rattle.node_turns.specs.Ends.{fault_id}
 use Rattle.node_turns.specs.Opening.{Given, opened}
-use Rattle.node_turns.specs.Puts.{turn_puts}
+use Rattle.node_turns.specs.Puts.{IsCutIn}
 use Rattle.node_turns.specs.Run.{AreStopped}
 use Rattle.node_turns.specs.Stands.{AreOpened}
 use Rattle.node_turns.specs.Taking.{HasCause}
@@ -80,11 +80,12 @@ module _ {D F : Type 0} {disk : Ghosts D}
   module _ {L : Type 0} (coming : L → Option (List Received)) (sent : L → Option (List RawFrame)) (links_old links : List L) (readings_old readings : Option (List ℕ))
       (fault : Fault) (cut : IsCutOpening coming sent ids runners links_old links disks_old disks readings_old readings fault) where
     left_so : (Holds : D → D → Type 0) → ((before after : D) → disk.tells before ≡ true → HasCause disk before after (slice_index ids (length runners)) fault → Holds before after) →
-        IsLeft disk ids disks_old last (fault_id fault) Holds
+        IsLeft disk ids disks_old last readings_old readings (fault_id fault) Holds
     left_so Holds by_cause = record {
       place = length runners;
       within = cut.within;
       id_is = cut.id_is;
+      readings_are = cut.readings_are;
       left = λ before after was is told.
           let now = sym (stopped.others (length runners) (omega arith)) ∙ is in (
             cut.refused.tells before after was now ∙ told,
@@ -96,13 +97,13 @@ module _ {D F : Type 0} {disk : Ghosts D}
 
   pub left_damaged : {L : Type 0} (coming : L → Option (List Received)) (sent : L → Option (List RawFrame)) (links_old links : List L)
       (readings_old readings : Option (List ℕ)) (id key : ℕ) →
-      IsCutOpening coming sent ids runners links_old links disks_old disks readings_old readings (Damaged id key) → IsLeftDamaged disk ids disks_old last id
+      IsCutOpening coming sent ids runners links_old links disks_old disks readings_old readings (Damaged id key) → IsLeftDamaged disk ids disks_old last readings_old readings id
   left_damaged coming sent links_old links readings_old readings id key cut =
       left_so coming sent links_old links readings_old readings (Damaged id key) cut (KeepsImages disk) (λ before after told why. why.2 told)
 
   pub left_unopened : {L : Type 0} (coming : L → Option (List Received)) (sent : L → Option (List RawFrame)) (links_old links : List L)
       (readings_old readings : Option (List ℕ)) (id : ℕ) →
-      IsCutOpening coming sent ids runners links_old links disks_old disks readings_old readings (Disk id) → IsLeftUnopened disk ids disks_old last id
+      IsCutOpening coming sent ids runners links_old links disks_old disks readings_old readings (Disk id) → IsLeftUnopened disk ids disks_old last readings_old readings id
   left_unopened coming sent links_old links readings_old readings id cut =
       left_so coming sent links_old links readings_old readings (Disk id) cut (KeepsOrOpens disk) (λ before after told why. unopened before after told why.2)
 
@@ -144,16 +145,16 @@ module _ {D F L : Type 0} {disk : Ghosts D} (coming : L → Option (List Receive
         turn = record {
           readings_are = turn.cut.readings_are;
           coming_is = turn.cut.coming_is;
-          own_is = turn.cut.own_is;
           sent_is = turn.cut.sent_is;
           stored_is = λ i after low other is.
               let some = an_item runners i low in
               holds_store coming sent durable (slice_index_or runners i some) before i after (turn.cut.others i some low other) (cut.telling i some low)
               (some_same (sym (stopped.stopped i some low) ∙ is));
-          part_is = λ after is.
+          own_is = λ link after is.
               let some = an_item runners turn.place turn.within in
-              subst (λ d. HoldsStoreInPart disk d (before.running turn.place).timed.plain.store (turn_puts (next_reading before.readings) (turning_at turn.place before)))
-              (some_same (sym (stopped.stopped turn.place some turn.within) ∙ is)) (turn.cut.part some (cut.telling turn.place some turn.within));
+              subst (λ d. IsCutIn (next_reading before.readings) (turning_at turn.place before) (coming (slice_index_or links turn.place link))
+              (HoldsStoreInPart disk d (before.running turn.place).timed.plain.store))
+              (some_same (sym (stopped.stopped turn.place some turn.within) ∙ is)) (turn.cut.own link some (cut.telling turn.place some turn.within));
         };
       })
 

@@ -1,5 +1,5 @@
--- The puts of a turn: where the first of its steps was cut off, and where the second was.
-use Rattle.std.proofs.Common.{◌≡◌, ℕ, List, [], ◌∷◌, ◌++◌, true, subst, ap, ◌∙◌, inl, inr}
+-- The puts of a turn: where neither step, the first or the second of them was made.
+use Rattle.std.proofs.Common.{◌≡◌, ℕ, List, [], ◌∷◌, ◌++◌, true, append-nil, subst, ap, ◌∙◌, inl, inr}
 use Rattle.std.specs.Prelude.{Option}
 use Rattle.disk_model.specs.declared.disk.Disk.{Ghosts}
 use Rattle.disk_model.specs.Contents.{MayLeave}
@@ -13,7 +13,7 @@ use Rattle.raft_log.specs.Stored.{AfterSome, Put, Stored, after_put, after_puts}
 use Rattle.server_parts.specs.Step.{Tick}
 use Rattle.alloc_server.specs.declared.server.Server.{Server}
 use Rattle.alloc_server.specs.Server.{HasPut, LeavesSome, disk_of, durable_of}
-use Rattle.node_turns.specs.Puts.{heard_puts, step_puts, tick_puts, turn_puts}
+use Rattle.node_turns.specs.Puts.{IsCutIn, IsHeardIn, heard_puts, step_puts, tick_puts, turn_puts}
 use Rattle.node_turns.specs.Stands.{IsTurning}
 use Rattle.node_turns.specs.Turn.{Turning, ticks}
 use Rattle.node_turns.specs.declared.runner.Runner.{Runner}
@@ -23,11 +23,6 @@ use Rattle.node_turns.specs.declared.steps.LastSteps.{LastSteps}
 at_once : (fact : Stored → Type 0) (puts : List Put) (s : Stored) → fact s → AfterSome fact puts s
 at_once fact [] s here = here
 at_once fact (put ∷ puts) s here = inl here
-
-of_first : (fact : Stored → Type 0) (xs ys : List Noted) (s : Stored) → AfterSome fact (stored_puts xs s) s → AfterSome fact (stored_puts (xs ++ ys) s) s
-of_first fact [] ys s here = at_once fact (stored_puts ys s) s here
-of_first fact (x ∷ xs) ys s (inl here) = inl here
-of_first fact (x ∷ xs) ys s (inr there) = inr (of_first fact xs ys (after_put (stored_put x s) s) there)
 
 of_second : (fact : Stored → Type 0) (xs ys : List Noted) (s : Stored) →
     (let after = after_puts (stored_puts xs s) s in AfterSome fact (stored_puts ys after) after) → AfterSome fact (stored_puts (xs ++ ys) s) s
@@ -41,9 +36,6 @@ module _ {D F : Type 0} {disk : Ghosts D} (old : Server D F disk) where
   leaves_at_once puts durable = λ told image left. let s = durable_state (durable_of old) in at_once (StandsForState image) (stored_puts puts s) s (durable told image left)
 
   module _ (xs ys : List Noted) where
-    pub leaves_first : (new : Server D F disk) → LeavesSome old new xs → LeavesSome old new (xs ++ ys)
-    leaves_first new leaves = λ told image left. of_first (StandsForState image) xs ys (durable_state (durable_of old)) (leaves told image left)
-
     pub leaves_second : (mid new : Server D F disk) → HasPut old mid xs → disk.tells (disk_of mid) ≡ disk.tells (disk_of old) → LeavesSome mid new ys → LeavesSome old new (xs ++ ys)
     leaves_second mid new put tells leaves = λ told image left.
         let s = durable_state (durable_of old) in
@@ -59,6 +51,32 @@ module _ {D F : Type 0} {disk : Ghosts D} (old : Server D F disk) where
   unfolding turn_puts
   turn_leaves mid new moment word t is put tells leaves =
       leaves_second (tick_puts moment t) (heard_puts moment (ticks moment t)) mid new (subst (λ w. HasPut old mid (step_puts (Tick moment w) t)) is put) tells leaves
+
+-- ---- how far a turn came that was cut off
+
+module _ {D F : Type 0} {disk : Ghosts D} (old mid new : Server D F disk) (moment : ℕ) (t : Turning) (left : Option (List Received)) where
+  -- its first step was put, and the second one was made as far as it came
+  pub turn_cut : (word : ℕ) → word ≡ word_at (moved t.running.draws) → HasPut old mid (step_puts (Tick moment word) t) → disk.tells (disk_of mid) ≡ disk.tells (disk_of old) →
+      IsHeardIn moment (ticks moment t) left (LeavesSome mid new) → IsCutIn moment t left (LeavesSome old new)
+  turn_cut word is put tells heard = elim heard [
+    | inl h ↦ inl (
+      h.0,
+      subst (LeavesSome old new) (append-nil (tick_puts moment t))
+          (leaves_second old (tick_puts moment t) [] mid new (subst (λ w. HasPut old mid (step_puts (Tick moment w) t)) is put) tells h.1),
+    )
+    | inr h ↦ inr (h.0, turn_leaves old mid new moment word t is put tells h.1)
+  ]
+
+  -- and then its disk was left alone, and its link gave no more
+  pub cut_still : (other : Option (List Received)) → other ≡ left → disk_of new ≡ disk_of mid → IsCutIn moment t left (LeavesSome old mid) → IsCutIn moment t other (LeavesSome old new)
+  cut_still other same still cut = elim cut [
+    | inl h ↦ inl (same ∙ h.0, leaves_of_disk old mid new (tick_puts moment t) still h.1)
+    | inr h ↦ inr (same ∙ h.0, leaves_of_disk old mid new (turn_puts moment t) still h.1)
+  ]
+
+-- what it is said of changes
+pub cut_as : (A B : List Noted → Type 0) → ((puts : List Noted) → A puts → B puts) → (moment : ℕ) (t : Turning) (left : Option (List Received)) → IsCutIn moment t left A → IsCutIn moment t left B
+cut_as A B f moment t left cut = elim cut [ inl h ↦ inl (h.0, f (tick_puts moment t) h.1) | inr h ↦ inr (h.0, f (turn_puts moment t) h.1) ]
 
 -- the one whose turn it is takes its next word
 pub next_word : {D F : Type 0} {disk : Ghosts D} {runner : Runner D F disk} {coming : Option (List Received)} {sent : Option (List RawFrame)} {steps : LastSteps}

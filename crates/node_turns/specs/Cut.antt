@@ -6,10 +6,10 @@ use Rattle.outside.specs.declared.received.RawFrame.{RawFrame}
 use Rattle.outside.specs.declared.received.Received.{Received}
 use Rattle.outside.specs.Readings.{next_reading, readings_behind}
 use Rattle.alloc_server.specs.Server.{StandsFor}
-use Rattle.node_turns.specs.CutRun.{HoldsStoreInPart, TakesAtMostOne}
+use Rattle.node_turns.specs.CutRun.{HoldsStoreInPart}
 use Rattle.node_turns.specs.Ends.{fault_id}
 use Rattle.node_turns.specs.Opening.{readings_after}
-use Rattle.node_turns.specs.Puts.{turn_puts}
+use Rattle.node_turns.specs.Puts.{IsCutIn}
 use Rattle.node_turns.specs.Run.{AreTelling}
 use Rattle.node_turns.specs.Stands.{AreOpened, runner_disk}
 use Rattle.node_turns.specs.Taking.{IsOf, IsRefused}
@@ -20,20 +20,20 @@ use Rattle.node_turns.specs.declared.runner.Runner.{Runner}
 module _ {D F : Type 0} {disk : Ghosts D} {L : Type 0} (coming : L → Option (List Received))
     (sent : L → Option (List RawFrame)) (runners : List (Runner D F disk)) (links : List L)
     (readings : Option (List ℕ)) where
-  -- of the one at a place, when all stood like this: no frame was sent in it, its clock was read, at most one item was
-  -- taken from its link, and the first of its puts were made
+  -- of the one at a place, when all stood like this: no frame was sent in it, its clock was read, and the first of its
+  -- puts were made, those of its first step alone where the next item of its link was not taken
   pub record IsCutAt (before : Together) (place : ℕ) : Type 0 where
     pub readings_are : readings ≡ Some (readings_behind before.readings)
     pub coming_is : (i : ℕ) (link : L) → i < length runners → (i ≡ place → ⊥) →
         coming (slice_index_or links i link) ≡ Some (before.running i).coming
-    pub own_is : (link : L) → TakesAtMostOne (before.running place).coming (coming (slice_index_or links place link))
     pub sent_is : (i : ℕ) (link : L) → i < length runners →
         sent (slice_index_or links i link) ≡ Some (before.running i).sent
     pub others : (i : ℕ) (runner : Runner D F disk) → i < length runners → (i ≡ place → ⊥) →
         StandsFor (slice_index_or runners i runner).server (before.running i).timed
-    pub part : (runner : Runner D F disk) → let after = runner_disk (slice_index_or runners place runner) in
-        disk.tells after ≡ true → HoldsStoreInPart disk after (before.running place).timed.plain.store
-        (turn_puts (next_reading before.readings) (turning_at place before))
+    pub own : (link : L) (runner : Runner D F disk) → let after = runner_disk (slice_index_or runners place runner) in
+        disk.tells after ≡ true → IsCutIn (next_reading before.readings) (turning_at place before)
+        (coming (slice_index_or links place link))
+        (HoldsStoreInPart disk after (before.running place).timed.plain.store)
 
   -- those before it had taken their turn
   pub record IsCutTurn (all : Together) (fault : Fault) : Type 0 where

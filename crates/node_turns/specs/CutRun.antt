@@ -8,7 +8,6 @@ use Rattle.disk_model.specs.Contents.{AddsNoImage, MayLeave}
 use Rattle.outside.specs.declared.received.RawFrame.{RawFrame}
 use Rattle.outside.specs.declared.received.Received.{Received}
 use Rattle.outside.specs.Readings.{next_reading, readings_behind}
-use Rattle.outside.specs.Traffic.{items_behind}
 use Rattle.raft_core.specs.StoredPuts.{Noted, store_of, stored_puts}
 use Rattle.raft_log.specs.Rules.{StandsForState}
 use Rattle.raft_log.specs.Stored.{AfterSome, Stored, opening_puts}
@@ -16,7 +15,7 @@ use Rattle.raft_model.specs.Server.{Store}
 use Rattle.program_parts.specs.declared.status.Status.{Status}
 use Rattle.program_parts.specs.declared.status.Status.TheVariants.{Damaged, DiskFault, LinkFault}
 use Rattle.node_turns.specs.Opening.{Given, opened, readings_after}
-use Rattle.node_turns.specs.Puts.{turn_puts}
+use Rattle.node_turns.specs.Puts.{IsCutIn}
 use Rattle.node_turns.specs.Turns.{Together, all_turns, first_turns, turning_at}
 use Rattle.node_turns.specs.WholeRun.{HoldsStore, TellsState, after_turns}
 
@@ -45,10 +44,6 @@ pub record HoldsOpeningInPart {D : Type 0} (disk : Ghosts D) (before after : D) 
       ((image : List ℕ) → MayLeave (disk.contents after) image →
       AfterSome (StandsForState image) (opening_puts state) state)
 
--- the next item that comes on a link was taken, or not yet
-abbrev pub TakesAtMostOne : List Received → Option (List Received) → Type 0
-TakesAtMostOne items left = (left ≡ Some items) ⊎ (left ≡ Some (items_behind items))
-
 module _ {L D : Type 0} (coming : L → Option (List Received)) (sent : L → Option (List RawFrame)) (disk : Ghosts D)
     (links : List L) (disks : List (Option D)) (readings : Option (List ℕ)) (count : ℕ) where
   -- at the opening of the one at a place: no link was touched, the disks before it hold what they held when they were
@@ -63,20 +58,20 @@ module _ {L D : Type 0} (coming : L → Option (List Received)) (sent : L → Op
         slice_index_or disks place None ≡ Some after → HoldsOpeningInPart disk before after (given.stored place)
     pub others : (i : ℕ) → place < i → slice_index_or disks i None ≡ slice_index_or disks_old i None
 
-  -- in the turn of the one at a place, when all stood like this: no frame was sent in it, its clock was read, at most
-  -- one item was taken from its link, and the first of its puts were made; the disks of the others hold their stores
+  -- in the turn of the one at a place, when all stood like this: no frame was sent in it, its clock was read, and some
+  -- first puts of it were made: of its first step alone, where the next item of its link was not taken. The disks of
+  -- the others hold their stores
   pub record IsCutAtTurn (before : Together) (place : ℕ) : Type 0 where
     pub readings_are : readings ≡ Some (readings_behind before.readings)
     pub coming_is : (i : ℕ) (link : L) → i < count → (i ≡ place → ⊥) →
         coming (slice_index_or links i link) ≡ Some (before.running i).coming
-    pub own_is : (link : L) → TakesAtMostOne (before.running place).coming (coming (slice_index_or links place link))
     pub sent_is : (i : ℕ) (link : L) → i < count →
         sent (slice_index_or links i link) ≡ Some (before.running i).sent
     pub stored_is : (i : ℕ) (after : D) → i < count → (i ≡ place → ⊥) →
         slice_index_or disks i None ≡ Some after → HoldsStore disk after (before.running i).timed.plain.store
-    pub part_is : (after : D) → slice_index_or disks place None ≡ Some after →
-        HoldsStoreInPart disk after (before.running place).timed.plain.store
-        (turn_puts (next_reading before.readings) (turning_at place before))
+    pub own_is : (link : L) (after : D) → slice_index_or disks place None ≡ Some after →
+        IsCutIn (next_reading before.readings) (turning_at place before) (coming (slice_index_or links place link))
+        (HoldsStoreInPart disk after (before.running place).timed.plain.store)
 
   -- all had taken so many turns, and those before the place one more
   pub record IsCutInTurns (first : Together) (turns place : ℕ) : Type 0 where
@@ -97,14 +92,15 @@ pub record IsCutRun {L D : Type 0} (coming : L → Option (List Received)) (sent
   pub cut : IsCutInOpening coming sent disk links disks readings (length ids) links_old disks_old given place ⊎
       IsCutInTurns coming sent disk links disks readings (length ids) (opened size ids given) turns place
 
--- it ended at the opening of the node with this ID: where its disk tells what it holds, this holds of it; the disks
--- before it, where they stood for a state, hold what they held when they were handed in, and those behind it are as
--- they were
-pub record IsLeft {D : Type 0} (disk : Ghosts D) (ids : List ℕ) (disks_old disks : List (Option D)) (id : ℕ)
-    (Holds : D → D → Type 0) : Type 0 where
+-- it ended at the opening of the node with this ID: the clock was read once for each up to there; where its disk tells
+-- what it holds, this holds of it; the disks before it, where they stood for a state, hold what they held when they
+-- were handed in, and those behind it are as they were
+pub record IsLeft {D : Type 0} (disk : Ghosts D) (ids : List ℕ) (disks_old disks : List (Option D))
+    (readings_old readings : Option (List ℕ)) (id : ℕ) (Holds : D → D → Type 0) : Type 0 where
   pub place : ℕ
   pub within : place < length ids
   pub id_is : slice_index ids place ≡ id
+  pub readings_are : (told : List ℕ) → readings_old ≡ Some told → readings ≡ Some (readings_after (suc place) told)
   pub left : (before after : D) → slice_index_or disks_old place None ≡ Some before →
       slice_index_or disks place None ≡ Some after → disk.tells before ≡ true →
       (disk.tells after ≡ true) × Holds before after
@@ -125,9 +121,13 @@ KeepsOrOpens disk before after = KeepsImages disk before after ⊎ ((state : Sto
     AfterSome (StandsForState image) (opening_puts state) state))
 
 -- its store is damaged
-abbrev pub IsLeftDamaged : {D : Type 0} → Ghosts D → List ℕ → List (Option D) → List (Option D) → ℕ → Type 0
-IsLeftDamaged disk ids disks_old disks id = IsLeft disk ids disks_old disks id (KeepsImages disk)
+abbrev pub IsLeftDamaged : {D : Type 0} → Ghosts D → List ℕ → List (Option D) → List (Option D) → Option (List ℕ) →
+    Option (List ℕ) → ℕ → Type 0
+IsLeftDamaged disk ids disks_old disks readings_old readings id =
+    IsLeft disk ids disks_old disks readings_old readings id (KeepsImages disk)
 
 -- its disk failed
-abbrev pub IsLeftUnopened : {D : Type 0} → Ghosts D → List ℕ → List (Option D) → List (Option D) → ℕ → Type 0
-IsLeftUnopened disk ids disks_old disks id = IsLeft disk ids disks_old disks id (KeepsOrOpens disk)
+abbrev pub IsLeftUnopened : {D : Type 0} → Ghosts D → List ℕ → List (Option D) → List (Option D) → Option (List ℕ) →
+    Option (List ℕ) → ℕ → Type 0
+IsLeftUnopened disk ids disks_old disks readings_old readings id =
+    IsLeft disk ids disks_old disks readings_old readings id (KeepsOrOpens disk)

@@ -9,7 +9,7 @@ use Rattle.program_parts.specs.declared.status.Status.TheVariants.{Damaged, Disk
 use Rattle.node_turns.specs.CutRun.{EndsAt, IsCutRun, IsLeftDamaged, IsLeftUnopened}
 use Rattle.node_turns.specs.Opening.{Given}
 use Rattle.node_turns.specs.Quiet.{CountNoOther}
-use Rattle.node_turns.specs.Report.{status_text}
+use Rattle.node_turns.specs.Report.{line_of, report}
 use Rattle.node_turns.specs.Status.{AreWhole, DiskRose, IsDamagedDisk, IsToldStatus, LinkRose}
 use Rattle.node_turns.specs.WholeRun.{LeavesAll, Tell, after_turns}
 
@@ -22,9 +22,12 @@ module _ {L D : Type 0} (coming : L → Option (List Received)) (sent : L → Op
     pub disk_fault : (id : ℕ) → status ≡ DiskFault id → DiskRose disk.faults ids disks_old disks id
     pub damaged : (id key : ℕ) → status ≡ Damaged id key →
         IsDamagedDisk disk ids disks_old id key × (links ≡ links_old)
-    pub damaged_left : (id key : ℕ) → status ≡ Damaged id key → IsLeftDamaged disk ids disks_old disks id
+    pub damaged_left : (id key : ℕ) → status ≡ Damaged id key →
+        IsLeftDamaged disk ids disks_old disks readings_old readings id
     pub unopened : (id : ℕ) → status ≡ DiskFault id → AreWhole disk ids disks_old
-        ⊎ (IsLeftUnopened disk ids disks_old disks id × (links ≡ links_old))
+        ⊎ (IsLeftUnopened disk ids disks_old disks readings_old readings id × (links ≡ links_old))
+    -- all were opened, and so no disk was damaged
+    pub whole : (status ≡ Done) ⊎ ((id : ℕ) × (status ≡ LinkFault id)) → AreWhole disk ids disks_old
     pub quiet : CountNoOther link_faults disk.faults ids links_old links disks_old disks status
     pub done : (given : Given) → Tell coming sent disk links_old disks_old readings_old given → status ≡ Done →
         LeavesAll coming sent disk links disks readings (length ids) (after_turns size turns ids given)
@@ -36,5 +39,6 @@ module _ {L D : Type 0} (coming : L → Option (List Received)) (sent : L → Op
     pub ended : Status
     pub told : IsToldStatus ended
     pub leaves : Leaves ended
-    pub front : (given : Given) → Tell coming sent disk links_old disks_old readings_old given →
-        WritesFront before now (status_text turns (after_turns size turns ids given).lines ended)
+    pub report_front : (given : Given) → Tell coming sent disk links_old disks_old readings_old given → ended ≡ Done →
+        WritesFront before now (report turns (after_turns size turns ids given).lines)
+    pub line_front : (ended ≡ Done → ⊥) → WritesFront before now (line_of ended)

@@ -4,6 +4,7 @@ pub mod Ends
 pub mod Frames
 pub mod InPart
 pub mod Kept
+pub mod Nodes
 pub mod Opening
 pub mod Puts
 pub mod Quiet

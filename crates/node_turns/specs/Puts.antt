@@ -1,6 +1,7 @@
 -- What the steps of a turn put, in order.
-use Rattle.std.specs.Prelude.{ℕ, suc, List, [], ◌++◌, length, Option, Some, None}
-use Rattle.outside.specs.Traffic.{next_item}
+use Rattle.std.specs.Prelude.{◌≡◌, ◌⊎◌, ℕ, suc, List, [], ◌++◌, length, Option, Some, None}
+use Rattle.outside.specs.declared.received.Received.{Received}
+use Rattle.outside.specs.Traffic.{items_behind, next_item}
 use Rattle.program_parts.specs.Draws.{moved, word_at}
 use Rattle.raft_core.specs.StoredPuts.{Noted}
 use Rattle.server_parts.specs.Step.{Event, Tick, step}
@@ -26,3 +27,15 @@ heard_puts moment t = taken_puts (event_in moment (next_item t.running.coming)) 
 -- both
 unfoldable pub turn_puts : ℕ → Turning → List Noted
 turn_puts moment t = tick_puts moment t ++ heard_puts moment (ticks moment t)
+
+-- ---- a turn that was cut off, when these items are left of its link: what holds of the puts up to there
+
+-- the next item was not taken, and nothing was put for it; or it was taken
+abbrev pub IsHeardIn : ℕ → Turning → Option (List Received) → (List Noted → Type 0) → Type 0
+IsHeardIn moment t left Holds = ((left ≡ Some t.running.coming) × Holds [])
+    ⊎ ((left ≡ Some (items_behind t.running.coming)) × Holds (heard_puts moment t))
+
+-- the next item was not taken, and only the step at its clock has put; or it was taken
+abbrev pub IsCutIn : ℕ → Turning → Option (List Received) → (List Noted → Type 0) → Type 0
+IsCutIn moment t left Holds = ((left ≡ Some t.running.coming) × Holds (tick_puts moment t))
+    ⊎ ((left ≡ Some (items_behind t.running.coming)) × Holds (turn_puts moment t))

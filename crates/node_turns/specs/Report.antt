@@ -1,7 +1,7 @@
 -- What a run writes.
 use Rattle.std.specs.Prelude.{ℕ, ◌-◌, List, [], ◌++◌, length, drop, flat_map, codes, decimal}
 use Rattle.program_parts.specs.declared.status.Status.{Status}
-use Rattle.program_parts.specs.declared.status.Status.TheVariants.{Done, LinkFault, DiskFault, Damaged}
+use Rattle.program_parts.specs.declared.status.Status.TheVariants.{LinkFault, DiskFault, Damaged}
 use Rattle.world_parts.specs.Report.{end_line}
 
 -- how many steps are told of, the last ones
@@ -30,10 +30,9 @@ disk_fault_line id = codes "disk fault " ++ decimal id ++ codes "\n"
 abbrev pub damaged_line : ℕ → ℕ → List ℕ
 damaged_line id key = codes "damaged " ++ decimal id ++ codes " " ++ decimal key ++ codes "\n"
 
--- what a run writes that ends with a status, after so many turns of which these are the lines
-abbrev pub status_text : ℕ → List (List ℕ) → Status → List ℕ
-status_text turns lines Done = report turns lines
-status_text turns lines (LinkFault id) = link_fault_line id
-status_text turns lines (DiskFault id) = disk_fault_line id
-status_text turns lines (Damaged id key) = damaged_line id key
-status_text turns lines _ = []
+-- by its status
+abbrev pub line_of : Status → List ℕ
+line_of (LinkFault id) = link_fault_line id
+line_of (DiskFault id) = disk_fault_line id
+line_of (Damaged id key) = damaged_line id key
+line_of _ = []

@@ -17,6 +17,13 @@ IsStatus (DiskFault id) = Unit {0}
 IsStatus (Damaged id key) = Unit {0}
 IsStatus _ = ⊥
 
+-- that of one in which nothing failed
+abbrev pub IsFaultless : Status → Type 0
+IsFaultless Done = Unit {0}
+IsFaultless (Damaged id key) = Unit {0}
+IsFaultless Memory = Unit {0}
+IsFaultless _ = ⊥
+
 -- that of one that had its memory
 abbrev pub IsEndStatus : Status → Type 0
 IsEndStatus Memory = ⊥
@@ -50,9 +57,9 @@ NoLinkRose faults ids old new = (id : ℕ) → LinkRose faults ids old new id �
 abbrev pub NoDiskRose : {D : Type 0} → (D → ℕ) → List ℕ → List (Option D) → List (Option D) → Type 0
 NoDiskRose faults ids old new = (id : ℕ) → DiskRose faults ids old new id → ⊥
 
--- the disks that were handed in tell what they hold
-abbrev pub DisksTell : {D : Type 0} → Ghosts D → List (Option D) → Type 0
-DisksTell {D = D} disk old = (i : ℕ) (before : D) → slice_index_or old i None ≡ Some before →
+-- the first of the disks that were handed in, so many, tell what they hold
+abbrev pub DisksTell : {D : Type 0} → Ghosts D → List (Option D) → ℕ → Type 0
+DisksTell {D = D} disk old count = (i : ℕ) (before : D) → i < count → slice_index_or old i None ≡ Some before →
     disk.tells before ≡ true
 
 -- what was handed in stands for a state, where it tells what it holds
@@ -72,7 +79,3 @@ pub record IsDamagedDisk {D : Type 0} (disk : Ghosts D) (ids : List ℕ) (old : 
   pub damaged : (before : D) → slice_index_or old place None ≡ Some before → disk.tells before ≡ true →
       IsDamagedAt (disk.contents before).seen key
   pub whole : (i : ℕ) (before : D) → i < place → slice_index_or old i None ≡ Some before → IsWhole disk before
-
--- none of them is
-abbrev pub NoDamagedDisk : {D : Type 0} → Ghosts D → List ℕ → List (Option D) → Type 0
-NoDamagedDisk disk ids old = (id key : ℕ) → IsDamagedDisk disk ids old id key → ⊥

@@ -10,14 +10,13 @@ ghost use Rattle.world_parts.specs.Cluster.{AreMembers};
 ghost use Rattle.node_turns.specs.Cut.{IsCut, IsCutOpening};
 ghost use Rattle.node_turns.specs.Opening.{Given, opened};
 ghost use Rattle.node_turns.specs.Ends.{end_status, fault_line};
-ghost use Rattle.node_turns.specs.InPart.{IsWrittenInPart, Leaves};
+ghost use Rattle.node_turns.specs.Nodes.{RunsNodes};
 ghost use Rattle.node_turns.specs.Quiet.{RunQuietly};
 ghost use Rattle.node_turns.specs.Report.{damaged_line, disk_fault_line, link_fault_line, report};
 ghost use Rattle.node_turns.specs.Run.{AreTelling, HasRun};
 ghost use Rattle.node_turns.specs.Runners.{accepts, runners_of};
 ghost use Rattle.node_turns.specs.Stands.{Stand};
-ghost use Rattle.node_turns.specs.Status.{IsDamagedDisk, IsEndStatus, IsStatus};
-ghost use Rattle.node_turns.specs.Status.{DisksTell, NoDamagedDisk, NoDiskRose, NoLinkRose};
+ghost use Rattle.node_turns.specs.Status.{IsEndStatus};
 ghost use Rattle.node_turns.specs.Steps.{Keeps, steps_made};
 ghost use Rattle.node_turns.specs.WholeRun.{Tell, after_turns};
 ghost use Rattle.node_turns.specs.declared.fault.Fault.TheVariants.{Link as LinkFailed, Disk as DiskFailed, Damaged as IsDamaged};
@@ -41,9 +40,10 @@ use std::alloc::Global;
 /// sink, counted a fault; `Damaged` where the store of that node is damaged, first at that key, before
 /// any turn. Then one line is all that is written, what was sent is a beginning of what a run to its end
 /// sends, and each store that was opened holds what it then held. At most one link or disk counts a
-/// fault, and the status names it, unless the sink fails too. Where nothing fails, a damaged store ends
-/// the run so, and without one it comes to `Done`. All memory is taken before anything else: with
-/// `Memory` nothing was touched.
+/// fault, and the status names it, unless the sink fails too. Where nothing fails it comes to `Done` or
+/// `Damaged`; where the disks tell what they hold, a damaged one ends the run so, and without one it comes to
+/// `Done`. All memory is taken before anything else, that for the last steps at the end: with `Memory` nothing
+/// was touched.
 pub fn node<K: Sink, L: Link, D: Disk, C: Clock>(
     alloc: Global,
     size: u8,
@@ -61,51 +61,24 @@ pub fn node<K: Sink, L: Link, D: Disk, C: Clock>(
     requires links { length links.old ≡ length ids.now }
     requires disks { length disks.old ≡ length ids.now }
     requires present { (i : ℕ) → i < length ids.now → IsSome (slice_index_or disks.old i None) }
-    ensures kinds { IsStatus result }
     ensures untouched { result ≡ Status.Memory → (sink.new ≡ sink.old) × (links.new ≡ links.old) ×
         (disks.new ≡ disks.old) × (clock.new ≡ clock.old) }
-    ensures put_back { (i : ℕ) → i < length ids.now → IsSome (slice_index_or disks.new i None) }
-    ensures places { length disks.new ≡ length disks.old }
     ensures write_fault { result ≡ Status.WriteFault →
         Rose (K.faults sink.old) (K.faults sink.new) }
     ensures kept { (result ≡ Status.WriteFault) ⊎ (K.faults sink.new ≡ K.faults sink.old) }
-    // What it leaves on its links, its disks and its clock, by its status.
-    ensures leaves { (result ≡ Status.WriteFault) ⊎ Leaves L.coming L.sent L.faults D.Disk size turns
-        ids.now links.old links.new disks.old disks.new (C.readings clock.old) (C.readings clock.new)
-        result }
-    // And what is written.
-    ensures report { (given : Given) → Tell L.coming L.sent D.Disk links.old disks.old
-        (C.readings clock.old) given → result ≡ Status.Done → Appends (K.written sink.old)
-        (K.written sink.new) (report turns (after_turns size turns ids.now given).lines) }
-    ensures link_line { (id : ℕ) → result ≡ Status.LinkFault id →
-        Appends (K.written sink.old) (K.written sink.new) (link_fault_line id) }
-    ensures disk_line { (id : ℕ) → result ≡ Status.DiskFault id →
-        Appends (K.written sink.old) (K.written sink.new) (disk_fault_line id) }
-    ensures damaged_line { (id key : ℕ) → result ≡ Status.Damaged id key →
-        Appends (K.written sink.old) (K.written sink.new) (damaged_line id key) }
-    // Where the sink failed, all is left as where it did not, and a front is written.
-    ensures in_part { result ≡ Status.WriteFault → IsWrittenInPart L.coming L.sent L.faults D.Disk
-        size turns ids.now links.old links.new disks.old disks.new (C.readings clock.old)
-        (C.readings clock.new) (K.written sink.old) (K.written sink.new) }
-    // Where nothing fails, the first damaged disk ends the run; without one it comes to its end.
-    ensures finishes { NoDamagedDisk D.Disk ids.now disks.old →
-        NoLinkRose L.faults ids.now links.old links.new →
-        NoDiskRose D.faults ids.now disks.old disks.new →
-        (Rose (K.faults sink.old) (K.faults sink.new) → ⊥) →
-        (result ≡ Status.Done) ⊎ (result ≡ Status.Memory) }
-    ensures refuses { (id key : ℕ) → DisksTell D.Disk disks.old →
-        IsDamagedDisk D.Disk ids.now disks.old id key →
-        NoDiskRose D.faults ids.now disks.old disks.new →
-        (Rose (K.faults sink.old) (K.faults sink.new) → ⊥) →
-        (result ≡ Status.Damaged id key) ⊎ (result ≡ Status.Memory) }
+    // What it leaves and writes, by its status.
+    ensures runs { RunsNodes L.coming L.sent L.faults D.Disk size turns ids.now links.old links.new
+        disks.old disks.new (C.readings clock.old) (C.readings clock.new) (K.faults sink.old)
+        (K.faults sink.new) (K.written sink.old) (K.written sink.new) result }
 {
     a_state_is_durable::<D>();
     an_image_stands_for_one_state();
     an_opening_goes_on();
-    let Some(mut steps) = LastSteps::new(alloc) else {
+    let Some(mut runners) = Runners::new(alloc, accept) else {
         return Status::Memory;
     };
-    let Some(mut runners) = Runners::new(alloc, accept) else {
+    let Some(mut steps) = LastSteps::new(alloc) else {
+        runners.discard();
         return Status::Memory;
     };
     let ended = run_all(

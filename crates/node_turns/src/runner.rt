@@ -21,7 +21,7 @@ ghost use Rattle.transfer_rx.specs.Memory.{ReceiverFitsInMemory};
 ghost use Rattle.replay_text.specs.Report.{told_line};
 ghost use Rattle.world_parts.specs.Telling.{telling_line};
 ghost use Rattle.world_parts.specs.Telling.Telling.{HasStepped};
-ghost use Rattle.node_turns.specs.Puts.{heard_puts, step_puts, turn_puts};
+ghost use Rattle.node_turns.specs.Puts.{IsCutIn, IsHeardIn, step_puts};
 ghost use Rattle.node_turns.specs.Turn.{Turning, hears, makes_step, sends, turn};
 ghost use Rattle.node_turns.specs.declared.steps.LastSteps.{LastSteps};
 ghost use Rattle.node_turns.specs.declared.fault.Fault.TheVariants.{Link as LinkFailed, Disk as DiskFailed, Damaged as IsDamaged};
@@ -50,7 +50,6 @@ pub(crate) struct Runner<D: Disk, F> {
 impl<D: Disk, F: Fn(Kind, u16) -> Option<u64> + Copy> Runner<D, F> {
     ghost use Rattle.alloc_server.specs.Server.{HasPut, LeavesSome, StandsFor};
     ghost use Rattle.alloc_server.specs.Server.{durable_of, event_of};
-    ghost use Rattle.node_turns.specs.CutRun.{TakesAtMostOne};
     ghost use Rattle.node_turns.specs.Stands.{IsStanding, IsTurning, Works, closure_of, runner_disk};
     ghost use Rattle.node_turns.specs.Steps.{steps_made};
 
@@ -116,15 +115,12 @@ impl<D: Disk, F: Fn(Kind, u16) -> Option<u64> + Copy> Runner<D, F> {
         ensures turned { OnOk result ((t : Turning) →
             IsTurning self.old (L.coming link.old) (L.sent link.old) steps.old t →
             IsTurning self.new (L.coming link.new) (L.sent link.new) steps.new (turn now t)) }
-        // One that is cut off has sent nothing, has taken at most one item, and has made some of its
-        // puts.
+        // One that is cut off has sent nothing, and has made the first of its puts, with at most one item
+        // taken.
         ensures unsent { OnErr result (L.sent link.new ≡ L.sent link.old) }
-        ensures taken { (t : Turning) →
+        ensures cut { (t : Turning) →
             IsTurning self.old (L.coming link.old) (L.sent link.old) steps.old t →
-            TakesAtMostOne t.running.coming (L.coming link.new) }
-        ensures leaves { (t : Turning) →
-            IsTurning self.old (L.coming link.old) (L.sent link.old) steps.old t →
-            LeavesSome self.old.server self.new.server (turn_puts now t) }
+            IsCutIn now t (L.coming link.new) (LeavesSome self.old.server self.new.server) }
         ensures id { self.new.id ≡ self.old.id }
         ensures accepts { closure_of self.new ≡ closure_of self.old }
         ensures works { OnOk result (Works self.new) }
@@ -160,12 +156,9 @@ impl<D: Disk, F: Fn(Kind, u16) -> Option<u64> + Copy> Runner<D, F> {
             IsTurning self.old (L.coming link.old) (L.sent link.old) steps.old t →
             IsTurning self.new (L.coming link.new) (L.sent link.new) steps.new (hears now t)) }
         ensures sent { L.sent link.new ≡ L.sent link.old }
-        ensures taken { (t : Turning) →
+        ensures cut { (t : Turning) →
             IsTurning self.old (L.coming link.old) (L.sent link.old) steps.old t →
-            TakesAtMostOne t.running.coming (L.coming link.new) }
-        ensures leaves { (t : Turning) →
-            IsTurning self.old (L.coming link.old) (L.sent link.old) steps.old t →
-            LeavesSome self.old.server self.new.server (heard_puts now t) }
+            IsHeardIn now t (L.coming link.new) (LeavesSome self.old.server self.new.server) }
         ensures id { self.new.id ≡ self.old.id }
         ensures accepts { closure_of self.new ≡ closure_of self.old }
         ensures works { OnOk result (Works self.old → Works self.new) }
@@ -185,7 +178,7 @@ impl<D: Disk, F: Fn(Kind, u16) -> Option<u64> + Copy> Runner<D, F> {
         ensures disk_quiet { (result ≡ Err (DiskFailed self.old.id) → ⊥) → IsStanding self.old →
             D.faults (runner_disk self.new) ≡ D.faults (runner_disk self.old) }
     {
-        // The law behind the clause `leaves`, where nothing is put.
+        // The law behind the clause `cut`, where nothing is put.
         a_state_is_durable::<D>();
         match link.recv() {
             Ok(item) => match event_in(&item, now) {

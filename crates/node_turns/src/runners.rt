@@ -42,7 +42,8 @@ pub(crate) struct Runners<D: Disk, F> {
 
 impl<D: Disk, F: Fn(Kind, u16) -> Option<u64> + Copy> Runners<D, F> {
     ghost use Rattle.node_turns.specs.Quiet.{StayQuiet};
-    ghost use Rattle.node_turns.specs.Stands.{AreStanding, AreOpened, AreOpenedAt, IsOpened, IsOpenedAt, Stand, Works, runner_disk};
+    ghost use Rattle.node_turns.specs.Stands.{AreOpened, AreOpenedAt, AreStanding};
+    ghost use Rattle.node_turns.specs.Stands.{IsOpened, IsOpenedAt, Stand, Works, runner_disk};
     ghost use Rattle.node_turns.specs.Cut.{AreCutTurns};
     ghost use Rattle.node_turns.specs.Run.{AreStopped};
     ghost use Rattle.node_turns.specs.Runners.{accepts, runners_of};
@@ -58,6 +59,14 @@ impl<D: Disk, F: Fn(Kind, u16) -> Option<u64> + Copy> Runners<D, F> {
             Ok(list) => Some(Runners { list, accept }),
             Err(_) => None,
         }
+    }
+
+    /// Lets them go, where none runs.
+    pub fn discard(self)
+        requires { runners_of self ≡ [] }
+    {
+        let Runners { list, accept: _ } = self;
+        list.destroy_empty();
     }
 
     /// Takes the disk of each of these nodes and opens its server, in order. A disk that is refused is

@@ -2,7 +2,7 @@ use Rattle.std.proofs.Common.{◌≡◌, suc, ◌+◌, ◌<◌, length, length-s
 use Rattle.std.specs.Prelude.{Ok, Err, slice_index_or, slice_set}
 use Rattle.outside.specs.Readings.{next_reading}
 use Rattle.alloc_server.specs.Server.{LeavesSome}
-use Rattle.node_turns.specs.Puts.{turn_puts}
+use Rattle.node_turns.specs.Puts.{IsCutIn}
 use Rattle.node_turns.specs.Stands.{IsStanding, IsTurning, Stand, Works, runner_disk}
 use Rattle.node_turns.specs.Turn.{Turning, turn}
 use Rattle.node_turns.specs.Turns.{first_turns, turning_at}
@@ -236,7 +236,7 @@ returns-in-Err-clause-cut g c = λ all is.
     let before = first_turns place all in
     let read = reads c.now-now.result (g.C.Clock.readings c.loop-place.clock) (g.C.Clock.readings c.now-now.new.self) before.readings c.now-now.ensures far.readings_are in
     let t = turning_at place before in
-    let leaves = c.turn.ensures.leaves t (record { running = far.each place some some_link here; lines = far.lines }) in
+    let cut = c.turn.ensures.cut t (record { running = far.each place some some_link here; lines = far.lines }) in
     let size = length-set runners place runner in
     record {
       place = place;
@@ -247,8 +247,8 @@ returns-in-Err-clause-cut g c = λ all is.
           (λ node e. (c.in-Err.ensures.disk_failed node (so_far.working place some here) (ap Err e)).0)
           (λ node key e. c.in-Err.ensures.sound node key (ap Err e)));
       cut = cut_at runners links place runner some link some_link here there g.L.Link.coming g.L.Link.sent (g.C.Clock.readings c.loop-place.clock) c.loop-place.steps before far
-          (g.C.Clock.readings c.now-now.new.self) read.1 (c.turn.ensures.taken t (record { running = far.each place some some_link here; lines = far.lines })) c.in-Err.ensures.unsent c.turn.ensures.tells
-          (subst (λ m. LeavesSome (slice_index_or runners place some).server runner.server (turn_puts m t)) read.0 leaves);
+          (g.C.Clock.readings c.now-now.new.self) read.1 c.in-Err.ensures.unsent c.turn.ensures.tells
+          (subst (λ m. IsCutIn m t (g.L.Link.coming c.turn.new.link) (LeavesSome (slice_index_or runners place some).server runner.server)) read.0 cut);
     }
 
 pub returns-in-Err-clause-quiet : goal.returns-in-Err-clause-quiet

@@ -1,4 +1,4 @@
-use Rattle.std.proofs.Common.{◌≡◌, ap, ◌∙◌, sym, subst, inl, inr}
+use Rattle.std.proofs.Common.{◌≡◌, [], ap, ◌∙◌, sym, subst, inl, inr}
 use Rattle.std.specs.Prelude.{Some, None}
 use Rattle.alloc_server.specs.Server.{LeavesSome, durable_of, event_of}
 use Rattle.outside.specs.Traffic.{items_behind, next_item}
@@ -53,36 +53,34 @@ returns-in-None-clause-heard g c = λ t is.
       lines = is.lines;
     })
 
-pub returns-in-Some-clause-leaves : goal.returns-in-Some-clause-leaves
-returns-in-Some-clause-leaves g c = λ t is.
+pub returns-in-Some-clause-cut : goal.returns-in-Some-clause-cut
+returns-in-Some-clause-cut g c = λ t is.
     let coming = g.L.Link.coming in
     let sent = g.L.Link.sent in
     let told = received c.in-Ok.item (coming c.args.link.now) (coming c.recv.new.self) t.running.coming c.in-Ok.ensures.items is.running.coming_is in
     let event : event_in c.args.now (next_item t.running.coming) ≡ Some (event_of c.in-Some.event) =
     ap (event_in c.args.now) (sym told.0) ∙ sym c.in-Some.ensures in
-    subst (λ e. LeavesSome c.args.self.now.server c.step.new.self.server (taken_puts e t)) (sym event)
-    (c.step.ensures.leaves t (coming c.args.link.now) (sent c.args.link.now) is)
+    inr (
+      told.1,
+      subst (λ e. LeavesSome c.args.self.now.server c.step.new.self.server (taken_puts e t)) (sym event)
+          (c.step.ensures.leaves t (coming c.args.link.now) (sent c.args.link.now) is),
+    )
 
-pub returns-in-None-clause-leaves : goal.returns-in-None-clause-leaves
-returns-in-None-clause-leaves g c = λ t is.
-    leaves_at_once c.args.self.now.server (heard_puts c.args.now t)
-    (c.a_state_is_durable.ensures (durable_of c.args.self.now.server) is.running.server.works)
+pub returns-in-None-clause-cut : goal.returns-in-None-clause-cut
+returns-in-None-clause-cut g c = λ t is.
+    let told = received c.in-Ok.item (g.L.Link.coming c.args.link.now) (g.L.Link.coming c.recv.new.self) t.running.coming c.in-Ok.ensures.items is.running.coming_is in
+    inr (
+      told.1,
+      leaves_at_once c.args.self.now.server (heard_puts c.args.now t)
+          (c.a_state_is_durable.ensures (durable_of c.args.self.now.server) is.running.server.works),
+    )
 
-pub returns-in-Err-clause-leaves : goal.returns-in-Err-clause-leaves
-returns-in-Err-clause-leaves g c = λ t is.
-    leaves_at_once c.args.self.now.server (heard_puts c.args.now t)
-    (c.a_state_is_durable.ensures (durable_of c.args.self.now.server) is.running.server.works)
+pub returns-in-Err-clause-cut : goal.returns-in-Err-clause-cut
+returns-in-Err-clause-cut g c = λ t is.
+    inl (
+      unchanged (g.L.Link.coming c.args.link.now) (g.L.Link.coming c.recv.new.self) c.in-Err.ensures.items ∙ is.running.coming_is,
+      leaves_at_once c.args.self.now.server [] (c.a_state_is_durable.ensures (durable_of c.args.self.now.server) is.running.server.works),
+    )
 
 pub returns-in-Some-clause-disk_quiet : goal.returns-in-Some-clause-disk_quiet
 returns-in-Some-clause-disk_quiet g c = λ other s. unless_failed c.step.result (Disk c.args.self.now.id) c.step.ensures.failed c.step.ensures.quiet other s
-
-pub returns-in-Some-clause-taken : goal.returns-in-Some-clause-taken
-returns-in-Some-clause-taken g c = λ t is.
-    inr (received c.in-Ok.item (g.L.Link.coming c.args.link.now) (g.L.Link.coming c.recv.new.self) t.running.coming c.in-Ok.ensures.items is.running.coming_is).1
-
-pub returns-in-None-clause-taken : goal.returns-in-None-clause-taken
-returns-in-None-clause-taken g c = λ t is.
-    inr (received c.in-Ok.item (g.L.Link.coming c.args.link.now) (g.L.Link.coming c.recv.new.self) t.running.coming c.in-Ok.ensures.items is.running.coming_is).1
-
-pub returns-in-Err-clause-taken : goal.returns-in-Err-clause-taken
-returns-in-Err-clause-taken g c = λ t is. inl (unchanged (g.L.Link.coming c.args.link.now) (g.L.Link.coming c.recv.new.self) c.in-Err.ensures.items ∙ is.running.coming_is)

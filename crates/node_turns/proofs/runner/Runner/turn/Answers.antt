@@ -1,16 +1,15 @@
-use Rattle.std.proofs.Common.{ap, sym, ◌∙◌, subst, inl}
+use Rattle.std.proofs.Common.{ap, ◌∙◌, subst, inl}
 use Rattle.alloc_server.specs.Server.{LeavesSome}
 use Rattle.program_parts.specs.Draws.{moved, word_at}
 use Rattle.server_parts.specs.Step.{Tick}
-use Rattle.node_turns.specs.CutRun.{TakesAtMostOne}
-use Rattle.node_turns.specs.Puts.{heard_puts, step_puts, tick_puts, turn_puts}
+use Rattle.node_turns.specs.Puts.{step_puts}
 use Rattle.node_turns.specs.Stands.{IsTurning}
 use Rattle.node_turns.specs.Turn.{hears, makes_step, ticks, turn}
 use Rattle.node_turns.specs.declared.fault.Fault.TheVariants.{Link}
 use Rattle.node_turns.proofs.Ending.{if_err}
 use Rattle.node_turns.proofs.Quiet.{unless_failed}
 use Rattle.node_turns.proofs.Lists.{on_err, on_ok, on_ok_always}
-use Rattle.node_turns.proofs.Parts.{leaves_first, leaves_of_disk, next_word, turn_leaves}
+use Rattle.node_turns.proofs.Parts.{cut_still, next_word, turn_cut}
 use Rattle.node_turns.proofs.runner.Runner.turn.Goals as goal
 
 pub returns-clause-turned : goal.returns-clause-turned
@@ -31,41 +30,6 @@ returns-clause-works g c = on_ok_always c.send.result (c.send.ensures.works (c.i
 pub returns-clause-unsent : goal.returns-clause-unsent
 returns-clause-unsent g c = on_err c.send.result (λ same. same ∙ c.hear.ensures.sent) c.send.ensures.unsent
 
-pub returns-in_err-step-clause-leaves : goal.returns-in_err-step-clause-leaves
-unfolding turn_puts
-returns-in_err-step-clause-leaves g c = λ t is.
-    let coming = g.L.Link.coming c.args.link.now in
-    let sent = g.L.Link.sent c.args.link.now in
-    let word = c.word-word.ensures.word ∙ ap word_at (c.word-word.ensures.moved ∙ ap moved is.running.draws) in
-    let before = record t { running = record t.running { draws = moved t.running.draws } } in
-    let old = c.args.self.now.server in
-    let leaves = subst (λ w. LeavesSome old c.step.new.self.server (step_puts (Tick c.args.now w) t)) word
-    (c.step.ensures.leaves before coming sent (next_word is c.word-word.ensures.moved)) in
-    leaves_first old (tick_puts c.args.now t) (heard_puts c.args.now (ticks c.args.now t)) c.step.new.self.server leaves
-
-pub returns-in_err-hear-clause-leaves : goal.returns-in_err-hear-clause-leaves
-returns-in_err-hear-clause-leaves g c = λ t is.
-    let coming = g.L.Link.coming c.args.link.now in
-    let sent = g.L.Link.sent c.args.link.now in
-    let word = c.word-word.ensures.word ∙ ap word_at (c.word-word.ensures.moved ∙ ap moved is.running.draws) in
-    let before = record t { running = record t.running { draws = moved t.running.draws } } in
-    let begun = next_word is c.word-word.ensures.moved in
-    turn_leaves c.args.self.now.server c.step.new.self.server c.hear.new.self.server c.args.now c.word-word.result t word (c.in_ok-step.ensures.put before coming sent begun)
-    c.step.ensures.tells (c.hear.ensures.leaves (ticks c.args.now t)
-    (subst (λ w. IsTurning c.step.new.self coming sent c.step.new.steps (makes_step (Tick c.args.now w) before)) word (c.in_ok-step.ensures.stepped before coming sent begun)))
-
-pub returns-clause-leaves : goal.returns-clause-leaves
-returns-clause-leaves g c = λ t is.
-    let coming = g.L.Link.coming c.args.link.now in
-    let sent = g.L.Link.sent c.args.link.now in
-    let word = c.word-word.ensures.word ∙ ap word_at (c.word-word.ensures.moved ∙ ap moved is.running.draws) in
-    let before = record t { running = record t.running { draws = moved t.running.draws } } in
-    let begun = next_word is c.word-word.ensures.moved in
-    let leaves = turn_leaves c.args.self.now.server c.step.new.self.server c.hear.new.self.server c.args.now c.word-word.result t word (c.in_ok-step.ensures.put before coming sent begun)
-    c.step.ensures.tells (c.hear.ensures.leaves (ticks c.args.now t)
-    (subst (λ w. IsTurning c.step.new.self coming sent c.step.new.steps (makes_step (Tick c.args.now w) before)) word (c.in_ok-step.ensures.stepped before coming sent begun))) in
-    leaves_of_disk c.args.self.now.server c.hear.new.self.server c.send.new.self.server (turn_puts c.args.now t) c.send.ensures.disk leaves
-
 pub returns-clause-standing : goal.returns-clause-standing
 returns-clause-standing g c = on_ok_always c.send.result (λ s. c.send.ensures.standing (c.in_ok-hear.ensures.standing (c.in_ok-step.ensures.standing s)))
 
@@ -78,25 +42,38 @@ pub returns-clause-disk_quiet : goal.returns-clause-disk_quiet
 returns-clause-disk_quiet g c = λ other s.
     ap g.D.Disk.faults c.send.ensures.disk ∙ c.in_ok-hear.ensures.disk_quiet (λ e. absurd (cc (e))) (c.in_ok-step.ensures.standing s) ∙ c.in_ok-step.ensures.quiet s
 
-pub returns-in_err-step-clause-taken : goal.returns-in_err-step-clause-taken
-returns-in_err-step-clause-taken g c = λ t is. inl is.running.coming_is
-
-pub returns-in_err-hear-clause-taken : goal.returns-in_err-hear-clause-taken
-returns-in_err-hear-clause-taken g c = λ t is.
+pub returns-in_err-step-clause-cut : goal.returns-in_err-step-clause-cut
+returns-in_err-step-clause-cut g c = λ t is.
     let coming = g.L.Link.coming c.args.link.now in
     let sent = g.L.Link.sent c.args.link.now in
     let word = c.word-word.ensures.word ∙ ap word_at (c.word-word.ensures.moved ∙ ap moved is.running.draws) in
     let before = record t { running = record t.running { draws = moved t.running.draws } } in
-    c.hear.ensures.taken (ticks c.args.now t)
-    (subst (λ w. IsTurning c.step.new.self coming sent c.step.new.steps (makes_step (Tick c.args.now w) before)) word
-    (c.in_ok-step.ensures.stepped before coming sent (next_word is c.word-word.ensures.moved)))
+    inl (
+      is.running.coming_is,
+      subst (λ w. LeavesSome c.args.self.now.server c.step.new.self.server (step_puts (Tick c.args.now w) t)) word
+          (c.step.ensures.leaves before coming sent (next_word is c.word-word.ensures.moved)),
+    )
 
-pub returns-clause-taken : goal.returns-clause-taken
-returns-clause-taken g c = λ t is.
+pub returns-in_err-hear-clause-cut : goal.returns-in_err-hear-clause-cut
+returns-in_err-hear-clause-cut g c = λ t is.
     let coming = g.L.Link.coming c.args.link.now in
     let sent = g.L.Link.sent c.args.link.now in
     let word = c.word-word.ensures.word ∙ ap word_at (c.word-word.ensures.moved ∙ ap moved is.running.draws) in
     let before = record t { running = record t.running { draws = moved t.running.draws } } in
-    subst (TakesAtMostOne t.running.coming) (sym c.send.ensures.coming) (c.hear.ensures.taken (ticks c.args.now t)
-    (subst (λ w. IsTurning c.step.new.self coming sent c.step.new.steps (makes_step (Tick c.args.now w) before)) word
-    (c.in_ok-step.ensures.stepped before coming sent (next_word is c.word-word.ensures.moved))))
+    let begun = next_word is c.word-word.ensures.moved in
+    turn_cut c.args.self.now.server c.step.new.self.server c.hear.new.self.server c.args.now t (g.L.Link.coming c.hear.new.link) c.word-word.result word
+    (c.in_ok-step.ensures.put before coming sent begun) c.step.ensures.tells (c.hear.ensures.cut (ticks c.args.now t)
+    (subst (λ w. IsTurning c.step.new.self coming sent c.step.new.steps (makes_step (Tick c.args.now w) before)) word (c.in_ok-step.ensures.stepped before coming sent begun)))
+
+pub returns-clause-cut : goal.returns-clause-cut
+returns-clause-cut g c = λ t is.
+    let coming = g.L.Link.coming c.args.link.now in
+    let sent = g.L.Link.sent c.args.link.now in
+    let word = c.word-word.ensures.word ∙ ap word_at (c.word-word.ensures.moved ∙ ap moved is.running.draws) in
+    let before = record t { running = record t.running { draws = moved t.running.draws } } in
+    let begun = next_word is c.word-word.ensures.moved in
+    let cut = turn_cut c.args.self.now.server c.step.new.self.server c.hear.new.self.server c.args.now t (g.L.Link.coming c.hear.new.link) c.word-word.result word
+    (c.in_ok-step.ensures.put before coming sent begun) c.step.ensures.tells (c.hear.ensures.cut (ticks c.args.now t)
+    (subst (λ w. IsTurning c.step.new.self coming sent c.step.new.steps (makes_step (Tick c.args.now w) before)) word (c.in_ok-step.ensures.stepped before coming sent begun))) in
+    cut_still c.args.self.now.server c.hear.new.self.server c.send.new.self.server c.args.now t (g.L.Link.coming c.hear.new.link) (g.L.Link.coming c.send.new.link)
+    c.send.ensures.coming c.send.ensures.disk cut

@@ -1,0 +1,15 @@
+pub mod Calm
+pub mod Places
+pub mod Foreign
+pub mod Rows
+pub mod Lawfully
+pub mod Turning
+pub mod Armed
+pub mod Stored
+pub mod Killed
+pub mod Killing
+pub mod Ending
+pub mod Others
+pub mod Running
+pub mod Final
+pub mod Capstone

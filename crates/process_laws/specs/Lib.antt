@@ -1,0 +1,5 @@
+pub mod Traces
+pub mod Example
+pub mod Mirrored
+pub mod Processes
+pub mod Stands
