@@ -2,20 +2,27 @@
 //!
 //! The source is standard input, the sink is standard output, the clock is the system's, and the exit
 //! code is that of the status. For the words of `node` each member has its link over UDP, and its disk
-//! in the file `alloc-<id>.store`; where one of these cannot be opened the exit code is 12. A word that
-//! is not UTF-8 is none that the program reads.
+//! in the file `alloc-<id>.store`; where one of these cannot be opened the exit code is 12. A standard
+//! stream that is closed stays so for `run`: its descriptor never becomes that of a link or a disk. A
+//! word that is not UTF-8 is none that the program reads.
 #![tactic(auto)]
 
 use allocator_app::{Plan, Status, plan, run};
 use disk_model::FileDisk;
-use outside::{StdClock, StdSink, StdSource};
+use node_outside::{PacedClock, TimelyLink};
+use outside::{StdSink, StdSource};
+use std::cell::Cell;
 use std::env;
+use std::fs::File;
 use std::io::ErrorKind;
 use std::process::ExitCode;
 use udp_link::UdpLink;
 
 /// The exit code where a link or a disk was not opened.
 const NOT_OPENED: u8 = 12;
+
+/// The descriptors of the standard streams are those below this.
+const STREAMS: usize = 3;
 
 fn main(rt: HostRuntime) -> ExitCode {
     let arguments = match env::args(&rt) {
@@ -31,6 +38,8 @@ fn main(rt: HostRuntime) -> ExitCode {
             return ExitCode::from(Status::Memory.code());
         }
     }
+    let mut streams = Vec::new(rt.alloc());
+    let idle = Cell::new(0);
     let mut links = Vec::new(rt.alloc());
     let mut disks = Vec::new(rt.alloc());
     if let Some(
@@ -42,6 +51,17 @@ fn main(rt: HostRuntime) -> ExitCode {
         },
     ) = plan(&words)
     {
+        // An opened file gets the lowest free descriptor. These files take those of the standard streams
+        // that are closed, and keep them to the end. They are only read, so a report for a closed output
+        // still fails.
+        for _ in 0..STREAMS {
+            let Ok(stream) = File::open(&rt, "/dev/null") else {
+                return ExitCode::from(NOT_OPENED);
+            };
+            if streams.push(stream).is_err() {
+                return ExitCode::from(Status::Memory.code());
+            }
+        }
         for id in ids.as_slice() {
             let Ok(link) = UdpLink::open(&rt, base, *id) else {
                 return ExitCode::from(NOT_OPENED);
@@ -52,6 +72,7 @@ fn main(rt: HostRuntime) -> ExitCode {
             let Ok(disk) = FileDisk::open(&rt, path.as_str()) else {
                 return ExitCode::from(NOT_OPENED);
             };
+            let link = TimelyLink::new(link, &rt, &idle);
             if links.push(link).is_err() || disks.push(Some(disk)).is_err() {
                 return ExitCode::from(Status::Memory.code());
             }
@@ -59,7 +80,7 @@ fn main(rt: HostRuntime) -> ExitCode {
     }
     let mut source = StdSource::new(rt.stdin());
     let mut sink = StdSink::new(rt.stdout());
-    let mut clock = StdClock::new(&rt);
+    let mut clock = PacedClock::new(&rt, links.len(), &idle);
     let status = run(
         rt.alloc(),
         &words,

@@ -2,7 +2,7 @@
 use Rattle.std.proofs.Common.{◌≡◌, ◌<◌, ℕ, ◌+◌, List, [], ◌∷◌, ◌++◌, refl, sym, ap, ◌∙◌, subst, append_assoc, append-nil, None, Some}
 use Rattle.replay_text.specs.declared.row.Row.{Row}
 use Rattle.replay_text.specs.declared.told.Told.{Told}
-use Rattle.replay_text.specs.declared.told.Told.TheVariants.{Opened, Stepped, Failed, Stopped, Armed, Popped, Outside}
+use Rattle.replay_text.specs.declared.told.Told.TheVariants.{Opened, Stepped, Failed, Stopped, Armed, Popped, Outside, AOpened, AStepped, APopped, AEnded}
 use Rattle.replay_text.specs.Report.{told_line}
 use Rattle.replay_text.specs.Lines.{BeginsWith, BeginsWithNoRow, ReadsRows}
 use Rattle.world_parts.specs.Cluster.{Cluster, after_rows, next}
@@ -23,6 +23,10 @@ line_of_told number (Stopped n) = refl
 line_of_told number (Armed n) = refl
 line_of_told number (Popped n k frame) = refl
 line_of_told number (Outside k) = refl
+line_of_told number (AOpened a) = refl
+line_of_told number (AStepped a holds queued seen sent) = refl
+line_of_told number (APopped a k frame) = refl
+line_of_told number (AEnded a) = refl
 
 -- ---- lists of rows, one behind the other
 

@@ -1,7 +1,6 @@
 -- How a run ends, by the words that it was given.
 use Rattle.std.proofs.Common.{◌≡◌, ◌≤◌, ◌<◌, ◌^◌, ◌⊎◌, ◌++◌, ℕ, codes, inl, inr, List, [], ◌∷◌, length, refl, sym, ◌∙◌, ap, subst, arith, decimal, map}
 use Rattle.std.specs.declared.option.Option.{Option}
-use Rattle.std.specs.Io.KnownBytes.{Appends}
 use Rattle.std.proofs.lemmas.Fmt.{decimal_injective}
 use Rattle.arrayvec.specs.ArrayVec.{ArrayVec}
 use Rattle.raft_model.specs.Lists.{In}
@@ -10,20 +9,16 @@ use Rattle.replay_text.specs.Lines.{ReadsRows}
 use Rattle.replay_text.specs.Schedule.{Reads}
 use Rattle.world_parts.specs.Cluster.{AreMembers, Cluster, after_rows, cluster}
 use Rattle.world_parts.specs.Lawful.{Lawful}
-use Rattle.world_laws.specs.Headline.{HasHeadline}
-use Rattle.world_parts.specs.Promise.{KeepsItsWord}
 use Rattle.world_parts.specs.Report.{end_lines, row_lines}
-use Rattle.allocator_app.specs.InPart.{IsReadInPart, IsWrittenInPart}
-use Rattle.allocator_app.specs.NoFurther.{ReadsNoFurther}
-use Rattle.allocator_app.specs.Report.{IsReport, IsReplayed, IsToTheEnd, Says}
-use Rattle.allocator_app.specs.Rows.{Ends, IsReplayedBy, IsTold}
+use Rattle.allocator_app.specs.Report.{IsReport, IsToTheEnd}
+use Rattle.allocator_app.specs.Rows.{Ends, IsReplayedBy, IsTold, Replays}
 use Rattle.allocator_app.specs.Soaking.{IsSoakedBy, Soaks}
 use Rattle.allocator_app.specs.Words.{AreGiven, AreNone, AsksForNodes, AsksForRows, HasObjects, IsAsked, IsNode, IsPlan, IsReplay, IsSoak, IsSound}
 use Rattle.allocator_app.specs.declared.plans.Plan.{Plan}
 use Rattle.allocator_app.specs.declared.plans.Plan.TheVariants.{Replay, Node, Soak}
 use Rattle.program_parts.specs.declared.status.Status.{Status}
 use Rattle.program_parts.specs.declared.status.Status.TheVariants.{Done, Usage, BadRow, Unlawful, ReadFault, WriteFault, Memory, Limit, LinkFault, DiskFault, Damaged}
-use Rattle.allocator_app.proofs.OneReport.{one_report, rows-grow, same_end}
+use Rattle.allocator_app.proofs.OneReport.{one_report, rows-grow}
 
 pub sound : (plan : Plan) (words : List (List ℕ)) → IsPlan plan words → IsSound plan
 sound (Replay rows ids) words h = (h.rows_most, h.members)
@@ -98,21 +93,21 @@ same_ids rows limit ids nodes words p q =
     one_list ids nodes (λ n here. (p.members.nodes n here).1) (λ n here. (q.members.nodes n here).1) (others (sym p.spelled ∙ q.spelled))
 
 -- what a plan to soak comes to is what the words ask for
-pub asked_to_soak : (plan : Plan) (seed rounds size : ℕ) (words : List (List ℕ)) (sink sink_now : Option (List ℕ)) (status : Status) →
-    IsPlan plan words → IsSoak seed rounds size words → IsSoakedBy plan sink sink_now status → Soaks seed rounds size sink sink_now status
-asked_to_soak (Replay rows ids) seed rounds size words sink sink_now status planned asks soaks =
+pub asked_to_soak : (plan : Plan) (seed rounds size : ℕ) (words : List (List ℕ)) (old new : ℕ) (sink sink_now : Option (List ℕ)) (status : Status) →
+    IsPlan plan words → IsSoak seed rounds size words → IsSoakedBy plan old new sink sink_now status → Soaks seed rounds size old new sink sink_now status
+asked_to_soak (Replay rows ids) seed rounds size words old new sink sink_now status planned asks soaks =
     absurd (replay_or_soak rows ids.items seed rounds size words planned asks)
-asked_to_soak (Node count base turns ids) seed rounds size words sink sink_now status planned asks soaks =
+asked_to_soak (Node count base turns ids) seed rounds size words old new sink sink_now status planned asks soaks =
     absurd (node_or_soak count base turns ids.items seed rounds size words planned asks)
-asked_to_soak (Soak start count members) seed rounds size words sink sink_now status planned asks soaks =
+asked_to_soak (Soak start count members) seed rounds size words old new sink sink_now status planned asks soaks =
     let same = sym planned.spelled ∙ asks.spelled in
     let seeds : start ≡ seed = same_number start seed planned.seed_most asks.seed_most (second same) in
     let counts : count ≡ rounds = let a = planned.rounds_most in let b = asks.rounds_most in
     same_number count rounds (omega (arith, a)) (omega (arith, b)) (third same) in
     let sizes : members ≡ size = let a = planned.size_most in let b = asks.size_most in
     same_number members size (omega (arith, a)) (omega (arith, b)) (fourth same) in
-    subst (λ n. Soaks seed rounds n sink sink_now status) sizes (subst (λ n. Soaks seed n members sink sink_now status) counts
-    (subst (λ n. Soaks n count members sink sink_now status) seeds soaks))
+    subst (λ n. Soaks seed rounds n old new sink sink_now status) sizes (subst (λ n. Soaks seed n members old new sink sink_now status) counts
+    (subst (λ n. Soaks n count members old new sink sink_now status) seeds soaks))
 
 -- of a plan to run nodes
 fourth_on : {a b c d x y z w : List ℕ} {l m : List (List ℕ)} → a ∷ b ∷ c ∷ d ∷ l ≡ x ∷ y ∷ z ∷ w ∷ m → l ≡ m
@@ -172,12 +167,6 @@ as_asked {size = size} {turns = turns} P planned holds =
     subst (λ l. P size turns l) planned.same_ids (subst (λ n. P size n planned.nodes.items) planned.same_turns
     (subst (λ n. P n planned.times planned.nodes.items) planned.same_size holds))
 
-pub words_for_nodes : (plan : Plan) (words : List (List ℕ)) → IsPlan plan words → AsksForNodes plan
-    → (size base turns : ℕ) × (ids : List ℕ) × IsNode size base turns ids words
-words_for_nodes (Replay rows ids) words planned asks = absurd asks
-words_for_nodes (Node size base turns ids) words planned asks = (size, base, turns, ids.items, planned)
-words_for_nodes (Soak seed rounds size) words planned asks = absurd asks
-
 pub words_for_rows : (plan : Plan) (words : List (List ℕ)) → IsPlan plan words → AsksForRows plan → (rows : ℕ) × (ids : List ℕ) × IsReplay rows ids words
 words_for_rows (Replay rows ids) words planned asks = (rows, ids.items, planned)
 words_for_rows (Node size base turns ids) words planned asks = absurd asks
@@ -229,15 +218,15 @@ unplanned words links disks no_rows no_nodes no_rounds asked = by asked.plan ask
     by (Soak seed rounds size) is = no_rounds seed rounds size is
 
 -- and so of a plan to replay
-pub asked : (plan : Plan) (limit : ℕ) (nodes : List ℕ) (words : List (List ℕ)) (bytes : List ℕ) (left sink sink_now : Option (List ℕ)) (status : Status) →
-    IsPlan plan words → IsReplay limit nodes words → IsReplayedBy plan bytes left sink sink_now status →
-    Ends status limit (cluster nodes) bytes left sink sink_now
-asked (Replay rows ids) limit nodes words bytes left sink sink_now status planned asks followed =
-    subst (λ n. Ends status n (cluster nodes) bytes left sink sink_now) (same_rows rows limit ids.items nodes words planned asks)
-    (subst (λ l. Ends status rows (cluster l) bytes left sink sink_now) (same_ids rows limit ids.items nodes words planned asks) followed)
-asked (Node size base turns ids) limit nodes words bytes left sink sink_now status planned asks followed =
+pub asked : (plan : Plan) (limit : ℕ) (nodes : List ℕ) (words : List (List ℕ)) (left_old left sink sink_now : Option (List ℕ)) (status : Status) →
+    IsPlan plan words → IsReplay limit nodes words → IsReplayedBy plan left_old left sink sink_now status →
+    Replays limit nodes left_old left sink sink_now status
+asked (Replay rows ids) limit nodes words left_old left sink sink_now status planned asks followed =
+    subst (λ n. Replays n nodes left_old left sink sink_now status) (same_rows rows limit ids.items nodes words planned asks)
+    (subst (λ l. Replays rows l left_old left sink sink_now status) (same_ids rows limit ids.items nodes words planned asks) followed)
+asked (Node size base turns ids) limit nodes words left_old left sink sink_now status planned asks followed =
     absurd (replay_or_node limit nodes size base turns ids.items words asks planned)
-asked (Soak seed rounds size) limit nodes words bytes left sink sink_now status planned asks followed =
+asked (Soak seed rounds size) limit nodes words left_old left sink sink_now status planned asks followed =
     absurd (replay_or_soak limit nodes seed rounds size words asks planned)
 
 -- ---- the answers, each by itself
@@ -256,56 +245,17 @@ reported (LinkFault id) limit first bytes left sink sink_now ends over = absurd 
 reported (DiskFault id) limit first bytes left sink sink_now ends over = absurd over
 reported (Damaged id key) limit first bytes left sink sink_now ends over = absurd over
 
--- what a run wrote is the report that its words ask for
-pub replayed : (status : Status) (plan : Plan) (limit : ℕ) (nodes : List ℕ) (words : List (List ℕ)) (bytes : List ℕ) (left sink sink_now : Option (List ℕ)) →
-    IsPlan plan words → IsReplay limit nodes words → IsReplayedBy plan bytes left sink sink_now status → IsToTheEnd status →
-    (report : List ℕ) × (is : IsReplayed words bytes report status) × Appends sink sink_now report × KeepsItsWord (cluster is.ids) is.told.comes.rows
-replayed status plan limit nodes words bytes left sink sink_now planned asks followed over =
-    let ends = asked plan limit nodes words bytes left sink sink_now status planned asks followed in
+-- and what holds along all lawful rows holds along those of the report
+pub holds_along : (Claim : List ℕ → List Row → Type 0) → ((ids : List ℕ) (rows : List Row) → AreMembers ids → Lawful (cluster ids) rows → Claim ids rows) →
+    (status : Status) (limit : ℕ) (nodes bytes : List ℕ) (left sink sink_now : Option (List ℕ)) → AreMembers nodes →
+    Ends status limit (cluster nodes) bytes left sink sink_now → IsToTheEnd status →
+    (told : IsTold status limit (cluster nodes) bytes left sink sink_now) × Claim nodes told.is.comes.rows
+holds_along Claim law status limit nodes bytes left sink sink_now members ends over =
     let told = reported status limit (cluster nodes) bytes left sink sink_now ends over in
-    (told.report, record { limit = limit; ids = nodes; words_read = asks; told = told.is }, told.written, told.kept)
-
--- and the headline holds along its rows
-pub has_headline : ((ids : List ℕ) (rows : List Row) → AreMembers ids → Lawful (cluster ids) rows → HasHeadline ids rows) →
-    (status : Status) (plan : Plan) (limit : ℕ) (nodes : List ℕ) (words : List (List ℕ)) (bytes : List ℕ) (left sink sink_now : Option (List ℕ)) →
-    IsPlan plan words → IsReplay limit nodes words → IsReplayedBy plan bytes left sink sink_now status → IsToTheEnd status →
-    (report : List ℕ) × (is : IsReplayed words bytes report status) × Appends sink sink_now report × HasHeadline is.ids is.told.comes.rows
-has_headline law status plan limit nodes words bytes left sink sink_now planned asks followed over =
-    let r = replayed status plan limit nodes words bytes left sink sink_now planned asks followed over in
-    (r.0, r.1, r.2, law r.1.ids r.1.told.comes.rows r.1.words_read.members r.1.told.comes.lawful)
-
--- the status of a report is that of a run to its end
-over : (limit : ℕ) (end : Cluster) (rest last : List ℕ) (status : Status) → Says limit end rest last status → IsToTheEnd status
-over limit end rest last Done says = tt
-over limit end rest last (BadRow row) says = tt
-over limit end rest last (Unlawful row number) says = tt
-over limit end rest last (Limit row) says = tt
-over limit end rest last Usage says = absurd says
-over limit end rest last ReadFault says = absurd says
-over limit end rest last WriteFault says = absurd says
-over limit end rest last Memory says = absurd says
-over limit end rest last (LinkFault id) says = absurd says
-over limit end rest last (DiskFault id) says = absurd says
-over limit end rest last (Damaged id key) says = absurd says
-
--- a run that comes to a report reads no further than that
-pub no_further : ((a b : Row) (line : List ℕ) → Reads a line → Reads b line → a ≡ b) → (status : Status) (limit : ℕ) (first : Cluster)
-    (bytes report : List ℕ) (left sink sink_now : Option (List ℕ)) → Ends status limit first bytes left sink sink_now →
-    (is : IsReport limit first bytes report status) → ReadsNoFurther is.rest left
-no_further one status limit first bytes report left sink sink_now ends is =
-    let told = reported status limit first bytes left sink sink_now ends (over limit is.end is.rest is.last status is.says) in
-    subst (λ rest. ReadsNoFurther rest left) (same_end one limit first bytes told.report report status status told.is is).0 told.no_further
-
-pub read_part : (status : Status) (limit : ℕ) (first : Cluster) (bytes : List ℕ) (left sink sink_now : Option (List ℕ)) →
-    Ends status limit first bytes left sink sink_now → status ≡ ReadFault → IsReadInPart limit first bytes left sink sink_now
-read_part status limit first bytes left sink sink_now ends is = subst (λ s. Ends s limit first bytes left sink sink_now) is ends
-
-pub written_part : (status : Status) (limit : ℕ) (first : Cluster) (bytes : List ℕ) (left sink sink_now : Option (List ℕ)) →
-    Ends status limit first bytes left sink sink_now → status ≡ WriteFault → IsWrittenInPart limit first bytes left sink sink_now
-written_part status limit first bytes left sink sink_now ends is = subst (λ s. Ends s limit first bytes left sink sink_now) is ends
+    (told, law nodes told.is.comes.rows members told.is.comes.lawful)
 
 -- a schedule that has a report comes to its status, unless something fails or memory is missing
-completed : ((a b : Row) (line : List ℕ) → Reads a line → Reads b line → a ≡ b) → (result : Status) (limit : ℕ) (first : Cluster)
+pub completed : ((a b : Row) (line : List ℕ) → Reads a line → Reads b line → a ≡ b) → (result : Status) (limit : ℕ) (first : Cluster)
     (bytes report : List ℕ) (status : Status) (left sink sink_now : Option (List ℕ)) → Ends result limit first bytes left sink sink_now →
     IsReport limit first bytes report status → (result ≡ ReadFault → ⊥) → (result ≡ WriteFault → ⊥) → (result ≡ status) ⊎ (result ≡ Memory)
 completed one Done limit first bytes report status left sink sink_now ends told reads writes =
@@ -324,34 +274,16 @@ completed one (LinkFault id) limit first bytes report status left sink sink_now 
 completed one (DiskFault id) limit first bytes report status left sink sink_now ends told reads writes = absurd ends
 completed one (Damaged id key) limit first bytes report status left sink sink_now ends told reads writes = absurd ends
 
--- so a run comes to the report that its words ask for
-pub comes_to : ((a b : Row) (line : List ℕ) → Reads a line → Reads b line → a ≡ b) → (result : Status) (rows : ℕ) (ids : List ℕ) (words : List (List ℕ))
-    (bytes report : List ℕ) (status : Status) (left sink sink_now : Option (List ℕ)) → IsReplay rows ids words →
-    Ends result rows (cluster ids) bytes left sink sink_now → IsReplayed words bytes report status →
-    (result ≡ ReadFault → ⊥) → (result ≡ WriteFault → ⊥) → (result ≡ status) ⊎ (result ≡ Memory)
-comes_to one result rows ids words bytes report status left sink sink_now read ends told reads writes =
-    let limit = same_rows told.limit rows told.ids ids words told.words_read read in
-    let nodes = same_ids told.limit rows told.ids ids words told.words_read read in
-    completed one result rows (cluster ids) bytes report status left sink sink_now ends
-    (subst (λ n. IsReport n (cluster ids) bytes report status) limit (subst (λ l. IsReport told.limit (cluster l) bytes report status) nodes told.told))
-    reads writes
-
 -- a schedule of lawful rows, as many as may come at most, has a report that ends with `Done`
-pub all_lawful : (limit : ℕ) (ids : List ℕ) (words : List (List ℕ)) (bytes : List ℕ) (rows : List Row) → IsReplay limit ids words → ReadsRows rows bytes [] →
-    length rows ≤ limit → Lawful (cluster ids) rows →
-    IsReplayed words bytes (row_lines (cluster ids) rows ++ end_lines (after_rows (cluster ids) rows)) Done
-all_lawful limit ids words bytes rows read reads few lawful = record {
-  limit = limit;
-  ids = ids;
-  words_read = read;
-  told = record {
-    end = after_rows (cluster ids) rows;
-    rest = [];
-    lines = row_lines (cluster ids) rows;
-    last = end_lines (after_rows (cluster ids) rows);
-    comes = record { rows = rows; reads = reads; lawful = lawful; told = refl; leaves = refl };
-    within = let count = rows-grow (cluster ids) rows in omega (arith, count, few);
-    says = (refl, refl);
-    written = refl;
-  };
+pub all_lawful : (limit : ℕ) (ids bytes : List ℕ) (rows : List Row) → ReadsRows rows bytes [] → length rows ≤ limit → Lawful (cluster ids) rows →
+    IsReport limit (cluster ids) bytes (row_lines (cluster ids) rows ++ end_lines (after_rows (cluster ids) rows)) Done
+all_lawful limit ids bytes rows reads few lawful = record {
+  end = after_rows (cluster ids) rows;
+  rest = [];
+  lines = row_lines (cluster ids) rows;
+  last = end_lines (after_rows (cluster ids) rows);
+  comes = record { rows = rows; reads = reads; lawful = lawful; told = refl; leaves = refl };
+  within = let count = rows-grow (cluster ids) rows in omega (arith, count, few);
+  says = (refl, refl);
+  written = refl;
 }

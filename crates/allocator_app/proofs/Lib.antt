@@ -8,3 +8,4 @@ pub mod OneReport
 pub mod Reading
 pub mod Rest
 pub mod Spelling
+pub mod Traces

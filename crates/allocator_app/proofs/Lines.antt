@@ -66,7 +66,7 @@ no_row_found bytes i h none more = record {
   bad = λ row rest begins. none row (subst (Reads row) (first_line-at bytes more i h) begins.reads);
 }
 
-pub no_row_so_long : ((row : Row) (line : List ℕ) → Reads row line → length line ≤ 50) → (bytes : List ℕ) → HasNoLineFeed bytes → 120 < length bytes →
+pub no_row_so_long : ((row : Row) (line : List ℕ) → Reads row line → length line ≤ 74) → (bytes : List ℕ) → HasNoLineFeed bytes → 120 < length bytes →
     (more : List ℕ) → BeginsWithNoRow (bytes ++ more)
 no_row_so_long short bytes none long more = record {
   left = some_left bytes more (omega arith);

@@ -1,12 +1,12 @@
 -- What the loop over the rows that wait comes to.
-use Rattle.std.proofs.Common.{◌≡◌, ◌≤◌, ◌++◌, ℕ, List, [], length, sym, subst, arith}
+use Rattle.std.proofs.Common.{◌≡◌, ◌≤◌, ◌<◌, ◌++◌, ℕ, List, [], length, sym, subst, arith}
 use Rattle.std.specs.declared.option.Option.{Option}
 use Rattle.std.specs.Io.KnownBytes.{Appends, append_known}
 use Rattle.outside.specs.declared.pattern.Pattern.{Pattern}
 use Rattle.outside.specs.declared.pattern.Pattern.TheVariants.{Old, New, Bytes}
 use Rattle.disk_model.specs.Pattern.{IsUsable}
 use Rattle.replay_text.specs.declared.row.Row.{Row}
-use Rattle.replay_text.specs.declared.row.Row.TheVariants.{Crash}
+use Rattle.replay_text.specs.declared.row.Row.TheVariants.{AOpen, Crash}
 use Rattle.replay_text.specs.Schedule.{IsPattern, IsRow}
 use Rattle.bus_world.specs.declared.world.World.{World}
 use Rattle.bus_world.specs.World.{StandsFor}
@@ -24,11 +24,11 @@ TakesSome first now waiting rest sink output sink_now output_now =
     × Appends (append_known sink output) (append_known sink_now output_now) lines
 
 -- where they stop, the world being as it is
-pub rows_taken : {F : Type 0} (limit : ℕ) (old here new : World F) (waiting rest left : List ℕ) (sink : Option (List ℕ)) (output : List ℕ) (sink_now : Option (List ℕ))
+pub rows_taken : {F G : Type 0} (limit : ℕ) (old here new : World F G) (waiting rest left : List ℕ) (sink : Option (List ℕ)) (output : List ℕ) (sink_now : Option (List ℕ))
     (output_now : List ℕ) (rows : Rows) → new ≡ here → length rest ≤ length waiting → Reaches old here (λ first now. TakesSome first now waiting rest sink output sink_now output_now) →
     ((w : Cluster) → StandsFor here w → StopsAt limit w rest left rows) →
     Reaches old new (λ first now. TakesRows limit first now waiting left sink output sink_now output_now rows)
-rows_taken {F} limit old here new waiting rest left sink output sink_now output_now rows same shorter came stops = λ first is.
+rows_taken limit old here new waiting rest left sink output sink_now output_now rows same shorter came stops = λ first is.
     let so_far = came first is in (
       so_far.0,
       subst (λ world. StandsFor world so_far.0) (sym same) so_far.1,
@@ -47,3 +47,12 @@ in_row row n calls pattern is fields = usable pattern (subst IsRow is fields).2
 
 pub read_usable : (row : Row) (before behind : List ℕ) → FindsRow row before behind → (n calls : ℕ) (pattern : Pattern) → row ≡ Crash n calls pattern → IsUsable pattern
 read_usable row before behind found n calls pattern is = in_row row n calls pattern is (found.begins []).reads.fields
+
+-- ---- node IDs that are preferred in rows that are read are below 128
+
+preferred_in : (row : Row) (a : ℕ) (uid : List ℕ) (pref ms word : ℕ) → row ≡ AOpen a uid pref ms word → IsRow row → pref < 128
+preferred_in row a uid pref ms word is fields = (subst IsRow is fields).2
+
+pub read_below : (row : Row) (before behind : List ℕ) → FindsRow row before behind → (a : ℕ) (uid : List ℕ) (pref ms word : ℕ)
+    → row ≡ AOpen a uid pref ms word → pref < 128
+read_below row before behind found a uid pref ms word is = preferred_in row a uid pref ms word is (found.begins []).reads.fields

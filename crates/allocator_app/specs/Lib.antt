@@ -1,8 +1,10 @@
+pub mod Faults
 pub mod InPart
 pub mod Input
 pub mod Logs
 pub mod NoFurther
 pub mod Nodes
+pub mod Promise
 pub mod Reaching
 pub mod Report
 pub mod Rows

@@ -1,17 +1,58 @@
--- How a run of allocators over links and disks ends.
-use Rattle.std.specs.Prelude.{◌≡◌, ℕ, ◌<◌, List, length, Option, None, IsSome, slice_index_or}
-use Rattle.std.specs.Io.KnownBytes.{Appends}
-use Rattle.node_turns.specs.Report.{damaged_line, disk_fault_line, link_fault_line}
-use Rattle.node_turns.specs.Status.{IsStatus}
+-- What a run of `node` comes to.
+use Rattle.std.specs.Prelude.{◌≡◌, ◌⊎◌, ◌<◌, ℕ, List, ◌++◌, length, Option, slice_index}
+use Rattle.disk_model.specs.declared.disk.Disk.{Ghosts}
+use Rattle.outside.specs.declared.received.RawFrame.{RawFrame}
+use Rattle.outside.specs.declared.received.Received.{Received}
 use Rattle.program_parts.specs.declared.status.Status.{Status}
-use Rattle.program_parts.specs.declared.status.Status.TheVariants.{Damaged, DiskFault, LinkFault}
+use Rattle.program_parts.specs.declared.status.Status.TheVariants.{Done}
+use Rattle.node_turns.specs.CutRun.{EndsAt}
+use Rattle.node_turns.specs.Nodes.{RunsNodes}
+use Rattle.node_turns.specs.Opening.{Given}
+use Rattle.node_turns.specs.WholeRun.{Tell}
+use Rattle.process_laws.specs.Processes.{Point, Turning, together_at}
+use Rattle.process_laws.specs.Stands.{IsCutAsTold, IsRunIn, LeavesAsTold, world_after}
+use Rattle.process_laws.specs.Traces.{Event, all_rows}
+use Rattle.world_parts.specs.Cluster.{cluster}
+use Rattle.allocator_app.specs.Promise.{KeepsPromise}
 
--- each disk is put back, and with the status of a link, a disk or a store one line is written
-pub record RunsNodes {D : Type 0} (ids : List ℕ) (disks_old disks_new : List (Option D))
-    (sink_before sink_now : Option (List ℕ)) (status : Status) : Type 0 where
-  pub kinds : IsStatus status
-  pub places : length disks_new ≡ length disks_old
-  pub put_back : (i : ℕ) → i < length ids → IsSome (slice_index_or disks_new i None)
-  pub link_line : (id : ℕ) → status ≡ LinkFault id → Appends sink_before sink_now (link_fault_line id)
-  pub disk_line : (id : ℕ) → status ≡ DiskFault id → Appends sink_before sink_now (disk_fault_line id)
-  pub damaged_line : (id key : ℕ) → status ≡ Damaged id key → Appends sink_before sink_now (damaged_line id key)
+-- ---- the traces of a cluster in which the run of these members stands, which went on to a point
+
+module _ {L D : Type 0} (coming : L → Option (List Received)) (sent : L → Option (List RawFrame)) (disk : Ghosts D)
+    (links : List L) (disks : List (Option D)) (size : ℕ) (mine : List ℕ) (given : Given) where
+  -- the promise holds along the rows of each of them
+  abbrev pub KeepsInTraces : Point → Type 0
+  KeepsInTraces to = (ids : List ℕ) (before during : List Event) → IsRunIn ids before during size mine given to →
+      KeepsPromise ids (all_rows (before ++ during) (cluster ids))
+
+  -- The run came to its end: in each trace what was sent and is stored is what the world of its rows says
+  pub record IsDoneInTraces (turns : ℕ) : Type 0 where
+    pub told : (ids : List ℕ) (before during : List Event) →
+        IsRunIn ids before during size mine given (Turning turns 0) → let w = world_after ids before in
+        LeavesAsTold sent disk links disks mine given w (world_after ids (before ++ during)) (all_rows during w)
+    pub promise : KeepsInTraces (Turning turns 0)
+
+  -- The run was cut off in a turn of the member with this ID: all had taken so many turns, those before its place one
+  -- more. In each trace what was sent and is stored is what the world of its rows says, with a kill in that turn
+  pub record IsCutInTraces (id : ℕ) : Type 0 where
+    pub taken : ℕ
+    pub place : ℕ
+    pub within : place < length mine
+    pub id_is : slice_index mine place ≡ id
+    pub told : (ids : List ℕ) (before during : List Event) →
+        IsRunIn ids before during size mine given (Turning taken place) → let w = world_after ids before in
+        IsCutAsTold coming sent disk links disks mine given w (world_after ids (before ++ during)) (all_rows during w)
+        (together_at size mine given taken place) place
+    pub promise : KeepsInTraces (Turning taken place)
+
+-- what it leaves and writes; and, where links, disks and the clock tell what they have, what it is in the traces of a
+-- cluster. A run that was cut off at an opening touched no link
+pub record RunsInTraces {L D : Type 0} (coming : L → Option (List Received)) (sent : L → Option (List RawFrame))
+    (link_faults : L → ℕ) (disk : Ghosts D) (size turns : ℕ) (ids : List ℕ) (links_old links : List L)
+    (disks_old disks : List (Option D)) (readings_old readings : Option (List ℕ)) (faults_old faults : ℕ)
+    (before now : Option (List ℕ)) (status : Status) : Type 0 where
+  pub runs : RunsNodes coming sent link_faults disk size turns ids links_old links disks_old disks readings_old readings
+      faults_old faults before now status
+  pub done : (given : Given) → Tell coming sent disk links_old disks_old readings_old given → status ≡ Done →
+      IsDoneInTraces coming sent disk links disks size ids given turns
+  pub cut : (given : Given) (id : ℕ) → Tell coming sent disk links_old disks_old readings_old given → EndsAt id status →
+      (links ≡ links_old) ⊎ IsCutInTraces coming sent disk links disks size ids given id

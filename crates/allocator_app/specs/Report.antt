@@ -7,7 +7,6 @@ use Rattle.world_parts.specs.Lawful.{Lawful, cause, number_of}
 use Rattle.world_parts.specs.Promise.{KeepsItsWord}
 use Rattle.world_parts.specs.Report.{end_lines, row_lines}
 use Rattle.world_parts.specs.declared.unlawful.Unlawful.{Unlawful}
-use Rattle.allocator_app.specs.Words.{IsReplay}
 use Rattle.program_parts.specs.declared.status.Status.{Status}
 use Rattle.program_parts.specs.declared.status.Status.TheVariants.{Done, Usage, BadRow, Unlawful as IsUnlawful, Limit, LinkFault, DiskFault, Damaged}
 
@@ -83,13 +82,6 @@ IsOfSchedule (DiskFault id) = ⊥
 IsOfSchedule (Damaged id key) = ⊥
 IsOfSchedule _ = Unit {0}
 
--- one that comes of links, disks and stores that are handed in
-abbrev pub IsOfNodes : Status → Type 0
-IsOfNodes (LinkFault id) = Unit {0}
-IsOfNodes (DiskFault id) = Unit {0}
-IsOfNodes (Damaged id key) = Unit {0}
-IsOfNodes _ = ⊥
-
 -- the status of a run that no fault ended, and that had words to begin with
 abbrev pub IsToTheEnd : Status → Type 0
 IsToTheEnd Done = Unit {0}
@@ -108,10 +100,3 @@ pub record IsReport (limit : ℕ) (first : Cluster) (bytes report : List ℕ) (s
   pub within : end.rows ≤ limit
   pub says : Says limit end rest last status
   pub written : report ≡ lines ++ last
-
--- the report that the words ask for
-pub record IsReplayed (words : List (List ℕ)) (bytes report : List ℕ) (status : Status) : Type 0 where
-  pub limit : ℕ
-  pub ids : List ℕ
-  pub words_read : IsReplay limit ids words
-  pub told : IsReport limit (cluster ids) bytes report status

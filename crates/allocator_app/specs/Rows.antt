@@ -1,5 +1,5 @@
 -- What the loops of a run come to, and how a run ends.
-use Rattle.std.specs.Prelude.{◌≡◌, ◌≤◌, ◌<◌, ◌⊎◌, ℕ, ◌+◌, List, [], ◌++◌, length, Option, None}
+use Rattle.std.specs.Prelude.{◌≡◌, ◌≤◌, ◌<◌, ◌⊎◌, ℕ, ◌+◌, List, [], ◌++◌, length, Option, None, Some}
 use Rattle.std.specs.Io.KnownBytes.{Appends, append_known}
 use Rattle.outside.specs.Faults.{Rose}
 use Rattle.replay_text.specs.Lines.{after_line}
@@ -12,7 +12,7 @@ use Rattle.allocator_app.specs.declared.plans.Plan.TheVariants.{Replay, Node, So
 use Rattle.allocator_app.specs.InPart.{IsReadInPart, IsWrittenInPart, ReadsAhead}
 use Rattle.allocator_app.specs.NoFurther.{ReadsNoFurther}
 use Rattle.program_parts.specs.Output.{WritesFront}
-use Rattle.allocator_app.specs.Report.{Goes, IsBadRow, IsBeyond, IsRefused, IsReport, bad_row_line, limit_line, unlawful_line}
+use Rattle.allocator_app.specs.Report.{Goes, IsBadRow, IsBeyond, IsOfSchedule, IsRefused, IsReport, bad_row_line, limit_line, unlawful_line}
 use Rattle.allocator_app.specs.declared.rows.Rows.{Rows}
 use Rattle.allocator_app.specs.declared.rows.Rows.TheVariants.{Taken, NoRow, Refused, Full}
 use Rattle.allocator_app.specs.declared.rows.Fault.{Fault}
@@ -140,9 +140,16 @@ Ends (LinkFault id) limit first bytes left sink_before sink_now = ⊥
 Ends (DiskFault id) limit first bytes left sink_before sink_now = ⊥
 Ends (Damaged id key) limit first bytes left sink_before sink_now = ⊥
 
+-- a run over a schedule of these members
+pub record Replays (limit : ℕ) (nodes : List ℕ) (left_old left sink_before sink_now : Option (List ℕ)) (status : Status)
+    : Type 0 where
+  pub kinds : IsOfSchedule status
+  pub ends : (bytes : List ℕ) → left_old ≡ Some bytes →
+      Ends status limit (cluster nodes) bytes left sink_before sink_now
+
 -- a plan to replay was followed so
-abbrev pub IsReplayedBy : Plan → List ℕ → Option (List ℕ) → Option (List ℕ) → Option (List ℕ) → Status → Type 0
-IsReplayedBy (Replay rows ids) bytes left sink_before sink_now status =
-    Ends status rows (cluster ids.items) bytes left sink_before sink_now
-IsReplayedBy (Node size base turns ids) bytes left sink_before sink_now status = Unit {0}
-IsReplayedBy (Soak seed rounds size) bytes left sink_before sink_now status = Unit {0}
+abbrev pub IsReplayedBy : Plan → Option (List ℕ) → Option (List ℕ) → Option (List ℕ) → Option (List ℕ) → Status → Type 0
+IsReplayedBy (Replay rows ids) left_old left sink_before sink_now status =
+    Replays rows ids.items left_old left sink_before sink_now status
+IsReplayedBy (Node size base turns ids) left_old left sink_before sink_now status = Unit {0}
+IsReplayedBy (Soak seed rounds size) left_old left sink_before sink_now status = Unit {0}

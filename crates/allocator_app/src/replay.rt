@@ -1,6 +1,7 @@
 ghost use Rattle.std.specs.Prelude.{◌≡◌, ◌≤◌, ◌<◌, ◌+◌, ◌⊎◌, ℕ, List, [], Some, IfOk, IfErr, OnErr, OnOk};
 ghost use Rattle.outside.specs.Faults.{HasCause, Rose};
-ghost use Rattle.bus_world.specs.World.{StandsFor, accepts, rows_taken};
+ghost use Rattle.bus_world.specs.World.{AcceptsAs, StandsFor, accepts, allocatees_accept, rows_taken};
+ghost use Rattle.allocatee.specs.Accepted as device;
 ghost use Rattle.server_parts.specs.Accepted as accepted;
 ghost use Rattle.transfer_rx.specs.Acceptance.{AnswersByRows, first_signature};
 ghost use Rattle.transfer_rx.specs.Memory.{ReceiverFitsInMemory};
@@ -14,6 +15,7 @@ use crate::input::{Input, Next};
 use crate::report::end_report;
 use crate::rows::{Fault, Rows};
 use alloc_server::accept_rows;
+use allocatee::allocatee_rows;
 use bus_world::World;
 use bus_world::laws::logs_give_once;
 use can_frame::Kind;
@@ -44,7 +46,15 @@ pub(crate) fn replay<S: Source, K: Sink>(
         (S.faults source.new ≡ S.faults source.old) }
     ensures sink_kept { (result ≡ Status.WriteFault) ⊎ (K.faults sink.new ≡ K.faults sink.old) }
 {
-    let Ok(mut world) = World::new(alloc, ids, limit as usize, accept_rows(), accept) else {
+    let Ok(mut world) = World::new(
+        alloc,
+        ids,
+        limit as usize,
+        accept_rows(),
+        accept,
+        allocatee_rows(),
+        device_accept,
+    ) else {
         return Status::Memory;
     };
     let mut output = Output::new();
@@ -65,8 +75,17 @@ fn accept(kind: Kind, number: u16) -> Option<u64>
     alloc_server::accept(kind, number)
 }
 
+/// What an allocatee receives: `allocatee::allocatee_accept`, under a name of this crate.
+fn device_accept(kind: Kind, number: u16) -> Option<u64>
+    ensures { result ≡ first_signature device.rows kind number }
+{
+    allocatee::allocatee_accept(kind, number)
+}
+
 /// How many rows the world has taken.
-pub(crate) fn taken<F: Fn(Kind, u16) -> Option<u64> + Copy>(world: &World<F>) -> u64
+pub(crate) fn taken<F: Fn(Kind, u16) -> Option<u64> + Copy, G: Fn(Kind, u16) -> Option<u64> + Copy>(
+    world: &World<F, G>,
+) -> u64
     ensures { result ≡ rows_taken world.now }
 {
     u64::MAX - world.rows_left()
@@ -75,8 +94,13 @@ pub(crate) fn taken<F: Fn(Kind, u16) -> Option<u64> + Copy>(world: &World<F>) ->
 /// Takes the rows of the source, up to its end or to one that is not taken. All that the complete
 /// lines that were read tell is handed to the sink before the source is read again, and it is read
 /// only while no whole line waits.
-fn read_rows<F: Fn(Kind, u16) -> Option<u64> + Copy, S: Source, K: Sink>(
-    world: &mut World<F>,
+fn read_rows<
+    F: Fn(Kind, u16) -> Option<u64> + Copy,
+    G: Fn(Kind, u16) -> Option<u64> + Copy,
+    S: Source,
+    K: Sink,
+>(
+    world: &mut World<F, G>,
     limit: u64,
     output: &mut Output,
     source: &mut S,
@@ -85,6 +109,9 @@ fn read_rows<F: Fn(Kind, u16) -> Option<u64> + Copy, S: Source, K: Sink>(
     requires memory { ReceiverFitsInMemory F.row 160 128 }
     requires callable { F.IsAlwaysCallable (accepts world.old) }
     requires answers { AnswersByRows (F.post (accepts world.old)) accepted.rows }
+    requires amemory { ReceiverFitsInMemory G.row 8 8 }
+    requires acallable { G.IsAlwaysCallable (allocatees_accept world.old) }
+    requires aanswers { AnswersByRows (G.post (allocatees_accept world.old)) device.rows }
     requires limit { limit ≤ 1000000 }
     requires room { HasRoom limit world.old }
     requires flushed { output.old ≡ [] }
@@ -102,7 +129,7 @@ fn read_rows<F: Fn(Kind, u16) -> Option<u64> + Copy, S: Source, K: Sink>(
     ensures kept { OnOk result ((S.faults source.new ≡ S.faults source.old) ×
         (K.faults sink.new ≡ K.faults sink.old)) }
 {
-    logs_give_once::<F>();
+    logs_give_once::<F, G>();
     let mut input = Input::new();
     'reading: loop {
         match input.fill(source) {
@@ -130,8 +157,12 @@ fn read_rows<F: Fn(Kind, u16) -> Option<u64> + Copy, S: Source, K: Sink>(
 }
 
 /// Takes the rows that wait, and writes what they tell.
-fn take_rows<F: Fn(Kind, u16) -> Option<u64> + Copy, K: Sink>(
-    world: &mut World<F>,
+fn take_rows<
+    F: Fn(Kind, u16) -> Option<u64> + Copy,
+    G: Fn(Kind, u16) -> Option<u64> + Copy,
+    K: Sink,
+>(
+    world: &mut World<F, G>,
     limit: u64,
     input: &mut Input,
     output: &mut Output,
@@ -140,6 +171,9 @@ fn take_rows<F: Fn(Kind, u16) -> Option<u64> + Copy, K: Sink>(
     requires memory { ReceiverFitsInMemory F.row 160 128 }
     requires callable { F.IsAlwaysCallable (accepts world.old) }
     requires answers { AnswersByRows (F.post (accepts world.old)) accepted.rows }
+    requires amemory { ReceiverFitsInMemory G.row 8 8 }
+    requires acallable { G.IsAlwaysCallable (allocatees_accept world.old) }
+    requires aanswers { AnswersByRows (G.post (allocatees_accept world.old)) device.rows }
     requires limit { limit ≤ 1000000 }
     requires room { HasRoom limit world.old }
     ensures rows { IfOk result (λ rows. Reaches world.old world.new (λ first now.
@@ -152,11 +186,11 @@ fn take_rows<F: Fn(Kind, u16) -> Option<u64> + Copy, K: Sink>(
         input.old input.new) }
     ensures grows { rows_taken world.old ≤ rows_taken world.new }
     ensures room { HasRoom limit world.new }
-    ensures accepts { accepts world.new ≡ accepts world.old }
+    ensures accepts { AcceptsAs world.new world.old }
     ensures cause { HasCause (K.faults sink.old) (K.faults sink.new) result }
     ensures kept { OnOk result (K.faults sink.new ≡ K.faults sink.old) }
 {
-    logs_give_once::<F>();
+    logs_give_once::<F, G>();
     'rows: loop {
         if input.is_empty() {
             return Ok(Rows::Taken);

@@ -20,12 +20,11 @@ use replay_text::Line;
 const LAST_ID: u8 = 125;
 
 /// Ends the report, as the rows ended, and gives the status of the run.
-pub(crate) fn end_report<F: Fn(Kind, u16) -> Option<u64> + Copy, K: Sink>(
-    rows: Rows,
-    world: &World<F>,
-    output: &mut Output,
-    sink: &mut K,
-) -> Result<Status, Failed>
+pub(crate) fn end_report<
+    F: Fn(Kind, u16) -> Option<u64> + Copy,
+    G: Fn(Kind, u16) -> Option<u64> + Copy,
+    K: Sink,
+>(rows: Rows, world: &World<F, G>, output: &mut Output, sink: &mut K) -> Result<Status, Failed>
     requires { rows_taken world.now ≤ 1000000 }
     ensures told { (w : Cluster) → StandsFor world.now w →
         WritesLast (K.written sink.old) output.old (K.written sink.new) (last_of rows w) result }
@@ -41,12 +40,11 @@ pub(crate) fn end_report<F: Fn(Kind, u16) -> Option<u64> + Copy, K: Sink>(
 }
 
 /// Where all rows were taken, the logs stand before the last line.
-fn write_logs_before<F: Fn(Kind, u16) -> Option<u64> + Copy, K: Sink>(
-    rows: Rows,
-    world: &World<F>,
-    output: &mut Output,
-    sink: &mut K,
-) -> Result<(), Failed>
+fn write_logs_before<
+    F: Fn(Kind, u16) -> Option<u64> + Copy,
+    G: Fn(Kind, u16) -> Option<u64> + Copy,
+    K: Sink,
+>(rows: Rows, world: &World<F, G>, output: &mut Output, sink: &mut K) -> Result<(), Failed>
     ensures told { (w : Cluster) → StandsFor world.now w → Writes (K.written sink.old) output.old
         (K.written sink.new) output.new (logs_before rows w) result }
     ensures grew { Grows (K.written sink.old) (K.written sink.new) }
@@ -87,11 +85,11 @@ fn status(rows: Rows, taken: u64) -> Status
 }
 
 /// The logs of the running members that have not failed, by rising node ID.
-fn write_logs<F: Fn(Kind, u16) -> Option<u64> + Copy, K: Sink>(
-    world: &World<F>,
-    output: &mut Output,
-    sink: &mut K,
-) -> Result<(), Failed>
+fn write_logs<
+    F: Fn(Kind, u16) -> Option<u64> + Copy,
+    G: Fn(Kind, u16) -> Option<u64> + Copy,
+    K: Sink,
+>(world: &World<F, G>, output: &mut Output, sink: &mut K) -> Result<(), Failed>
     ensures told { (w : Cluster) → StandsFor world.now w → Writes (K.written sink.old) output.old
         (K.written sink.new) output.new (all_logs w) result }
     ensures grew { Grows (K.written sink.old) (K.written sink.new) }
@@ -107,12 +105,11 @@ fn write_logs<F: Fn(Kind, u16) -> Option<u64> + Copy, K: Sink>(
 }
 
 /// The log of a running member: its commit index, and a line for each committed entry.
-fn write_log<F: Fn(Kind, u16) -> Option<u64> + Copy, K: Sink>(
-    world: &World<F>,
-    id: u8,
-    output: &mut Output,
-    sink: &mut K,
-) -> Result<(), Failed>
+fn write_log<
+    F: Fn(Kind, u16) -> Option<u64> + Copy,
+    G: Fn(Kind, u16) -> Option<u64> + Copy,
+    K: Sink,
+>(world: &World<F, G>, id: u8, output: &mut Output, sink: &mut K) -> Result<(), Failed>
     ensures told { (w : Cluster) → StandsFor world.now w → Writes (K.written sink.old) output.old
         (K.written sink.new) output.new (member_lines w id) result }
     ensures grew { Grows (K.written sink.old) (K.written sink.new) }
@@ -140,13 +137,11 @@ fn log_line(id: u8, commit: u8) -> Line
 }
 
 /// The entries of a member's log up to a place, as many as there are.
-fn write_entries<F: Fn(Kind, u16) -> Option<u64> + Copy, K: Sink>(
-    world: &World<F>,
-    id: u8,
-    commit: u8,
-    output: &mut Output,
-    sink: &mut K,
-) -> Result<(), Failed>
+fn write_entries<
+    F: Fn(Kind, u16) -> Option<u64> + Copy,
+    G: Fn(Kind, u16) -> Option<u64> + Copy,
+    K: Sink,
+>(world: &World<F, G>, id: u8, commit: u8, output: &mut Output, sink: &mut K) -> Result<(), Failed>
     ensures told { (w : Cluster) → StandsFor world.now w → (log : List Entry) → HasLog w id log →
         Writes (K.written sink.old) output.old (K.written sink.new) output.new
         (entry_lines 1 (take commit log)) result }

@@ -9,6 +9,8 @@
 #[cfg(test)]
 mod bytes;
 #[cfg(test)]
+mod device_calls;
+#[cfg(test)]
 mod faults;
 #[cfg(test)]
 mod lost_frame;

@@ -1,9 +1,9 @@
-//! A lone allocator over a link, a disk and a clock in memory.
+//! Allocators over links, disks and a clock in memory.
 
 use crate::run::run_over;
 use allocator_app::Status;
 use disk_model::{IMAGE, MemoryDisk};
-use outside::{MemoryClock, MemoryLink, MemorySink, MemorySource, RawFrame, Sink};
+use outside::{MemoryClock, MemoryLink, MemorySink, MemorySource, RawFrame, Received, Sink};
 use std::alloc::{AllocError, Global};
 use std::test::Fail;
 
@@ -142,5 +142,44 @@ fn a_lone_node_is_elected_and_sends_its_status(rt: HostRuntime) -> Result<(), Fa
         bytes: [4, 0, 0, 0, 0, 0, 0, 0xc0],
     };
     assert_eq!(rt; links[0].sent(), [status].as_slice());
+    Ok(())
+}
+
+/// The status of a node with a fixed address comes to one of two members, and to the other junk, a gap and then the
+/// status: each frame is a step behind the tick of its turn, and what is no frame is none.
+#[test]
+fn what_comes_is_taken_one_item_a_turn(rt: HostRuntime) -> Result<(), Fail> {
+    let status = Received::Frame(RawFrame {
+        id: 0x1e01_5532,
+        len: 8,
+        bytes: [1, 0, 0, 0, 0, 0, 0, 0xc0],
+    });
+    let (first, second) = ([status], [Received::Junk, Received::Nothing, status]);
+    let mut links = [
+        MemoryLink::new(&first, None),
+        MemoryLink::new(&second, None),
+    ];
+    let mut disks = [Some(disk(&[])), Some(disk(&[]))];
+    let mut source = MemorySource::new(b"", Some(1));
+    let mut sink = MemorySink::new(rt.alloc(), 400, None, None)?;
+    let mut clock = MemoryClock::new(&[0; 8]);
+    assert_eq!(rt;
+        run_over(
+            rt.alloc(),
+            "node 2 5000 3 1 2",
+            &mut source,
+            &mut sink,
+            &mut links,
+            &mut disks,
+            &mut clock
+        )?,
+        Status::Done
+    );
+    assert_eq!(rt;
+        sink.written(),
+        b"1 1 F 0 0 0 0 tick\n2 1 F 0 0 0 0 took\n3 2 F 0 0 0 0 tick\n4 1 F 0 0 0 0 tick\n\
+          5 2 F 0 0 0 0 tick\n6 1 F 0 0 0 0 tick\n7 2 F 0 0 0 0 tick\n8 2 F 0 0 0 0 took\nend 3\n"
+            .as_slice()
+    );
     Ok(())
 }

@@ -87,6 +87,38 @@ fn a_row_that_is_not_taken_ends_the_report(rt: HostRuntime) -> Result<(), Fail> 
     Ok(())
 }
 
+/// Rows of allocatees of which none is there, and the cause: its number is looked at before whether it is there, and
+/// both before the frame and the queue.
+const NO_ALLOCATEE: [(&[u8], u8, &[u8]); 9] = [
+    (b"atick 0 0 0\n", 9, b"unlawful 1 9\n"),
+    (b"arx 9 1 0 0\n", 9, b"unlawful 1 9\n"),
+    (b"asend 255\n", 9, b"unlawful 1 9\n"),
+    (b"aend 9\n", 9, b"unlawful 1 9\n"),
+    (
+        b"aopen 9 000102030405060708090a0b0c0d0e0f 0 0 0\n",
+        9,
+        b"unlawful 1 9\n",
+    ),
+    (b"atick 8 0 0\n", 10, b"unlawful 1 10\n"),
+    (b"arx 1 0 0 0\n", 10, b"unlawful 1 10\n"),
+    (b"asend 1\n", 10, b"unlawful 1 10\n"),
+    (b"aend 1\n", 10, b"unlawful 1 10\n"),
+];
+
+#[test]
+fn a_row_of_no_allocatee_is_refused(rt: HostRuntime) -> Result<(), Fail> {
+    for (row, cause, report) in NO_ALLOCATEE {
+        let mut source = MemorySource::new(row, None);
+        let mut sink = MemorySink::new(rt.alloc(), 100, None, None)?;
+        assert_eq!(rt;
+            run_words(rt.alloc(), "replay 10 1", &mut source, &mut sink)?,
+            Status::Unlawful(1, cause)
+        );
+        assert_eq!(rt; sink.written(), report);
+    }
+    Ok(())
+}
+
 /// Lines that are no rows, by a word, a space, a number or a digit.
 const NO_ROWS: [&[u8]; 13] = [
     b"\n",

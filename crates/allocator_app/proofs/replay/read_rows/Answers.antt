@@ -9,7 +9,7 @@ use Rattle.allocator_app.proofs.replay.read_rows.Goals as goal
 pub reading-init : goal.reading-init
 reading-init g c = record {
   room = c.requires.room;
-  accepts = refl;
+  accepts = record { members = refl; allocatees = refl };
   flushed = c.requires.flushed;
   short = let empty = ap length c.new-input.ensures in omega (arith, empty);
   unended = ap after_line c.new-input.ensures;
@@ -39,7 +39,7 @@ returns-else-is_empty-clause-rows g c = λ bytes told first is.
       far.0,
       far.1,
       ended_unended _ first far.0 bytes _ _ _ _ _ _ _ far.2 more so_far.flushed (λ empty. true≢false (sym (c.is_empty.ensures.1 empty) ∙ c.if-is_empty.false))
-          so_far.unended so_far.short (elim so_far.another [ inl h ↦ inl h | inr h ↦ let rows = far.1.rows in inr (omega (arith, h, rows)) ]),
+          so_far.unended so_far.short (elim so_far.another [ inl h ↦ inl h | inr h ↦ let rows = far.1.members.rows in inr (omega (arith, h, rows)) ]),
     )
 
 -- what was written by then, and what a fault leaves
@@ -49,7 +49,7 @@ returns-in-Err-clause-cut g c = λ bytes told first is.
     let so_far = c.reading.invariant in
     let far = so_far.told bytes told first is in
     let within = so_far.room.within in
-    let rows = far.1.rows in
+    let rows = far.1.members.rows in
     read_in_part c.args.limit first far.0 bytes c.reading.input _ _ _ _ far.2 c.in-Err.ensures.err so_far.unended so_far.short
     (elim so_far.another [ inl h ↦ inl h | inr h ↦ inr (omega (arith, h, rows)) ]) (omega (arith, within, rows))
 
@@ -63,7 +63,7 @@ returns-in-Err-take_rows-clause-cut g c = λ bytes told first is.
     let far = so_far.told bytes told first is in
     let end = c.in-Err-take_rows.ensures.cut far.0 far.1 in
     let within = c.take_rows.ensures.room.within in
-    let rows = end.1.rows in
+    let rows = end.1.members.rows in
     rows_in_part c.args.limit first far.0 end.0 bytes c.reading.input _ _ _ _ _ _ _ far.2 more so_far.flushed so_far.grew
     (omega (arith, within, rows)) end.2
 
@@ -94,7 +94,10 @@ reading-preserved g c =
     let waits = waited_on _ _ _ _ _ c.in-Ok.rows all c.in-Ok.ensures.waits in
     record {
       room = c.in-Ok.ensures.room;
-      accepts = c.in-Ok.ensures.accepts ∙ so_far.accepts;
+      accepts = record {
+        members = c.in-Ok.ensures.accepts.members ∙ so_far.accepts.members;
+        allocatees = c.in-Ok.ensures.accepts.allocatees ∙ so_far.accepts.allocatees;
+      };
       flushed = c.in-Ok-flush.ensures.none_waits;
       short = waits.short;
       unended = waits.unended;
@@ -134,7 +137,7 @@ returns-in-Err-flush-clause-cut g c = λ bytes told first is.
     let far = so_far.told bytes told first is in
     let end = c.in-Ok.ensures.rows far.0 far.1 in
     let within = c.in-Ok.ensures.room.within in
-    let rows = end.1.rows in
+    let rows = end.1.members.rows in
     flush_in_part c.args.limit first far.0 end.0 bytes c.reading.input _ _ _ _ _ _ _ _ _ _ far.2 more so_far.flushed
     c.in-Ok.ensures.grew (omega (arith, within, rows))
     (took_all c.args.limit far.0 end.0 _ _ _ _ _ _ c.in-Ok.rows all end.2) c.in-Err-flush.ensures.err

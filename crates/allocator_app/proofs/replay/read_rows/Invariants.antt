@@ -1,5 +1,5 @@
 use Rattle.std.proofs.Common.{◌≡◌, ◌≤◌, ◌<◌, ◌+◌, ◌-◌, ◌*◌, ◌⊎◌, List, ℕ, [], Some, None, length}
-use Rattle.bus_world.specs.World.{accepts, rows_taken}
+use Rattle.bus_world.specs.World.{AcceptsAs, rows_taken}
 use Rattle.replay_text.specs.Lines.{after_line}
 use Rattle.allocator_app.specs.InPart.{HasRead}
 use Rattle.program_parts.specs.Output.{Grows}
@@ -13,7 +13,7 @@ invariant-reading g l =
     let written = g.K.Sink.written in
     record {
       room : HasRoom l.fn.limit l.world;
-      accepts : accepts l.world ≡ accepts l.fn.world;
+      accepts : AcceptsAs l.world l.fn.world;
       flushed : l.output ≡ [];
       short : length l.input ≤ 120;
       unended : after_line l.input ≡ None;

@@ -12,7 +12,7 @@ returns-in-Ok-end_report-clause-ends g c = λ bytes told.
     let rows = c.in-Ok-read_rows.rows in
     let far = c.in-Ok-read_rows.ensures.rows bytes told first c.in-Ok.ensures.stands in
     let within = c.read_rows.ensures.within in
-    let count = far.1.rows in
+    let count = far.1.members.rows in
     let written = g.K.Sink.written in
     let status = c.in-Ok-end_report.ensures.status ∙ ap (status_of rows) count in
     subst (λ s. Ends s c.args.limit first bytes (g.S.Source.left c.read_rows.new.source) (written c.args.sink.now) (written c.end_report.new.sink)) (sym status)
@@ -42,7 +42,7 @@ returns-in-Ok-read_rows-clause-ends g c = λ bytes told.
     let rows = c.in-Ok-read_rows.rows in
     let far = c.in-Ok-read_rows.ensures.rows bytes told first c.in-Ok.ensures.stands in
     let within = c.read_rows.ensures.within in
-    let count = far.1.rows in
+    let count = far.1.members.rows in
     end_in_part c.args.limit first far.0 bytes _ _ _ _ _ rows (omega (arith, within, count)) far.2
     c.read_rows.ensures.grew (c.in-Err.ensures.told far.0 far.1).err
 

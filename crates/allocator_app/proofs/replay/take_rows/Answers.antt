@@ -4,17 +4,20 @@ use Rattle.std.proofs.lemmas.Bool.{true≢false}
 use Rattle.std.proofs.lemmas.Bool.Decides.{nat_tests}
 use Rattle.world_parts.specs.Cluster.{next}
 use Rattle.allocator_app.proofs.Coming.{bad-row, beyond, goes-more, goes-nil, refused-row}
-use Rattle.allocator_app.proofs.Rest.{read_usable, rows_taken}
+use Rattle.allocator_app.proofs.Rest.{read_below, read_usable, rows_taken}
 use Rattle.program_parts.proofs.Written.{front-on, grows-refl, grows-trans, on_err}
 use Rattle.allocator_app.proofs.replay.take_rows.Goals as goal
 
 pub row-requires-clause-filled : goal.row-requires-clause-filled
 row-requires-clause-filled g c = read_usable c.in-Row.row c.rows.input c.next_row.new.self c.in-Row.ensures.found
 
+pub row-requires-clause-preferred : goal.row-requires-clause-preferred
+row-requires-clause-preferred g c = read_below c.in-Row.row c.rows.input c.next_row.new.self c.in-Row.ensures.found
+
 pub rows-init : goal.rows-init
 rows-init g c = record {
   room = c.requires.room;
-  accepts = refl;
+  accepts = record { members = refl; allocatees = refl };
   kept = refl;
   grows = omega arith;
   shorter = omega arith;
@@ -37,14 +40,14 @@ pub returns-then-taken-limit-clause-rows : goal.returns-then-taken-limit-clause-
 returns-then-taken-limit-clause-rows g c =
     rows_taken c.args.limit c.args.world.now c.rows.world c.rows.world c.args.input.now c.rows.input _ _ _ _ _ _ refl c.rows.invariant.shorter c.rows.invariant.came
     (λ w is more. beyond c.args.limit w c.rows.input more
-    (let rows = is.rows in let count = c.taken.ensures in let full = c.if-taken-limit.true in grind (arith, nat_tests, rows, count, full))
+    (let rows = is.members.rows in let count = c.taken.ensures in let full = c.if-taken-limit.true in grind (arith, nat_tests, rows, count, full))
     (λ empty. true≢false (sym (c.is_empty.ensures.1 empty) ∙ c.if-is_empty.false)))
 
 pub returns-in-NoRow-clause-rows : goal.returns-in-NoRow-clause-rows
 returns-in-NoRow-clause-rows g c =
     rows_taken c.args.limit c.args.world.now c.rows.world c.rows.world c.args.input.now c.rows.input _ _ _ _ _ _ refl c.rows.invariant.shorter c.rows.invariant.came
     (λ w is more. bad-row c.args.limit w _
-    (let rows = is.rows in let count = c.taken.ensures in let low = c.if-taken-limit.false in let within = c.rows.invariant.room.within in
+    (let rows = is.members.rows in let count = c.taken.ensures in let low = c.if-taken-limit.false in let within = c.rows.invariant.room.within in
     grind (arith, nat_tests, rows, count, low, within))
     (c.in-NoRow.ensures.found.1 more))
 
@@ -58,7 +61,7 @@ returns-in-Err-clause-rows g c =
     rows_taken c.args.limit c.args.world.now c.rows.world c.row.new.self c.args.input.now c.rows.input _ _ _ _ _ _ (c.in-Err.ensures.unchanged refl)
     c.rows.invariant.shorter c.rows.invariant.came
     (λ w is more. refused-row c.args.limit w c.in-Row.row c.in-Err.why c.rows.input _ more c.in-Row.ensures.found
-    (let rows = is.rows in let count = c.taken.ensures in let low = c.if-taken-limit.false in let within = c.rows.invariant.room.within in
+    (let rows = is.members.rows in let count = c.taken.ensures in let low = c.if-taken-limit.false in let within = c.rows.invariant.room.within in
     grind (arith, nat_tests, rows, count, low, within))
     (c.in-Err.ensures.refused w is))
 
@@ -74,7 +77,10 @@ rows-preserved g c =
     let line = c.deref.ensures.0 ∙ c.write_told.ensures.line in
     record {
       room = record { within = grind (arith, nat_tests, room, taken, count, low); frames = omega (arith, frames, taken, left) };
-      accepts = c.in-Ok.ensures.accepts ∙ so_far.accepts;
+      accepts = record {
+        members = c.in-Ok.ensures.accepts ∙ so_far.accepts.members;
+        allocatees = c.in-Ok.ensures.aaccepts ∙ so_far.accepts.allocatees;
+      };
       kept = c.in_ok-line.ensures.kept ∙ so_far.kept;
       grows = omega (arith, so_far.grows, taken);
       shorter = omega (arith, so_far.shorter, c.in-Row.ensures.found.shorter);
@@ -84,7 +90,7 @@ rows-preserved g c =
           let far = so_far.came first is in
           let told = c.in-Ok.ensures.told far.0 far.1 in
           let now = c.in-Ok.ensures.accepted far.0 far.1 in
-          let rows = far.1.rows in (
+          let rows = far.1.members.rows in (
             next far.0 c.in-Row.row,
             now,
             (
@@ -110,7 +116,7 @@ returns-in_err-line-clause-cut g c =
     let far = so_far.came first is in
     let told = c.in-Ok.ensures.told far.0 far.1 in
     let now = c.in-Ok.ensures.accepted far.0 far.1 in
-    let rows = far.1.rows in (
+    let rows = far.1.members.rows in (
       next far.0 c.in-Row.row,
       now,
       record {

@@ -1,5 +1,5 @@
 use Rattle.std.proofs.Common.{◌≡◌, ◌≤◌, ◌<◌, ◌⊎◌, length}
-use Rattle.bus_world.specs.World.{accepts, rows_taken}
+use Rattle.bus_world.specs.World.{AcceptsAs, rows_taken}
 use Rattle.program_parts.specs.Output.{Grows}
 use Rattle.allocator_app.specs.Reaching.{HasRoom, Reaches}
 use Rattle.allocator_app.proofs.Rest.{TakesSome}
@@ -12,7 +12,7 @@ invariant-rows g l =
     let faults = g.K.Sink.faults in
     record {
       room : HasRoom l.fn.limit l.world;
-      accepts : accepts l.world ≡ accepts l.fn.world;
+      accepts : AcceptsAs l.world l.fn.world;
       kept : faults l.sink ≡ faults l.fn.sink;
       grows : rows_taken l.fn.world ≤ rows_taken l.world;
       shorter : length l.input ≤ length l.fn.input;

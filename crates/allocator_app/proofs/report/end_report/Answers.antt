@@ -18,7 +18,7 @@ pub returns-in_err-last-clause-told : goal.returns-in_err-last-clause-told
 returns-in_err-last-clause-told g c = λ w is.
     let written = g.K.Sink.written in
     let lines = logs_before c.args.rows w in
-    let line = c.as_bytes.ensures.bytes ∙ c.last_line-line.ensures.text ∙ ap (last_line_of c.args.rows) (c.taken-taken.ensures ∙ is.rows) in
+    let line = c.as_bytes.ensures.bytes ∙ c.last_line-line.ensures.text ∙ ap (last_line_of c.args.rows) (c.taken-taken.ensures ∙ is.members.rows) in
     let logs = c.in_ok-write_logs_before.ensures.told w is in
     last-failed (written c.args.sink.now) (written c.last.new.sink) c.args.output.now (last_of c.args.rows w) c.from_residual-in_err-last.result c.from_residual-in_err-last.ensures.0
     (front-on (written c.args.sink.now) (written c.write_logs_before.new.sink) (written c.last.new.sink) c.args.output.now c.write_logs_before.new.output lines

@@ -1,0 +1,14 @@
+-- What holds along the rows of every world.
+use Rattle.std.specs.Prelude.{ℕ, List}
+use Rattle.replay_text.specs.declared.row.Row.{Row}
+use Rattle.world_laws.specs.Allocatees.{HasAllocatees}
+use Rattle.world_laws.specs.Headline.{HasHeadline}
+use Rattle.world_laws.specs.Safe.{AreSafe}
+
+pub record KeepsPromise (ids : List ℕ) (rows : List Row) : Type 0 where
+  -- what allocators have committed is always a prefix of one list, which only grows and gives nothing twice
+  pub headline : HasHeadline ids rows
+  -- what an allocatee holds is a pair of that list
+  pub allocatees : HasAllocatees ids rows
+  -- the run of the message machine that the rows show is safe, with every leader that wins in a row and stops in it
+  pub safe : AreSafe ids rows
