@@ -61,25 +61,38 @@ class Answers:
         return payload[2:] if crc(CRC_OF_TYPE, payload[2:]) == int.from_bytes(payload[:2], "little") else None
 
 
-def ask(base, unique_id, port_id, limit=LIMIT):
-    """The node ID that the allocators give to this unique ID, or None where the time is over."""
-    link = socket.socket(socket.AF_INET, socket.SOCK_DGRAM)
-    link.bind(("127.0.0.1", base + port_id))
+class UdpBus:
+    """The bus of this machine, as datagrams; the device is heard at the port BASE + PORT_ID."""
+
+    def __init__(self, base, port_id):
+        self.link = socket.socket(socket.AF_INET, socket.SOCK_DGRAM)
+        self.link.bind(("127.0.0.1", base + port_id))
+        self.ports = [("127.0.0.1", base + node) for node in range(1, 126) if node != port_id]
+
+    def send(self, datagram):
+        for port in self.ports:
+            self.link.sendto(datagram, port)
+
+    def receive(self, seconds):
+        """The next datagram, or None where none comes for so long."""
+        self.link.settimeout(seconds)
+        try:
+            return self.link.recv(64)
+        except (socket.timeout, ConnectionRefusedError):
+            return None
+
+
+def ask_on(bus, unique_id, limit):
+    """The node ID that the allocators of a bus give to this unique ID, or None where the time is over."""
     answers, transfer, end = Answers(), 0, time.monotonic() + limit
     told = 0  # how many bytes of the unique ID the allocators have
     while time.monotonic() < end:
-        datagram = request(unique_id, told // 6, transfer)
+        bus.send(request(unique_id, told // 6, transfer))
         transfer, told = (transfer + 1) % 32, 0
-        for node in range(1, 126):
-            if node != port_id:
-                link.sendto(datagram, ("127.0.0.1", base + node))
         until = time.monotonic() + random.uniform(0.6, 1.0)
         while (left := until - time.monotonic()) > 0:
-            link.settimeout(left)
-            try:
-                payload = answers.take(link.recv(64))
-            except (socket.timeout, ConnectionRefusedError):
-                continue
+            datagram = bus.receive(left)
+            payload = None if datagram is None else answers.take(datagram)
             if payload is None or not unique_id.startswith(payload[1:]):
                 continue
             if len(payload) == 17:
@@ -89,6 +102,11 @@ def ask(base, unique_id, port_id, limit=LIMIT):
                 time.sleep(random.uniform(0.0, 0.1))
                 break
     return None
+
+
+def ask(base, unique_id, port_id, limit=LIMIT):
+    """The same of the bus of this machine."""
+    return ask_on(UdpBus(base, port_id), unique_id, limit)
 
 
 def main():
