@@ -22,7 +22,7 @@ opening uid preferred now word = record { asking = asking_from uid preferred now
 -- ---- its events; of the word come its waits and the discriminators of its frames
 
 pub data Event : Type 0 where
-  -- it reads its clock
+  -- the allocatee reads its clock
   Tick : (now word : ℕ) → Event
   -- a frame comes
   Rx : (arrival : Arrival) (word : ℕ) → Event

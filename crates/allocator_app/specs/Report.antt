@@ -19,7 +19,7 @@ pub record Comes (first : Cluster) (bytes lines : List ℕ) (now : Cluster) (res
   pub told : lines ≡ row_lines first rows
   pub leaves : now ≡ after_rows first rows
 
--- and along them each allocator keeps its word
+-- such rows were taken, and along them each allocator keeps its word
 pub record Goes (first : Cluster) (bytes lines : List ℕ) (now : Cluster) (rest : List ℕ) : Type 0 where
   pub comes : Comes first bytes lines now rest
   pub kept : KeepsItsWord first comes.rows
@@ -58,8 +58,8 @@ limit_line row = codes "limit " ++ decimal row ++ codes "\n"
 
 -- ---- what a run says of a schedule
 
--- all its bytes are rows that were taken; or the rows before the next one were, and the last line tells its number,
--- and why
+-- all bytes of the schedule are rows that were taken; or the rows before the next one were taken, and the last line
+-- tells the number of that next row, and why it was not
 abbrev pub Says : ℕ → Cluster → List ℕ → List ℕ → Status → Type 0
 Says limit w rest last Done = (rest ≡ []) × (last ≡ end_lines w)
 Says limit w rest last (BadRow row) = IsBadRow limit w rest × (row ≡ w.rows + 1) × (last ≡ bad_row_line row)

@@ -20,7 +20,7 @@ module _ {F : Type 0} where
   Tells world row told = (c : Cluster) → StandsFor world c → (cause c row ≡ None)
       × (telling_of told ≡ told_by c row)
 
-  -- and leaves this, but for the count of rows
+  -- the row leaves this, but for the count of rows
   abbrev pub Leaves : Members F → Members F → Row → Type 0
   Leaves old new row = (c : Cluster) → StandsFor old c → Holds new.members.items new.frames.items (changed c row)
 

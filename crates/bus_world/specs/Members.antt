@@ -43,7 +43,7 @@ module _ {F : Type 0} where
     pub members : AreMembersOf own c.member
     pub lawful : AreMembers c.ids
 
-  -- and how many rows it has taken
+  -- the members and the bus, and how many rows were taken
   pub record StandsFor (world : Members F) (c : Cluster) : Type 0 where
     pub holds : Holds world.members.items world.frames.items c
     pub rows : world.taken ≡ c.rows

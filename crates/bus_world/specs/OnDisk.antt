@@ -24,7 +24,7 @@ module _ {F : Type 0} {disk : Ghosts MemoryDisk} where
     pub closed : fault_of server ≡ Some why
     pub on : IsOn (disk_of server) shelf
 
-  -- and whose disk goes on
+  -- a server whose step was cut off, and whose disk goes on
   pub record HasFailedOn (server : Server MemoryDisk F disk) (shelf : Shelf Stored) : Type 0 where
     pub cut : IsCutOn server shelf
     pub runs : shelf.calls.stopped ≡ false

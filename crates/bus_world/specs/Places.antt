@@ -33,10 +33,10 @@ module _ {F : Type 0} where
   closure_of (UpAt server) = Some (accepts server)
   closure_of Absent = None
 
-  -- it has this fact
+  -- the closure of a server that runs has this fact
   abbrev pub Serves : (F → Type 0) → Place F → Type 0
   Serves Fact place = (accept : F) → closure_of place ≡ Some accept → Fact accept
 
-  -- it is this one
+  -- the closure of a server that runs is this one
   abbrev pub Accepts : Place F → F → Type 0
   Accepts place accept = (other : F) → closure_of place ≡ Some other → other ≡ accept

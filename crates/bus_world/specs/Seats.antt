@@ -19,7 +19,7 @@ module _ {G : Type 0} where
   abbrev pub Serves : (G → Type 0) → Seat G → Type 0
   Serves Fact seat = (allocatee : Allocatee G) → seat.device ≡ Some allocatee → Fact (accepts allocatee)
 
-  -- it is this one
+  -- the closure of the one that is there is this one
   abbrev pub Accepts : Seat G → G → Type 0
   Accepts seat accept = (allocatee : Allocatee G) → seat.device ≡ Some allocatee → accepts allocatee ≡ accept
 

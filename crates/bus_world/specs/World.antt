@@ -29,7 +29,7 @@ module _ {F G : Type 0} where
     pub members : members.StandsFor world.members c
     pub allocatees : AreSeatsOf world.seats.items c.allocatee
 
-  -- it was given the closures that another one was given
+  -- a world was given the closures that another one was given
   pub record AcceptsAs (new old : World F G) : Type 0 where
     pub members : accepts new ≡ accepts old
     pub allocatees : allocatees_accept new ≡ allocatees_accept old

@@ -61,7 +61,7 @@ pub trait Disk: Drop {
     fn faults(&self) -> u64
         ensures { result ≡ faults self.now };
 
-    /// It has its size, and a stop may leave what reads give.
+    /// Its contents have their size, and a stop may leave what reads give.
     ghost sound: { (disk : Self) → tells disk ≡ true → IsSound (contents disk) };
 
     /// A device call that succeeds counts no fault.

@@ -35,14 +35,14 @@ module _ {D F : Type 0} {disk : Ghosts D} {L : Type 0} (coming : L → Option (L
         (coming (slice_index_or links place link))
         (HoldsStoreInPart disk after (before.running place).timed.plain.store)
 
-  -- those before it had taken their turn
+  -- a run ended in a turn: the allocators before that place had taken theirs
   pub record IsCutTurn (all : Together) (fault : Fault) : Type 0 where
     pub place : ℕ
     pub within : place < length runners
     pub id_is : IsOf runners place (fault_id fault)
     pub cut : IsCutAt (first_turns place all) place
 
-  -- and all had taken some turns
+  -- a run ended in a turn, after all allocators had taken some turns
   pub record AreCutTurns (turns : ℕ) (all : Together) (fault : Fault) : Type 0 where
     pub taken : ℕ
     pub fewer : taken < turns

@@ -79,7 +79,7 @@ module _ {L D : Type 0} (coming : L → Option (List Received)) (sent : L → Op
     pub fewer : taken < turns
     pub turn : IsCutAtTurn (first_turns place (all_turns count taken first)) place
 
--- it ended at the node with this ID; what each link was sent is a beginning of what it is sent in a run to its end
+-- a run ended at the node with this ID; what each link was sent is a prefix of what it is sent in a run to its end
 pub record IsCutRun {L D : Type 0} (coming : L → Option (List Received)) (sent : L → Option (List RawFrame))
     (disk : Ghosts D) (links_old links : List L) (disks_old disks : List (Option D)) (readings : Option (List ℕ))
     (size turns : ℕ) (ids : List ℕ) (given : Given) (id : ℕ) : Type 0 where
@@ -92,7 +92,7 @@ pub record IsCutRun {L D : Type 0} (coming : L → Option (List Received)) (sent
   pub cut : IsCutInOpening coming sent disk links disks readings (length ids) links_old disks_old given place ⊎
       IsCutInTurns coming sent disk links disks readings (length ids) (opened size ids given) turns place
 
--- it ended at the opening of the node with this ID: the clock was read once for each up to there; where its disk tells
+-- a run ended at the opening of the node with this ID: the clock was read once for each up to there; where its disk tells
 -- what it holds, this holds of it; the disks before it, where they stood for a state, hold what they held when they
 -- were handed in, and those behind it are as they were
 pub record IsLeft {D : Type 0} (disk : Ghosts D) (ids : List ℕ) (disks_old disks : List (Option D))

@@ -10,7 +10,7 @@ use Rattle.transfer_tx.specs.Queue.{Queued}
 abbrev pub is_frame : RawFrame → Bool
 is_frame raw = nat_le raw.len 8 && (nat_lt raw.id 536870912 && nat_lt 0 raw.len)
 
--- it comes to the allocator at a moment: the data bytes alone, with a mark of zeros
+-- a frame comes to the allocator at a moment: the data bytes alone, with a mark of zeros
 abbrev pub receipt : ℕ → RawFrame → Event
 receipt moment raw = Rx (record {
   id = raw.id;

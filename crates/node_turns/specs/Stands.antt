@@ -62,7 +62,7 @@ module _ {D F : Type 0} {disk : Ghosts D} where
   AreOpenedAt size runners readings = (i : ℕ) (runner : Runner D F disk) → i < length runners
       → IsOpenedAt size (slice_index_or runners i runner) (next_reading (readings_after i readings))
 
-  -- it is this one, on a link that tells these items and frames
+  -- a runner is this one, on a link that tells these items and frames
   pub record IsRunning (runner : Runner D F disk) (coming : Option (List Received))
       (sent : Option (List RawFrame)) (r : Running) : Type 0 where
     pub id : runner.id ≡ r.id
@@ -71,7 +71,7 @@ module _ {D F : Type 0} {disk : Ghosts D} where
     pub coming_is : coming ≡ Some r.coming
     pub sent_is : sent ≡ Some r.sent
 
-  -- and these steps were made
+  -- a runner is this one in its turn, and these steps were made
   pub record IsTurning (runner : Runner D F disk) (coming : Option (List Received))
       (sent : Option (List RawFrame)) (steps : LastSteps) (t : Turning) : Type 0 where
     pub running : IsRunning runner coming sent t.running

@@ -17,19 +17,19 @@ IsStatus (DiskFault id) = Unit {0}
 IsStatus (Damaged id key) = Unit {0}
 IsStatus _ = ⊥
 
--- that of one in which nothing failed
+-- the status of a run in which nothing failed
 abbrev pub IsFaultless : Status → Type 0
 IsFaultless Done = Unit {0}
 IsFaultless (Damaged id key) = Unit {0}
 IsFaultless Memory = Unit {0}
 IsFaultless _ = ⊥
 
--- that of one that had its memory
+-- the status of a run that had its memory
 abbrev pub IsEndStatus : Status → Type 0
 IsEndStatus Memory = ⊥
 IsEndStatus status = IsStatus status
 
--- and whose sink took what it writes
+-- the status of a run that had its memory, and whose sink took what it writes
 abbrev pub IsToldStatus : Status → Type 0
 IsToldStatus WriteFault = ⊥
 IsToldStatus status = IsEndStatus status

@@ -42,7 +42,7 @@ after_step number sight t = record {
 abbrev pub makes_step : Event → Turning → Turning
 makes_step event t = let number = suc (length t.lines) in after_step number (step t.running.timed number event) t
 
--- it reads its clock, with the next word
+-- the allocator reads its clock, with the next word
 abbrev pub ticks : ℕ → Turning → Turning
 ticks moment t = let state = moved t.running.draws in
     makes_step (Tick moment (word_at state)) (record t { running = record t.running { draws = state } })

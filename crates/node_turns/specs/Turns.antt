@@ -14,7 +14,7 @@ pub record Together : Type 0 where
 abbrev pub turning_at : ℕ → Together → Turning
 turning_at place all = record { running = all.running place; lines = all.lines }
 
--- it takes its turn, at the next reading
+-- the allocator at a place takes its turn, at the next reading
 abbrev pub turned : ℕ → Together → Turning
 turned place all = turn (next_reading all.readings) (turning_at place all)
 

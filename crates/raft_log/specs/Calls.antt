@@ -30,8 +30,8 @@ pub record FailsAllowed {D : Type 0} {disk : Ghosts D} (next : Option Kept) (put
       Makes disk.does (device_calls tried (durable_state old) (durable_copies old)) false (durable_disk old)
       (durable_disk new)
 
--- it makes these puts in order, up to the first that fails, where this was put after the last; ok
--- says that none failed
+-- a call makes these puts in order, up to the first that fails, where this was put after the last; ok says that none
+-- failed
 pub record MakesPutsAfter {D : Type 0} {disk : Ghosts D} (next : Option Kept) (puts : List Put)
     (old new : Durable D disk) (ok : Bool) : Type 0 where
   -- once it has succeeded all of them are done, and a stop leaves the state after them

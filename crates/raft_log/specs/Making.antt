@@ -17,7 +17,7 @@ put_at place state =
     origin_put place (slice_index_or state.log place (blank 0)) (slice_index_or state.origins place None)
 
 module _ {D : Type 0} {disk : Ghosts D} where
-  -- its put is made
+  -- the put of a change is made
   abbrev pub MakesChange : Change → Durable D disk → Durable D disk → Bool → Type 0
   MakesChange change old new ok = MakesPutsAfter (next_for change) (put_of change (durable_state old) ∷ []) old new ok
 
@@ -25,7 +25,7 @@ module _ {D : Type 0} {disk : Ghosts D} where
   abbrev pub HasNext : Change → Durable D disk → Type 0
   HasNext change old = IsNext (store_map old.store) (durable_state old) (next_for change)
 
-  -- and an entry that it put stands there
+  -- an entry that the change put stands there
   abbrev pub LeavesNext : Change → Durable D disk → Durable D disk → Type 0
   LeavesNext change old new =
       IsNext (store_map new.store) (durable_state new)

@@ -50,7 +50,7 @@ impl<D: Disk> Durable<D> {
         ensures version { IfOk result (λ durable. (durable_state durable).version ≡ 2) }
         ensures works { IfOk result (λ durable. durable_fault durable ≡ None) }
 
-        // It refuses a disk of which a key is damaged, and puts nothing there.
+        // A disk of which a key is damaged is refused, and nothing is put there.
         ensures damaged { IfErr result (λ refused. (key : ℕ) → refused.why ≡ Damaged key →
             D.tells disk ≡ true → IsDamagedAt (D.contents disk).seen key) }
         ensures damaged_made { IfErr result (λ refused. (key : ℕ) → refused.why ≡ Damaged key →
@@ -58,7 +58,7 @@ impl<D: Disk> Durable<D> {
         ensures damaged_images { IfErr result (λ refused. (key : ℕ) → refused.why ≡ Damaged key →
             D.tells disk ≡ true → AddsNoImage (D.contents disk) (D.contents refused.disk)) }
 
-        // And one that failed in this call, before a put or in one.
+        // A disk that failed in this call, before a put or in one, is refused too.
         ensures fault { IfErr result (λ refused. (fault : Fault) → refused.why ≡ DiskFault fault →
             (fault.count ≡ D.faults refused.disk) × Rose (D.faults disk) (D.faults refused.disk)) }
         ensures failed { IfErr result (λ refused. (fault : Fault) → refused.why ≡ DiskFault fault →
@@ -220,7 +220,7 @@ impl<D: Disk> Durable<D> {
             durable_copies durable key ≡ chosen_copy (D.contents disk).seen key) }
         ensures works { IfOk result (λ durable. durable_fault durable ≡ None) }
 
-        // It refuses a disk of which a key is damaged, and one that failed in this call.
+        // A disk of which a key is damaged is refused, and one that failed in this call.
         ensures damaged { IfErr result (λ refused. (key : ℕ) → refused.why ≡ Damaged key →
             D.tells disk ≡ true → IsDamagedAt (D.contents disk).seen key) }
         ensures damaged_made { IfErr result (λ refused. (key : ℕ) → refused.why ≡ Damaged key →
@@ -230,7 +230,7 @@ impl<D: Disk> Durable<D> {
         ensures failed { IfErr result (λ refused. (fault : Fault) → refused.why ≡ DiskFault fault →
             IsNotRead D.Disk disk refused.disk) }
 
-        // It adds no image, also where it refuses.
+        // No image is added, also where the disk is refused.
         ensures images { IfOk result (λ durable. D.tells disk ≡ true →
             AddsNoImage (D.contents disk) (D.contents (durable_disk durable))) }
         ensures refused { IfErr result (λ refused. D.tells disk ≡ true →

@@ -123,8 +123,8 @@ Acknowledged world member term count = LeadsWith world member term count
     ⊎ ((answer : Answer) × In (Answers answer) world.bag × (answer.from ≡ member) × (answer.success ≡ true)
     × (answer.request.append ≡ true) × (answer.request.term ≡ term) × (count ≤ reach answer.request))
 
--- and just so many: a request that reaches no further. This is the usual form; the one above is carried, and this
--- follows
+-- the member acknowledged just so many places: a request that reaches no further. This is the usual form; the one above
+-- is carried, and this follows
 abbrev pub AcknowledgedExactly : World → ℕ → ℕ → ℕ → Type 0
 AcknowledgedExactly world member term count = LeadsWith world member term count
     ⊎ ((answer : Answer) × In (Answers answer) world.bag × (answer.from ≡ member) × (answer.success ≡ true)

@@ -21,11 +21,11 @@ pub record World : Type 0 where
 pub data Event : Type 0 where
   -- the member opens
   Opens : (member : ℕ) → Event
-  -- it takes a step: these moves; of the messages that they offer these fitted into the queue
+  -- the member takes a step: these moves; of the messages that they offer these fitted into the queue
   Steps : (member step : ℕ) (moves : List Move) (fitted : List Message) → Event
-  -- it stops in a step, after these moves; without moves, it stops between two steps
+  -- the member stops in a step, after these moves; without moves, it stops between two steps
   Stops : (member step : ℕ) (moves : List Move) → Event
-  -- it stops in a step, after these moves and so many first puts of the next one
+  -- the member stops in a step, after these moves and so many first puts of the next one
   StopsWithin : (member step : ℕ) (moves : List Move) (next : Move) (count : ℕ) → Event
 
 -- all members down, with empty stores, and an empty bag
@@ -44,7 +44,7 @@ abbrev pub site_of : World → ℕ → Site
 site_of world member = record
     { plain = world.server member; history = world.history; ledger = world.ledger; offered = []; called = [] }
 
--- and after these moves of it
+-- the server of a member after these moves of its step
 abbrev pub site_after : World → ℕ → ℕ → List Move → Site
 site_after world member step moves = all_moved world.members member step (site_of world member) moves
 

@@ -46,7 +46,7 @@ pub record IsGivenOnce (world : World) : Type 0 where
   pub told : (pair : Pair) → In (Pairs pair) world.bag
       → (i : ℕ) × (i < length world.ledger.entries) × IsPair (given world i) × ((given world i).uid ≡ pair.uid)
       × ((given world i).node ≡ pair.node)
-  -- and no device is told the node ID that one keeps back
+  -- no device is told the node ID that a reservation keeps back
   pub kept_back : (pair : Pair) (i : ℕ) → In (Pairs pair) world.bag → i < length world.ledger.entries
       → IsReservation (given world i) → (given world i).node ≢ pair.node
 

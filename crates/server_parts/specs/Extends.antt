@@ -1,5 +1,5 @@
--- What a step does later: it adds puts behind those that are there, and leaves the sessions of the receiver
--- and the node ID.
+-- What a step does later: it adds puts after those that are there, and leaves the sessions of the receiver and the node
+-- ID as they are.
 use Rattle.std.specs.Prelude.{◌≡◌, ◌++◌, List}
 use Rattle.raft_core.specs.StoredPuts.{Noted}
 use Rattle.server_parts.specs.Going.{Going}

@@ -63,7 +63,7 @@ proposes step origin uid node g =
 abbrev pub reserves : ℕ → ℕ → Going → Going
 reserves step node g = proposes step 3 zeros node g
 
--- it told its unique ID, or stays silent; and it is online, and not known
+-- a node that told its unique ID, or stays silent; and that is online, and not known
 abbrev pub is_candidate : Timed → ℕ → Bool
 is_candidate t node =
     not (is_known t node) && (is_some (identity (history node t.watch) t.now) || is_silent (history node t.watch) t.now)
@@ -80,7 +80,7 @@ if_new log (Some uid) = if is_zero uid || is_some (recorded_at log uid) then Non
 abbrev pub new_uid : Timed → ℕ → Option (List ℕ)
 new_uid t node = if_new t.plain.store.log (identity (history node t.watch) t.now)
 
--- it is proposed with a new unique ID, and else reserved
+-- a node is proposed with a new unique ID, and else reserved
 abbrev pub records_as : ℕ → ℕ → Option (List ℕ) → Going → Going
 records_as step node None g = reserves step node g
 records_as step node (Some uid) g = proposes step 2 uid node g

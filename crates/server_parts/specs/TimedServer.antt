@@ -99,7 +99,7 @@ is_recorded log node = list_any (λ entry. nat_eq entry.node node) log
 abbrev pub is_known : Timed → ℕ → Bool
 is_known t node = lists (members_of t) node || is_recorded t.plain.store.log node
 
--- and those that are online may not be given either
+-- node IDs that may not be given: those known, and those of nodes that are online
 abbrev pub is_taken : Timed → ℕ → Bool
 is_taken t node = is_known t node || is_online (history node t.watch) t.now
 

@@ -4,7 +4,7 @@ use can_frame::{Frame, Mark, NodeId, Role, Seen, Sent, Uid};
 /// What happens at an allocator. Moments are milliseconds, and may fall.
 #[derive(Debug, Drop)]
 pub enum Event {
-    /// It reads its clock. The word is for its next wait for an election.
+    /// The allocator reads its clock. The word is for its next wait for an election.
     Tick { now: u64, word: u32 },
 
     /// A frame of the bus comes, with its mark.

@@ -44,7 +44,7 @@ abbrev pub pairs_to : Cluster → ℕ → ℕ → ℕ
 pairs_to w n zero = 0
 pairs_to w n (suc place) = pairs_to w n place + one_if (is_pair (entry_of w n (suc place)))
 
--- and how many of the longest committed list
+-- how many entries of the longest committed list are pairs
 unfoldable pub pairs : Cluster → ℕ → ℕ
 pairs w size = pairs_to w (furthest w size) (commit_at w (furthest w size))
 

@@ -83,7 +83,7 @@ asks_in_time round s = if round % 4 == 1 then gives (Ext (request (round / 4))) 
 
 -- ---- a member
 
--- it runs, and has not failed
+-- the member runs, and has not failed
 abbrev pub shows : ℕ → Soak → Bool
 shows n s = is_some (view_at s.world n)
 

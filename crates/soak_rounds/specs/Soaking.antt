@@ -21,7 +21,7 @@ module _ {F G : Type 0} where
   abbrev pub Does : (Soak → Soak) → Soaking F G → Soaking F G → Type 0
   Does act old new = (s : Soak) → StandsFor old s → StandsFor new (act s)
 
-  -- it stands for a state that has room for so many frames and rows
+  -- the value stands for a state that has room for so many frames and rows
   pub record HasRoom (sent given : ℕ) (soaking : Soaking F G) : Type 0 where
     pub now : Soak
     pub stands : StandsFor soaking now

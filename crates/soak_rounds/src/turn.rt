@@ -7,7 +7,7 @@ pub(crate) enum Turn {
     /// One that runs reads its clock.
     Tick,
 
-    /// It is given the frames of the bus that came since it was given some; of these some are lost, and
+    /// A member is given the frames of the bus that came since it was given some; of these some are lost, and
     /// some come twice.
     Hear,
 
