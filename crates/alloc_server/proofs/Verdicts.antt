@@ -6,23 +6,23 @@ use Rattle.transfer_rx.specs.Reassembly.{Answer, Arrival, Continues, Delivery, D
 use Rattle.transfer_rx.specs.Sessions.{Session}
 use Rattle.can_frame.specs.declared.frame.Frame.{Frame}
 use Rattle.can_frame.specs.declared.mark.Mark.{Mark}
-use Rattle.server_parts.specs.Accepted.{setting_for}
-use Rattle.server_parts.specs.Judging.{is_response, is_stale, judged, judges, misses}
+use Rattle.alloc_step.specs.Accepted.{setting_for}
+use Rattle.alloc_step.specs.Judging.{is_response, is_stale, judged, judges, misses}
 use Rattle.raft_core.specs.Times.{Sending}
 use Rattle.raft_model.specs.Messages.{Request as Call}
-use Rattle.server_parts.specs.TimedServer.{Timed}
+use Rattle.alloc_step.specs.AllocatorState.{AllocatorState}
 
-judged_none : (t : Timed) (step now : ℕ) (a : Answer) → delivered a ≡ None → judged t step now a ≡ Fine
+judged_none : (t : AllocatorState) (step now : ℕ) (a : Answer) → delivered a ≡ None → judged t step now a ≡ Fine
 judged_none t step now (Gives d) none = cc
 judged_none t step now Continues none = refl
 judged_none t step now (Drops why) none = refl
 
-judged_some : (t : Timed) (step now : ℕ) (a : Answer) (d : Delivery) → delivered a ≡ Some d → judged t step now a ≡ judged t step now (Gives d)
+judged_some : (t : AllocatorState) (step now : ℕ) (a : Answer) (d : Delivery) → delivered a ≡ Some d → judged t step now a ≡ judged t step now (Gives d)
 judged_some t step now (Gives e) d some = let same : e ≡ d = cc in ap (λ (x : Delivery). judged t step now (Gives x)) same
 judged_some t step now Continues d some = cc
 judged_some t step now (Drops why) d some = cc
 
-module _ (t : Timed) (arrival : Arrival) where
+module _ (t : AllocatorState) (arrival : Arrival) where
   abbrev pub now_then : Arrival
   now_then = record arrival { moment = max t.now arrival.moment }
 
@@ -47,7 +47,7 @@ at_most : (n : ℕ) → n ≤ 125 → nat_le n 125 ≡ true
 at_most n h = grind arith
 
 -- a response of a member is judged by the call to it
-pub stale_as : (t : Timed) (d : Delivery) (now : ℕ) (r : Bool) → is_response d.ident.kind ≡ true → d.ident.source ≤ 125
+pub stale_as : (t : AllocatorState) (d : Delivery) (now : ℕ) (r : Bool) → is_response d.ident.kind ≡ true → d.ident.source ≤ 125
     → r ≡ misses d now (t.plain.memory.pending d.ident.source) (t.times.sending d.ident.source) → r ≡ is_stale t d now
 stale_as t d now r responds device is = is ∙ both (is_response d.ident.kind) (nat_le d.ident.source 125) _ responds (at_most d.ident.source device)
 

@@ -5,30 +5,30 @@ use Rattle.disk_model.specs.Contents.{MayLeave}
 use Rattle.disk_model.specs.Device.{Makes}
 use Rattle.kv_store.specs.declared.fault.Fault.{Fault}
 use Rattle.raft_log.specs.declared.durable.Durable.{Durable}
-use Rattle.raft_log.specs.Calls.{MakesPuts}
+use Rattle.raft_log.specs.Calls.{WritesInOrder}
 use Rattle.raft_log.specs.DeviceCalls.{copies_after, device_calls}
 use Rattle.raft_log.specs.DurableViews.{durable_copies, durable_disk, durable_fault, durable_state}
 use Rattle.raft_log.specs.Rules.{StandsForState}
 use Rattle.raft_log.specs.Stored.{AfterSome, after_puts}
-use Rattle.raft_core.specs.StoredPuts.{Noted, stored_puts}
+use Rattle.raft_core.specs.StoredPuts.{PutWithOrigin, stored_puts}
 use Rattle.transfer_rx.specs.declared.receiver.Receiver.{Receiver}
 use Rattle.transfer_rx.specs.Views as receiver
 use Rattle.transfer_rx.specs.Views.{accept_of, setting_of}
 use Rattle.transfer_tx.specs.Queue.{Queued}
-use Rattle.server_parts.specs.declared.event.Event.{Event as CodeEvent}
-use Rattle.server_parts.specs.declared.event.Event.TheVariants.{Tick as TickCode, Rx as RxCode}
-use Rattle.server_parts.specs.declared.event.Outcome.{Outcome}
-use Rattle.alloc_member.specs.declared.member.Member.{Member}
+use Rattle.alloc_step.specs.declared.event.Event.{Event as CodeEvent}
+use Rattle.alloc_step.specs.declared.event.Event.TheVariants.{Tick as TickCode, Rx as RxCode}
+use Rattle.alloc_step.specs.declared.event.Outcome.{Outcome}
+use Rattle.alloc_core.specs.declared.member.Member.{Member}
 use Rattle.alloc_server.specs.declared.server.Server.{Server}
 use Rattle.can_frame.specs.declared.step.Seen.{Seen}
-use Rattle.server_parts.specs.declared.offered.Offered.{Offered}
+use Rattle.alloc_step.specs.declared.offered.Offered.{Offered}
 use Rattle.transfer_rx.specs.Reassembly.{arrival_of}
-use Rattle.server_parts.specs.Accepted.{setting_for}
-use Rattle.server_parts.specs.Going.{pairs, sents}
-use Rattle.alloc_member.specs.Stands as member
-use Rattle.server_parts.specs.Delivered.{Sight}
-use Rattle.server_parts.specs.Step.{Event, Rx, Tick}
-use Rattle.server_parts.specs.TimedServer.{Timed}
+use Rattle.alloc_step.specs.Accepted.{setting_for}
+use Rattle.alloc_step.specs.StepState.{pairs, sents}
+use Rattle.alloc_core.specs.Stands as member
+use Rattle.alloc_step.specs.Delivered.{StepResult}
+use Rattle.alloc_step.specs.Step.{Event, Rx, Tick}
+use Rattle.alloc_step.specs.AllocatorState.{AllocatorState}
 
 -- an event of the code
 abbrev pub event_of : CodeEvent → Event
@@ -36,10 +36,10 @@ event_of (TickCode now word) = Tick now word
 event_of (RxCode frame mark now) = Rx (arrival_of frame mark now)
 
 -- what a finished step tells
-pub record Tells (outcome : Outcome) (sight : Sight) : Type 0 where
-  pub seen : outcome.seen ≡ sight.seen
-  pub sent : outcome.sent.items ≡ sents sight.going
-  pub given : outcome.answers.items ≡ pairs sight.going
+pub record Tells (outcome : Outcome) (step_result : StepResult) : Type 0 where
+  pub seen : outcome.seen ≡ step_result.seen
+  pub sent : outcome.sent.items ≡ sents step_result.step_state
+  pub given : outcome.answers.items ≡ pairs step_result.step_state
 
 module _ {D F : Type 0} {disk : Ghosts D} where
   abbrev pub durable_of : Server D F disk → Durable D disk
@@ -57,7 +57,7 @@ module _ {D F : Type 0} {disk : Ghosts D} where
   fault_of server = server.fault
 
   -- it stands for a timed server, part for part; no step has failed, nor a put
-  pub record StandsFor (server : Server D F disk) (t : Timed) : Type 0 where
+  pub record StandsFor (server : Server D F disk) (t : AllocatorState) : Type 0 where
     pub member : member.StandsFor server.member t
     pub sessions : receiver.HasSessions server.receiver t.sessions
     pub setting : setting_of server.receiver ≡ setting_for t.me
@@ -69,21 +69,22 @@ module _ {D F : Type 0} {disk : Ghosts D} where
   accepts server = accept_of server.receiver
 
   -- a stop at any moment of a step that makes these puts leaves the state after some of the first of them
-  abbrev pub LeavesSome : Server D F disk → Server D F disk → List Noted → Type 0
+  abbrev pub LeavesSome : Server D F disk → Server D F disk → List PutWithOrigin → Type 0
   LeavesSome old new puts = disk.tells (disk_of old) ≡ true → (image : List ℕ) →
       MayLeave (disk.contents (disk_of new)) image →
       AfterSome (StandsForState image) (stored_puts puts (durable_state (durable_of old)))
       (durable_state (durable_of old))
 
   -- the device calls of these puts were made, up to the first that failed
-  abbrev pub MakesCalls : {T : Type 0} → Server D F disk → Server D F disk → List Noted → Result T Fault → Type 0
+  abbrev pub MakesCalls : {T : Type 0} → Server D F disk → Server D F disk → List PutWithOrigin → Result T Fault
+      → Type 0
   MakesCalls old new puts result = Makes disk.does
       (device_calls (stored_puts puts (durable_state (durable_of old)))
       (durable_state (durable_of old)) (durable_copies (durable_of old)))
       (is_ok result) (disk_of old) (disk_of new)
 
   -- a step that finishes has made them: what is stored then, and which copies are chosen
-  pub record HasPut (old new : Server D F disk) (puts : List Noted) : Type 0 where
+  pub record HasPut (old new : Server D F disk) (puts : List PutWithOrigin) : Type 0 where
     pub state : durable_state (durable_of new)
         ≡ after_puts (stored_puts puts (durable_state (durable_of old))) (durable_state (durable_of old))
     pub copies : durable_copies (durable_of new)
@@ -91,22 +92,23 @@ module _ {D F : Type 0} {disk : Ghosts D} where
         (durable_state (durable_of old)) (durable_copies (durable_of old))
 
   -- what a step does that is this of the timed server
-  pub record StepsTo (old new : Server D F disk) (sight : Sight) (result : Result Outcome Fault) : Type 0 where
+  pub record StepsTo (old new : Server D F disk) (step_result : StepResult) (result : Result Outcome Fault)
+      : Type 0 where
     -- where no put fails, it stands for the server afterwards, and tells what was seen and offered
-    pub stands : OnOk result (StandsFor new sight.going.timed)
-    pub tells : IfOk result (λ outcome. Tells outcome sight)
+    pub stands : OnOk result (StandsFor new step_result.step_state.timed)
+    pub tells : IfOk result (λ outcome. Tells outcome step_result)
     -- its puts are made in order, up to the first that fails
-    pub leaves : LeavesSome old new sight.going.puts
-    pub made : MakesCalls old new sight.going.puts result
-    pub put : OnOk result (HasPut old new sight.going.puts)
+    pub leaves : LeavesSome old new step_result.step_state.puts
+    pub made : MakesCalls old new step_result.step_state.puts result
+    pub put : OnOk result (HasPut old new step_result.step_state.puts)
     -- and all else that the store says of its puts: each that was tried was allowed
-    pub puts : MakesPuts (stored_puts sight.going.puts (durable_state (durable_of old)))
+    pub puts : WritesInOrder (stored_puts step_result.step_state.puts (durable_state (durable_of old)))
         (durable_of old) (durable_of new) (is_ok result)
 
 -- what a step has come to: the member and its receiver, what was listed, what it saw
-pub record ComesTo {D F : Type 0} {disk : Ghosts D} (start : Durable D disk) (t : Timed)
-    (after : Member D disk) (r : Receiver F 160 128) (offered : Offered) (sight : Sight)
+pub record ComesTo {D F : Type 0} {disk : Ghosts D} (start : Durable D disk) (t : AllocatorState)
+    (after : Member D disk) (r : Receiver F 160 128) (offered : Offered) (step_result : StepResult)
     (result : Result Seen Fault) : Type 0 where
-  pub sees : member.SeesTo start after offered sight result
-  pub sessions : receiver.HasSessions r sight.going.timed.sessions
-  pub me : sight.going.timed.me ≡ t.me
+  pub sees : member.SeesTo start after offered step_result result
+  pub sessions : receiver.HasSessions r step_result.step_state.timed.sessions
+  pub me : step_result.step_state.timed.me ≡ t.me

@@ -8,10 +8,10 @@ ghost use Rattle.transfer_rx.specs.Told.{delivery_of};
 ghost use Rattle.can_frame.specs.declared.step.Judged.TheVariants.{Fine, Stale, Torn};
 ghost use Rattle.transfer_rx.specs.Acceptance.{AnswersByRows};
 ghost use Rattle.transfer_rx.specs.Reassembly.{arrival_of};
-ghost use Rattle.server_parts.specs.Accepted as accepted;
-ghost use Rattle.server_parts.specs.Judging.{is_response, is_stale, judges, misses};
+ghost use Rattle.alloc_step.specs.Accepted as accepted;
+ghost use Rattle.alloc_step.specs.Judging.{is_response, is_stale, judges, misses};
 ghost use Rattle.transfer_rx.specs.Memory.{ReceiverFitsInMemory};
-ghost use Rattle.server_parts.specs.TimedServer.{Timed};
+ghost use Rattle.alloc_step.specs.AllocatorState.{AllocatorState};
 
 use crate::server::Server;
 use can_frame::{Frame, Judged, Kind, Mark};
@@ -30,7 +30,7 @@ impl<D: Disk, F: Fn(Kind, u16) -> Option<u64> + Copy> Server<D, F> {
         requires memory { ReceiverFitsInMemory F.row 160 128 }
         requires callable { F.IsAlwaysCallable (accepts self.now) }
         requires answers { AnswersByRows (F.post (accepts self.now)) accepted.rows }
-        ensures judged { (t : Timed) → StandsFor self.now t →
+        ensures judged { (t : AllocatorState) → StandsFor self.now t →
             result ≡ judges t (arrival_of frame.now mark now) }
         ensures failed { IsSome (fault_of self.now) → result ≡ Fine }
     {
@@ -47,7 +47,7 @@ impl<D: Disk, F: Fn(Kind, u16) -> Option<u64> + Copy> Server<D, F> {
     /// A pending call that is not given up yet would take the response, and was made in another
     /// step than the request that it answers.
     fn is_stale(&self, transfer: &Transfer, now: u64) -> bool
-        ensures { (t : Timed) → StandsFor self.now t → result ≡ is_stale t
+        ensures { (t : AllocatorState) → StandsFor self.now t → result ≡ is_stale t
             (delivery_of transfer.now) now }
     {
         if !is_response(transfer.ident.kind) {

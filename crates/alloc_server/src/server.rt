@@ -18,21 +18,21 @@ ghost use Rattle.transfer_tx.specs.Views.{queued_of};
 ghost use Rattle.std.proofs.Props.{props};
 ghost use Rattle.transfer_rx.specs.Views.{setting_of};
 ghost use Rattle.raft_core.specs.OneFit.{ReachesUpTo-prop};
-ghost use Rattle.alloc_member.specs.Stands.{IsReady};
-ghost use Rattle.server_parts.specs.Accepted as accepted;
+ghost use Rattle.alloc_core.specs.Stands.{IsReady};
+ghost use Rattle.alloc_step.specs.Accepted as accepted;
 ghost use Rattle.transfer_rx.specs.Memory.{ReceiverFitsInMemory};
-ghost use Rattle.server_parts.specs.Step.{popped};
-ghost use Rattle.server_parts.specs.Step as steps;
-ghost use Rattle.server_parts.specs.TimedServer.{Timed, entry_of, opening, view_of};
+ghost use Rattle.alloc_step.specs.Step.{popped};
+ghost use Rattle.alloc_step.specs.Step as steps;
+ghost use Rattle.alloc_step.specs.AllocatorState.{AllocatorState, entry_of, opening, view_of};
 
 use crate::take::take;
-use alloc_member::Member;
+use alloc_core::Member;
+use alloc_step::{Event, Offered, Outcome, View};
 use arrayvec::ArrayVec;
 use can_frame::{Entry, Kind};
 use disk_model::{Disk, MemoryDisk};
 use kv_store::{Fault, OpenRefused};
 use raft_log::Durable;
-use server_parts::{Event, Offered, Outcome, View};
 use transfer_rx::{AcceptRow, Receiver};
 use transfer_tx::Marked;
 
@@ -119,7 +119,7 @@ impl<D: Disk, F: Fn(Kind, u16) -> Option<u64> + Copy> Server<D, F> {
         requires callable { F.IsAlwaysCallable (accepts self.old) }
         requires answers { AnswersByRows (F.post (accepts self.old)) accepted.rows }
 
-        ensures steps { (t : Timed) → StandsFor self.old t →
+        ensures steps { (t : AllocatorState) → StandsFor self.old t →
             StepsTo self.old self.new (steps.step t step (event_of event)) result }
         ensures accepts { accepts self.new ≡ accepts self.old }
 
@@ -155,7 +155,7 @@ impl<D: Disk, F: Fn(Kind, u16) -> Option<u64> + Copy> Server<D, F> {
     /// The next frame for the bus.
     pub fn pop(&mut self) -> Option<Marked>
         ensures next { option_map queued_of result ≡ next_out (queued self.old) }
-        ensures rest { (t : Timed) → StandsFor self.old t → StandsFor self.new (popped t) }
+        ensures rest { (t : AllocatorState) → StandsFor self.old t → StandsFor self.new (popped t) }
         ensures none { IsNone result ↔ (queued self.old ≡ []) }
         ensures unchanged { IsNone result → self.new ≡ self.old }
         ensures closed { IsSome (fault_of self.old) → IsNone result }
@@ -169,7 +169,7 @@ impl<D: Disk, F: Fn(Kind, u16) -> Option<u64> + Copy> Server<D, F> {
     /// What it shows of itself. Of a server that failed this is what it kept, and the role that it had
     /// come to.
     pub fn view(&self) -> View
-        ensures stands { (t : Timed) → StandsFor self.now t → result ≡ view_of t }
+        ensures stands { (t : AllocatorState) → StandsFor self.now t → result ≡ view_of t }
         ensures role { result.role ≡ raft_role self.now.member.raft }
         ensures term { result.term ≡ (durable_state (durable_of self.now)).term }
         ensures vote { result.vote ≡ (durable_state (durable_of self.now)).vote }
@@ -192,7 +192,7 @@ impl<D: Disk, F: Fn(Kind, u16) -> Option<u64> + Copy> Server<D, F> {
     pub fn entry(&self, place: u8) -> Entry
         requires { place ≤ length (durable_state (durable_of self.now)).log }
         ensures entry { result ≡ entry_at (durable_state (durable_of self.now)).log place }
-        ensures stands { (t : Timed) → StandsFor self.now t → result ≡ entry_of t place }
+        ensures stands { (t : AllocatorState) → StandsFor self.now t → result ≡ entry_of t place }
     {
         self.member.durable.entry(place)
     }
@@ -225,7 +225,7 @@ impl<F: Fn(Kind, u16) -> Option<u64> + Copy> Server<MemoryDisk, F> {
         ensures copies { durable_copies (durable_in self.new) ≡ durable_copies
             (durable_in self.old) }
         ensures fault { fault_in self.new ≡ fault_in self.old }
-        ensures stands { (t : Timed) → StandsForTimed self.old t → StandsForTimed self.new t }
+        ensures stands { (t : AllocatorState) → StandsForTimed self.old t → StandsForTimed self.new t }
         ensures accepts { accept_of self.new ≡ accept_of self.old }
     {
         self.member.durable.stop_at(call);
@@ -240,7 +240,7 @@ impl<F: Fn(Kind, u16) -> Option<u64> + Copy> Server<MemoryDisk, F> {
         ensures copies { durable_copies (durable_in self.new) ≡ durable_copies
             (durable_in self.old) }
         ensures fault { fault_in self.new ≡ fault_in self.old }
-        ensures stands { (t : Timed) → StandsForTimed self.old t → StandsForTimed self.new t }
+        ensures stands { (t : AllocatorState) → StandsForTimed self.old t → StandsForTimed self.new t }
         ensures accepts { accept_of self.new ≡ accept_of self.old }
     {
         self.member.durable.fail_at(call);

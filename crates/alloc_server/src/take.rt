@@ -2,22 +2,22 @@
 
 ghost use Rattle.std.specs.Prelude.{◌≡◌, OnOk};
 ghost use Rattle.std.specs.Result.{result_err};
-ghost use Rattle.alloc_member.specs.Stands.{IsFresh, IsReady, StandsFor as IsMember};
+ghost use Rattle.alloc_core.specs.Stands.{IsFresh, IsReady, StandsFor as IsMember};
 ghost use Rattle.alloc_server.specs.Server.{ComesTo, event_of};
-ghost use Rattle.raft_core.specs.StoredPuts.{KeepsFaults};
-ghost use Rattle.server_parts.specs.Accepted as accepted;
-ghost use Rattle.server_parts.specs.Step as steps;
-ghost use Rattle.server_parts.specs.TimedServer.{Timed};
+ghost use Rattle.raft_core.specs.StoredPuts.{CallFaultIsSticky};
+ghost use Rattle.alloc_step.specs.Accepted as accepted;
+ghost use Rattle.alloc_step.specs.Step as steps;
+ghost use Rattle.alloc_step.specs.AllocatorState.{AllocatorState};
 ghost use Rattle.transfer_rx.specs.Acceptance.{AnswersByRows};
 ghost use Rattle.transfer_rx.specs.Memory.{ReceiverFitsInMemory};
 ghost use Rattle.transfer_rx.specs.Views.{HasSessions, accept_of, setting_of};
 
-use alloc_member::Member;
+use alloc_core::Member;
+use alloc_step::laws::phases_add_puts;
+use alloc_step::{Event, Offered};
 use can_frame::{Kind, Seen};
 use disk_model::Disk;
 use kv_store::Fault;
-use server_parts::laws::phases_add_puts;
-use server_parts::{Event, Offered};
 use transfer_rx::Receiver;
 
 /// Its clock goes to the member; a frame goes to the receiver, and what it led to to the member.
@@ -33,12 +33,12 @@ pub fn take<D: Disk, F: Fn(Kind, u16) -> Option<u64> + Copy>(
     requires rows { (setting_of receiver.old).rows ≡ accepted.rows }
     requires ready { IsReady member.old }
     requires fresh { IsFresh offered.old }
-    ensures comes { (t : Timed) → IsMember member.old t → HasSessions receiver.old t.sessions →
+    ensures comes { (t : AllocatorState) → IsMember member.old t → HasSessions receiver.old t.sessions →
         setting_of receiver.old ≡ accepted.setting_for t.me →
         ComesTo member.old.durable t member.new receiver.new offered.new
         (steps.step t offered.old.step (event_of event)) result }
     ensures ready { OnOk result (IsReady member.new) }
-    ensures faults { KeepsFaults member.old.durable member.new.durable (result_err result) }
+    ensures faults { CallFaultIsSticky member.old.durable member.new.durable (result_err result) }
     ensures accept { accept_of receiver.new ≡ accept_of receiver.old }
     ensures setting { setting_of receiver.new ≡ setting_of receiver.old }
 {

@@ -28,7 +28,7 @@ pub data Event : Type 0 where
   Rx : (arrival : Arrival) (word : ℕ) → Event
 
 -- what a step saw and offered, and what it leaves
-pub record Sight : Type 0 where
+pub record StepResult : Type 0 where
   pub seen : Seen
   pub sent : List Sent
   pub device : Device
@@ -63,14 +63,14 @@ answer_to d arrival = answer setting d.sessions (at_step d arrival)
 
 -- ---- the step
 
-abbrev pub ticked : ℕ → ℕ → ℕ → Device → Sight
+abbrev pub ticked : ℕ → ℕ → ℕ → Device → StepResult
 ticked number now word d = record {
   seen = Ticked;
   sent = (ticks number word (at_moment now d.asking)).sent;
   device = record d { asking = (ticks number word (at_moment now d.asking)).asking };
 }
 
-abbrev pub received : Arrival → ℕ → Device → Sight
+abbrev pub received : Arrival → ℕ → Device → StepResult
 received arrival word d = record {
   seen = seen_of (answer_to d arrival);
   sent = [];
@@ -80,7 +80,7 @@ received arrival word d = record {
   };
 }
 
-unfoldable pub step : Device → ℕ → Event → Sight
+unfoldable pub step : Device → ℕ → Event → StepResult
 step d number (Tick now word) = ticked number now word d
 step d number (Rx arrival word) = received arrival word d
 

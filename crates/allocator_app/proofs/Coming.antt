@@ -5,14 +5,14 @@ use Rattle.replay_text.specs.declared.told.Told.{Told}
 use Rattle.replay_text.specs.declared.told.Told.TheVariants.{Opened, Stepped, Failed, Stopped, Armed, Popped, Outside, AOpened, AStepped, APopped, AEnded}
 use Rattle.replay_text.specs.Report.{told_line}
 use Rattle.replay_text.specs.Lines.{BeginsWith, BeginsWithNoRow, ReadsRows}
-use Rattle.world_parts.specs.Cluster.{Cluster, after_rows, next}
-use Rattle.world_parts.specs.Lawful.{Lawful, cause}
-use Rattle.world_parts.specs.Promise.{GivesOnce, KeepsItsWord, OffersItsOwn}
-use Rattle.world_parts.specs.Report.{row_lines, told}
-use Rattle.world_parts.specs.Telling.{telling_line, telling_of}
-use Rattle.world_parts.specs.declared.unlawful.Unlawful.{Unlawful}
+use Rattle.bus_spec.specs.Cluster.{Cluster, after_rows, next}
+use Rattle.bus_spec.specs.Lawful.{Lawful, cause}
+use Rattle.bus_spec.specs.Promise.{GivesOnce, KeepsItsWord, OffersItsOwn}
+use Rattle.bus_spec.specs.Report.{row_lines, told}
+use Rattle.bus_spec.specs.Telling.{telling_line, telling_of}
+use Rattle.bus_spec.specs.declared.unlawful.Unlawful.{Unlawful}
 use Rattle.allocator_app.specs.Input.{FindsRow}
-use Rattle.allocator_app.specs.Report.{Comes, Goes, IsBadRow, IsBeyond, IsRefused}
+use Rattle.allocator_app.specs.Report.{ReadsUpTo, ReadsKeepingPromise, IsBadRow, IsBeyond, IsRefused}
 
 -- the line of what a row did is that of what the code tells
 pub line_of_told : (number : ℕ) (t : Told) → told_line number t ≡ telling_line number (telling_of t)
@@ -48,11 +48,11 @@ after-append : (w : Cluster) (a b : List Row) → after_rows w (a ++ b) ≡ afte
 after-append w [] b = refl
 after-append w (row ∷ a) b = after-append (next w row) a b
 
-pub comes-nil : (w : Cluster) (bytes : List ℕ) → Comes w bytes [] w bytes
+pub comes-nil : (w : Cluster) (bytes : List ℕ) → ReadsUpTo w bytes [] w bytes
 comes-nil w bytes = record { rows = []; reads = refl; lawful = tt; told = refl; leaves = refl }
 
 pub comes-one : (w : Cluster) (row : Row) (bytes rest : List ℕ) → BeginsWith row bytes rest → cause w row ≡ None →
-    Comes w bytes (telling_line (w.rows + 1) (told w row)) (next w row) rest
+    ReadsUpTo w bytes (telling_line (w.rows + 1) (told w row)) (next w row) rest
 comes-one w row bytes rest begins lawful = record {
   rows = row ∷ [];
   reads = (rest, begins, refl);
@@ -61,7 +61,7 @@ comes-one w row bytes rest begins lawful = record {
   leaves = refl;
 }
 
-pub comes-join : (u v w : Cluster) (x y z l m : List ℕ) → Comes u x l v y → Comes v y m w z → Comes u x (l ++ m) w z
+pub comes-join : (u v w : Cluster) (x y z l m : List ℕ) → ReadsUpTo u x l v y → ReadsUpTo v y m w z → ReadsUpTo u x (l ++ m) w z
 comes-join u v w x y z l m p q = record {
   rows = p.rows ++ q.rows;
   reads = ReadsRows-append p.rows q.rows x y z p.reads q.reads;
@@ -77,16 +77,16 @@ Kept-append : (w : Cluster) (a b : List Row) → KeepsItsWord w a → KeepsItsWo
 Kept-append w [] b p q = q
 Kept-append w (row ∷ a) b p q = (p.0, p.1, Kept-append (next w row) a b p.2 q)
 
-pub goes-nil : (w : Cluster) (bytes : List ℕ) → GivesOnce w → Goes w bytes [] w bytes
+pub goes-nil : (w : Cluster) (bytes : List ℕ) → GivesOnce w → ReadsKeepingPromise w bytes [] w bytes
 unfolding comes-nil
 goes-nil w bytes once = record { comes = comes-nil w bytes; kept = once }
 
 pub goes-one : (w : Cluster) (row : Row) (bytes rest : List ℕ) → BeginsWith row bytes rest → cause w row ≡ None → GivesOnce w → OffersItsOwn w row →
-    GivesOnce (next w row) → Goes w bytes (telling_line (w.rows + 1) (told w row)) (next w row) rest
+    GivesOnce (next w row) → ReadsKeepingPromise w bytes (telling_line (w.rows + 1) (told w row)) (next w row) rest
 unfolding comes-one
 goes-one w row bytes rest begins lawful once own then = record { comes = comes-one w row bytes rest begins lawful; kept = (once, own, then) }
 
-pub goes-join : (u v w : Cluster) (x y z l m : List ℕ) → Goes u x l v y → Goes v y m w z → Goes u x (l ++ m) w z
+pub goes-join : (u v w : Cluster) (x y z l m : List ℕ) → ReadsKeepingPromise u x l v y → ReadsKeepingPromise v y m w z → ReadsKeepingPromise u x (l ++ m) w z
 unfolding comes-join
 goes-join u v w x y z l m p q = record {
   comes = comes-join u v w x y z l m p.comes q.comes;
@@ -95,14 +95,14 @@ goes-join u v w x y z l m p q = record {
 
 -- one row more is taken
 pub goes-more : (first w : Cluster) (row : Row) (t : Told) (waiting before behind lines line : List ℕ) (n : ℕ) →
-    ((more : List ℕ) → Goes first (waiting ++ more) lines w (before ++ more)) → FindsRow row before behind →
+    ((more : List ℕ) → ReadsKeepingPromise first (waiting ++ more) lines w (before ++ more)) → FindsRow row before behind →
     cause w row ≡ None → telling_of t ≡ told w row → GivesOnce w → OffersItsOwn w row → GivesOnce (next w row) → n ≡ w.rows + 1 → line ≡ told_line n t →
-    (more : List ℕ) → Goes first (waiting ++ more) (lines ++ line) (next w row) (behind ++ more)
+    (more : List ℕ) → ReadsKeepingPromise first (waiting ++ more) (lines ++ line) (next w row) (behind ++ more)
 goes-more first w row t waiting before behind lines line n came found lawful tells once own then count is_line more =
     let one = goes-one w row (before ++ more) (behind ++ more) (found.begins more) lawful once own then in
     let told_so = is_line ∙ line_of_told n t ∙ ap (telling_line n) tells ∙ ap (λ k. telling_line k (told w row)) count in
     goes-join first w (next w row) (waiting ++ more) (before ++ more) (behind ++ more) lines line (came more)
-    (subst (λ l. Goes w (before ++ more) l (next w row) (behind ++ more)) (sym told_so) one)
+    (subst (λ l. ReadsKeepingPromise w (before ++ more) l (next w row) (behind ++ more)) (sym told_so) one)
 
 -- ---- the row that is not taken
 

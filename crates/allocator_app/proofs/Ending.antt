@@ -7,17 +7,17 @@ use Rattle.raft_model.specs.Lists.{In}
 use Rattle.replay_text.specs.declared.row.Row.{Row}
 use Rattle.replay_text.specs.Lines.{ReadsRows}
 use Rattle.replay_text.specs.Schedule.{Reads}
-use Rattle.world_parts.specs.Cluster.{AreMembers, Cluster, after_rows, cluster}
-use Rattle.world_parts.specs.Lawful.{Lawful}
-use Rattle.world_parts.specs.Report.{end_lines, row_lines}
+use Rattle.bus_spec.specs.Cluster.{AreMembers, Cluster, after_rows, cluster}
+use Rattle.bus_spec.specs.Lawful.{Lawful}
+use Rattle.bus_spec.specs.Report.{end_lines, row_lines}
 use Rattle.allocator_app.specs.Report.{IsReport, IsToTheEnd}
 use Rattle.allocator_app.specs.Rows.{Ends, IsReplayedBy, IsTold, Replays}
 use Rattle.allocator_app.specs.Soaking.{IsSoakedBy, Soaks}
 use Rattle.allocator_app.specs.Words.{AreGiven, AreNone, AsksForNodes, AsksForRows, HasObjects, IsAsked, IsNode, IsPlan, IsReplay, IsSoak, IsSound}
 use Rattle.allocator_app.specs.declared.plans.Plan.{Plan}
 use Rattle.allocator_app.specs.declared.plans.Plan.TheVariants.{Replay, Node, Soak}
-use Rattle.program_parts.specs.declared.status.Status.{Status}
-use Rattle.program_parts.specs.declared.status.Status.TheVariants.{Done, Usage, BadRow, Unlawful, ReadFault, WriteFault, Memory, Limit, LinkFault, DiskFault, Damaged}
+use Rattle.app_base.specs.declared.status.Status.{Status}
+use Rattle.app_base.specs.declared.status.Status.TheVariants.{Done, Usage, BadRow, Unlawful, ReadFault, WriteFault, Memory, Limit, LinkFault, DiskFault, Damaged}
 use Rattle.allocator_app.proofs.OneReport.{one_report, rows-grow}
 
 pub sound : (plan : Plan) (words : List (List ℕ)) → IsPlan plan words → IsSound plan

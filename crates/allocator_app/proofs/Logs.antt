@@ -2,11 +2,11 @@
 use Rattle.std.proofs.Common.{◌≡◌, ℕ, Bool, true, false, List, [], ◌++◌, take, refl, sym, ap, ◌∙◌, append_assoc, codes, decimal}
 use Rattle.std.specs.Prelude.{Option, Some, None, if◌then◌else◌}
 use Rattle.can_frame.specs.declared.entry.Entry.{Entry}
-use Rattle.server_parts.specs.declared.event.View.{View}
-use Rattle.world_parts.specs.Cluster.{Cluster, is_member}
-use Rattle.world_parts.specs.Members.{Life}
-use Rattle.world_parts.specs.Members.Life.{Down, Up, Failed}
-use Rattle.world_parts.specs.Report.{entry_lines, life_entry, life_lines, life_view, member_lines, view_at}
+use Rattle.alloc_step.specs.declared.event.View.{View}
+use Rattle.bus_spec.specs.Cluster.{Cluster, is_member}
+use Rattle.bus_spec.specs.Members.{MemberStatus}
+use Rattle.bus_spec.specs.Members.MemberStatus.{Down, Up, Failed}
+use Rattle.bus_spec.specs.Report.{entry_lines, life_entry, life_lines, life_view, member_lines, view_at}
 use Rattle.allocator_app.specs.Logs.{HasLog, entry_in, log_head}
 
 log_head_of : (id commit : ℕ) (lines : List ℕ) →
@@ -24,7 +24,7 @@ commit_of : Option View → ℕ
 commit_of None = 0
 commit_of (Some view) = view.commit
 
-of_life : (id : ℕ) (life : Life) (view : View) → Some view ≡ life_view life → (log : List Entry) × ((place : ℕ) → life_entry life place ≡ entry_in log place)
+of_life : (id : ℕ) (life : MemberStatus) (view : View) → Some view ≡ life_view life → (log : List Entry) × ((place : ℕ) → life_entry life place ≡ entry_in log place)
     × (life_lines id life ≡ log_head id view.commit ++ entry_lines 1 (take view.commit log))
 unfolding commit_of
 of_life id Down view e = cc

@@ -4,18 +4,18 @@ use Rattle.std.specs.declared.option.Option.{Option}
 use Rattle.replay_text.specs.declared.row.Row.{Row}
 use Rattle.replay_text.specs.Lines.{BeginsWith, ReadsRows, after_line, first_line}
 use Rattle.replay_text.specs.Schedule.{Reads}
-use Rattle.world_parts.specs.Cluster.{Cluster, after_rows, next}
-use Rattle.world_parts.specs.Lawful.{Lawful, cause, number_of}
-use Rattle.world_parts.specs.Report.{row_lines, told}
-use Rattle.world_parts.specs.Telling.{telling_line}
-use Rattle.world_parts.specs.declared.unlawful.Unlawful.{Unlawful}
+use Rattle.bus_spec.specs.Cluster.{Cluster, after_rows, next}
+use Rattle.bus_spec.specs.Lawful.{Lawful, cause, number_of}
+use Rattle.bus_spec.specs.Report.{row_lines, told}
+use Rattle.bus_spec.specs.Telling.{telling_line}
+use Rattle.bus_spec.specs.declared.unlawful.Unlawful.{Unlawful}
 use Rattle.allocator_app.specs.InPart.{IsWrittenInPart}
 use Rattle.allocator_app.specs.InPart.IsWrittenInPart.{InRows, AtTheEnd}
-use Rattle.program_parts.specs.Output.{WritesFront}
+use Rattle.app_base.specs.Output.{WritesFront}
 use Rattle.allocator_app.specs.Report.{IsBadRow, IsBeyond, IsRefused, IsReport, Says, bad_row_line, limit_line, unlawful_line}
-use Rattle.program_parts.specs.declared.status.Status.{Status}
-use Rattle.program_parts.specs.declared.status.Status.TheVariants.{Done, Usage, BadRow, Unlawful as IsUnlawful, ReadFault, WriteFault, Memory, Limit, LinkFault, DiskFault, Damaged}
-use Rattle.program_parts.proofs.Written.{front-of_more}
+use Rattle.app_base.specs.declared.status.Status.{Status}
+use Rattle.app_base.specs.declared.status.Status.TheVariants.{Done, Usage, BadRow, Unlawful as IsUnlawful, ReadFault, WriteFault, Memory, Limit, LinkFault, DiskFault, Damaged}
+use Rattle.app_base.proofs.Written.{front-of_more}
 
 -- ---- rows are taken up to where none can be
 

@@ -8,16 +8,16 @@ use Rattle.allocator_app.specs.InPart.{HasRead, IsReadInPart, IsWrittenInPart, R
 use Rattle.allocator_app.specs.InPart.IsWrittenInPart.{InRows, AtTheEnd}
 use Rattle.allocator_app.specs.Input.{ReadsMore}
 use Rattle.allocator_app.specs.NoFurther.{ReadsNoFurther}
-use Rattle.program_parts.specs.Output.{Grows, WritesFront}
-use Rattle.world_parts.specs.Cluster.{Cluster}
-use Rattle.world_parts.specs.Promise.{GivesOnce}
-use Rattle.allocator_app.specs.Report.{Goes, IsOfSchedule, IsReport, Says}
+use Rattle.app_base.specs.Output.{Grows, WritesFront}
+use Rattle.bus_spec.specs.Cluster.{Cluster}
+use Rattle.bus_spec.specs.Promise.{GivesOnce}
+use Rattle.allocator_app.specs.Report.{ReadsKeepingPromise, IsOfSchedule, IsReport, Says}
 use Rattle.allocator_app.specs.Rows.{BreaksOff, Ends, EndsAt, IsTold, ReadsRows, StopsAt, TakesRows, Waits, WaitsOn, last_of, status_of}
-use Rattle.program_parts.specs.declared.status.Status.TheVariants.{Memory, ReadFault, WriteFault}
+use Rattle.app_base.specs.declared.status.Status.TheVariants.{Memory, ReadFault, WriteFault}
 use Rattle.allocator_app.specs.declared.rows.Rows.{Rows}
 use Rattle.allocator_app.specs.declared.rows.Rows.TheVariants.{Taken, NoRow, Refused, Full}
 use Rattle.allocator_app.proofs.Coming.{goes-join, goes-nil}
-use Rattle.program_parts.proofs.Written.{flushed, front-behind, grows-front, grows-refl, grows-trans}
+use Rattle.app_base.proofs.Written.{flushed, front-behind, grows-front, grows-refl, grows-trans}
 
 consumed : (ahead came : List ℕ) (left : Option (List ℕ)) → Consumes (Some ahead) left came →
     (rest : List ℕ) × (left ≡ Some rest) × (ahead ≡ came ++ rest)
@@ -44,7 +44,7 @@ start w once bytes left sink known waiting none same = record {
   ahead = bytes;
   left_is = known;
   lines = [];
-  goes = subst (Goes w bytes [] w) (sym (ap (λ v. v ++ bytes) none)) (goes-nil w bytes once);
+  goes = subst (ReadsKeepingPromise w bytes [] w) (sym (ap (λ v. v ++ bytes) none)) (goes-nil w bytes once);
   written = same;
 }
 
@@ -88,8 +88,8 @@ still_ahead first bytes left sink sink_now sink_then reads grew = record {
 -- a read and the rows that it brought
 module _ (first w now : Cluster) (bytes waiting filled : List ℕ) (left left_now sink sink_before : Option (List ℕ))
     (read : HasRead first w bytes waiting left sink sink_before) (more : ReadsMore left left_now waiting filled true) where
-  on : (lines rest : List ℕ) → ((more : List ℕ) → Goes w (filled ++ more) lines now (rest ++ more)) →
-      (ahead : List ℕ) × (left_now ≡ Some ahead) × Goes first bytes (read.lines ++ lines) now (rest ++ ahead)
+  on : (lines rest : List ℕ) → ((more : List ℕ) → ReadsKeepingPromise w (filled ++ more) lines now (rest ++ more)) →
+      (ahead : List ℕ) × (left_now ≡ Some ahead) × ReadsKeepingPromise first bytes (read.lines ++ lines) now (rest ++ ahead)
   on lines rest comes =
       let front = consumed read.ahead more.came left_now (subst (λ l. Consumes l left_now more.came) read.left_is more.taken) in
       let ahead = front.0 in
@@ -97,7 +97,7 @@ module _ (first w now : Cluster) (bytes waiting filled : List ℕ) (left left_no
       ap (λ v. waiting ++ v) front.2 ∙ sym (append_assoc waiting more.came ahead) ∙ ap (λ v. v ++ ahead) (sym more.behind) in (
         ahead,
         front.1,
-        goes-join first w now bytes (filled ++ ahead) (rest ++ ahead) read.lines lines (subst (Goes first bytes read.lines w) here read.goes) (comes ahead),
+        goes-join first w now bytes (filled ++ ahead) (rest ++ ahead) read.lines lines (subst (ReadsKeepingPromise first bytes read.lines w) here read.goes) (comes ahead),
       )
 
 -- behind its rows no more was read than that
@@ -124,7 +124,7 @@ read_on limit first w now bytes waiting filled behind left left_now sink sink_be
       ahead = went.0;
       left_is = went.1;
       lines = lines;
-      goes = subst (λ rest. Goes first bytes lines now (rest ++ went.0)) took.stops went.2;
+      goes = subst (λ rest. ReadsKeepingPromise first bytes lines now (rest ++ went.0)) took.stops went.2;
       written = flushed sink sink_now sink_then output_now lines
           (written_on sink sink_before sink_now output read.lines took.lines none read.written output_now took.written) wrote;
     }
@@ -242,7 +242,7 @@ ended_taken limit first w bytes waiting filled left left_now sink sink_now outpu
     record {
       lines = read.lines;
       rest = [];
-      goes = subst (Goes first bytes read.lines w) nothing read.goes;
+      goes = subst (ReadsKeepingPromise first bytes read.lines w) nothing read.goes;
       ends = refl;
       no_further = record { read = []; unread = []; parts = refl; few = omega arith; left_is = only.2 };
       written = appends_waiting sink sink_now output read.lines none read.written;
@@ -259,7 +259,7 @@ ended_unended limit first w bytes waiting filled left left_now sink sink_now out
     record {
       lines = read.lines;
       rest = waiting;
-      goes = subst (Goes first bytes read.lines w) rest read.goes;
+      goes = subst (ReadsKeepingPromise first bytes read.lines w) rest read.goes;
       ends = record {
         within = elim another [ inl empty ↦ absurd (some (only.1 ∙ empty)) | inr low ↦ low ];
         bad = record {

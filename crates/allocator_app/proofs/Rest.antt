@@ -10,17 +10,17 @@ use Rattle.replay_text.specs.declared.row.Row.TheVariants.{AOpen, Crash}
 use Rattle.replay_text.specs.Schedule.{IsPattern, IsRow}
 use Rattle.bus_world.specs.declared.world.World.{World}
 use Rattle.bus_world.specs.World.{StandsFor}
-use Rattle.world_parts.specs.Cluster.{Cluster}
+use Rattle.bus_spec.specs.Cluster.{Cluster}
 use Rattle.allocator_app.specs.Input.{FindsRow}
 use Rattle.allocator_app.specs.Reaching.{Reaches}
-use Rattle.allocator_app.specs.Report.{Goes}
+use Rattle.allocator_app.specs.Report.{ReadsKeepingPromise}
 use Rattle.allocator_app.specs.Rows.{StopsAt, TakesRows}
 use Rattle.allocator_app.specs.declared.rows.Rows.{Rows}
 
 -- rows were taken so far, and what they tell was written or waits to be
 abbrev pub TakesSome : Cluster → Cluster → List ℕ → List ℕ → Option (List ℕ) → List ℕ → Option (List ℕ) → List ℕ → Type 0
 TakesSome first now waiting rest sink output sink_now output_now =
-    (lines : List ℕ) × ((more : List ℕ) → Goes first (waiting ++ more) lines now (rest ++ more))
+    (lines : List ℕ) × ((more : List ℕ) → ReadsKeepingPromise first (waiting ++ more) lines now (rest ++ more))
     × Appends (append_known sink output) (append_known sink_now output_now) lines
 
 -- where they stop, the world being as it is

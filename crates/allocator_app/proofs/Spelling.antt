@@ -6,7 +6,7 @@ use Rattle.std.proofs.Math.Seq.{take-length}
 use Rattle.std.proofs.lemmas.Bool.{not-false}
 use Rattle.std.proofs.lemmas.Fmt.{decimal_injective}
 use Rattle.raft_model.specs.Lists.{In}
-use Rattle.world_parts.specs.Cluster.{AreMembers}
+use Rattle.bus_spec.specs.Cluster.{AreMembers}
 
 -- a word at its place spells the number at this place
 pub named_at : {A : Type 0} (f : A → List ℕ) (words : List A) (ids : List ℕ) (i : ℕ) (none : A) → i < length words → map f words ≡ map decimal ids →

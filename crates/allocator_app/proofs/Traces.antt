@@ -3,17 +3,17 @@ use Rattle.std.proofs.Common.{◌≡◌, ◌⊎◌, ℕ, ◌<◌, List, ◌++◌
 use Rattle.disk_model.specs.declared.disk.Disk.{Ghosts}
 use Rattle.outside.specs.declared.received.RawFrame.{RawFrame}
 use Rattle.outside.specs.declared.received.Received.{Received}
-use Rattle.program_parts.specs.declared.status.Status.{Status}
-use Rattle.program_parts.specs.declared.status.Status.TheVariants.{Done, WriteFault}
-use Rattle.world_parts.specs.Cluster.{AreMembers, cluster}
-use Rattle.node_turns.specs.CutRun.{EndsAt, IsCutAtTurn, IsCutRun}
-use Rattle.node_turns.specs.InPart.{Leaves}
-use Rattle.node_turns.specs.Nodes.{RunsNodes}
-use Rattle.node_turns.specs.Opening.{Given}
-use Rattle.node_turns.specs.WholeRun.{LeavesAll, after_turns}
-use Rattle.process_laws.specs.Processes.{Turning, together_at}
-use Rattle.process_laws.specs.Stands.{IsCutAsTold, IsRunIn, LeavesAsTold, world_after}
-use Rattle.process_laws.specs.Traces.{Event, MayAllHappen, all_rows}
+use Rattle.app_base.specs.declared.status.Status.{Status}
+use Rattle.app_base.specs.declared.status.Status.TheVariants.{Done, WriteFault}
+use Rattle.bus_spec.specs.Cluster.{AreMembers, cluster}
+use Rattle.app_node.specs.CutRun.{EndsAt, IsCutAtTurn, IsCutRun}
+use Rattle.app_node.specs.InPart.{Leaves}
+use Rattle.app_node.specs.Nodes.{RunsNodes}
+use Rattle.app_node.specs.Opening.{Given}
+use Rattle.app_node.specs.WholeRun.{LeavesAll, after_turns}
+use Rattle.app_node_laws.specs.Processes.{Turning, together_at}
+use Rattle.app_node_laws.specs.Stands.{IsCutAsTold, IsRunIn, LeavesAsTold, world_after}
+use Rattle.app_node_laws.specs.Traces.{Event, MayAllHappen, all_rows}
 use Rattle.allocator_app.specs.Nodes.{IsCutInTraces, RunsInTraces}
 use Rattle.allocator_app.specs.Promise.{KeepsPromise}
 

@@ -2,11 +2,11 @@
 use Rattle.std.specs.Prelude.{◌≡◌, ◌≤◌, ◌<◌, ◌⊎◌, ℕ, List, [], ◌++◌, length, Option, Some, None}
 use Rattle.std.specs.Io.KnownBytes.{Appends}
 use Rattle.replay_text.specs.Lines.{after_line}
-use Rattle.program_parts.specs.Output.{WritesFront}
+use Rattle.app_base.specs.Output.{WritesFront}
 use Rattle.allocator_app.specs.NoFurther.{ReadsNoFurther}
-use Rattle.allocator_app.specs.Report.{Comes, Goes, IsReport}
-use Rattle.world_parts.specs.Cluster.{Cluster}
-use Rattle.program_parts.specs.declared.status.Status.{Status}
+use Rattle.allocator_app.specs.Report.{ReadsUpTo, ReadsKeepingPromise, IsReport}
+use Rattle.bus_spec.specs.Cluster.{Cluster}
+use Rattle.app_base.specs.declared.status.Status.{Status}
 
 -- so far: some of the schedule's bytes were read, and all that their rows tell was written; some bytes
 -- behind these rows were read too and wait, and the others are left in the source
@@ -15,7 +15,7 @@ pub record HasRead (first now : Cluster) (bytes waiting : List ℕ)
   pub ahead : List ℕ
   pub left_is : left ≡ Some ahead
   pub lines : List ℕ
-  pub goes : Goes first bytes lines now (waiting ++ ahead)
+  pub goes : ReadsKeepingPromise first bytes lines now (waiting ++ ahead)
   pub written : Appends sink_before sink_now lines
 
 -- the source failed: the lines of exactly the rows whose line feeds were read are written. The read was needed: what
@@ -32,11 +32,12 @@ pub record IsReadInPart (limit : ℕ) (first : Cluster) (bytes : List ℕ)
 
 -- the sink has all lines of some rows, and of the bytes behind these rows no more were read than the run keeps at a
 -- time: it reads no more once a write has failed
-pub record ReadsAhead (first : Cluster) (bytes : List ℕ) (left sink_before sink_now : Option (List ℕ)) : Type 0 where
+pub record ReadsAhead (first : Cluster) (bytes : List ℕ) (left sink_before sink_now : Option (List ℕ))
+    : Type 0 where
   pub now : Cluster
   pub lines : List ℕ
   pub rest : List ℕ
-  pub comes : Comes first bytes lines now rest
+  pub comes : ReadsUpTo first bytes lines now rest
   pub more : List ℕ
   pub written : Appends sink_before sink_now (lines ++ more)
   pub no_further : ReadsNoFurther rest left
@@ -45,7 +46,7 @@ pub record ReadsAhead (first : Cluster) (bytes : List ℕ) (left sink_before sin
 -- read no further than these rows, nor than those whose lines are all written
 pub data IsWrittenInPart (limit : ℕ) (first : Cluster) (bytes : List ℕ)
     (left sink_before sink_now : Option (List ℕ)) : Type 0 where
-  InRows : (now : Cluster) (lines rest : List ℕ) → Comes first bytes lines now rest → now.rows ≤ limit →
+  InRows : (now : Cluster) (lines rest : List ℕ) → ReadsUpTo first bytes lines now rest → now.rows ≤ limit →
       WritesFront sink_before sink_now lines → ReadsNoFurther rest left →
       ReadsAhead first bytes left sink_before sink_now → IsWrittenInPart limit first bytes left sink_before sink_now
   AtTheEnd : (report : List ℕ) (status : Status) → (is : IsReport limit first bytes report status) →

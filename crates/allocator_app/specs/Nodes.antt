@@ -3,16 +3,16 @@ use Rattle.std.specs.Prelude.{◌≡◌, ◌⊎◌, ◌<◌, ℕ, List, ◌++◌
 use Rattle.disk_model.specs.declared.disk.Disk.{Ghosts}
 use Rattle.outside.specs.declared.received.RawFrame.{RawFrame}
 use Rattle.outside.specs.declared.received.Received.{Received}
-use Rattle.program_parts.specs.declared.status.Status.{Status}
-use Rattle.program_parts.specs.declared.status.Status.TheVariants.{Done}
-use Rattle.node_turns.specs.CutRun.{EndsAt}
-use Rattle.node_turns.specs.Nodes.{RunsNodes}
-use Rattle.node_turns.specs.Opening.{Given}
-use Rattle.node_turns.specs.WholeRun.{Tell}
-use Rattle.process_laws.specs.Processes.{Point, Turning, together_at}
-use Rattle.process_laws.specs.Stands.{IsCutAsTold, IsRunIn, LeavesAsTold, world_after}
-use Rattle.process_laws.specs.Traces.{Event, all_rows}
-use Rattle.world_parts.specs.Cluster.{cluster}
+use Rattle.app_base.specs.declared.status.Status.{Status}
+use Rattle.app_base.specs.declared.status.Status.TheVariants.{Done}
+use Rattle.app_node.specs.CutRun.{EndsAt}
+use Rattle.app_node.specs.Nodes.{RunsNodes}
+use Rattle.app_node.specs.Opening.{Given}
+use Rattle.app_node.specs.WholeRun.{Tell}
+use Rattle.app_node_laws.specs.Processes.{Point, Turning, together_at}
+use Rattle.app_node_laws.specs.Stands.{IsCutAsTold, IsRunIn, LeavesAsTold, world_after}
+use Rattle.app_node_laws.specs.Traces.{Event, all_rows}
+use Rattle.bus_spec.specs.Cluster.{cluster}
 use Rattle.allocator_app.specs.Promise.{KeepsPromise}
 
 -- ---- the traces of a cluster in which the run of these members stands, which went on to a point
@@ -54,5 +54,6 @@ pub record RunsInTraces {L D : Type 0} (coming : L → Option (List Received)) (
       faults_old faults before now status
   pub done : (given : Given) → Tell coming sent disk links_old disks_old readings_old given → status ≡ Done →
       IsDoneInTraces coming sent disk links disks size ids given turns
-  pub cut : (given : Given) (id : ℕ) → Tell coming sent disk links_old disks_old readings_old given → EndsAt id status →
+  pub cut : (given : Given) (id : ℕ) → Tell coming sent disk links_old disks_old readings_old given →
+      EndsAt id status →
       (links ≡ links_old) ⊎ IsCutInTraces coming sent disk links disks size ids given id

@@ -2,17 +2,17 @@
 use Rattle.std.specs.Prelude.{◌≡◌, ◌≢◌, ◌≤◌, ◌<◌, ℕ, ◌+◌, List, [], ◌++◌, codes, decimal, Some}
 use Rattle.replay_text.specs.declared.row.Row.{Row}
 use Rattle.replay_text.specs.Lines.{BeginsWith, BeginsWithNoRow, ReadsRows}
-use Rattle.world_parts.specs.Cluster.{Cluster, after_rows, cluster}
-use Rattle.world_parts.specs.Lawful.{Lawful, cause, number_of}
-use Rattle.world_parts.specs.Promise.{KeepsItsWord}
-use Rattle.world_parts.specs.Report.{end_lines, row_lines}
-use Rattle.world_parts.specs.declared.unlawful.Unlawful.{Unlawful}
-use Rattle.program_parts.specs.declared.status.Status.{Status}
-use Rattle.program_parts.specs.declared.status.Status.TheVariants.{Done, Usage, BadRow, Unlawful as IsUnlawful, Limit, LinkFault, DiskFault, Damaged}
+use Rattle.bus_spec.specs.Cluster.{Cluster, after_rows, cluster}
+use Rattle.bus_spec.specs.Lawful.{Lawful, cause, number_of}
+use Rattle.bus_spec.specs.Promise.{KeepsItsWord}
+use Rattle.bus_spec.specs.Report.{end_lines, row_lines}
+use Rattle.bus_spec.specs.declared.unlawful.Unlawful.{Unlawful}
+use Rattle.app_base.specs.declared.status.Status.{Status}
+use Rattle.app_base.specs.declared.status.Status.TheVariants.{Done, Usage, BadRow, Unlawful as IsUnlawful, Limit, LinkFault, DiskFault, Damaged}
 
 -- lawful rows were taken from the front of the bytes, up to a world and the rest of the bytes, and these lines tell
 -- of them
-pub record Comes (first : Cluster) (bytes lines : List ℕ) (now : Cluster) (rest : List ℕ) : Type 0 where
+pub record ReadsUpTo (first : Cluster) (bytes lines : List ℕ) (now : Cluster) (rest : List ℕ) : Type 0 where
   pub rows : List Row
   pub reads : ReadsRows rows bytes rest
   pub lawful : Lawful first rows
@@ -20,8 +20,9 @@ pub record Comes (first : Cluster) (bytes lines : List ℕ) (now : Cluster) (res
   pub leaves : now ≡ after_rows first rows
 
 -- such rows were taken, and along them each allocator keeps its word
-pub record Goes (first : Cluster) (bytes lines : List ℕ) (now : Cluster) (rest : List ℕ) : Type 0 where
-  pub comes : Comes first bytes lines now rest
+pub record ReadsKeepingPromise (first : Cluster) (bytes lines : List ℕ) (now : Cluster) (rest : List ℕ)
+    : Type 0 where
+  pub comes : ReadsUpTo first bytes lines now rest
   pub kept : KeepsItsWord first comes.rows
 
 -- ---- how a schedule ends behind the rows that were taken
@@ -96,7 +97,7 @@ pub record IsReport (limit : ℕ) (first : Cluster) (bytes report : List ℕ) (s
   pub rest : List ℕ
   pub lines : List ℕ
   pub last : List ℕ
-  pub comes : Comes first bytes lines end rest
+  pub comes : ReadsUpTo first bytes lines end rest
   pub within : end.rows ≤ limit
   pub says : Says limit end rest last status
   pub written : report ≡ lines ++ last

@@ -3,22 +3,22 @@ use Rattle.std.specs.Prelude.{◌≡◌, ◌≤◌, ◌<◌, ◌⊎◌, ℕ, ◌
 use Rattle.std.specs.Io.KnownBytes.{Appends, append_known}
 use Rattle.outside.specs.Faults.{Rose}
 use Rattle.replay_text.specs.Lines.{after_line}
-use Rattle.world_parts.specs.Cluster.{Cluster, cluster}
-use Rattle.world_parts.specs.Lawful.{number_of}
-use Rattle.world_parts.specs.Promise.{KeepsItsWord}
-use Rattle.world_parts.specs.Report.{all_logs, end_line}
+use Rattle.bus_spec.specs.Cluster.{Cluster, cluster}
+use Rattle.bus_spec.specs.Lawful.{number_of}
+use Rattle.bus_spec.specs.Promise.{KeepsItsWord}
+use Rattle.bus_spec.specs.Report.{all_logs, end_line}
 use Rattle.allocator_app.specs.declared.plans.Plan.{Plan}
 use Rattle.allocator_app.specs.declared.plans.Plan.TheVariants.{Replay, Node, Soak}
 use Rattle.allocator_app.specs.InPart.{IsReadInPart, IsWrittenInPart, ReadsAhead}
 use Rattle.allocator_app.specs.NoFurther.{ReadsNoFurther}
-use Rattle.program_parts.specs.Output.{WritesFront}
-use Rattle.allocator_app.specs.Report.{Goes, IsBadRow, IsBeyond, IsOfSchedule, IsRefused, IsReport, bad_row_line, limit_line, unlawful_line}
+use Rattle.app_base.specs.Output.{WritesFront}
+use Rattle.allocator_app.specs.Report.{ReadsKeepingPromise, IsBadRow, IsBeyond, IsOfSchedule, IsRefused, IsReport, bad_row_line, limit_line, unlawful_line}
 use Rattle.allocator_app.specs.declared.rows.Rows.{Rows}
 use Rattle.allocator_app.specs.declared.rows.Rows.TheVariants.{Taken, NoRow, Refused, Full}
 use Rattle.allocator_app.specs.declared.rows.Fault.{Fault}
 use Rattle.allocator_app.specs.declared.rows.Fault.TheVariants.{Source, Sink}
-use Rattle.program_parts.specs.declared.status.Status.{Status}
-use Rattle.program_parts.specs.declared.status.Status.TheVariants.{Done, Usage, BadRow, Unlawful, ReadFault, WriteFault, Memory, Limit, LinkFault, DiskFault, Damaged}
+use Rattle.app_base.specs.declared.status.Status.{Status}
+use Rattle.app_base.specs.declared.status.Status.TheVariants.{Done, Usage, BadRow, Unlawful, ReadFault, WriteFault, Memory, Limit, LinkFault, DiskFault, Damaged}
 
 -- where the rows that wait end: all were taken but the beginning of a line; or the next one is not taken, whatever
 -- comes behind
@@ -34,7 +34,7 @@ pub record TakesRows (limit : ℕ) (before now : Cluster) (waiting left : List �
     (sink_now : Option (List ℕ)) (output_now : List ℕ) (rows : Rows) : Type 0 where
   pub lines : List ℕ
   pub rest : List ℕ
-  pub goes : (more : List ℕ) → Goes before (waiting ++ more) lines now (rest ++ more)
+  pub goes : (more : List ℕ) → ReadsKeepingPromise before (waiting ++ more) lines now (rest ++ more)
   pub shorter : length rest ≤ length waiting
   pub stops : StopsAt limit now rest left rows
   pub written : Appends (append_known sink_before output_before) (append_known sink_now output_now) lines
@@ -44,7 +44,7 @@ pub record BreaksOff (before now : Cluster) (waiting : List ℕ) (sink_before : 
     (sink_now : Option (List ℕ)) : Type 0 where
   pub lines : List ℕ
   pub rest : List ℕ
-  pub goes : (more : List ℕ) → Goes before (waiting ++ more) lines now (rest ++ more)
+  pub goes : (more : List ℕ) → ReadsKeepingPromise before (waiting ++ more) lines now (rest ++ more)
   pub shorter : length rest ≤ length waiting
   pub written : WritesFront sink_before sink_now (output_before ++ lines)
 
@@ -95,7 +95,7 @@ pub record ReadsRows (limit : ℕ) (before now : Cluster) (bytes : List ℕ)
     (left sink_before sink_now : Option (List ℕ)) (output : List ℕ) (rows : Rows) : Type 0 where
   pub lines : List ℕ
   pub rest : List ℕ
-  pub goes : Goes before bytes lines now rest
+  pub goes : ReadsKeepingPromise before bytes lines now rest
   pub ends : EndsAt limit now rest rows
   pub no_further : ReadsNoFurther rest left
   pub written : Appends sink_before (append_known sink_now output) lines
@@ -109,7 +109,8 @@ IsCausedBy source_before source_now sink_before sink_now Sink =
     Rose sink_before sink_now × (source_now ≡ source_before)
 
 -- what it leaves
-abbrev pub IsInPart : Fault → ℕ → Cluster → List ℕ → Option (List ℕ) → Option (List ℕ) → Option (List ℕ) → Type 0
+abbrev pub IsInPart : Fault → ℕ → Cluster → List ℕ → Option (List ℕ) → Option (List ℕ)
+    → Option (List ℕ) → Type 0
 IsInPart Source limit first bytes left sink_before sink_now = IsReadInPart limit first bytes left sink_before sink_now
 IsInPart Sink limit first bytes left sink_before sink_now = IsWrittenInPart limit first bytes left sink_before sink_now
 
@@ -123,7 +124,8 @@ pub record IsTold (status : Status) (limit : ℕ) (first : Cluster) (bytes : Lis
   pub written : Appends sink_before sink_now report
 
 -- how a run over a schedule of at most so many rows ends, from a world on
-abbrev pub Ends : Status → ℕ → Cluster → List ℕ → Option (List ℕ) → Option (List ℕ) → Option (List ℕ) → Type 0
+abbrev pub Ends : Status → ℕ → Cluster → List ℕ → Option (List ℕ) → Option (List ℕ)
+    → Option (List ℕ) → Type 0
 Ends Done limit first bytes left sink_before sink_now = IsTold Done limit first bytes left sink_before sink_now
 Ends (BadRow row) limit first bytes left sink_before sink_now =
     IsTold (BadRow row) limit first bytes left sink_before sink_now
@@ -148,7 +150,8 @@ pub record Replays (limit : ℕ) (nodes : List ℕ) (left_old left sink_before s
       Ends status limit (cluster nodes) bytes left sink_before sink_now
 
 -- a plan to replay was followed so
-abbrev pub IsReplayedBy : Plan → Option (List ℕ) → Option (List ℕ) → Option (List ℕ) → Option (List ℕ) → Status → Type 0
+abbrev pub IsReplayedBy : Plan → Option (List ℕ) → Option (List ℕ) → Option (List ℕ) → Option (List ℕ)
+    → Status → Type 0
 IsReplayedBy (Replay rows ids) left_old left sink_before sink_now status =
     Replays rows ids.items left_old left sink_before sink_now status
 IsReplayedBy (Node size base turns ids) left_old left sink_before sink_now status = Unit {0}

@@ -2,10 +2,10 @@
 use Rattle.std.specs.Prelude.{◌≡◌, ◌⊎◌, ℕ, List, Option}
 use Rattle.std.specs.Io.KnownBytes.{Appends}
 use Rattle.outside.specs.Faults.{Rose}
-use Rattle.program_parts.specs.Output.{WritesFront}
-use Rattle.program_parts.specs.declared.status.Status.{Status}
-use Rattle.program_parts.specs.declared.status.Status.TheVariants.{Done, Memory, WriteFault}
-use Rattle.soak_rounds.specs.Counts.{IsEnd, soak_report}
+use Rattle.app_base.specs.Output.{WritesFront}
+use Rattle.app_base.specs.declared.status.Status.{Status}
+use Rattle.app_base.specs.declared.status.Status.TheVariants.{Done, Memory, WriteFault}
+use Rattle.app_soak.specs.Counts.{IsEnd, soak_report}
 use Rattle.allocator_app.specs.declared.plans.Plan.{Plan}
 use Rattle.allocator_app.specs.declared.plans.Plan.TheVariants.{Replay, Node, Soak}
 

@@ -1,6 +1,6 @@
 -- The words of the program.
 use Rattle.std.specs.Prelude.{◌≡◌, ◌≤◌, ◌<◌, ◌^◌, ℕ, List, [], ◌∷◌, codes, decimal, length, map, EachIndex, slice_index_or, Option, None, IsNone, IsSome}
-use Rattle.world_parts.specs.Cluster.{AreMembers}
+use Rattle.bus_spec.specs.Cluster.{AreMembers}
 use Rattle.allocator_app.specs.declared.plans.Plan.{Plan}
 use Rattle.allocator_app.specs.declared.plans.Plan.TheVariants.{Replay, Node, Soak}
 

@@ -1,12 +1,12 @@
 ghost use Rattle.std.specs.Prelude.{◌≡◌, ◌≤◌, ◌↔◌, ◌⊎◌, ℕ, List, [], Some, length, map, string_bytes, IsTrue};
 ghost use Rattle.arrayvec.specs.ArrayVec.{ArrayVec};
-ghost use Rattle.node_turns.specs.Nodes.{RunsNodes};
+ghost use Rattle.app_node.specs.Nodes.{RunsNodes};
 ghost use Rattle.outside.specs.Faults.{Rose};
 ghost use Rattle.replay_text.specs.declared.row.Row.{Row};
 ghost use Rattle.replay_text.specs.Lines.{ReadsRows};
-ghost use Rattle.soak_rounds.specs.Rounds.{members, soaked};
-ghost use Rattle.world_parts.specs.Cluster.{cluster};
-ghost use Rattle.world_parts.specs.Lawful.{Lawful};
+ghost use Rattle.app_soak.specs.Rounds.{members, soaked};
+ghost use Rattle.bus_spec.specs.Cluster.{cluster};
+ghost use Rattle.bus_spec.specs.Lawful.{Lawful};
 ghost use Rattle.allocator_app.specs.Faults.{NamesFault};
 ghost use Rattle.allocator_app.specs.Nodes.{RunsInTraces};
 ghost use Rattle.allocator_app.specs.Promise.{KeepsPromise};
@@ -19,17 +19,17 @@ ghost use Rattle.allocator_app.specs.Words.{IsAsked, IsNode, IsReplay, IsSoak, I
 use crate::plans::Plan;
 use crate::replay::replay;
 use crate::words::plan;
+use app_base::Status;
+use app_node::node;
+use app_node_laws::laws::{runs_of_node_are_rows, traces_are_lawful};
+use app_soak::laws::rows_are_lawful;
+use app_soak::soak;
+use bus_agreement::allocatees::the_allocatees;
+use bus_agreement::headline::{rows_are_safe, the_headline};
 use disk_model::Disk;
-use node_turns::node;
 use outside::{Clock, Link, Sink, Source};
-use process_laws::laws::{runs_of_node_are_rows, traces_are_lawful};
-use program_parts::Status;
 use replay_text::laws::a_line_has_one_row;
-use soak_rounds::laws::rows_are_lawful;
-use soak_rounds::soak;
 use std::alloc::Global;
-use world_laws::allocatees::the_allocatees;
-use world_laws::headline::{rows_are_safe, the_headline};
 
 /// Does what the words ask for.
 ///
@@ -43,11 +43,11 @@ use world_laws::headline::{rows_are_safe, the_headline};
 /// (`specs/InPart.antt`).
 ///
 /// `soak <seed> <rounds> <size>` makes its rows from the seed, and writes what they came to in six lines
-/// (`Rounds` and `Counts` of `soak_rounds`).
+/// (`Rounds` and `Counts` of `app_soak`).
 ///
 /// `node <size> <base> <turns> <id>..` runs these members of a cluster over the links and the disks that
 /// are handed in, one of each for a member, in their order, and writes what the last 256 steps told. Each
-/// disk is there again at the end (`RunsNodes` of `node_turns`). `LinkFault` and `DiskFault` come only where
+/// disk is there again at the end (`RunsNodes` of `app_node`). `LinkFault` and `DiskFault` come only where
 /// the link or the disk of that node failed, and `Damaged` only where the store of that node is damaged,
 /// first at that key, and those before it are not, if these disks tell what they hold. Then one line is
 /// written, and with `Damaged` no frame came or went. But for `WriteFault` no link and no disk counted a
@@ -56,10 +56,10 @@ use world_laws::headline::{rows_are_safe, the_headline};
 ///
 /// Where links, disks and the clock tell what they have: with `Done` what was sent, written and stored is
 /// exactly what the members do over what came on the links and what the clock read (`WholeRun` of
-/// `node_turns`). With `LinkFault`, `DiskFault` and `Damaged` what was sent is a beginning of what a run to
-/// its end sends, and each store that was opened holds what it then held (`CutRun` of `node_turns`). And in
+/// `app_node`). With `LinkFault`, `DiskFault` and `Damaged` what was sent is a beginning of what a run to
+/// its end sends, and each store that was opened holds what it then held (`CutRun` of `app_node`). And in
 /// every trace of a cluster of processes in which the run stands, what it sent and stored is what the world
-/// of the trace's rows says (`Traces` and `Stands` of `process_laws`).
+/// of the trace's rows says (`Traces` and `Stands` of `app_node_laws`).
 ///
 /// For the others neither links nor disks are handed in; with other words or objects the status is `Usage`.
 /// With `Usage` and `Memory` nothing is touched.
@@ -69,7 +69,7 @@ use world_laws::headline::{rows_are_safe, the_headline};
 /// gives one node ID to two devices, nor two to one; every allocation that is offered to the bus is a pair of
 /// it by then; and every later leader holds it. What an allocatee holds is a pair of that list, so no two
 /// with different unique IDs ever hold one node ID. Along the rows of a report each allocator by itself keeps
-/// its word, too (`Promise` of `world_parts`): its whole log gives nothing twice, and whatever pair it offers
+/// its word, too (`Promise` of `bus_spec`): its whole log gives nothing twice, and whatever pair it offers
 /// is one of its own committed log.
 pub fn run<S: Source, K: Sink, L: Link, D: Disk, C: Clock>(
     alloc: Global,

@@ -2,11 +2,11 @@ ghost use Rattle.std.specs.Prelude.{◌≡◌, ◌≤◌, ◌<◌, ◌+◌, ◌�
 ghost use Rattle.outside.specs.Faults.{HasCause, Rose};
 ghost use Rattle.bus_world.specs.World.{AcceptsAs, StandsFor, accepts, allocatees_accept, rows_taken};
 ghost use Rattle.allocatee.specs.Accepted as device;
-ghost use Rattle.server_parts.specs.Accepted as accepted;
+ghost use Rattle.alloc_step.specs.Accepted as accepted;
 ghost use Rattle.transfer_rx.specs.Acceptance.{AnswersByRows, first_signature};
 ghost use Rattle.transfer_rx.specs.Memory.{ReceiverFitsInMemory};
-ghost use Rattle.world_parts.specs.Cluster.{AreMembers, Cluster, cluster};
-ghost use Rattle.program_parts.specs.Output.{Grows};
+ghost use Rattle.bus_spec.specs.Cluster.{AreMembers, Cluster, cluster};
+ghost use Rattle.app_base.specs.Output.{Grows};
 ghost use Rattle.allocator_app.specs.Reaching.{HasRoom, Reaches};
 ghost use Rattle.allocator_app.specs.Report.{IsOfSchedule};
 ghost use Rattle.allocator_app.specs.Rows.{BreaksOff, Ends, IsCausedBy, IsInPart, ReadsRows, TakesRows, Waits};
@@ -16,11 +16,11 @@ use crate::report::end_report;
 use crate::rows::{Fault, Rows};
 use alloc_server::accept_rows;
 use allocatee::allocatee_rows;
+use app_base::{Output, Status};
 use bus_world::World;
 use bus_world::laws::logs_give_once;
 use can_frame::Kind;
 use outside::{Failed, Sink, Source};
-use program_parts::{Output, Status};
 use replay_text::write_told;
 use std::alloc::Global;
 

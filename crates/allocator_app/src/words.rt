@@ -1,12 +1,12 @@
 ghost use Rattle.std.specs.Prelude.{◌≡◌, ◌≤◌, ◌<◌, ℕ, List, map, string_bytes, decimal, length, slice_index, EachIndex, IfSome, IsNone};
 ghost use Rattle.raft_model.specs.Lists.{In};
-ghost use Rattle.world_parts.specs.Cluster.{AreMembers};
+ghost use Rattle.bus_spec.specs.Cluster.{AreMembers};
 ghost use Rattle.allocator_app.specs.Words.{IsNode, IsPlan, IsReplay, IsSoak};
 
 use crate::plans::Plan;
 use arrayvec::ArrayVec;
+use bus_spec::are_members;
 use replay_text::read_number;
-use world_parts::are_members;
 
 /// The plan of the words, without the program's name; `None` where they are none of
 /// `replay <rows> <id>..`, `node <size> <base> <turns> <id>..` and `soak <seed> <rounds> <size>`.

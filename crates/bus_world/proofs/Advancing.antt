@@ -8,60 +8,60 @@ use Rattle.disk_model.specs.declared.disk.Disk.{Ghosts}
 use Rattle.disk_model.specs.declared.memory.MemoryDisk.{MemoryDisk}
 use Rattle.disk_model.specs.Memory.{memory_calls}
 use Rattle.kv_store.specs.declared.fault.Fault.{Fault}
-use Rattle.kv_store.specs.Shelf.{Shelf}
+use Rattle.kv_store.specs.KeyDisk.{KeyDisk}
 use Rattle.raft_core.specs.StoredPuts.{stored_puts}
 use Rattle.raft_log.specs.declared.durable.Durable.{Durable}
-use Rattle.raft_log.specs.Calls.{MakesPuts}
+use Rattle.raft_log.specs.Calls.{WritesInOrder}
 use Rattle.raft_log.specs.DurableViews.{durable_disk, durable_fault}
-use Rattle.raft_log.specs.Shelf.{IsOn, IsOnShelf, are_put, puts_on}
+use Rattle.raft_log.specs.KeyDisk.{IsOn, IsKeyDisk, are_put, puts_on}
 use Rattle.raft_log.specs.Stored.{Put, Stored}
-use Rattle.server_parts.specs.declared.event.Outcome.{Outcome}
-use Rattle.server_parts.specs.declared.event.View.{View}
-use Rattle.server_parts.specs.Delivered.{Sight}
-use Rattle.server_parts.specs.TimedServer.{Timed}
+use Rattle.alloc_step.specs.declared.event.Outcome.{Outcome}
+use Rattle.alloc_step.specs.declared.event.View.{View}
+use Rattle.alloc_step.specs.Delivered.{StepResult}
+use Rattle.alloc_step.specs.AllocatorState.{AllocatorState}
 use Rattle.alloc_server.specs.declared.server.Server.{Server}
 use Rattle.alloc_server.specs.Server.{StepsTo, disk_of, durable_of, fault_of}
-use Rattle.world_parts.specs.Report.{failure_told}
-use Rattle.world_parts.specs.Telling.Telling.{HasFailed, HasStepped, HasStopped}
+use Rattle.bus_spec.specs.Report.{failure_told}
+use Rattle.bus_spec.specs.Telling.Telling.{HasFailed, HasStepped, HasStopped}
 use Rattle.bus_world.specs.OnDisk.{IsCutOn, IsUpOn}
 
 abbrev pub LawOfMemberPuts : Ghosts MemoryDisk → Type 0
-LawOfMemberPuts disk = (puts : List Put) (old new : Durable MemoryDisk disk) (shelf : Shelf Stored) (ok : Bool) → IsOnShelf old shelf →
-    MakesPuts puts old new ok → (ok ≡ true → durable_fault new ≡ None) →
-    IsOn (durable_disk new) (puts_on puts shelf) × (ok ≡ are_put puts shelf.calls) × (ok ≡ true → IsOnShelf new (puts_on puts shelf))
+LawOfMemberPuts disk = (puts : List Put) (old new : Durable MemoryDisk disk) (key_disk : KeyDisk Stored) (ok : Bool) → IsKeyDisk old key_disk →
+    WritesInOrder puts old new ok → (ok ≡ true → durable_fault new ≡ None) →
+    IsOn (durable_disk new) (puts_on puts key_disk) × (ok ≡ are_put puts key_disk.calls) × (ok ≡ true → IsKeyDisk new (puts_on puts key_disk))
 
-module _ {F : Type 0} {disk : Ghosts MemoryDisk} (server new : Server MemoryDisk F disk) (law : LawOfMemberPuts disk) (t : Timed) (shelf : Shelf Stored)
-    (up : IsUpOn server t shelf) (sight : Sight) where
+module _ {F : Type 0} {disk : Ghosts MemoryDisk} (server new : Server MemoryDisk F disk) (law : LawOfMemberPuts disk) (t : AllocatorState) (key_disk : KeyDisk Stored)
+    (up : IsUpOn server t key_disk) (step_result : StepResult) where
   abbrev puts : List Put
-  puts = stored_puts sight.going.puts shelf.store
+  puts = stored_puts step_result.step_state.puts key_disk.store
 
   abbrev Follows : Bool → Type 0
-  Follows ok = IsOn (disk_of new) (puts_on puts shelf) × (ok ≡ are_put puts shelf.calls) × (ok ≡ true → IsOnShelf (durable_of new) (puts_on puts shelf))
+  Follows ok = IsOn (disk_of new) (puts_on puts key_disk) × (ok ≡ are_put puts key_disk.calls) × (ok ≡ true → IsKeyDisk (durable_of new) (puts_on puts key_disk))
 
-  makes : (result : Result Outcome Fault) → StepsTo server new sight result → MakesPuts puts (durable_of server) (durable_of new) (is_ok result)
+  makes : (result : Result Outcome Fault) → StepsTo server new step_result result → WritesInOrder puts (durable_of server) (durable_of new) (is_ok result)
   makes result steps =
-      subst (λ (s : Stored). MakesPuts (stored_puts sight.going.puts s) (durable_of server) (durable_of new) (is_ok result)) up.keeps.state steps.puts
+      subst (λ (s : Stored). WritesInOrder (stored_puts step_result.step_state.puts s) (durable_of server) (durable_of new) (is_ok result)) up.keeps.state steps.puts
 
-  follows_ok : (outcome : Outcome) → StepsTo server new sight (Ok outcome) → Follows true
-  follows_ok outcome steps = law puts (durable_of server) (durable_of new) shelf true up.keeps (makes (Ok outcome) steps) (λ ok. steps.stands.works)
+  follows_ok : (outcome : Outcome) → StepsTo server new step_result (Ok outcome) → Follows true
+  follows_ok outcome steps = law puts (durable_of server) (durable_of new) key_disk true up.keeps (makes (Ok outcome) steps) (λ ok. steps.stands.works)
 
-  follows_err : (why : Fault) → StepsTo server new sight (Err why) → Follows false
-  follows_err why steps = law puts (durable_of server) (durable_of new) shelf false up.keeps (makes (Err why) steps) (λ ok. absurd (cc (ok)))
+  follows_err : (why : Fault) → StepsTo server new step_result (Err why) → Follows false
+  follows_err why steps = law puts (durable_of server) (durable_of new) key_disk false up.keeps (makes (Err why) steps) (λ ok. absurd (cc (ok)))
 
-  pub up_after : (outcome : Outcome) → StepsTo server new sight (Ok outcome) → IsUpOn new sight.going.timed (puts_on puts shelf)
+  pub up_after : (outcome : Outcome) → StepsTo server new step_result (Ok outcome) → IsUpOn new step_result.step_state.timed (puts_on puts key_disk)
   up_after outcome steps = record { stands = steps.stands; keeps = (follows_ok outcome steps).2 refl }
 
-  pub all_put : (outcome : Outcome) → StepsTo server new sight (Ok outcome) → are_put puts shelf.calls ≡ false → ⊥
-  all_put outcome steps e = let f : true ≡ are_put puts shelf.calls = (follows_ok outcome steps).1 in cc (f, e)
+  pub all_put : (outcome : Outcome) → StepsTo server new step_result (Ok outcome) → are_put puts key_disk.calls ≡ false → ⊥
+  all_put outcome steps e = let f : true ≡ are_put puts key_disk.calls = (follows_ok outcome steps).1 in cc (f, e)
 
-  pub not_all_put : (why : Fault) → StepsTo server new sight (Err why) → are_put puts shelf.calls ≡ true → ⊥
-  not_all_put why steps e = let f : false ≡ are_put puts shelf.calls = (follows_err why steps).1 in cc (f, e)
+  pub not_all_put : (why : Fault) → StepsTo server new step_result (Err why) → are_put puts key_disk.calls ≡ true → ⊥
+  not_all_put why steps e = let f : false ≡ are_put puts key_disk.calls = (follows_err why steps).1 in cc (f, e)
 
-  pub cut_after : (why : Fault) → StepsTo server new sight (Err why) → fault_of new ≡ Some why → IsCutOn new (puts_on puts shelf)
+  pub cut_after : (why : Fault) → StepsTo server new step_result (Err why) → fault_of new ≡ Some why → IsCutOn new (puts_on puts key_disk)
   cut_after why steps closed = record { why = why; closed = closed; on = (follows_err why steps).0 }
 
-  pub failure_after : (why : Fault) (n : ℕ) (b : Bool) → StepsTo server new sight (Err why) → (memory_calls (disk_of new)).stopped ≡ b →
-      (if b then HasStopped n else HasFailed n) ≡ failure_told n (puts_on puts shelf)
+  pub failure_after : (why : Fault) (n : ℕ) (b : Bool) → StepsTo server new step_result (Err why) → (memory_calls (disk_of new)).stopped ≡ b →
+      (if b then HasStopped n else HasFailed n) ≡ failure_told n (puts_on puts key_disk)
   failure_after why n b steps e =
       ap (λ (z : Bool). if z then HasStopped n else HasFailed n)
       (sym e ∙ ap (λ (calls : Calls). calls.stopped) (follows_err why steps).0.on.calls)

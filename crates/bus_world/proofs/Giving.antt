@@ -6,27 +6,27 @@ use Rattle.can_frame.specs.declared.entry.Entry.{Entry}
 use Rattle.can_frame.specs.Log.{HasPair, IsWellFormed, blank}
 use Rattle.disk_model.specs.declared.disk.Disk.{Ghosts}
 use Rattle.disk_model.specs.declared.memory.MemoryDisk.{MemoryDisk}
-use Rattle.kv_store.specs.Shelf.{Shelf}
+use Rattle.kv_store.specs.KeyDisk.{KeyDisk}
 use Rattle.raft_core.specs.StoredPuts.{store_of}
-use Rattle.raft_log.specs.Shelf.{are_put, puts_on}
+use Rattle.raft_log.specs.KeyDisk.{are_put, puts_on}
 use Rattle.raft_log.specs.Stored.{Stored}
 use Rattle.raft_model.specs.Lists.{In, at, at_here}
 use Rattle.raft_model.specs.Server.{Store, committed}
 use Rattle.replay_text.specs.declared.row.Row.{Row}
 use Rattle.replay_text.specs.declared.row.Row.TheVariants.{Open, Tick, Rx, Send, Ext, Crash, Fault, AOpen, ATick, ARx, ASend, AEnd}
-use Rattle.server_laws.specs.Giving as law
-use Rattle.server_parts.specs.Going.{Going, pairs}
-use Rattle.server_parts.specs.Step.{Event, step}
-use Rattle.server_parts.specs.TimedServer.{Timed}
-use Rattle.server_parts.specs.Transfers.{Given}
+use Rattle.alloc_step_laws.specs.Giving as law
+use Rattle.alloc_step.specs.StepState.{StepState, pairs}
+use Rattle.alloc_step.specs.Step.{Event, step}
+use Rattle.alloc_step.specs.AllocatorState.{AllocatorState}
+use Rattle.alloc_step.specs.Transfers.{Given}
 use Rattle.alloc_server.specs.declared.server.Server.{Server}
-use Rattle.world_parts.specs.declared.unlawful.Unlawful.{Unlawful}
-use Rattle.world_parts.specs.declared.unlawful.Unlawful.TheVariants.{NoNode}
-use Rattle.world_parts.specs.Cluster.{Cluster, changed, is_member, receipt_of, tick_of}
-use Rattle.world_parts.specs.Lawful.{because, cause, or_else}
-use Rattle.world_parts.specs.Members.{Life, Member as MemberState, cut_off, puts_of, stepped}
-use Rattle.world_parts.specs.Members.Life.{Down, Up, Failed}
-use Rattle.world_parts.specs.Promise.{AreOwn, OffersItsOwn, step_given}
+use Rattle.bus_spec.specs.declared.unlawful.Unlawful.{Unlawful}
+use Rattle.bus_spec.specs.declared.unlawful.Unlawful.TheVariants.{NoNode}
+use Rattle.bus_spec.specs.Cluster.{Cluster, changed, is_member, receipt_of, tick_of}
+use Rattle.bus_spec.specs.Lawful.{because, cause, or_else}
+use Rattle.bus_spec.specs.Members.{MemberStatus, Member as MemberState, cut_off, puts_of, stepped}
+use Rattle.bus_spec.specs.Members.MemberStatus.{Down, Up, Failed}
+use Rattle.bus_spec.specs.Promise.{AreOwn, OffersItsOwn, step_given}
 use Rattle.bus_world.specs.OnDisk.{IsUpOn, RunsAs}
 use Rattle.bus_world.specs.Places.{IsLife}
 use Rattle.bus_world.specs.Stands.{StandsFor as StandsForMember}
@@ -38,63 +38,63 @@ use Rattle.bus_world.specs.declared.members.Members.{Members}
 use Rattle.bus_world.proofs.Promising.{one_of, same_log}
 
 abbrev pub LawOfPairs : Type 0
-LawOfPairs = (t : Timed) (number : ℕ) (event : Event) → t.plain.store.commit ≤ length t.plain.store.log →
-    (given : Given) → In given (pairs (step t number event).going) →
-    law.IsGivenIn (committed (step t number event).going.timed.plain.store) given
+LawOfPairs = (t : AllocatorState) (number : ℕ) (event : Event) → t.plain.store.commit ≤ length t.plain.store.log →
+    (given : Given) → In given (pairs (step t number event).step_state) →
+    law.IsGivenIn (committed (step t number event).step_state.timed.plain.store) given
 
 -- ---- the commit index lies in the log
 
 abbrev IsInside : Store → Type 0
 IsInside store = store.commit ≤ length store.log
 
-abbrev AreInside : Life → Type 0
+abbrev AreInside : MemberStatus → Type 0
 AreInside Down = ⊤
 AreInside (Up t) = IsInside t.plain.store
 AreInside (Failed failure) = ⊤
 
-inside_up : {F : Type 0} {ghosts : Ghosts MemoryDisk} (server : Server MemoryDisk F ghosts) (t : Timed) (shelf : Shelf Stored) → IsUpOn server t shelf
+inside_up : {F : Type 0} {ghosts : Ghosts MemoryDisk} (server : Server MemoryDisk F ghosts) (t : AllocatorState) (key_disk : KeyDisk Stored) → IsUpOn server t key_disk
     → IsInside t.plain.store
-inside_up server t shelf is =
+inside_up server t key_disk is =
     subst IsInside (sym (is.stands.member.raft.store ∙ ap store_of is.keeps.state)) is.keeps.disk.on.stores.storable.commit
 
-inside_running : {F : Type 0} {ghosts : Ghosts MemoryDisk} (server : Server MemoryDisk F ghosts) (life : Life) (shelf : Shelf Stored) → RunsAs server life shelf
+inside_running : {F : Type 0} {ghosts : Ghosts MemoryDisk} (server : Server MemoryDisk F ghosts) (life : MemberStatus) (key_disk : KeyDisk Stored) → RunsAs server life key_disk
     → AreInside life
-inside_running server Down shelf is = tt
-inside_running server (Up t) shelf is = inside_up server t shelf is
-inside_running server (Failed failure) shelf is = tt
+inside_running server Down key_disk is = tt
+inside_running server (Up t) key_disk is = inside_up server t key_disk is
+inside_running server (Failed failure) key_disk is = tt
 
-inside_life : {F : Type 0} (place : Place F) (life : Life) (shelf : Shelf Stored) → IsLife place life shelf → AreInside life
-inside_life place Down shelf is = tt
-inside_life place (Failed failure) shelf is = tt
-inside_life (DownAt disk) (Up t) shelf is = absurd is
-inside_life (UpAt server) (Up t) shelf is = inside_running server (Up t) shelf is
-inside_life Absent (Up t) shelf is = absurd is
+inside_life : {F : Type 0} (place : Place F) (life : MemberStatus) (key_disk : KeyDisk Stored) → IsLife place life key_disk → AreInside life
+inside_life place Down key_disk is = tt
+inside_life place (Failed failure) key_disk is = tt
+inside_life (DownAt disk) (Up t) key_disk is = absurd is
+inside_life (UpAt server) (Up t) key_disk is = inside_running server (Up t) key_disk is
+inside_life Absent (Up t) key_disk is = absurd is
 
 -- ---- each entry of a log is well formed
 
-abbrev AreFormed : Life → Type 0
+abbrev AreFormed : MemberStatus → Type 0
 AreFormed Down = ⊤
 AreFormed (Up t) = (place : ℕ) → place < length t.plain.store.log → IsWellFormed (slice_index_or t.plain.store.log place (blank 0))
 AreFormed (Failed failure) = ⊤
 
-formed_up : {F : Type 0} {ghosts : Ghosts MemoryDisk} (server : Server MemoryDisk F ghosts) (t : Timed) (shelf : Shelf Stored) → IsUpOn server t shelf
+formed_up : {F : Type 0} {ghosts : Ghosts MemoryDisk} (server : Server MemoryDisk F ghosts) (t : AllocatorState) (key_disk : KeyDisk Stored) → IsUpOn server t key_disk
     → AreFormed (Up t)
-formed_up server t shelf is =
-    subst (λ (log : List Entry). (place : ℕ) → place < length log → IsWellFormed (slice_index_or log place (blank 0))) (sym (same_log server t shelf is))
+formed_up server t key_disk is =
+    subst (λ (log : List Entry). (place : ℕ) → place < length log → IsWellFormed (slice_index_or log place (blank 0))) (sym (same_log server t key_disk is))
     (λ place h. (is.keeps.disk.on.stores.storable.follows place h).formed)
 
-formed_running : {F : Type 0} {ghosts : Ghosts MemoryDisk} (server : Server MemoryDisk F ghosts) (life : Life) (shelf : Shelf Stored) → RunsAs server life shelf
+formed_running : {F : Type 0} {ghosts : Ghosts MemoryDisk} (server : Server MemoryDisk F ghosts) (life : MemberStatus) (key_disk : KeyDisk Stored) → RunsAs server life key_disk
     → AreFormed life
-formed_running server Down shelf is = tt
-formed_running server (Up t) shelf is = formed_up server t shelf is
-formed_running server (Failed failure) shelf is = tt
+formed_running server Down key_disk is = tt
+formed_running server (Up t) key_disk is = formed_up server t key_disk is
+formed_running server (Failed failure) key_disk is = tt
 
-formed_life : {F : Type 0} (place : Place F) (life : Life) (shelf : Shelf Stored) → IsLife place life shelf → AreFormed life
-formed_life place Down shelf is = tt
-formed_life place (Failed failure) shelf is = tt
-formed_life (DownAt disk) (Up t) shelf is = absurd is
-formed_life (UpAt server) (Up t) shelf is = formed_running server (Up t) shelf is
-formed_life Absent (Up t) shelf is = absurd is
+formed_life : {F : Type 0} (place : Place F) (life : MemberStatus) (key_disk : KeyDisk Stored) → IsLife place life key_disk → AreFormed life
+formed_life place Down key_disk is = tt
+formed_life place (Failed failure) key_disk is = tt
+formed_life (DownAt disk) (Up t) key_disk is = absurd is
+formed_life (UpAt server) (Up t) key_disk is = formed_running server (Up t) key_disk is
+formed_life Absent (Up t) key_disk is = absurd is
 
 -- of members that stand for those of a cluster
 pub formed_at : {F : Type 0} (own : List (Member F)) (c : Cluster) → AreMembersOf own c.member → ids_of own ≡ c.ids
@@ -120,19 +120,19 @@ own_pair store given formed is =
       its_node = is.node;
     }
 
-own_by : LawOfPairs → (row : ℕ) (event : Event) (x : MemberState) (t : Timed) → IsInside t.plain.store → (b : Bool) →
-    let going : Going = (step t row event).going in
-    let after = (if b then record x { life = Up going.timed; disk = puts_on (puts_of x going) x.disk } else cut_off x row t going (puts_on (puts_of x going) x.disk)).life in
-    AreFormed after → AreOwn (if b then pairs going else []) after
+own_by : LawOfPairs → (row : ℕ) (event : Event) (x : MemberState) (t : AllocatorState) → IsInside t.plain.store → (b : Bool) →
+    let step_state : StepState = (step t row event).step_state in
+    let after = (if b then record x { life = Up step_state.timed; disk = puts_on (puts_of x step_state) x.disk } else cut_off x row t step_state (puts_on (puts_of x step_state) x.disk)).life in
+    AreFormed after → AreOwn (if b then pairs step_state else []) after
 own_by pairs_law row event x t inside true formed given there =
-    own_pair (step t row event).going.timed.plain.store given formed (pairs_law t row event inside given there)
+    own_pair (step t row event).step_state.timed.plain.store given formed (pairs_law t row event inside given there)
 own_by pairs_law row event x t inside false formed given there = absurd there
 
-own_step : LawOfPairs → (row : ℕ) (event : Event) (life : Life) (x : MemberState) → AreInside life → AreFormed (stepped row event life x).life
+own_step : LawOfPairs → (row : ℕ) (event : Event) (life : MemberStatus) (x : MemberState) → AreInside life → AreFormed (stepped row event life x).life
     → AreOwn (step_given row event life x) (stepped row event life x).life
 own_step pairs_law row event Down x inside formed = λ given there. absurd there
 own_step pairs_law row event (Up t) x inside formed =
-    own_by pairs_law row event x t inside (are_put (puts_of x (step t row event).going) x.disk.calls) formed
+    own_by pairs_law row event x t inside (are_put (puts_of x (step t row event).step_state) x.disk.calls) formed
 own_step pairs_law row event (Failed failure) x inside formed = λ given there. absurd there
 
 -- ---- a row

@@ -6,20 +6,20 @@ use Rattle.disk_model.specs.declared.memory.MemoryDisk.{MemoryDisk}
 use Rattle.kv_store.specs.declared.fault.Fault.{Fault}
 use Rattle.kv_store.specs.declared.fault.OpenFault.{OpenFault}
 use Rattle.kv_store.specs.declared.fault.OpenFault.TheVariants.{Fault as DiskFault, Damaged}
-use Rattle.kv_store.specs.Shelf.{Shelf, restarted_on}
+use Rattle.kv_store.specs.KeyDisk.{KeyDisk, restarted_on}
 use Rattle.raft_core.specs.StoredPuts.{store_of}
 use Rattle.raft_log.specs.DurableViews.{durable_state}
-use Rattle.raft_log.specs.Shelf.{IsOnShelf, is_open_on, opening_on}
+use Rattle.raft_log.specs.KeyDisk.{IsKeyDisk, is_open_on, opening_on}
 use Rattle.raft_log.specs.Stored.{Stored}
-use Rattle.server_parts.specs.declared.event.View.{View}
-use Rattle.server_parts.specs.TimedServer.{opening}
+use Rattle.alloc_step.specs.declared.event.View.{View}
+use Rattle.alloc_step.specs.AllocatorState.{opening}
 use Rattle.alloc_server.specs.declared.server.Server.{Server}
 use Rattle.alloc_server.specs.Server.{StandsFor, durable_of}
-use Rattle.world_parts.specs.Members.{Member as MemberState, opened, stopped_with, unopened}
-use Rattle.world_parts.specs.Members.Life.{Down}
-use Rattle.world_parts.specs.Report.{failure_told, opening_told, stored_told}
-use Rattle.world_parts.specs.Telling.{Telling}
-use Rattle.world_parts.specs.Telling.Telling.{HasOpened}
+use Rattle.bus_spec.specs.Members.{Member as MemberState, opened, stopped_with, unopened}
+use Rattle.bus_spec.specs.Members.MemberStatus.{Down}
+use Rattle.bus_spec.specs.Report.{failure_told, opening_told, stored_told}
+use Rattle.bus_spec.specs.Telling.{Telling}
+use Rattle.bus_spec.specs.Telling.Telling.{HasOpened}
 use Rattle.bus_world.specs.OnDisk.{IsUpOn}
 use Rattle.bus_world.specs.Places.{IsDownOn, IsLife}
 use Rattle.bus_world.specs.declared.place.Place.{Place}
@@ -27,23 +27,23 @@ use Rattle.bus_world.proofs.Stepping.{is_life_down}
 
 -- ---- an opening that succeeded
 
-module _ {F : Type 0} {ghosts : Ghosts MemoryDisk} (server : Server MemoryDisk F ghosts) (id size now word : ℕ) (shelf : Shelf Stored)
-    (open_on : is_open_on shelf ≡ true) (on : IsOnShelf (durable_of server) (opening_on shelf)) where
+module _ {F : Type 0} {ghosts : Ghosts MemoryDisk} (server : Server MemoryDisk F ghosts) (id size now word : ℕ) (key_disk : KeyDisk Stored)
+    (open_on : is_open_on key_disk ≡ true) (on : IsKeyDisk (durable_of server) (opening_on key_disk)) where
   abbrev state : Stored
   state = durable_state (durable_of server)
 
   pub opened_told : (view : View) → view.term ≡ state.term → view.vote ≡ state.vote → view.last ≡ length state.log → view.commit ≡ state.commit
-      → HasOpened id view.term view.vote view.last view.commit ≡ opening_told id shelf
+      → HasOpened id view.term view.vote view.last view.commit ≡ opening_told id key_disk
   opened_told view term vote last commit =
       ap (λ (t : ℕ). HasOpened id t view.vote view.last view.commit) term
       ∙ (ap (λ (v : ℕ). HasOpened id state.term v view.last view.commit) vote
       ∙ (ap (λ (l : ℕ). HasOpened id state.term state.vote l view.commit) last
       ∙ (ap (λ (c : ℕ). HasOpened id state.term state.vote (length state.log) c) commit
       ∙ (ap (stored_told id) on.state
-      ∙ sym (ap (λ (b : Bool). if b then stored_told id (opening_on shelf).store else failure_told id (opening_on shelf)) open_on)))))
+      ∙ sym (ap (λ (b : Bool). if b then stored_told id (opening_on key_disk).store else failure_told id (opening_on key_disk)) open_on)))))
 
   pub is_up : StandsFor server (opening id size (store_of state) now word)
-      → IsUpOn server (opening id size (store_of (opening_on shelf).store) now word) (opening_on shelf)
+      → IsUpOn server (opening id size (store_of (opening_on key_disk).store) now word) (opening_on key_disk)
   is_up stands = record { stands = subst (λ (s : Stored). StandsFor server (opening id size (store_of s) now word)) on.state stands; keeps = on }
 
 -- ---- the place and the pattern of a member after an opening
@@ -58,7 +58,7 @@ module _ {F : Type 0} (place : Place F) where
   unopened_by false a c is e = is
 
   module _ (x : MemberState) where
-    down_by : (disk : Shelf Stored) → (b : Bool) → IsDownOn place (if b then restarted_on x.pattern disk else disk) →
+    down_by : (disk : KeyDisk Stored) → (b : Bool) → IsDownOn place (if b then restarted_on x.pattern disk else disk) →
         let after = if b then stopped_with x.pattern disk x else record x { life = Down; disk = disk } in IsLife place after.life after.disk
     down_by disk true on = is_life_down place (restarted_on x.pattern disk) on
     down_by disk false on = is_life_down place disk on
@@ -85,6 +85,6 @@ pub not_damaged : (Fails : Type 0) (why : OpenFault) → ((fault : Fault) → wh
 not_damaged Fails (DiskFault fault) fails sound = fails fault refl
 not_damaged Fails (Damaged key) fails sound = absurd (sound key refl)
 
-pub refused_told : (id : ℕ) (shelf : Shelf Stored) (told : Telling) → is_open_on shelf ≡ false → told ≡ failure_told id (opening_on shelf) → told ≡ opening_told id shelf
-refused_told id shelf told e f =
-    f ∙ sym (ap (λ (b : Bool). if b then stored_told id (opening_on shelf).store else failure_told id (opening_on shelf)) e)
+pub refused_told : (id : ℕ) (key_disk : KeyDisk Stored) (told : Telling) → is_open_on key_disk ≡ false → told ≡ failure_told id (opening_on key_disk) → told ≡ opening_told id key_disk
+refused_told id key_disk told e f =
+    f ∙ sym (ap (λ (b : Bool). if b then stored_told id (opening_on key_disk).store else failure_told id (opening_on key_disk)) e)

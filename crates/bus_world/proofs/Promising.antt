@@ -5,16 +5,16 @@ use Rattle.can_frame.specs.declared.entry.Entry.{Entry}
 use Rattle.can_frame.specs.Log.{IsInjective}
 use Rattle.disk_model.specs.declared.disk.Disk.{Ghosts}
 use Rattle.disk_model.specs.declared.memory.MemoryDisk.{MemoryDisk}
-use Rattle.kv_store.specs.Shelf.{Shelf}
+use Rattle.kv_store.specs.KeyDisk.{KeyDisk}
 use Rattle.raft_log.specs.Stored.{Stored}
 use Rattle.raft_model.specs.Lists.{In}
 use Rattle.raft_model.specs.Server.{Store}
-use Rattle.server_parts.specs.TimedServer.{Timed}
+use Rattle.alloc_step.specs.AllocatorState.{AllocatorState}
 use Rattle.alloc_server.specs.declared.server.Server.{Server}
-use Rattle.world_parts.specs.Cluster.{Cluster}
-use Rattle.world_parts.specs.Members.{Life}
-use Rattle.world_parts.specs.Members.Life.{Down, Up, Failed}
-use Rattle.world_parts.specs.Promise.{GivesOnce, log_on}
+use Rattle.bus_spec.specs.Cluster.{Cluster}
+use Rattle.bus_spec.specs.Members.{MemberStatus}
+use Rattle.bus_spec.specs.Members.MemberStatus.{Down, Up, Failed}
+use Rattle.bus_spec.specs.Promise.{GivesOnce, log_on}
 use Rattle.bus_world.specs.OnDisk.{IsUpOn, RunsAs}
 use Rattle.bus_world.specs.Places.{IsLife}
 use Rattle.bus_world.specs.Stands.{StandsFor as StandsForMember}
@@ -34,23 +34,23 @@ one_of (x ∷ xs) P all n (inl e) = (x, sym e, all 0 x (omega arith))
 one_of (x ∷ xs) P all n (inr there) = one_of xs P (λ i d h. all (suc i) d (omega (arith, h))) n there
 
 -- a server that runs has in memory what its disk has stored
-pub same_log : {F : Type 0} {ghosts : Ghosts MemoryDisk} (server : Server MemoryDisk F ghosts) (t : Timed) (shelf : Shelf Stored) → IsUpOn server t shelf
-    → t.plain.store.log ≡ shelf.store.log
-same_log server t shelf is = ap (λ (s : Store). s.log) is.stands.member.raft.store ∙ ap (λ (s : Stored). s.log) is.keeps.state
+pub same_log : {F : Type 0} {ghosts : Ghosts MemoryDisk} (server : Server MemoryDisk F ghosts) (t : AllocatorState) (key_disk : KeyDisk Stored) → IsUpOn server t key_disk
+    → t.plain.store.log ≡ key_disk.store.log
+same_log server t key_disk is = ap (λ (s : Store). s.log) is.stands.member.raft.store ∙ ap (λ (s : Stored). s.log) is.keeps.state
 
-runs_once : {F : Type 0} {ghosts : Ghosts MemoryDisk} (server : Server MemoryDisk F ghosts) (life : Life) (shelf : Shelf Stored) → RunsAs server life shelf
-    → IsInjective (log_on life shelf)
-runs_once server Down shelf is = absurd is
-runs_once server (Up t) shelf is =
-    subst (λ (log : List Entry). IsInjective log) (sym (same_log server t shelf is)) is.keeps.disk.on.stores.storable.injective
-runs_once server (Failed failure) shelf is = is.cut.on.stores.storable.injective
+runs_once : {F : Type 0} {ghosts : Ghosts MemoryDisk} (server : Server MemoryDisk F ghosts) (life : MemberStatus) (key_disk : KeyDisk Stored) → RunsAs server life key_disk
+    → IsInjective (log_on life key_disk)
+runs_once server Down key_disk is = absurd is
+runs_once server (Up t) key_disk is =
+    subst (λ (log : List Entry). IsInjective log) (sym (same_log server t key_disk is)) is.keeps.disk.on.stores.storable.injective
+runs_once server (Failed failure) key_disk is = is.cut.on.stores.storable.injective
 
-is_once : {F : Type 0} (place : Place F) (life : Life) (shelf : Shelf Stored) → IsLife place life shelf → IsInjective (log_on life shelf)
-is_once (DownAt disk) Down shelf is = is.stores.storable.injective
-is_once (DownAt disk) (Up t) shelf is = absurd is
-is_once (DownAt disk) (Failed failure) shelf is = absurd is
-is_once (UpAt server) life shelf is = runs_once server life shelf is
-is_once Absent life shelf is = absurd is
+is_once : {F : Type 0} (place : Place F) (life : MemberStatus) (key_disk : KeyDisk Stored) → IsLife place life key_disk → IsInjective (log_on life key_disk)
+is_once (DownAt disk) Down key_disk is = is.stores.storable.injective
+is_once (DownAt disk) (Up t) key_disk is = absurd is
+is_once (DownAt disk) (Failed failure) key_disk is = absurd is
+is_once (UpAt server) life key_disk is = runs_once server life key_disk is
+is_once Absent life key_disk is = absurd is
 
 gives_once : {F : Type 0} (world : Members F) (c : Cluster) → StandsFor world c → GivesOnce c
 gives_once {F} world c stands n there =

@@ -4,46 +4,46 @@ use Rattle.disk_model.specs.declared.calls.Calls.{Calls}
 use Rattle.disk_model.specs.declared.disk.Disk.{Ghosts}
 use Rattle.disk_model.specs.declared.memory.MemoryDisk.{MemoryDisk}
 use Rattle.disk_model.specs.Memory.{memory_calls, memory_contents}
-use Rattle.kv_store.specs.Shelf.{Shelf}
+use Rattle.kv_store.specs.KeyDisk.{KeyDisk}
 use Rattle.raft_log.specs.declared.durable.Durable.{Durable}
 use Rattle.raft_log.specs.DurableViews.{durable_copies, durable_disk, durable_fault, durable_state}
-use Rattle.raft_log.specs.Shelf.{IsOn, IsOnShelf}
+use Rattle.raft_log.specs.KeyDisk.{IsOn, IsKeyDisk}
 use Rattle.raft_log.specs.Stored.{Stored}
-use Rattle.server_parts.specs.TimedServer.{Timed}
+use Rattle.alloc_step.specs.AllocatorState.{AllocatorState}
 use Rattle.alloc_server.specs.declared.server.Server.{Server}
 use Rattle.alloc_server.specs.Server.{StandsFor, disk_of, durable_of, fault_of}
-use Rattle.world_parts.specs.Members.{Life}
-use Rattle.world_parts.specs.Members.Life.{Down, Up, Failed}
+use Rattle.bus_spec.specs.Members.{MemberStatus}
+use Rattle.bus_spec.specs.Members.MemberStatus.{Down, Up, Failed}
 use Rattle.bus_world.specs.OnDisk.{RunsAs}
 
 abbrev pub LawOfSet : Type 0
-LawOfSet = (old new : MemoryDisk) (shelf : Shelf Stored) (calls : Calls) → IsOn old shelf →
-    memory_contents new ≡ memory_contents old → memory_calls new ≡ calls → IsOn new (record shelf { calls = calls })
+LawOfSet = (old new : MemoryDisk) (key_disk : KeyDisk Stored) (calls : Calls) → IsOn old key_disk →
+    memory_contents new ≡ memory_contents old → memory_calls new ≡ calls → IsOn new (record key_disk { calls = calls })
 
 abbrev pub LawOfMemberSet : Ghosts MemoryDisk → Type 0
-LawOfMemberSet disk = (old new : Durable MemoryDisk disk) (shelf : Shelf Stored) (calls : Calls) → IsOnShelf old shelf →
+LawOfMemberSet disk = (old new : Durable MemoryDisk disk) (key_disk : KeyDisk Stored) (calls : Calls) → IsKeyDisk old key_disk →
     durable_state new ≡ durable_state old → durable_copies new ≡ durable_copies old → durable_fault new ≡ durable_fault old →
     memory_contents (durable_disk new) ≡ memory_contents (durable_disk old) → memory_calls (durable_disk new) ≡ calls →
-    IsOnShelf new (record shelf { calls = calls })
+    IsKeyDisk new (record key_disk { calls = calls })
 
 module _ {F : Type 0} {disk : Ghosts MemoryDisk} (server new : Server MemoryDisk F disk) (setting : Calls → Calls) (law : LawOfSet) (member_law : LawOfMemberSet disk)
     (calls : memory_calls (disk_of new) ≡ setting (memory_calls (disk_of server)))
     (contents : memory_contents (disk_of new) ≡ memory_contents (disk_of server))
-    (stands : (t : Timed) → StandsFor server t → StandsFor new t) (fault : fault_of new ≡ fault_of server)
+    (stands : (t : AllocatorState) → StandsFor server t → StandsFor new t) (fault : fault_of new ≡ fault_of server)
     (state : durable_state (durable_of new) ≡ durable_state (durable_of server)) (copies : durable_copies (durable_of new) ≡ durable_copies (durable_of server))
     (runs : (calls : Calls) → (setting calls).stopped ≡ calls.stopped) where
-  pub runs_set : (life : Life) (shelf : Shelf Stored) → RunsAs server life shelf → RunsAs new life (record shelf { calls = setting shelf.calls })
-  runs_set Down shelf is = absurd is
-  runs_set (Up t) shelf is = record {
+  pub runs_set : (life : MemberStatus) (key_disk : KeyDisk Stored) → RunsAs server life key_disk → RunsAs new life (record key_disk { calls = setting key_disk.calls })
+  runs_set Down key_disk is = absurd is
+  runs_set (Up t) key_disk is = record {
     stands = stands t is.stands;
-    keeps = member_law (durable_of server) (durable_of new) shelf (setting shelf.calls) is.keeps state copies
+    keeps = member_law (durable_of server) (durable_of new) key_disk (setting key_disk.calls) is.keeps state copies
         ((stands t is.stands).works ∙ sym is.stands.works) contents (calls ∙ ap setting is.keeps.disk.on.on.calls);
   }
-  runs_set (Failed failure) shelf is = record {
+  runs_set (Failed failure) key_disk is = record {
     cut = record {
       why = is.cut.why;
       closed = fault ∙ is.cut.closed;
-      on = law (disk_of server) (disk_of new) shelf (setting shelf.calls) is.cut.on contents (calls ∙ ap setting is.cut.on.on.calls);
+      on = law (disk_of server) (disk_of new) key_disk (setting key_disk.calls) is.cut.on contents (calls ∙ ap setting is.cut.on.on.calls);
     };
-    runs = runs shelf.calls ∙ is.runs;
+    runs = runs key_disk.calls ∙ is.runs;
   }

@@ -1,31 +1,31 @@
 -- What the place of a member stands for.
 use Rattle.std.specs.Prelude.{◌≡◌, Option, None, Some}
-use Rattle.kv_store.specs.Shelf.{Shelf}
-use Rattle.raft_log.specs.Shelf.{IsOn}
+use Rattle.kv_store.specs.KeyDisk.{KeyDisk}
+use Rattle.raft_log.specs.KeyDisk.{IsOn}
 use Rattle.raft_log.specs.Stored.{Stored}
 use Rattle.alloc_server.specs.Server.{accepts, disk_of}
-use Rattle.world_parts.specs.Members.{Life}
+use Rattle.bus_spec.specs.Members.{MemberStatus}
 use Rattle.bus_world.specs.OnDisk.{IsDownAs, RunsAs}
 use Rattle.bus_world.specs.declared.place.Place.{Place}
 use Rattle.bus_world.specs.declared.place.Place.TheVariants.{Down as DownAt, Up as UpAt, Absent}
 
 module _ {F : Type 0} where
   -- a disk is a stopped member, a server a running one
-  abbrev pub IsLife : Place F → Life → Shelf Stored → Type 0
-  IsLife (DownAt disk) life shelf = IsDownAs disk life shelf
-  IsLife (UpAt server) life shelf = RunsAs server life shelf
-  IsLife Absent life shelf = ⊥
+  abbrev pub IsLife : Place F → MemberStatus → KeyDisk Stored → Type 0
+  IsLife (DownAt disk) life key_disk = IsDownAs disk life key_disk
+  IsLife (UpAt server) life key_disk = RunsAs server life key_disk
+  IsLife Absent life key_disk = ⊥
 
   -- what a place has, as a disk: that of a server that runs, or the bare one of a stopped member
-  abbrev pub IsRunningOn : Place F → Shelf Stored → Type 0
-  IsRunningOn (DownAt disk) shelf = ⊥
-  IsRunningOn (UpAt server) shelf = IsOn (disk_of server) shelf
-  IsRunningOn Absent shelf = ⊥
+  abbrev pub IsRunningOn : Place F → KeyDisk Stored → Type 0
+  IsRunningOn (DownAt disk) key_disk = ⊥
+  IsRunningOn (UpAt server) key_disk = IsOn (disk_of server) key_disk
+  IsRunningOn Absent key_disk = ⊥
 
-  abbrev pub IsDownOn : Place F → Shelf Stored → Type 0
-  IsDownOn (DownAt disk) shelf = IsOn disk shelf
-  IsDownOn (UpAt server) shelf = ⊥
-  IsDownOn Absent shelf = ⊥
+  abbrev pub IsDownOn : Place F → KeyDisk Stored → Type 0
+  IsDownOn (DownAt disk) key_disk = IsOn disk key_disk
+  IsDownOn (UpAt server) key_disk = ⊥
+  IsDownOn Absent key_disk = ⊥
 
   -- the closure of a server that runs
   abbrev pub closure_of : Place F → Option F

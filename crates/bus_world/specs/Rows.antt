@@ -2,11 +2,11 @@
 use Rattle.std.specs.Prelude.{◌≡◌, None, Some}
 use Rattle.replay_text.specs.declared.row.Row.{Row}
 use Rattle.replay_text.specs.declared.told.Told.{Told}
-use Rattle.world_parts.specs.declared.unlawful.Unlawful.{Unlawful}
-use Rattle.world_parts.specs.Cluster.{Cluster, changed}
-use Rattle.world_parts.specs.Lawful.{cause}
-use Rattle.world_parts.specs.Report.{told as told_by}
-use Rattle.world_parts.specs.Telling.{telling_of}
+use Rattle.bus_spec.specs.declared.unlawful.Unlawful.{Unlawful}
+use Rattle.bus_spec.specs.Cluster.{Cluster, changed}
+use Rattle.bus_spec.specs.Lawful.{cause}
+use Rattle.bus_spec.specs.Report.{told as told_by}
+use Rattle.bus_spec.specs.Telling.{telling_of}
 use Rattle.bus_world.specs.MemberRows as members
 use Rattle.bus_world.specs.Members.{Holds}
 use Rattle.bus_world.specs.Seats.{AreSeatsOf}

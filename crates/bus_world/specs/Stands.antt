@@ -1,6 +1,6 @@
 -- What a member of the code stands for.
 use Rattle.std.specs.Prelude.{◌≡◌}
-use Rattle.world_parts.specs.Members.{Member as MemberState}
+use Rattle.bus_spec.specs.Members.{Member as MemberState}
 use Rattle.bus_world.specs.Places.{IsLife}
 use Rattle.bus_world.specs.declared.member.Member.{Member}
 

@@ -6,15 +6,15 @@ ghost use Rattle.transfer_rx.specs.Acceptance.{AnswersByRows};
 ghost use Rattle.transfer_rx.specs.Memory.{ReceiverFitsInMemory};
 ghost use Rattle.allocatee.specs.Accepted as accepted;
 ghost use Rattle.allocatee.specs.Stands.{event_of};
-ghost use Rattle.world_parts.specs.Cluster.{Cluster, receipt_at};
-ghost use Rattle.world_parts.specs.Lawful.{absent, cause, no_allocatee, or_else, present};
+ghost use Rattle.bus_spec.specs.Cluster.{Cluster, receipt_at};
+ghost use Rattle.bus_spec.specs.Lawful.{absent, cause, no_allocatee, or_else, present};
 
 use crate::rows::copy_of;
 use crate::world::World;
 use allocatee::AEvent;
+use bus_spec::Unlawful;
 use can_frame::{Judged, Kind, Uid};
 use replay_text::Told;
-use world_parts::Unlawful;
 
 impl<F: Fn(Kind, u16) -> Option<u64> + Copy, G: Fn(Kind, u16) -> Option<u64> + Copy> World<F, G> {
     ghost use Rattle.bus_world.specs.Rows.{Keeps, Leaves, Refuses, Tells};

@@ -5,18 +5,18 @@ ghost use Rattle.can_frame.specs.Identifier.{identifier_of};
 ghost use Rattle.replay_text.specs.declared.row.Row.TheVariants.{Rx, Send, Ext};
 ghost use Rattle.transfer_rx.specs.Acceptance.{AnswersByRows};
 ghost use Rattle.transfer_rx.specs.Memory.{ReceiverFitsInMemory};
-ghost use Rattle.server_parts.specs.Accepted as accepted;
+ghost use Rattle.alloc_step.specs.Accepted as accepted;
 ghost use Rattle.alloc_server.specs.Server.{event_of};
-ghost use Rattle.world_parts.specs.Cluster.{Cluster, receipt_of};
-ghost use Rattle.world_parts.specs.Lawful.{cause, is_forged, no_node, not_running, or_else};
+ghost use Rattle.bus_spec.specs.Cluster.{Cluster, receipt_of};
+ghost use Rattle.bus_spec.specs.Lawful.{cause, is_forged, no_node, not_running, or_else};
 
 use crate::members::Members;
 use alloc_server::Event;
+use alloc_step::{ALLOCATION, APPEND_ENTRIES, DISCOVERY, REQUEST_VOTE};
+use bus_spec::Unlawful;
 use can_frame::{Frame, Ident, Judged, Kind, Mark};
 use replay_text::Told;
-use server_parts::{ALLOCATION, APPEND_ENTRIES, DISCOVERY, REQUEST_VOTE};
 use transfer_tx::Marked;
-use world_parts::Unlawful;
 
 impl<F: Fn(Kind, u16) -> Option<u64> + Copy> Members<F> {
     ghost use Rattle.bus_world.specs.MemberRows.{Keeps, Leaves, Refuses, Tells};

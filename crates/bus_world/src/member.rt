@@ -1,19 +1,19 @@
 ghost use Rattle.std.specs.Prelude.{◌≡◌, ◌≤◌, ◌<◌, ℕ, true, false, IsNone, option_map, if◌then◌else◌};
-ghost use Rattle.kv_store.specs.Shelf.{Shelf, restarted_on};
-ghost use Rattle.raft_log.specs.Shelf.{IsOn};
+ghost use Rattle.kv_store.specs.KeyDisk.{KeyDisk, restarted_on};
+ghost use Rattle.raft_log.specs.KeyDisk.{IsOn};
 ghost use Rattle.raft_log.specs.Stored.{Stored};
 ghost use Rattle.transfer_rx.specs.Acceptance.{AnswersByRows};
 ghost use Rattle.transfer_rx.specs.Memory.{ReceiverFitsInMemory};
 ghost use Rattle.transfer_rx.specs.Reassembly.{arrival_of};
 ghost use Rattle.transfer_tx.specs.Views.{queued_of};
-ghost use Rattle.server_parts.specs.Accepted as accepted;
+ghost use Rattle.alloc_step.specs.Accepted as accepted;
 ghost use Rattle.alloc_server.specs.Server.{event_of};
-ghost use Rattle.world_parts.specs.Lawful.{judged, of_judged};
-ghost use Rattle.world_parts.specs.Members.{Member as MemberState, after_sending, armed, failing, fresh, is_running, next_frame, opened as opened_member, stepped as stepped_member, stopped_with};
-ghost use Rattle.world_parts.specs.Members.Life.{Down};
-ghost use Rattle.world_parts.specs.Report.{failure_told, life_entry, life_view, opening_told, step_told};
-ghost use Rattle.world_parts.specs.Telling.{is_stop, telling_of};
-ghost use Rattle.world_parts.specs.Telling.Telling.{HasOpened, HasStopped, IsArmed};
+ghost use Rattle.bus_spec.specs.Lawful.{judged, of_judged};
+ghost use Rattle.bus_spec.specs.Members.{Member as MemberState, after_sending, armed, failing, fresh, is_running, next_frame, opened as opened_member, stepped as stepped_member, stopped_with};
+ghost use Rattle.bus_spec.specs.Members.MemberStatus.{Down};
+ghost use Rattle.bus_spec.specs.Report.{failure_told, life_entry, life_view, opening_told, step_told};
+ghost use Rattle.bus_spec.specs.Telling.{is_stop, telling_of};
+ghost use Rattle.bus_spec.specs.Telling.Telling.{HasOpened, HasStopped, IsArmed};
 ghost use Rattle.bus_world.specs.Patterns.{IsFilled};
 
 use crate::patterns::copy_of;
@@ -122,8 +122,8 @@ impl<F: Fn(Kind, u16) -> Option<u64> + Copy> Member<F> {
         requires memory { ReceiverFitsInMemory F.row 160 128 }
         requires callable { F.IsAlwaysCallable accept }
         requires answers { AnswersByRows (F.post accept) rows.items }
-        ensures told { (shelf : Shelf Stored) → IsOn disk shelf →
-            telling_of result ≡ opening_told self.old.id shelf }
+        ensures told { (key_disk : KeyDisk Stored) → IsOn disk key_disk →
+            telling_of result ≡ opening_told self.old.id key_disk }
         ensures stands { (x : MemberState) → IsOn disk x.disk → self.old.pattern ≡ x.pattern →
             x.life ≡ Down →
             StandsFor self.new (opened_member self.old.id size moment word x) }
@@ -146,10 +146,10 @@ impl<F: Fn(Kind, u16) -> Option<u64> + Copy> Member<F> {
 
     /// An opening failed: the member stays stopped. Where its disk stopped, it is started again.
     fn stay_stopped(&mut self, disk: MemoryDisk) -> Told
-        ensures told { (shelf : Shelf Stored) → IsOn disk shelf →
-            telling_of result ≡ failure_told self.old.id shelf }
-        ensures down { (shelf : Shelf Stored) → IsOn disk shelf → IsDownOn self.new.place
-            (if shelf.calls.stopped then restarted_on self.old.pattern shelf else shelf) }
+        ensures told { (key_disk : KeyDisk Stored) → IsOn disk key_disk →
+            telling_of result ≡ failure_told self.old.id key_disk }
+        ensures down { (key_disk : KeyDisk Stored) → IsOn disk key_disk → IsDownOn self.new.place
+            (if key_disk.calls.stopped then restarted_on self.old.pattern key_disk else key_disk) }
         ensures pattern { self.new.pattern ≡ self.old.pattern }
         ensures id { self.new.id ≡ self.old.id }
         ensures accepts { (accept : F) → Accepts self.new.place accept }
@@ -299,8 +299,8 @@ impl<F: Fn(Kind, u16) -> Option<u64> + Copy> Member<F> {
     /// A member that runs stops. Its disk keeps what the pattern says of the bytes that were not
     /// synced.
     fn stop_now(&mut self)
-        ensures stopped { (shelf : Shelf Stored) → IsRunningOn self.old.place shelf →
-            IsDownOn self.new.place (restarted_on self.old.pattern shelf) }
+        ensures stopped { (key_disk : KeyDisk Stored) → IsRunningOn self.old.place key_disk →
+            IsDownOn self.new.place (restarted_on self.old.pattern key_disk) }
         ensures pattern { self.new.pattern ≡ self.old.pattern }
         ensures id { self.new.id ≡ self.old.id }
         ensures accepts { (accept : F) → Accepts self.old.place accept →

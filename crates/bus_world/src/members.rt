@@ -1,10 +1,10 @@
 ghost use Rattle.std.specs.Prelude.{◌≡◌, ◌≤◌, ◌<◌, ◌+◌, ◌++◌, ◌∷◌, [], ◌↔◌, ◌^◌, ℕ, IfOk, IfErr, IfSome, OnOk, length, slice_index_or, vec_capacity};
 ghost use Rattle.transfer_rx.specs.Acceptance.{AnswersByRows};
 ghost use Rattle.transfer_rx.specs.Memory.{ReceiverFitsInMemory};
-ghost use Rattle.server_parts.specs.Accepted as accepted;
-ghost use Rattle.world_parts.specs.Cluster.{AreMembers, AreNodes, Cluster, cluster};
-ghost use Rattle.world_parts.specs.Report.{entry_of, view_at};
-ghost use Rattle.world_parts.specs.declared.unlawful.WorldFault.TheVariants.{BadIds};
+ghost use Rattle.alloc_step.specs.Accepted as accepted;
+ghost use Rattle.bus_spec.specs.Cluster.{AreMembers, AreNodes, Cluster, cluster};
+ghost use Rattle.bus_spec.specs.Report.{entry_of, view_at};
+ghost use Rattle.bus_spec.specs.declared.unlawful.WorldFault.TheVariants.{BadIds};
 ghost use Rattle.bus_world.specs.Fresh.{AreFresh};
 ghost use Rattle.bus_world.specs.Places.{Accepts};
 ghost use Rattle.bus_world.specs.declared.member.Member.{Member};
@@ -13,11 +13,11 @@ use crate::bus::put_on;
 use crate::member::Member;
 use alloc_server::View;
 use arrayvec::ArrayVec;
+use bus_spec::{WorldFault, are_members};
 use can_frame::{Entry, Kind};
 use std::alloc::Global;
 use transfer_rx::AcceptRow;
 use transfer_tx::Marked;
-use world_parts::{WorldFault, are_members};
 
 /// 1 to 5 members of a cluster, and their bus.
 #[derive(Drop)]

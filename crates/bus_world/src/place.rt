@@ -1,6 +1,6 @@
-ghost use Rattle.kv_store.specs.Shelf.{Shelf};
+ghost use Rattle.kv_store.specs.KeyDisk.{KeyDisk};
 ghost use Rattle.raft_log.specs.Stored.{Stored};
-ghost use Rattle.world_parts.specs.Members.{Life};
+ghost use Rattle.bus_spec.specs.Members.{MemberStatus};
 
 use alloc_server::Server;
 use can_frame::Kind;
@@ -22,9 +22,9 @@ impl<F: Fn(Kind, u16) -> Option<u64> + Copy> Place<F> {
 
     /// The disk stops in place of that call of it.
     pub fn stop_at(&mut self, call: u64)
-        ensures life { (life : Life) (shelf : Shelf Stored) → IsLife self.old life shelf →
+        ensures life { (life : MemberStatus) (key_disk : KeyDisk Stored) → IsLife self.old life key_disk →
             IsLife self.new life
-            (record shelf { calls = record shelf.calls { stop_in = call } }) }
+            (record key_disk { calls = record key_disk.calls { stop_in = call } }) }
         ensures accepts { (accept : F) → Accepts self.old accept → Accepts self.new accept }
     {
         the_disk_by_states();
@@ -38,9 +38,9 @@ impl<F: Fn(Kind, u16) -> Option<u64> + Copy> Place<F> {
 
     /// That call of the disk fails.
     pub fn fail_at(&mut self, call: u64)
-        ensures life { (life : Life) (shelf : Shelf Stored) → IsLife self.old life shelf →
+        ensures life { (life : MemberStatus) (key_disk : KeyDisk Stored) → IsLife self.old life key_disk →
             IsLife self.new life
-            (record shelf { calls = record shelf.calls { fail_in = call } }) }
+            (record key_disk { calls = record key_disk.calls { fail_in = call } }) }
         ensures accepts { (accept : F) → Accepts self.old accept → Accepts self.new accept }
     {
         the_disk_by_states();

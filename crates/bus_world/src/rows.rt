@@ -4,17 +4,17 @@ ghost use Rattle.std.specs.Prelude.{◌≡◌, ◌<◌, IfOk, IfErr, IsErr, OnOk
 ghost use Rattle.replay_text.specs.declared.row.Row.TheVariants.{Open, Tick, Crash, Fault};
 ghost use Rattle.transfer_rx.specs.Acceptance.{AnswersByRows};
 ghost use Rattle.transfer_rx.specs.Memory.{ReceiverFitsInMemory};
-ghost use Rattle.server_parts.specs.Accepted as accepted;
+ghost use Rattle.alloc_step.specs.Accepted as accepted;
 ghost use Rattle.bus_world.specs.Patterns.{IsFilled};
 
 use crate::members::Members;
 use alloc_server::Event;
 use arrayvec::ArrayVec;
+use bus_spec::Unlawful;
 use can_frame::Kind;
 use outside::Pattern;
 use replay_text::Told;
 use transfer_rx::AcceptRow;
-use world_parts::Unlawful;
 
 impl<F: Fn(Kind, u16) -> Option<u64> + Copy> Members<F> {
     ghost use Rattle.bus_world.specs.MemberRows.{Keeps, Leaves, Refuses, Tells};

@@ -6,11 +6,11 @@ ghost use Rattle.transfer_tx.specs.Views.{queued_of};
 ghost use Rattle.allocatee.specs.Accepted as accepted;
 ghost use Rattle.allocatee.specs.Allocatee.{Device, opening};
 ghost use Rattle.allocatee.specs.Stands.{event_of};
-ghost use Rattle.world_parts.specs.Allocatees.{after_sending_from, next_from, stepped_at};
-ghost use Rattle.world_parts.specs.Lawful.{judged_at, of_judged};
-ghost use Rattle.world_parts.specs.Report.{step_told_at};
-ghost use Rattle.world_parts.specs.Telling.{telling_of};
-ghost use Rattle.world_parts.specs.Telling.Telling.{HasCome, HasLeft};
+ghost use Rattle.bus_spec.specs.Allocatees.{after_sending_from, next_from, stepped_at};
+ghost use Rattle.bus_spec.specs.Lawful.{judged_at, of_judged};
+ghost use Rattle.bus_spec.specs.Report.{step_told_at};
+ghost use Rattle.bus_spec.specs.Telling.{telling_of};
+ghost use Rattle.bus_spec.specs.Telling.Telling.{HasCome, HasLeft};
 
 use allocatee::{AEvent, Allocatee};
 use arrayvec::ArrayVec;

@@ -1,17 +1,17 @@
 ghost use Rattle.std.specs.Prelude.{◌≡◌, ℕ, true, false};
-ghost use Rattle.kv_store.specs.Shelf.{Shelf};
+ghost use Rattle.kv_store.specs.KeyDisk.{KeyDisk};
 ghost use Rattle.raft_core.specs.StoredPuts.{stored_puts};
-ghost use Rattle.raft_log.specs.Shelf.{are_put, puts_on};
+ghost use Rattle.raft_log.specs.KeyDisk.{are_put, puts_on};
 ghost use Rattle.raft_log.specs.Stored.{Stored};
 ghost use Rattle.transfer_rx.specs.Acceptance.{AnswersByRows};
 ghost use Rattle.transfer_rx.specs.Memory.{ReceiverFitsInMemory};
-ghost use Rattle.server_parts.specs.Accepted as accepted;
-ghost use Rattle.server_parts.specs.Step.{step as step_of};
-ghost use Rattle.server_parts.specs.TimedServer.{Timed, view_of};
+ghost use Rattle.alloc_step.specs.Accepted as accepted;
+ghost use Rattle.alloc_step.specs.Step.{step as step_of};
+ghost use Rattle.alloc_step.specs.AllocatorState.{AllocatorState, view_of};
 ghost use Rattle.alloc_server.specs.Server.{accepts, event_of};
-ghost use Rattle.world_parts.specs.Report.{failure_told, view_told};
-ghost use Rattle.world_parts.specs.Telling.{telling_of};
-ghost use Rattle.world_parts.specs.Telling.Telling.{HasFailed, HasStepped};
+ghost use Rattle.bus_spec.specs.Report.{failure_told, view_told};
+ghost use Rattle.bus_spec.specs.Telling.{telling_of};
+ghost use Rattle.bus_spec.specs.Telling.Telling.{HasFailed, HasStepped};
 ghost use Rattle.bus_world.specs.OnDisk.{HasFailedOn, IsCutOn, IsUpOn};
 
 use alloc_server::{Event, Outcome, Server, View};
@@ -30,17 +30,17 @@ pub(crate) fn advance<F: Fn(Kind, u16) -> Option<u64> + Copy>(
     requires memory { ReceiverFitsInMemory F.row 160 128 }
     requires callable { F.IsAlwaysCallable (accepts server.old) }
     requires answers { AnswersByRows (F.post (accepts server.old)) accepted.rows }
-    ensures finished { (t : Timed) (shelf : Shelf Stored) → IsUpOn server.old t shelf →
-        let sight = step_of t number (event_of event) in
-        let puts = stored_puts sight.going.puts shelf.store in are_put puts shelf.calls ≡ true →
-        (telling_of result ≡ view_told n (view_of sight.going.timed) sight) ×
-        IsUpOn server.new sight.going.timed (puts_on puts shelf) }
-    ensures cut { (t : Timed) (shelf : Shelf Stored) → IsUpOn server.old t shelf →
-        let sight = step_of t number (event_of event) in
-        let puts = stored_puts sight.going.puts shelf.store in are_put puts shelf.calls ≡ false →
-        (telling_of result ≡ failure_told n (puts_on puts shelf)) ×
-        IsCutOn server.new (puts_on puts shelf) }
-    ensures again { (shelf : Shelf Stored) → HasFailedOn server.old shelf →
+    ensures finished { (t : AllocatorState) (key_disk : KeyDisk Stored) → IsUpOn server.old t key_disk →
+        let step_result = step_of t number (event_of event) in
+        let puts = stored_puts step_result.step_state.puts key_disk.store in are_put puts key_disk.calls ≡ true →
+        (telling_of result ≡ view_told n (view_of step_result.step_state.timed) step_result) ×
+        IsUpOn server.new step_result.step_state.timed (puts_on puts key_disk) }
+    ensures cut { (t : AllocatorState) (key_disk : KeyDisk Stored) → IsUpOn server.old t key_disk →
+        let step_result = step_of t number (event_of event) in
+        let puts = stored_puts step_result.step_state.puts key_disk.store in are_put puts key_disk.calls ≡ false →
+        (telling_of result ≡ failure_told n (puts_on puts key_disk)) ×
+        IsCutOn server.new (puts_on puts key_disk) }
+    ensures again { (key_disk : KeyDisk Stored) → HasFailedOn server.old key_disk →
         (telling_of result ≡ HasFailed n) × (server.new ≡ server.old) }
     ensures accepts { accepts server.new ≡ accepts server.old }
 {

@@ -6,7 +6,7 @@ use Rattle.disk_model.specs.Contents.{Contents, HasBytes, IsSettled, IsSound, Ma
 use Rattle.disk_model.specs.Device.{IsSynced, Overwrites}
 use Rattle.disk_model.specs.Restart.{run_start}
 use Rattle.kv_store.specs.Image.{chosen_copy, copy_bytes, copy_start, put_in, turned}
-use Rattle.kv_store.specs.Shelf.{IsLoose, Shows}
+use Rattle.kv_store.specs.KeyDisk.{IsUnsynced, Shows}
 use Rattle.kv_store.proofs.DeviceCalls.{chosen_by}
 use Rattle.kv_store.proofs.Replaced.{AgreesOutside, after_write, elsewhere, selectors, stays, turns, unchosen}
 
@@ -93,7 +93,7 @@ module _ (map : ℕ → List ℕ) (copies : ℕ → ℕ) (value : List ℕ) (key
       pub selector_seen : Shows c3.seen (put_in map key value) (turned key copies)
       selector_seen = selector_kept c3.seen sound3.current (chosen_by key (1 - copies key) c3.seen bit second.inside)
 
-      pub selector_loose : IsLoose c3 (put_in map key value) (turned key copies) (record { key = key; before = map })
+      pub selector_loose : IsUnsynced c3 (put_in map key value) (turned key copies) (record { key = key; before = map })
       selector_loose = record {
         exists = exists;
         kept = λ image left is. selector_kept image left (is ∙ turned_same key copies);

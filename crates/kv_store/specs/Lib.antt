@@ -1,6 +1,6 @@
 pub mod Image
 pub mod Opening
-pub mod Shelf
+pub mod KeyDisk
 pub mod StoreViews
 pub mod Table
 pub mod TableViews

@@ -8,7 +8,7 @@ ghost use Rattle.disk_model.specs.Device.{Makes};
 ghost use Rattle.disk_model.specs.Memory.{DoesInMemory, Restarts, memory_calls, memory_contents};
 ghost use Rattle.disk_model.specs.Pattern.{IsUsable};
 ghost use Rattle.kv_store.specs.Image.{AlwaysStandsFor, IsFirstDamaged, StandsFor, key_count, open_calls, put_calls, put_in, value_limit};
-ghost use Rattle.kv_store.specs.Shelf.{IsOn, IsReady, Shelf, Shows, is_opened, is_put, opened_on, put_on, restarted_on};
+ghost use Rattle.kv_store.specs.KeyDisk.{IsOn, IsReady, KeyDisk, Shows, is_opened, is_put, opened_on, put_on, restarted_on};
 ghost use Rattle.outside.specs.declared.pattern.Pattern.{Pattern};
 ghost use Rattle.kv_store.specs.StoreViews.{store_disk, store_fault, store_map};
 ghost use Rattle.kv_store.specs.declared.store.Store.{Store};
@@ -36,27 +36,27 @@ pub fn a_store_is_durable<D: Disk>()
 /// after a put, an opening, a restart and a change of its settings, and these device calls succeed exactly
 /// where the shelf says.
 pub fn the_disk_by_keys()
-    ensures put { (old new : MemoryDisk) (shelf : Shelf (ℕ → List ℕ)) (key : ℕ) (value : List ℕ)
+    ensures put { (old new : MemoryDisk) (key_disk : KeyDisk (ℕ → List ℕ)) (key : ℕ) (value : List ℕ)
         (ok : Bool) →
-        IsReady old shelf → key < key_count → length value ≤ value_limit →
-        Makes DoesInMemory (put_calls key (1 - shelf.copies key) value) ok old new →
-        let after = put_on key (put_in shelf.store key value) shelf in
-        IsOn new after × (ok ≡ is_put shelf.calls) × (ok ≡ true → IsReady new after) }
-    ensures opened { (old new : MemoryDisk) (shelf : Shelf (ℕ → List ℕ)) (ok : Bool) →
-        IsOn old shelf →
+        IsReady old key_disk → key < key_count → length value ≤ value_limit →
+        Makes DoesInMemory (put_calls key (1 - key_disk.copies key) value) ok old new →
+        let after = put_on key (put_in key_disk.store key value) key_disk in
+        IsOn new after × (ok ≡ is_put key_disk.calls) × (ok ≡ true → IsReady new after) }
+    ensures opened { (old new : MemoryDisk) (key_disk : KeyDisk (ℕ → List ℕ)) (ok : Bool) →
+        IsOn old key_disk →
         Makes DoesInMemory open_calls ok old new →
-        IsOn new (opened_on shelf) × (ok ≡ is_opened shelf.calls)
-        × (ok ≡ true → IsReady new (opened_on shelf)) }
-    ensures restarted { (old new : MemoryDisk) (shelf : Shelf (ℕ → List ℕ)) (pattern : Pattern) →
-        IsOn old shelf → IsUsable pattern →
-        Restarts pattern old new → IsReady new (restarted_on pattern shelf) }
-    ensures set { (old new : MemoryDisk) (shelf : Shelf (ℕ → List ℕ)) (calls : Calls) →
-        IsOn old shelf →
+        IsOn new (opened_on key_disk) × (ok ≡ is_opened key_disk.calls)
+        × (ok ≡ true → IsReady new (opened_on key_disk)) }
+    ensures restarted { (old new : MemoryDisk) (key_disk : KeyDisk (ℕ → List ℕ)) (pattern : Pattern) →
+        IsOn old key_disk → IsUsable pattern →
+        Restarts pattern old new → IsReady new (restarted_on pattern key_disk) }
+    ensures set { (old new : MemoryDisk) (key_disk : KeyDisk (ℕ → List ℕ)) (calls : Calls) →
+        IsOn old key_disk →
         memory_contents new ≡ memory_contents old → memory_calls new ≡ calls →
-        IsOn new (record shelf { calls = calls }) }
+        IsOn new (record key_disk { calls = calls }) }
     ensures begun { (disk : MemoryDisk) (map : ℕ → List ℕ) (copies : ℕ → ℕ) →
         Shows (memory_contents disk).seen map copies → ((key : ℕ) → copies key < 2) →
         IsSettled (memory_contents disk) →
         IsReady disk
-        (record { store = map; copies = copies; loose = None; calls = memory_calls disk }) }
+        (record { store = map; copies = copies; unsynced = None; calls = memory_calls disk }) }
 {}

@@ -7,7 +7,7 @@
 //! done, only an opening finds.
 //!
 //! [`Store::put`] and [`Store::open`] say besides which device calls were made. On a disk in memory these
-//! can be followed call by call: `specs/Shelf.antt` is the disk by keys, and [`laws::the_disk_by_keys`]
+//! can be followed call by call: `specs/KeyDisk.antt` is the disk by keys, and [`laws::the_disk_by_keys`]
 //! says that it is just what becomes of such a disk.
 #![tactic(auto)]
 

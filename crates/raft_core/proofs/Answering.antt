@@ -15,12 +15,12 @@ use Rattle.raft_model.specs.Moves.{memory_after, puts}
 use Rattle.raft_model.specs.Moves.Appending.{matched_memory}
 use Rattle.raft_model.specs.Moves.Elections.{counted, counts, ended, has_quorum, is_leader, term_memory, term_puts, win_memory, win_puts, with_term}
 use Rattle.raft_model.specs.Moves.Move.{TakeAppendAnswer, TakeVoteAnswer}
-use Rattle.raft_model.specs.Server.{Memory, Plain, Put, Store, put_all, Role as MachineRole}
+use Rattle.raft_model.specs.Server.{Memory, RaftServer, Put, Store, put_all, Role as MachineRole}
 use Rattle.raft_model.specs.Server.Put.{PutTerm, PutVote}
 use Rattle.raft_core.specs.declared.raft.Raft.{Raft}
 use Rattle.raft_core.specs.Handled.{MakesMoves}
 use Rattle.raft_core.specs.Stands.{StandsFor, role_of}
-use Rattle.raft_core.specs.StoredPuts.{DoesPuts, noted}
+use Rattle.raft_core.specs.StoredPuts.{CallWrites, with_origin}
 use Rattle.raft_core.specs.Times.{Given, Times, end_call, end_vote_call, raise, step_down, win}
 use Rattle.raft_core.proofs.Moving.{one_move, one_move_failed}
 use Rattle.raft_core.proofs.VoteAnswer.{CountsVotes, votes_puts}
@@ -42,7 +42,7 @@ and_false : (c q : Bool) → c ≡ false → (c && q) ≡ false
 and_false c q e = rw e refl
 
 -- no higher term
-pub unraised : (raft : Raft) (members : List ℕ) (s : Stored) (p : Plain) (t : Times) (now term : ℕ) → nat_lt p.store.term term ≡ false
+pub unraised : (raft : Raft) (members : List ℕ) (s : Stored) (p : RaftServer) (t : Times) (now term : ℕ) → nat_lt p.store.term term ≡ false
     → StandsFor raft members s (record { store = with_term p.store term; memory = term_memory p term }) (raise now term p t) → StandsFor raft members s p t
 unraised raft members s p t now term low st = by_test (nat_lt p.store.term term) low st where
   by_test : (b : Bool) → b ≡ false → StandsFor raft members s
@@ -51,7 +51,7 @@ unraised raft members s p t now term low st = by_test (nat_lt p.store.term term)
   by_test false e h = h
 
 -- who is no Follower by then had no higher term
-pub not_higher : (p : Plain) (term : ℕ) (role : Role) → (term_memory p term).role ≡ role_of role → (role ≡ Follower → ⊥) → nat_lt p.store.term term ≡ false
+pub not_higher : (p : RaftServer) (term : ℕ) (role : Role) → (term_memory p term).role ≡ role_of role → (role ≡ Follower → ⊥) → nat_lt p.store.term term ≡ false
 not_higher p term role same other = by_test (nat_lt p.store.term term) same where
   follower : (x : Role) → MachineRole.Follower ≡ role_of x → x ≡ Follower
   follower Follower h = refl
@@ -70,8 +70,8 @@ leader_stays raft raft2 stays leads = sym (stays (λ h. no_follower (sym leads �
 
 -- ---- exits
 
-module _ {D : Type 0} {disk : Ghosts D} (members : List ℕ) (m n : ℕ) (given : Given) (p : Plain) (t : Times) (a : Answer) (old new : Durable D disk) (raft2 : Raft) where
-  abbrev p1 : Plain
+module _ {D : Type 0} {disk : Ghosts D} (members : List ℕ) (m n : ℕ) (given : Given) (p : RaftServer) (t : Times) (a : Answer) (old new : Durable D disk) (raft2 : Raft) where
+  abbrev p1 : RaftServer
   p1 = record p { memory = ended p.memory a.from }
 
   abbrev higher : Bool
@@ -81,10 +81,10 @@ module _ {D : Type 0} {disk : Ghosts D} (members : List ℕ) (m n : ℕ) (given 
   Raised t1 = StandsFor raft2 members (durable_state new) (record { store = with_term p.store a.term; memory = term_memory (record p { memory = ended p.memory a.from }) a.term }) (raise given.now a.term (record p { memory = ended p.memory a.from }) t1)
 
   -- a vote that does not count
-  pub no_vote_counted : (nat_lt p.store.term a.term ≡ false → counts p a ≡ false) → DoesPuts (noted WIN (term_puts p.store a.term)) old new None → Raised (end_vote_call a.from t)
+  pub no_vote_counted : (nat_lt p.store.term a.term ≡ false → counts p a ≡ false) → CallWrites (with_origin WIN (term_puts p.store a.term)) old new None → Raised (end_vote_call a.from t)
       → MakesMoves members m n given (TakeVoteAnswer a ∷ []) p t old new raft2 None
   no_vote_counted none made after = one_move members m n given (TakeVoteAnswer a) p t old new raft2
-      (subst (λ (l : List Put). DoesPuts (noted WIN l) old new None) same_puts made)
+      (subst (λ (l : List Put). CallWrites (with_origin WIN l) old new None) same_puts made)
       (subst (λ (x : Times). StandsFor raft2 members (durable_state new) (record { store = put_all p.store (puts members m p (TakeVoteAnswer a)); memory = memory_after members m n p (TakeVoteAnswer a) }) x)
       (skip higher (counts p a && has_quorum members (counted p.memory a)) (step_down given.now p.memory.role (end_vote_call a.from t)) (win (end_vote_call a.from t)) (end_vote_call a.from t) (λ low. and_false (counts p a) _ (none low)))
       (subst (λ (x : Memory). StandsFor raft2 members (durable_state new) (record { store = put_all p.store (puts members m p (TakeVoteAnswer a)); memory = x }) (raise given.now a.term p1 (end_vote_call a.from t)))
@@ -95,7 +95,7 @@ module _ {D : Type 0} {disk : Ghosts D} (members : List ℕ) (m n : ℕ) (given 
       same_puts = twice higher _ [] ∙ skip higher (counts p a) (term_puts p.store a.term) (if has_quorum members (counted p.memory a) then win_puts p.store else []) [] none
 
   -- one that counts
-  pub vote_counted : nat_lt p.store.term a.term ≡ false → counts p a ≡ true → DoesPuts (noted WIN (votes_puts members p1 t (counted p.memory a) old new raft2)) old new None
+  pub vote_counted : nat_lt p.store.term a.term ≡ false → counts p a ≡ true → CallWrites (with_origin WIN (votes_puts members p1 t (counted p.memory a) old new raft2)) old new None
       → CountsVotes members p1 (end_vote_call a.from t) (counted p.memory a) old new raft2
       → MakesMoves members m n given (TakeVoteAnswer a ∷ []) p t old new raft2 None
   vote_counted low so made after = one_move members m n given (TakeVoteAnswer a) p t old new raft2 (rw (low, so) made) (rw (low, so) (by_quorum (has_quorum members (counted p.memory a)) after))
@@ -107,20 +107,20 @@ module _ {D : Type 0} {disk : Ghosts D} (members : List ℕ) (m n : ℕ) (given 
       by_quorum false h = h
 
   -- an append answer that does not count
-  pub not_matched : (nat_lt p.store.term a.term ≡ false → (is_leader p.memory.role && (a.term == p.store.term)) ≡ false) → DoesPuts (noted LEADER (term_puts p.store a.term)) old new None → Raised (end_call a.from t)
+  pub not_matched : (nat_lt p.store.term a.term ≡ false → (is_leader p.memory.role && (a.term == p.store.term)) ≡ false) → CallWrites (with_origin LEADER (term_puts p.store a.term)) old new None → Raised (end_call a.from t)
       → MakesMoves members m n given (TakeAppendAnswer a ∷ []) p t old new raft2 None
   not_matched none made after = one_move members m n given (TakeAppendAnswer a) p t old new raft2 made
       (subst (λ (x : Memory). StandsFor raft2 members (durable_state new) (record { store = with_term p.store a.term; memory = x }) (raise given.now a.term p1 (end_call a.from t)))
       (skip higher (is_leader p.memory.role && (a.term == p.store.term)) (record (ended p.memory a.from) { role = MachineRole.Follower }) (matched_memory p.memory a) (ended p.memory a.from) none) after)
 
   -- one that counts
-  pub matched : nat_lt p.store.term a.term ≡ false → (is_leader p.memory.role && (a.term == p.store.term)) ≡ true → DoesPuts (noted LEADER (term_puts p.store a.term)) old new None
+  pub matched : nat_lt p.store.term a.term ≡ false → (is_leader p.memory.role && (a.term == p.store.term)) ≡ true → CallWrites (with_origin LEADER (term_puts p.store a.term)) old new None
       → StandsFor raft2 members (durable_state new) (record p { memory = matched_memory p.memory a }) (end_call a.from t)
       → MakesMoves members m n given (TakeAppendAnswer a ∷ []) p t old new raft2 None
   matched low so made after = one_move members m n given (TakeAppendAnswer a) p t old new raft2 made (rw (low, so) after)
 
   -- the votes were not stored
-  pub count_failed : {T : Type 0} (result : Result T Fault) (fault : Fault) → result ≡ Err fault → nat_lt p.store.term a.term ≡ false → counts p a ≡ true → DoesPuts (noted WIN (votes_puts members p1 t (counted p.memory a) old new raft2)) old new (Some fault)
+  pub count_failed : {T : Type 0} (result : Result T Fault) (fault : Fault) → result ≡ Err fault → nat_lt p.store.term a.term ≡ false → counts p a ≡ true → CallWrites (with_origin WIN (votes_puts members p1 t (counted p.memory a) old new raft2)) old new (Some fault)
       → MakesMoves members m n given (TakeVoteAnswer a ∷ []) p t old new raft2 (result_err result)
   count_failed result fault failed low so made = one_move_failed members m n given (TakeVoteAnswer a) p t old new raft2 result fault failed (rw (low, so) made)
 
@@ -129,8 +129,8 @@ module _ {D : Type 0} {disk : Ghosts D} (members : List ℕ) (m n : ℕ) (given 
   rest = if nat_lt p.store.term a.term then [] else (if counts p a then (if has_quorum members (counted p.memory a) then win_puts p.store else []) else [])
 
   -- the term was not stored
-  pub term_failed : {T : Type 0} (result : Result T Fault) (fault : Fault) → result ≡ Err fault → DoesPuts (noted WIN (term_puts p.store a.term ++ rest)) old new (Some fault) → MakesMoves members m n given (TakeVoteAnswer a ∷ []) p t old new raft2 (result_err result)
-  term_failed result fault failed made = one_move_failed members m n given (TakeVoteAnswer a) p t old new raft2 result fault failed (subst (λ (l : List Put). DoesPuts (noted WIN l) old new (Some fault)) (joins higher _) made)
+  pub term_failed : {T : Type 0} (result : Result T Fault) (fault : Fault) → result ≡ Err fault → CallWrites (with_origin WIN (term_puts p.store a.term ++ rest)) old new (Some fault) → MakesMoves members m n given (TakeVoteAnswer a ∷ []) p t old new raft2 (result_err result)
+  term_failed result fault failed made = one_move_failed members m n given (TakeVoteAnswer a) p t old new raft2 result fault failed (subst (λ (l : List Put). CallWrites (with_origin WIN l) old new (Some fault)) (joins higher _) made)
     where
       joins : (b : Bool) (more : List Put) → (if b then PutTerm a.term ∷ PutVote None ∷ [] else []) ++ (if b then [] else more) ≡ (if b then (if b then PutTerm a.term ∷ PutVote None ∷ [] else []) else more)
       joins true more = refl

@@ -14,17 +14,17 @@ use Rattle.raft_model.specs.Moves.Appending.{IsJudged, IsOutdated, IsRuled, Verd
 use Rattle.raft_model.specs.Moves.Elections.{term_memory, term_puts, with_term}
 use Rattle.raft_model.specs.Moves.Move.{TakeAppendRequest}
 use Rattle.raft_model.specs.Moves.Appending.Verdict.{Outdated}
-use Rattle.raft_model.specs.Server.{Plain, Put, Store, put_all}
+use Rattle.raft_model.specs.Server.{RaftServer, Put, Store, put_all}
 use Rattle.raft_core.specs.declared.raft.Raft.{Raft}
 use Rattle.raft_core.specs.Handled.{MakesMoves}
 use Rattle.raft_core.specs.Stands.{StandsFor}
-use Rattle.raft_core.specs.StoredPuts.{DoesPuts, noted, store_of}
+use Rattle.raft_core.specs.StoredPuts.{CallWrites, with_origin, store_of}
 use Rattle.raft_core.specs.Times.{Given, Times, raise}
 use Rattle.raft_core.proofs.Judged.{IsLate, append_counts, judged_outdated, judged_ruled, late, no_term_puts, not_late, not_lower, outdated_term, own_term, raised_term, taken_stands}
 use Rattle.raft_core.proofs.Moving.{one_move, one_move_failed, put_then, store_after}
 use Rattle.raft_core.proofs.Puts.{none_made}
 
-module _ {D : Type 0} {disk : Ghosts D} (members : List ℕ) (m n : ℕ) (given : Given) (p : Plain) (t : Times) (r : Request) (v : Verdict) (judged : IsJudged p r v)
+module _ {D : Type 0} {disk : Ghosts D} (members : List ℕ) (m n : ℕ) (given : Given) (p : RaftServer) (t : Times) (r : Request) (v : Verdict) (judged : IsJudged p r v)
     (old new : Durable D disk) (raft : Raft) (st : StandsFor raft members (durable_state old) p t) where
   -- what is made of it, and what is answered
   abbrev pub IsTaken : Durable D disk → Raft → Result AppendAnswer Fault → Type 0
@@ -33,7 +33,7 @@ module _ {D : Type 0} {disk : Ghosts D} (members : List ℕ) (m n : ℕ) (given 
 
   -- its term refuses it
   pub refused_late : (term : ℕ) → IsLate raft members (durable_state old) p t r st → term ≡ (durable_state old).term
-      → DoesPuts [] old old None → IsTaken old raft (Ok (record { term = term; success = false }))
+      → CallWrites [] old old None → IsTaken old raft (Ok (record { term = term; success = false }))
   refused_late term is_late own nothing =
       let out : IsOutdated p r = late raft members (durable_state old) p t r st is_late in
       let none : term_puts p.store r.term ++ [] ≡ [] = ap (λ (l : List Put). l ++ []) (no_term_puts p.store r.term (outdated_term p r out)) in
@@ -49,10 +49,10 @@ module _ {D : Type 0} {disk : Ghosts D} (members : List ℕ) (m n : ℕ) (given 
 
     -- the term was not stored
     pub term_failed : (fault : Fault) (raft2 : Raft) (result : Result AppendAnswer Fault) → result ≡ Err fault
-        → DoesPuts (noted LEADER (term_puts (store_of (durable_state old)) r.term ++ append_puts (with_term p.store r.term) r v)) old new (Some fault) → IsTaken new raft2 result
+        → CallWrites (with_origin LEADER (term_puts (store_of (durable_state old)) r.term ++ append_puts (with_term p.store r.term) r v)) old new (Some fault) → IsTaken new raft2 result
     term_failed fault raft2 result is made = (
       one_move_failed members m n given (TakeAppendRequest r v) p t old new raft2 result fault is
-          (subst (λ (z : Store). DoesPuts (noted LEADER (term_puts z r.term ++ append_puts (with_term p.store r.term) r v)) old new (Some fault)) (sym st.store) made),
+          (subst (λ (z : Store). CallWrites (with_origin LEADER (term_puts z r.term ++ append_puts (with_term p.store r.term) r v)) old new (Some fault)) (sym st.store) made),
       subst (λ (x : Result AppendAnswer Fault). IfOk x (λ answer. (answer.term ≡ (with_term p.store r.term).term) × (answer.success ≡ is_accepted v))) (sym is) tt,
     )
 
@@ -68,12 +68,12 @@ module _ {D : Type 0} {disk : Ghosts D} (members : List ℕ) (m n : ℕ) (given 
       -- it is taken
       pub taken : (success : Bool) (term : ℕ) (raft2 : Raft) → raft2.role ≡ Follower → given.now ≡ raft2.since → raft2.told ≡ raft1.told → raft2.word ≡ raft1.word → raft2.peers ≡ raft1.peers
           → success ≡ is_accepted v → term ≡ r.term
-          → DoesPuts (noted LEADER (append_puts (store_of (durable_state mid)) r v)) mid new None
-          → DoesPuts (noted LEADER (term_puts (store_of (durable_state old)) r.term ++ append_puts (with_term p.store r.term) r v)) old new None
+          → CallWrites (with_origin LEADER (append_puts (store_of (durable_state mid)) r v)) mid new None
+          → CallWrites (with_origin LEADER (term_puts (store_of (durable_state old)) r.term ++ append_puts (with_term p.store r.term) r v)) old new None
           → IsTaken new raft2 (Ok (record { term = term; success = success }))
       taken success term raft2 role since told word peers is_success is_term appended made = (
         one_move members m n given (TakeAppendRequest r v) p t old new raft2
-            (subst (λ (z : Store). DoesPuts (noted LEADER (term_puts z r.term ++ append_puts (with_term p.store r.term) r v)) old new None) (sym st.store) made)
+            (subst (λ (z : Store). CallWrites (with_origin LEADER (term_puts z r.term ++ append_puts (with_term p.store r.term) r v)) old new None) (sym st.store) made)
             (taken_stands members m n given p t r v raft1 raft2 (durable_state mid) (durable_state new) st1 ruled stored role since told word peers),
         (is_term ∙ raised_term p.store r.term (not_lower raft members (durable_state old) p t r st not), is_success),
       )

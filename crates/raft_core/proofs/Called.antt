@@ -10,7 +10,7 @@ use Rattle.raft_model.specs.Messages.{Request, items, reach}
 use Rattle.raft_model.specs.Moves.{Move}
 use Rattle.raft_model.specs.Moves.Leading.{append_request, vote_request}
 use Rattle.raft_model.specs.Moves.Move.{CallForVote, CallToAppend}
-use Rattle.raft_model.specs.Server.{Plain, Role as MachineRole}
+use Rattle.raft_model.specs.Server.{RaftServer, Role as MachineRole}
 use Rattle.raft_model.specs.Lists.{at_here, at_other}
 use Rattle.raft_core.specs.declared.calls.Call.{Call}
 use Rattle.raft_core.specs.declared.calls.Call.TheVariants.{Vote, Append}
@@ -36,7 +36,7 @@ abbrev with_call : Peer → Waiting → Peer
 with_call kept call = record kept { call = Some call }
 
 -- the server and the times with a call to the node q
-abbrev with_pending : Plain → ℕ → Request → Plain
+abbrev with_pending : RaftServer → ℕ → Request → RaftServer
 with_pending p q r = record p { memory = record p.memory { pending = at p.memory.pending q (Some r) } }
 
 abbrev with_sending : Times → ℕ → Sending → (ℕ → Option ℕ) → Times
@@ -44,8 +44,8 @@ with_sending t q sending appended = record t { sending = at t.sending q (Some se
 
 -- ---- it stands for the server that made the call
 
-module _ (p : Plain) (t : Times) (q : ℕ) (r : Request) (call : Waiting) (appended : ℕ → Option ℕ) where
-  abbrev p2 : Plain
+module _ (p : RaftServer) (t : Times) (q : ℕ) (r : Request) (call : Waiting) (appended : ℕ → Option ℕ) where
+  abbrev p2 : RaftServer
   p2 = with_pending p q r
 
   abbrev t2 : Times
@@ -100,7 +100,7 @@ module _ (raft raft2 : Raft) (state : Stored) (q : ℕ) (below : q < 128) (kept 
       set_appended : Option ℕ → Peer
       set_appended x = record old { appended = x }
 
-  module _ (members : List ℕ) (p : Plain) (t : Times) (st : StandsFor raft members state p t) where
+  module _ (members : List ℕ) (p : RaftServer) (t : Times) (st : StandsFor raft members state p t) where
     with_call_stands : (r : Request) (appended : ℕ → Option ℕ) → kept ≡ record old { appended = kept.appended } → Asks call.asked r → r.step ≡ call.step
         → (p.memory.role ≡ MachineRole.Leader → appended q ≡ kept.appended) → ((i : ℕ) → i ≢ q → appended i ≡ t.appended i)
         → StandsFor raft2 members state (with_pending p q r) (with_sending t q (record { id = call.id; moment = call.sent }) appended)

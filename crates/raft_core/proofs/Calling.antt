@@ -12,7 +12,7 @@ use Rattle.raft_log.specs.Stored.{Stored}
 use Rattle.raft_model.specs.Messages.{Request, items}
 use Rattle.raft_model.specs.Moves.Leading.{append_request, entry_after}
 use Rattle.raft_model.specs.Moves.Move.{CallForVote, CallToAppend}
-use Rattle.raft_model.specs.Server.{Plain, Store, Role as MachineRole}
+use Rattle.raft_model.specs.Server.{RaftServer, Store, Role as MachineRole}
 use Rattle.raft_core.specs.declared.calls.Call.TheVariants.{Vote, Append}
 use Rattle.raft_core.specs.declared.peer.Peer.{Peer}
 use Rattle.raft_core.specs.declared.raft.Raft.{Raft}
@@ -84,7 +84,7 @@ same_previous true q k previous x y h = cc h
 same_previous false q k previous x y h = absurd (cc h)
 
 -- a call to append is a Leader's, with the place before the one that the peer is sent next
-append_was_due : (waits : Option Request) (role : MachineRole) (p : Plain) (t : Times) (q now previous : ℕ) → due_unless waits (due role p t q now) ≡ Some (CallToAppend q previous true)
+append_was_due : (waits : Option Request) (role : MachineRole) (p : RaftServer) (t : Times) (q now previous : ℕ) → due_unless waits (due role p t q now) ≡ Some (CallToAppend q previous true)
     → (role ≡ MachineRole.Leader) × (previous ≡ p.memory.next q - 1)
 append_was_due (Some r) role p t q now previous h = absurd (cc h)
 append_was_due None MachineRole.Follower p t q now previous h = absurd (cc h)
@@ -93,7 +93,7 @@ append_was_due None MachineRole.Leader p t q now previous h =
     (refl, same_previous (nat_le (p.memory.next q) (length p.store.log) || is_silent (t.appended q) now) q (p.memory.next q - 1) previous true true h)
 
 -- a call for a vote is no Leader's
-vote_was_due : (waits : Option Request) (role : MachineRole) (p : Plain) (t : Times) (q now : ℕ) → due_unless waits (due role p t q now) ≡ Some (CallForVote q) → role ≡ MachineRole.Leader → ⊥
+vote_was_due : (waits : Option Request) (role : MachineRole) (p : RaftServer) (t : Times) (q now : ℕ) → due_unless waits (due role p t q now) ≡ Some (CallForVote q) → role ≡ MachineRole.Leader → ⊥
 vote_was_due (Some r) role p t q now h leader = absurd (cc h)
 vote_was_due None MachineRole.Follower p t q now h leader = absurd (cc leader)
 vote_was_due None MachineRole.Candidate p t q now h leader = absurd (cc leader)

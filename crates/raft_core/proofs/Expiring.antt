@@ -7,7 +7,7 @@ use Rattle.raft_log.specs.Stored.{Stored}
 use Rattle.raft_model.specs.Handlers.{plain_after_all}
 use Rattle.raft_model.specs.Lists.{In, at}
 use Rattle.raft_model.specs.Messages.{Request}
-use Rattle.raft_model.specs.Server.{Memory, Plain}
+use Rattle.raft_model.specs.Server.{Memory, RaftServer}
 use Rattle.raft_model.specs.Lists.{at_here, at_other}
 use Rattle.raft_core.specs.declared.peer.Peer.{Peer}
 use Rattle.raft_core.specs.declared.peer.Waiting.{Waiting}
@@ -47,11 +47,11 @@ overdue_only t now q (node ∷ nodes) h = elim (first_or_rest t now q node (over
 -- ---- the moves
 
 -- no call is pending to it
-abbrev IsFree : ℕ → Plain → Times → Type 0
+abbrev IsFree : ℕ → RaftServer → Times → Type 0
 IsFree q p t = (p.memory.pending q ≡ None) × (t.sending q ≡ None)
 
 -- the calls to these nodes have ended, and all else is as it was
-record HaveEnded (qs : List ℕ) (p p2 : Plain) (t t2 : Times) : Type 0 where
+record HaveEnded (qs : List ℕ) (p p2 : RaftServer) (t t2 : Times) : Type 0 where
   store : p2.store ≡ p.store
   memory : p2.memory ≡ record p.memory { pending = p2.memory.pending }
   times : t2 ≡ record t { sending = t2.sending }
@@ -60,7 +60,7 @@ record HaveEnded (qs : List ℕ) (p p2 : Plain) (t t2 : Times) : Type 0 where
   others : (q : ℕ) → (In q qs → ⊥) → (p2.memory.pending q ≡ p.memory.pending q) × (t2.sending q ≡ t.sending q)
 
 -- one more call had ended before
-first_ended : (node : ℕ) (qs : List ℕ) (p p2 : Plain) (t t2 : Times)
+first_ended : (node : ℕ) (qs : List ℕ) (p p2 : RaftServer) (t t2 : Times)
     → HaveEnded qs (record { store = p.store; memory = record p.memory { pending = at p.memory.pending node None } }) p2 (record t { sending = at t.sending node None }) t2 → HaveEnded (node ∷ qs) p p2 t t2
 first_ended node qs p p2 t t2 rest = record {
   store = rest.store;
@@ -84,7 +84,7 @@ first_ended node qs p p2 t t2 rest = record {
     here q same = rest.free q (at_here p.memory.pending node q None same, at_here t.sending node q None same)
 
 module _ (members : List ℕ) (m n : ℕ) (given : Given) where
-  given_up : (qs : List ℕ) (p : Plain) (t : Times)
+  given_up : (qs : List ℕ) (p : RaftServer) (t : Times)
       → HaveEnded qs p (plain_after_all members m n p (moves_of_expire qs)) t (times_after_all members m n given p (moves_of_expire qs) t)
   given_up [] p t = record { store = refl; memory = refl; times = refl; free = λ q h. h; ended = λ q h. absurd h; others = λ q h. (refl, refl) }
   given_up (node ∷ qs) p t =
@@ -111,7 +111,7 @@ waits_young now (Some call) (Some r) r2 (Some s) s2 waits late kept = elim (case
 ]
 
 -- only its call and the moment of it change
-tells_expired : (now q : ℕ) (peer : Peer) (p p2 : Plain) (t t2 : Times) → Tells peer p t q
+tells_expired : (now q : ℕ) (peer : Peer) (p p2 : RaftServer) (t t2 : Times) → Tells peer p t q
     → p2.memory ≡ record p.memory { pending = p2.memory.pending } → t2 ≡ record t { sending = t2.sending }
     → Waits (young now peer.call) (p2.memory.pending q) (t2.sending q) → Tells (expired now peer) p2 t2 q
 tells_expired now q peer p p2 t t2 tells memory times waits =
@@ -127,11 +127,11 @@ tells_expired now q peer p p2 t t2 tells memory times waits =
 
 -- ---- the member
 
-module _ (members : List ℕ) (now : ℕ) (state : Stored) (p : Plain) (t : Times) (raft raft2 : Raft) (nodes : List ℕ)
+module _ (members : List ℕ) (now : ℕ) (state : Stored) (p : RaftServer) (t : Times) (raft raft2 : Raft) (nodes : List ℕ)
     (st : StandsFor raft members state p t) (listed : (q : ℕ) → q < 128 → p.memory.pending q ≢ None → In q nodes)
     (role : raft2.role ≡ raft.role) (told : raft2.told ≡ raft.told) (known : raft2.members ≡ raft.members) (since : raft2.since ≡ raft.since) (word : raft2.word ≡ raft.word)
     (peers : (q : ℕ) (d : Peer) → q < 128 → slice_index_or raft2.peers q d ≡ expired now (slice_index_or raft.peers q d)) where
-  ended_stands : (p2 : Plain) (t2 : Times) → HaveEnded (overdue t now nodes) p p2 t t2 → StandsFor raft2 members state p2 t2
+  ended_stands : (p2 : RaftServer) (t2 : Times) → HaveEnded (overdue t now nodes) p p2 t t2 → StandsFor raft2 members state p2 t2
   ended_stands p2 t2 ended = record {
     store = ended.store ∙ st.store;
     role = ap (λ (x : Memory). x.role) ended.memory ∙ (st.role ∙ ap role_of (sym role));

@@ -5,7 +5,7 @@ use Rattle.std.proofs.lemmas.Bool.Decides.{leb_tells}
 use Rattle.disk_model.specs.declared.disk.Disk.{Ghosts}
 use Rattle.kv_store.specs.declared.fault.Fault.{Fault}
 use Rattle.raft_log.specs.declared.durable.Durable.{Durable}
-use Rattle.raft_log.specs.Calls.{KeepsFault, MakesPuts}
+use Rattle.raft_log.specs.Calls.{FaultIsSticky, WritesInOrder}
 use Rattle.raft_log.specs.DurableViews.{durable_state}
 use Rattle.raft_log.specs.Stored.{Stored, Put as StoredPut}
 use Rattle.raft_model.specs.Handlers.{plain_after}
@@ -14,14 +14,14 @@ use Rattle.raft_model.specs.Moves.Appending.{IsCurrent, IsJudged, IsOutdated, Is
 use Rattle.raft_model.specs.Moves.Elections.{term_memory, term_puts, with_term}
 use Rattle.raft_model.specs.Moves.Move.{TakeAppendRequest}
 use Rattle.raft_model.specs.Moves.Appending.Verdict.{Outdated, Refused, Held, Added}
-use Rattle.raft_model.specs.Server.{Memory, Plain, Put, Store, put_all, Role as MachineRole}
+use Rattle.raft_model.specs.Server.{Memory, RaftServer, Put, Store, put_all, Role as MachineRole}
 use Rattle.raft_model.specs.Server.Put.{PutTerm, PutVote, PutShorter, PutCommit}
 use Rattle.raft_core.specs.declared.raft.Raft.{Raft}
 use Rattle.can_frame.specs.declared.step.Role.{Role}
 use Rattle.can_frame.specs.declared.step.Role.TheVariants.{Follower, Candidate, Leader}
 use Rattle.raft_core.specs.Roles.{StepsDown, since_after}
 use Rattle.raft_core.specs.Stands.{StandsFor, role_of}
-use Rattle.raft_core.specs.StoredPuts.{DoesPuts, VoteForNodes, noted, store_of}
+use Rattle.raft_core.specs.StoredPuts.{CallWrites, VoteForNodes, with_origin, store_of}
 use Rattle.raft_core.specs.Times.{Given, Times, raise, step_down, times_after}
 use Rattle.raft_core.proofs.Appending.{lt_false, lt_true}
 use Rattle.raft_core.proofs.Puts.{does}
@@ -48,10 +48,10 @@ if_same : {A B : Type 0} (b : Bool) (x y : A) (f : A → B) → f x ≡ f y → 
 if_same true x y f e = e
 if_same false x y f e = refl
 
-pub term_told : (p : Plain) (term : ℕ) → (term_memory p term).told ≡ p.memory.told
+pub term_told : (p : RaftServer) (term : ℕ) → (term_memory p term).told ≡ p.memory.told
 term_told p term = if_same (nat_lt p.store.term term) (record p.memory { role = MachineRole.Follower }) p.memory (λ (x : Memory). x.told) refl
 
-pub term_pending : (p : Plain) (term : ℕ) → (term_memory p term).pending ≡ p.memory.pending
+pub term_pending : (p : RaftServer) (term : ℕ) → (term_memory p term).pending ≡ p.memory.pending
 term_pending p term = if_same (nat_lt p.store.term term) (record p.memory { role = MachineRole.Follower }) p.memory (λ (x : Memory). x.pending) refl
 
 down_sending : (now : ℕ) (role : MachineRole) (t : Times) → (step_down now role t).sending ≡ t.sending
@@ -64,10 +64,10 @@ down_word now MachineRole.Follower t = refl
 down_word now MachineRole.Candidate t = refl
 down_word now MachineRole.Leader t = refl
 
-pub raise_sending : (now term : ℕ) (p : Plain) (t : Times) → (raise now term p t).sending ≡ t.sending
+pub raise_sending : (now term : ℕ) (p : RaftServer) (t : Times) → (raise now term p t).sending ≡ t.sending
 raise_sending now term p t = if_same (nat_lt p.store.term term) (step_down now p.memory.role t) t (λ (x : Times). x.sending) (down_sending now p.memory.role t)
 
-pub raise_word : (now term : ℕ) (p : Plain) (t : Times) → (raise now term p t).word ≡ t.word
+pub raise_word : (now term : ℕ) (p : RaftServer) (t : Times) → (raise now term p t).word ≡ t.word
 raise_word now term p t = if_same (nat_lt p.store.term term) (step_down now p.memory.role t) t (λ (x : Times). x.word) (down_word now p.memory.role t)
 
 down_since : (now : ℕ) (role : Role) (t : Times) → (step_down now (role_of role) t).since ≡ since_after role t.since now
@@ -75,7 +75,7 @@ down_since now Follower t = refl
 down_since now Candidate t = refl
 down_since now Leader t = refl
 
-pub raised_stands : (raft raft2 : Raft) (members : List ℕ) (s s2 : Stored) (p : Plain) (t : Times) (now term : ℕ) → StandsFor raft members s p t → s.term < term
+pub raised_stands : (raft raft2 : Raft) (members : List ℕ) (s s2 : Stored) (p : RaftServer) (t : Times) (now term : ℕ) → StandsFor raft members s p t → s.term < term
     → s2 ≡ record s { term = term; vote = 0 } → StepsDown raft raft2 now
     → StandsFor raft2 members s2 (record { store = with_term p.store term; memory = term_memory p term }) (raise now term p t)
 raised_stands raft raft2 members s s2 p t now term st higher stored down =
@@ -90,31 +90,31 @@ raised_stands raft raft2 members s s2 p t now term st higher stored down =
 
 -- a higher term is stored, with no vote
 pub term_made : {D : Type 0} {disk : Ghosts D} (origin : ℕ) (old new : Durable D disk) (ok : Bool) (failed : Option Fault) (term : ℕ) → ok ≡ is_none failed → (durable_state old).term < term
-    → MakesPuts (StoredPut.PutTerm term ∷ StoredPut.PutVote 0 ∷ []) old new ok → KeepsFault old new failed → DoesPuts (noted origin (term_puts (store_of (durable_state old)) term)) old new failed
-term_made origin old new ok failed term ended higher made keeps = rw (lt_true (durable_state old).term term higher) (does (noted origin (PutTerm term ∷ PutVote None ∷ [])) _ old new ok failed tt ended refl made keeps)
+    → WritesInOrder (StoredPut.PutTerm term ∷ StoredPut.PutVote 0 ∷ []) old new ok → FaultIsSticky old new failed → CallWrites (with_origin origin (term_puts (store_of (durable_state old)) term)) old new failed
+term_made origin old new ok failed term ended higher made keeps = rw (lt_true (durable_state old).term term higher) (does (with_origin origin (PutTerm term ∷ PutVote None ∷ [])) _ old new ok failed tt ended refl made keeps)
 
 -- ---- verdicts
 
-not_both : (p : Plain) (r : Request) → IsCurrent p r → IsOutdated p r → ⊥
+not_both : (p : RaftServer) (r : Request) → IsCurrent p r → IsOutdated p r → ⊥
 not_both p r (inl a) (inl b) = omega (arith, a, b)
 not_both p r (inl a) (inr b) = let e : r.term ≡ p.store.term = b.0 in omega (arith, a, e)
 not_both p r (inr a) (inl b) = let e : r.term ≡ p.store.term = a.0 in omega (arith, e, b)
 not_both p r (inr a) (inr b) = a.1 b.1
 
-pub judged_outdated : (p : Plain) (r : Request) (v : Verdict) → IsJudged p r v → IsOutdated p r → v ≡ Outdated
+pub judged_outdated : (p : RaftServer) (r : Request) (v : Verdict) → IsJudged p r v → IsOutdated p r → v ≡ Outdated
 judged_outdated p r Outdated h o = refl
 judged_outdated p r Refused h o = absurd (not_both p r h.0 o)
 judged_outdated p r Held h o = absurd (not_both p r h.0 o)
 judged_outdated p r (Added e) h o = absurd (not_both p r h.0 o)
 
-pub judged_ruled : (p : Plain) (r : Request) (v : Verdict) → IsJudged p r v → (IsOutdated p r → ⊥) → IsRuled (with_term p.store r.term) r v
+pub judged_ruled : (p : RaftServer) (r : Request) (v : Verdict) → IsJudged p r v → (IsOutdated p r → ⊥) → IsRuled (with_term p.store r.term) r v
 judged_ruled p r Outdated h n = absurd (n h)
 judged_ruled p r Refused h n = h.1
 judged_ruled p r Held h n = h.1
 judged_ruled p r (Added e) h n = h.1
 
 -- a request that is outdated is not of a higher term, and one that is current not of a lower one
-pub outdated_term : (p : Plain) (r : Request) → IsOutdated p r → r.term ≤ p.store.term
+pub outdated_term : (p : RaftServer) (r : Request) → IsOutdated p r → r.term ≤ p.store.term
 outdated_term p r (inl a) = omega (arith, a)
 outdated_term p r (inr a) = let e : r.term ≡ p.store.term = a.0 in omega (arith, e)
 
@@ -134,25 +134,25 @@ append_counts s r Refused = tt
 append_counts s r Held = commits_count (nat_lt s.commit (min r.commit (reach r))) (min r.commit (reach r))
 append_counts s r (Added e) = after_cut (nat_lt r.previous (length s.log)) r.previous _ (tt, (tt, commits_count (nat_lt s.commit (min r.commit (reach r))) (min r.commit (reach r))))
 
-append_role : (p : Plain) (r : Request) (s : Store) (v : Verdict) → IsRuled s r v → (append_memory p r v).role ≡ MachineRole.Follower
+append_role : (p : RaftServer) (r : Request) (s : Store) (v : Verdict) → IsRuled s r v → (append_memory p r v).role ≡ MachineRole.Follower
 append_role p r s Outdated h = absurd h
 append_role p r s Refused h = refl
 append_role p r s Held h = refl
 append_role p r s (Added e) h = refl
 
-append_told : (p : Plain) (r : Request) (v : Verdict) → (append_memory p r v).told ≡ p.memory.told
+append_told : (p : RaftServer) (r : Request) (v : Verdict) → (append_memory p r v).told ≡ p.memory.told
 append_told p r Outdated = refl
 append_told p r Refused = refl
 append_told p r Held = refl
 append_told p r (Added e) = refl
 
-append_pending : (p : Plain) (r : Request) (v : Verdict) → (append_memory p r v).pending ≡ p.memory.pending
+append_pending : (p : RaftServer) (r : Request) (v : Verdict) → (append_memory p r v).pending ≡ p.memory.pending
 append_pending p r Outdated = refl
 append_pending p r Refused = refl
 append_pending p r Held = refl
 append_pending p r (Added e) = refl
 
-append_times : (members : List ℕ) (m : ℕ) (given : Given) (p : Plain) (t : Times) (r : Request) (s : Store) (v : Verdict) → IsRuled s r v
+append_times : (members : List ℕ) (m : ℕ) (given : Given) (p : RaftServer) (t : Times) (r : Request) (s : Store) (v : Verdict) → IsRuled s r v
     → times_after members m given p (TakeAppendRequest r v) t ≡ record t { since = given.now }
 append_times members m given p t r s Outdated h = absurd h
 append_times members m given p t r s Refused h = refl
@@ -160,14 +160,14 @@ append_times members m given p t r s Held h = refl
 append_times members m given p t r s (Added e) h = refl
 
 -- the member after an append request that is not outdated
-pub taken_stands : (members : List ℕ) (m n : ℕ) (given : Given) (p : Plain) (t : Times) (r : Request) (v : Verdict) (raft raft2 : Raft) (mid new : Stored)
+pub taken_stands : (members : List ℕ) (m n : ℕ) (given : Given) (p : RaftServer) (t : Times) (r : Request) (v : Verdict) (raft raft2 : Raft) (mid new : Stored)
     → StandsFor raft members mid (record { store = with_term p.store r.term; memory = term_memory p r.term }) (raise given.now r.term p t)
     → IsRuled (with_term p.store r.term) r v
     → store_of new ≡ put_all p.store (term_puts p.store r.term ++ append_puts (with_term p.store r.term) r v)
     → raft2.role ≡ Follower → given.now ≡ raft2.since → raft2.told ≡ raft.told → raft2.word ≡ raft.word → raft2.peers ≡ raft.peers
     → StandsFor raft2 members new (plain_after members m n p (TakeAppendRequest r v)) (times_after members m given p (TakeAppendRequest r v) t)
 taken_stands members m n given p t r v raft raft2 mid new st ruled store role since told word peers =
-    let p1 : Plain = record { store = with_term p.store r.term; memory = term_memory p r.term } in
+    let p1 : RaftServer = record { store = with_term p.store r.term; memory = term_memory p r.term } in
     let t1 = raise given.now r.term p t in
     let p2 = plain_after members m n p (TakeAppendRequest r v) in
     let t2 : Times = record t { since = given.now } in
@@ -183,7 +183,7 @@ taken_stands members m n given p t r v raft raft2 mid new st ruled store role si
 
 -- ---- told of what the code keeps
 
-module _ (raft : Raft) (members : List ℕ) (s : Stored) (p : Plain) (t : Times) (r : Request) (st : StandsFor raft members s p t) where
+module _ (raft : Raft) (members : List ℕ) (s : Stored) (p : RaftServer) (t : Times) (r : Request) (st : StandsFor raft members s p t) where
   abbrev pub IsLate : Type 0
   IsLate = (r.term < s.term) ⊎ ((r.term ≡ s.term) × (raft.role ≡ Leader))
 

@@ -11,13 +11,13 @@ use Rattle.raft_log.specs.DurableViews.{durable_state}
 use Rattle.raft_log.specs.Stored.{Stored, after_put, after_puts}
 use Rattle.raft_model.specs.Handlers.{plain_after}
 use Rattle.raft_model.specs.Moves.{Move, puts}
-use Rattle.raft_model.specs.Server.{Plain, Put, Store, put, put_all, Role as MachineRole}
+use Rattle.raft_model.specs.Server.{RaftServer, Put, Store, put, put_all, Role as MachineRole}
 use Rattle.raft_model.specs.Server.Put.{PutTerm, PutVote, PutEntry, PutLonger, PutShorter, PutCommit}
 use Rattle.raft_core.specs.declared.peer.Peer.{Peer}
 use Rattle.raft_core.specs.declared.raft.Raft.{Raft}
 use Rattle.raft_core.specs.Handled.{LeavesMoves, MakesMoves, origin_of}
 use Rattle.raft_core.specs.Stands.{StandsFor, Tells, Waits, role_of}
-use Rattle.raft_core.specs.StoredPuts.{DoesPuts, Noted, VoteForNodes, VotesForNode, noted, plain_puts, put_from, store_of, stored_put, stored_puts}
+use Rattle.raft_core.specs.StoredPuts.{CallWrites, PutWithOrigin, VoteForNodes, VotesForNode, with_origin, puts_alone, put_from, store_of, stored_put, stored_puts}
 use Rattle.raft_core.specs.Times.{Given, Times, begin_wait, times_after}
 use Rattle.raft_core.proofs.Origins.{plain_of_moves}
 
@@ -38,12 +38,12 @@ module _ (origin : ℕ) where
   store_after_one (PutCommit index) s h = refl
 
 -- what is stored after puts is the same in both words
-pub stored_after : (xs : List Noted) (s : Stored) → VoteForNodes (plain_puts xs) → store_of (after_puts (stored_puts xs s) s) ≡ put_all (store_of s) (plain_puts xs)
+pub stored_after : (xs : List PutWithOrigin) (s : Stored) → VoteForNodes (puts_alone xs) → store_of (after_puts (stored_puts xs s) s) ≡ put_all (store_of s) (puts_alone xs)
 stored_after [] s h = refl
-stored_after (x ∷ xs) s h = stored_after xs (after_put (stored_put x s) s) h.1 ∙ ap (λ (z : Store). put_all z (plain_puts xs)) (store_after_one x.origin x.put s h.0)
+stored_after (x ∷ xs) s h = stored_after xs (after_put (stored_put x s) s) h.1 ∙ ap (λ (z : Store). put_all z (puts_alone xs)) (store_after_one x.origin x.put s h.0)
 
 -- and of puts of one origin
-pub store_after : (origin : ℕ) (xs : List Put) (s : Stored) → VoteForNodes xs → store_of (after_puts (stored_puts (noted origin xs) s) s) ≡ put_all (store_of s) xs
+pub store_after : (origin : ℕ) (xs : List Put) (s : Stored) → VoteForNodes xs → store_of (after_puts (stored_puts (with_origin origin xs) s) s) ≡ put_all (store_of s) xs
 store_after origin [] s h = refl
 store_after origin (x ∷ xs) s h = store_after origin xs (after_put (put_from origin x s) s) h.1 ∙ ap (λ (z : Store). put_all z xs) (store_after_one origin x s h.0)
 
@@ -51,31 +51,31 @@ pub put_then : (xs ys : List Put) (s : Store) → put_all s (xs ++ ys) ≡ put_a
 put_then [] ys s = refl
 put_then (x ∷ xs) ys s = put_then xs ys (put s x)
 
-nothing_more : (xs : List Noted) → xs ++ [] ≡ xs
+nothing_more : (xs : List PutWithOrigin) → xs ++ [] ≡ xs
 nothing_more [] = refl
-nothing_more (x ∷ xs) = ap (λ (rest : List Noted). x ∷ rest) (nothing_more xs)
+nothing_more (x ∷ xs) = ap (λ (rest : List PutWithOrigin). x ∷ rest) (nothing_more xs)
 
 -- ---- one move
 
-module _ {D : Type 0} {disk : Ghosts D} (members : List ℕ) (m n : ℕ) (given : Given) (move : Move) (p : Plain) (t : Times) (old new : Durable D disk) (raft : Raft) where
-  abbrev own : List Noted
-  own = noted (origin_of given move) (puts members m p move)
+module _ {D : Type 0} {disk : Ghosts D} (members : List ℕ) (m n : ℕ) (given : Given) (move : Move) (p : RaftServer) (t : Times) (old new : Durable D disk) (raft : Raft) where
+  abbrev own : List PutWithOrigin
+  own = with_origin (origin_of given move) (puts members m p move)
 
-  pub one_move : DoesPuts (noted (origin_of given move) (puts members m p move)) old new None
+  pub one_move : CallWrites (with_origin (origin_of given move) (puts members m p move)) old new None
       → StandsFor raft members (durable_state new) (plain_after members m n p move) (times_after members m given p move t)
       → MakesMoves members m n given (move ∷ []) p t old new raft None
   one_move made after = record {
     plain = plain_of_moves members m n given p (move ∷ []);
-    puts = subst (λ (l : List Noted). DoesPuts l old new None) (sym (nothing_more own)) made;
+    puts = subst (λ (l : List PutWithOrigin). CallWrites l old new None) (sym (nothing_more own)) made;
     after = after;
   }
 
-  pub one_move_failed : {T : Type 0} (result : Result T Fault) (fault : Fault) → result ≡ Err fault → DoesPuts (noted (origin_of given move) (puts members m p move)) old new (Some fault)
+  pub one_move_failed : {T : Type 0} (result : Result T Fault) (fault : Fault) → result ≡ Err fault → CallWrites (with_origin (origin_of given move) (puts members m p move)) old new (Some fault)
       → MakesMoves members m n given (move ∷ []) p t old new raft (result_err result)
   one_move_failed result fault is made = subst (λ (r : Result _ Fault). MakesMoves members m n given (move ∷ []) p t old new raft (result_err r)) (sym is)
       (record {
         plain = plain_of_moves members m n given p (move ∷ []);
-        puts = subst (λ (l : List Noted). DoesPuts l old new (Some fault)) (sym (nothing_more own)) made;
+        puts = subst (λ (l : List PutWithOrigin). CallWrites l old new (Some fault)) (sym (nothing_more own)) made;
         after = tt;
       })
 
@@ -87,7 +87,7 @@ leads Candidate h = absurd (cc h)
 leads Leader h = refl
 
 -- a Follower stands for whatever has its role, its stored state and its calls
-pub follower_stands : (raft raft2 : Raft) (members : List ℕ) (mid new : Stored) (p p2 : Plain) (t t2 : Times) → StandsFor raft members mid p t
+pub follower_stands : (raft raft2 : Raft) (members : List ℕ) (mid new : Stored) (p p2 : RaftServer) (t t2 : Times) → StandsFor raft members mid p t
     → p2.memory.role ≡ MachineRole.Follower → p2.memory.told ≡ p.memory.told → p2.memory.pending ≡ p.memory.pending → p2.store ≡ store_of new
     → t2.sending ≡ t.sending → t2.word ≡ t.word → t2.since ≡ raft2.since
     → raft2.role ≡ Follower → raft2.told ≡ raft.told → raft2.word ≡ raft.word → raft2.peers ≡ raft.peers
@@ -117,7 +117,7 @@ follower_stands raft raft2 members mid new p p2 t t2 st role told pending store 
     no_leader h = cc (sym role ∙ h)
 
 -- another stored state, and a wait that begins anew
-pub waiting_stands : (raft raft2 : Raft) (members : List ℕ) (s new : Stored) (p : Plain) (t : Times) (now : ℕ) (store : Store) → StandsFor raft members s p t → store ≡ store_of new
+pub waiting_stands : (raft raft2 : Raft) (members : List ℕ) (s new : Stored) (p : RaftServer) (t : Times) (now : ℕ) (store : Store) → StandsFor raft members s p t → store ≡ store_of new
     → raft2.role ≡ raft.role → raft2.told ≡ raft.told → raft2.members ≡ raft.members → now ≡ raft2.since → raft2.word ≡ raft.word → raft2.peers ≡ raft.peers
     → StandsFor raft2 members new (record p { store = store }) (begin_wait now t)
 waiting_stands raft raft2 members s new p t now store st stored role told known since word peers = record {
@@ -132,7 +132,7 @@ waiting_stands raft raft2 members s new p t now store st stored role told known 
 }
 
 -- another stored state
-pub storing_stands : (raft : Raft) (members : List ℕ) (s new : Stored) (p : Plain) (t : Times) (store : Store) → StandsFor raft members s p t → store ≡ store_of new → StandsFor raft members new (record p { store = store }) t
+pub storing_stands : (raft : Raft) (members : List ℕ) (s new : Stored) (p : RaftServer) (t : Times) (store : Store) → StandsFor raft members s p t → store ≡ store_of new → StandsFor raft members new (record p { store = store }) t
 storing_stands raft members s new p t store st stored = record {
   store = stored;
   role = st.role;
@@ -144,6 +144,6 @@ storing_stands raft members s new p t store st stored = record {
 }
 
 -- a call that makes no move
-module _ {D : Type 0} {disk : Ghosts D} (members : List ℕ) (m n : ℕ) (p : Plain) (t : Times) (durable : Durable D disk) (raft : Raft) where
-  pub no_move : DoesPuts [] durable durable None → StandsFor raft members (durable_state durable) p t → LeavesMoves members m n [] p [] t durable durable raft None
+module _ {D : Type 0} {disk : Ghosts D} (members : List ℕ) (m n : ℕ) (p : RaftServer) (t : Times) (durable : Durable D disk) (raft : Raft) where
+  pub no_move : CallWrites [] durable durable None → StandsFor raft members (durable_state durable) p t → LeavesMoves members m n [] p [] t durable durable raft None
   no_move made st = record { plain = refl; puts = made; after = st }

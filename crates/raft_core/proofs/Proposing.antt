@@ -16,7 +16,7 @@ use Rattle.raft_log.specs.MayFollow.{IsStorable, MayFollow}
 use Rattle.raft_log.specs.Stored.{Stored, after_puts, puts_of_append, Put as StoredPut}
 use Rattle.raft_model.specs.Moves.Leading.{MayPropose}
 use Rattle.raft_model.specs.Moves.Move.{ProposeEntry}
-use Rattle.raft_model.specs.Server.{Plain, Store, Role as MachineRole}
+use Rattle.raft_model.specs.Server.{RaftServer, Store, Role as MachineRole}
 use Rattle.raft_model.specs.Server.Put.{PutEntry, PutLonger}
 use Rattle.raft_core.specs.declared.peer.Asked.{Asked}
 use Rattle.raft_core.specs.declared.peer.Asked.TheVariants.{Vote, Append}
@@ -28,7 +28,7 @@ use Rattle.raft_core.specs.Fits.{AsksUpTo, Fits, ReachesUpTo}
 use Rattle.raft_core.specs.Handled.{MakesMoves}
 use Rattle.raft_core.specs.Proposing.{Appends, IsTried, entry_puts}
 use Rattle.raft_core.specs.Stands.{StandsFor, role_of}
-use Rattle.raft_core.specs.StoredPuts.{DoesPuts, KeepsFaults, noted, store_of, stored_puts}
+use Rattle.raft_core.specs.StoredPuts.{CallWrites, CallFaultIsSticky, with_origin, store_of, stored_puts}
 use Rattle.raft_core.specs.Taken.{IsTaken, proposal}
 use Rattle.raft_core.specs.Times.{Given, Times}
 use Rattle.raft_core.proofs.Moving.{one_move, one_move_failed, storing_stands}
@@ -63,7 +63,7 @@ module _ (reserved : (log : List Entry) (e : Entry) → IsReservation e → IsIn
   is_free log e (inr reservation) injective (inl node) = ((reserved log e reservation).0 injective).1 node
   is_free log e (inr reservation) injective (inr uid) = uid.0 reservation.uid
 
-  module _ (p : Plain) (s : Stored) (uid : List ℕ) (node : ℕ) (same : p.store ≡ store_of s) where
+  module _ (p : RaftServer) (s : Stored) (uid : List ℕ) (node : ℕ) (same : p.store ≡ store_of s) where
     abbrev entry : Entry
     entry = proposal p.store.term uid node
 
@@ -101,7 +101,7 @@ pub same_proposal : (term term2 node node2 : ℕ) (uid : List ℕ) → term ≡ 
 same_proposal term term2 node node2 uid terms nodes = ap (λ x. proposal x uid node) terms ∙ ap (λ x. proposal term2 uid x) nodes
 
 pub same_puts : (origin : ℕ) (s : Stored) (a b : Entry) → a ≡ b
-    → stored_puts (noted origin (PutEntry a ∷ PutLonger a ∷ [])) s ≡ StoredPut.PutEntry b origin ∷ StoredPut.PutLast (s.log ++ b ∷ []) (s.origins ++ Some origin ∷ []) ∷ []
+    → stored_puts (with_origin origin (PutEntry a ∷ PutLonger a ∷ [])) s ≡ StoredPut.PutEntry b origin ∷ StoredPut.PutLast (s.log ++ b ∷ []) (s.origins ++ Some origin ∷ []) ∷ []
 same_puts origin s a b e = ap (λ (x : Entry). StoredPut.PutEntry x origin ∷ StoredPut.PutLast (s.log ++ x ∷ []) (s.origins ++ Some origin ∷ []) ∷ []) e
 
 -- ---- a longer log
@@ -127,8 +127,8 @@ pub fits_grown : (raft : Raft) (s s2 : Stored) (e : Entry) (origin : ℕ) → Fi
 fits_grown raft s s2 e origin fits grown = subst (Fits raft) (sym grown)
     (fits_longer raft s (record s { log = s.log ++ (e ∷ []); origins = s.origins ++ (Some origin ∷ []) }) fits refl refl (omega (arith, length-append s.log (e ∷ []))))
 
-module _ {D : Type 0} {disk : Ghosts D} (members : List ℕ) (m n : ℕ) (given : Given) (p : Plain) (t : Times) (old new : Durable D disk) (raft : Raft) (st : StandsFor raft members (durable_state old) p t) (e : Entry) where
-  pub proposed : DoesPuts (noted given.origin (PutEntry e ∷ PutLonger e ∷ [])) old new None → MakesMoves members m n given (ProposeEntry e ∷ []) p t old new raft None
+module _ {D : Type 0} {disk : Ghosts D} (members : List ℕ) (m n : ℕ) (given : Given) (p : RaftServer) (t : Times) (old new : Durable D disk) (raft : Raft) (st : StandsFor raft members (durable_state old) p t) (e : Entry) where
+  pub proposed : CallWrites (with_origin given.origin (PutEntry e ∷ PutLonger e ∷ [])) old new None → MakesMoves members m n given (ProposeEntry e ∷ []) p t old new raft None
   proposed made = one_move members m n given (ProposeEntry e) p t old new raft made
       (storing_stands raft members (durable_state old) (durable_state new) p t _ st
       (ap (λ (z : Store). record z { log = z.log ++ (e ∷ []) }) st.store ∙ sym (ap store_of (made.made.state refl))))
@@ -138,10 +138,10 @@ module _ {D : Type 0} {disk : Ghosts D} (members : List ℕ) (m n : ℕ) (given 
 module _ {D : Type 0} {disk : Ghosts D} (raft : Raft) (uid : List ℕ) (node origin : ℕ) (old : Durable D disk) where
   -- a server of this role and with what is stored may propose the entry
   abbrev pub MayBeProposed : Type 0
-  MayBeProposed = (server : Plain) → server.store ≡ store_of (durable_state old) → server.memory.role ≡ role_of raft.role → MayPropose server (proposal server.store.term uid node)
+  MayBeProposed = (server : RaftServer) → server.store ≡ store_of (durable_state old) → server.memory.role ≡ role_of raft.role → MayPropose server (proposal server.store.term uid node)
 
-  pub not_tried : (result : Result Proposed Fault) → (IsTried result → ⊥) → result_err result ≡ None → DoesPuts [] old old None
-      → ((server : Plain) → server.store ≡ store_of (durable_state old) → server.memory.role ≡ role_of raft.role → MayPropose server (proposal server.store.term uid node) → ⊥)
+  pub not_tried : (result : Result Proposed Fault) → (IsTried result → ⊥) → result_err result ≡ None → CallWrites [] old old None
+      → ((server : RaftServer) → server.store ≡ store_of (durable_state old) → server.memory.role ≡ role_of raft.role → MayPropose server (proposal server.store.term uid node) → ⊥)
       → Appends raft uid node origin old old result
   not_tried result no_try ok nothing none = record {
     tried = λ server store role. (λ t. absurd (no_try t), λ may. absurd (none server store role may));
@@ -149,31 +149,31 @@ module _ {D : Type 0} {disk : Ghosts D} (raft : Raft) (uid : List ℕ) (node ori
     moves = λ members step server times st given same may. absurd (none server st.store st.role may);
     refused = λ n. refl;
     unchanged = λ n q. still old;
-    faults = subst (KeepsFaults old old) (sym ok) nothing.faults;
+    faults = subst (CallFaultIsSticky old old) (sym ok) nothing.faults;
   }
 
   module _ (new : Durable D disk) (may : MayBeProposed) where
-    pub try_failed : (fault : Fault) (result : Result Proposed Fault) → result ≡ Err fault → DoesPuts (noted origin (entry_puts (proposal (durable_state old).term uid node))) old new (Some fault) → Appends raft uid node origin old new result
+    pub try_failed : (fault : Fault) (result : Result Proposed Fault) → result ≡ Err fault → CallWrites (with_origin origin (entry_puts (proposal (durable_state old).term uid node))) old new (Some fault) → Appends raft uid node origin old new result
     try_failed fault result is made = let broken : Result Proposed Fault = Err fault in subst (Appends raft uid node origin old new) (sym is) (record {
       tried = λ server store role. (λ t. may server store role, λ m. tt);
       puts = λ t. made;
       moves = λ members step server times st given same m.
           one_move_failed members raft.me step given (ProposeEntry (proposal server.store.term uid node)) server times old new raft broken fault refl
-          (subst (λ (k : ℕ). DoesPuts (noted k (entry_puts (proposal server.store.term uid node))) old new (Some fault)) (sym same)
-          (subst (λ (z : Store). DoesPuts (noted origin (entry_puts (proposal z.term uid node))) old new (Some fault)) (sym st.store) made));
+          (subst (λ (k : ℕ). CallWrites (with_origin k (entry_puts (proposal server.store.term uid node))) old new (Some fault)) (sym same)
+          (subst (λ (z : Store). CallWrites (with_origin origin (entry_puts (proposal z.term uid node))) old new (Some fault)) (sym st.store) made));
       refused = λ n. absurd (n tt);
       unchanged = λ n q. quiet old new fault made.faults q;
       faults = made.faults;
     })
 
-    pub added : DoesPuts (noted origin (entry_puts (proposal (durable_state old).term uid node))) old new None → Appends raft uid node origin old new (Ok Added)
+    pub added : CallWrites (with_origin origin (entry_puts (proposal (durable_state old).term uid node))) old new None → Appends raft uid node origin old new (Ok Added)
     added made = record {
       tried = λ server store role. (λ t. may server store role, λ m. tt);
       puts = λ t. made;
       moves = λ members step server times st given same m.
           proposed members raft.me step given server times old new raft st (proposal server.store.term uid node)
-          (subst (λ (k : ℕ). DoesPuts (noted k (entry_puts (proposal server.store.term uid node))) old new None) (sym same)
-          (subst (λ (z : Store). DoesPuts (noted origin (entry_puts (proposal z.term uid node))) old new None) (sym st.store) made));
+          (subst (λ (k : ℕ). CallWrites (with_origin k (entry_puts (proposal server.store.term uid node))) old new None) (sym same)
+          (subst (λ (z : Store). CallWrites (with_origin origin (entry_puts (proposal z.term uid node))) old new None) (sym st.store) made));
       refused = λ n. absurd (n tt);
       unchanged = λ n q. absurd (n refl);
       faults = made.faults;

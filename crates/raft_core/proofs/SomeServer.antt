@@ -4,7 +4,7 @@ use Rattle.std.specs.Prelude.{slice_index_or}
 use Rattle.std.proofs.lemmas.List.{get_or_default}
 use Rattle.raft_log.specs.Stored.{Stored}
 use Rattle.raft_model.specs.Messages.{Request}
-use Rattle.raft_model.specs.Server.{Plain}
+use Rattle.raft_model.specs.Server.{RaftServer}
 use Rattle.raft_core.specs.declared.peer.Asked.{Asked}
 use Rattle.raft_core.specs.declared.peer.Asked.TheVariants.{Vote, Append}
 use Rattle.raft_core.specs.declared.peer.Peer.{Peer}
@@ -31,7 +31,7 @@ sending_for (Some call) = Some (record { id = call.id; moment = call.sent })
 abbrev peer_at : Raft → ℕ → Peer
 peer_at raft q = slice_index_or raft.peers q (fresh 0)
 
-abbrev pub server_for : Raft → Stored → Plain
+abbrev pub server_for : Raft → Stored → RaftServer
 server_for raft state = record {
   store = store_of state;
   memory = record {

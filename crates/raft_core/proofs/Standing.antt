@@ -6,7 +6,7 @@ use Rattle.std.proofs.lemmas.List.{get_or-replicate, length-replicate}
 use Rattle.can_frame.specs.declared.step.Role.TheVariants.{Candidate}
 use Rattle.raft_log.specs.Stored.{Stored}
 use Rattle.raft_model.specs.Moves.Elections.{stand_memory, stand_puts}
-use Rattle.raft_model.specs.Server.{Plain, Store, put_all, Role as MachineRole}
+use Rattle.raft_model.specs.Server.{RaftServer, Store, put_all, Role as MachineRole}
 use Rattle.raft_model.specs.Server.Put.{PutTerm, PutVote}
 use Rattle.raft_core.specs.declared.peer.Peer.{Peer}
 use Rattle.raft_core.specs.declared.raft.Raft.{Raft}
@@ -19,7 +19,7 @@ vote_is : (m : ℕ) → 1 ≤ m → vote_of m ≡ Some m
 vote_is zero least = absurd (omega (arith, least))
 vote_is (suc m) least = refl
 
-pub stood_stands : (raft raft2 : Raft) (members peers : List ℕ) (s s2 : Stored) (p : Plain) (t : Times) (given : Given) → StandsFor raft members s p t
+pub stood_stands : (raft raft2 : Raft) (members peers : List ℕ) (s s2 : Stored) (p : RaftServer) (t : Times) (given : Given) → StandsFor raft members s p t
     → raft.me < 128 → 1 ≤ raft.me
     → raft2.role ≡ Candidate → raft2.since ≡ given.now → raft2.word ≡ given.word → raft2.told ≡ raft.told → raft2.members.items ≡ raft.me ∷ peers
     → raft2.peers ≡ slice_set (replicate 128 (fresh 1)) raft.me voter
@@ -36,7 +36,7 @@ stood_stands raft raft2 members peers s s2 p t given st inside least role since 
   peers = λ q d below. subst (λ (l : List Peer). Tells (slice_index_or l q d) p2 t2 q) (sym table) (each q d below);
 }
   where
-    p2 : Plain
+    p2 : RaftServer
     p2 = record { store = put_all p.store (stand_puts raft.me p.store); memory = stand_memory raft.me p.memory }
 
     t2 : Times

@@ -10,7 +10,7 @@ use Rattle.can_frame.specs.Log.{IsPair, IsWellFormed, blank, entry_at}
 use Rattle.can_frame.specs.Zeros.{zeros}
 use Rattle.raft_log.specs.Stored.{Stored}
 use Rattle.raft_model.specs.Moves.Elections.{is_leader}
-use Rattle.raft_model.specs.Server.{Plain, Role as MachineRole}
+use Rattle.raft_model.specs.Server.{RaftServer, Role as MachineRole}
 use Rattle.raft_core.specs.declared.raft.Raft.{Raft}
 use Rattle.raft_core.specs.declared.tell.Telling.TheVariants.{Nothing, Skip, Pair}
 use Rattle.raft_core.specs.Stands.{StandsFor, role_of}
@@ -43,7 +43,7 @@ no_zero_uid : (uid : List ℕ) (b : Bool) → Decides b (uid ≡ zeros) → uid 
 no_zero_uid uid true decides other = absurd (other (decides.0 refl))
 no_zero_uid uid false decides other = refl
 
-module _ (raft : Raft) (members : List ℕ) (state : Stored) (p : Plain) (t : Times) (st : StandsFor raft members state p t) where
+module _ (raft : Raft) (members : List ℕ) (state : Stored) (p : RaftServer) (t : Times) (st : StandsFor raft members state p t) where
   abbrev next : Entry
   next = slice_index_or p.store.log p.memory.told (blank 0)
 

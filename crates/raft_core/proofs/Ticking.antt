@@ -12,25 +12,25 @@ use Rattle.raft_log.specs.Stored.{Stored}
 use Rattle.raft_model.specs.Lists.{how_many}
 use Rattle.raft_model.specs.Moves.Elections.{has_quorum, is_leader, own_vote, stand_memory, stand_puts, win_memory, win_puts, term_limit}
 use Rattle.raft_model.specs.Moves.Move.{TimeOut}
-use Rattle.raft_model.specs.Server.{Plain, Put, Store, put_all, quorum}
+use Rattle.raft_model.specs.Server.{RaftServer, Put, Store, put_all, quorum}
 use Rattle.raft_core.specs.declared.raft.Cause.TheVariants.{Candidacy}
 use Rattle.raft_core.specs.declared.raft.Raft.{Raft}
 use Rattle.raft_core.specs.Backs.{Backs}
 use Rattle.raft_core.specs.Handled.{MakesMoves, counted_at, moves_of_tick}
 use Rattle.raft_core.specs.Stands.{StandsFor, role_of}
-use Rattle.raft_core.specs.StoredPuts.{DoesPuts, noted, store_of}
+use Rattle.raft_core.specs.StoredPuts.{CallWrites, with_origin, store_of}
 use Rattle.raft_core.specs.Times.{Given, Times, has_waited, stand, win}
 use Rattle.raft_core.proofs.Moving.{no_move, one_move, one_move_failed}
 
 -- whether a tick begins an election
-abbrev pub stands : Bool → ℕ → Plain → Times → Bool
+abbrev pub stands : Bool → ℕ → RaftServer → Times → Bool
 stands complete now p t = (complete && has_waited t now) && (not (is_leader p.memory.role) && nat_lt p.store.term term_limit)
 
-abbrev pub Ticks : {D : Type 0} {disk : Ghosts D} → List ℕ → List ℕ → ℕ → ℕ → Given → Plain → Times → Bool → Durable D disk → Durable D disk → Raft → Option Fault → Type 0
+abbrev pub Ticks : {D : Type 0} {disk : Ghosts D} → List ℕ → List ℕ → ℕ → ℕ → Given → RaftServer → Times → Bool → Durable D disk → Durable D disk → Raft → Option Fault → Type 0
 Ticks last members m n given p t complete old new raft2 failed = let moves = moves_of_tick complete given.now p t in MakesMoves (counted_at moves last members) m n given moves p t old new raft2 failed
 
 -- what a candidate counts is what the machine counts
-pub counted_as : (raft : Raft) (members : List ℕ) (s : Stored) (p : Plain) (t : Times) → StandsFor raft members s p t → raft.role ≡ Candidate → (result : Bool)
+pub counted_as : (raft : Raft) (members : List ℕ) (s : Stored) (p : RaftServer) (t : Times) → StandsFor raft members s p t → raft.role ≡ Candidate → (result : Bool)
     → ((test : ℕ → Bool) → Backs raft.me raft.peers Candidacy test → result ≡ nat_le (quorum raft.members.items) (how_many test raft.members.items)) → result ≡ has_quorum members p.memory.votes
 counted_as raft members s p t st role result counts =
     counts p.memory.votes (λ q d below. (st.peers q d below).voted (st.role ∙ ap role_of role))
@@ -40,19 +40,19 @@ counted_as raft members s p t st role result counts =
     no_follower h = cc h
 
 -- a tick that begins no election
-pub stays : {D : Type 0} {disk : Ghosts D} (members now_known : List ℕ) (m n : ℕ) (given : Given) (p : Plain) (t : Times) (complete : Bool) (old : Durable D disk) (raft : Raft) → StandsFor raft members (durable_state old) p t
-    → stands complete given.now p t ≡ false → DoesPuts [] old old None → Ticks members now_known m n given p t complete old old raft None
+pub stays : {D : Type 0} {disk : Ghosts D} (members now_known : List ℕ) (m n : ℕ) (given : Given) (p : RaftServer) (t : Times) (complete : Bool) (old : Durable D disk) (raft : Raft) → StandsFor raft members (durable_state old) p t
+    → stands complete given.now p t ≡ false → CallWrites [] old old None → Ticks members now_known m n given p t complete old old raft None
 stays members now_known m n given p t complete old raft st no_stand made = rw no_stand (no_move members m n p t old raft made st)
 
-module _ {D : Type 0} {disk : Ghosts D} (last members : List ℕ) (m n : ℕ) (given : Given) (p : Plain) (t : Times) (complete : Bool) (old new : Durable D disk) (raft2 : Raft) (store : p.store ≡ store_of (durable_state old))
+module _ {D : Type 0} {disk : Ghosts D} (last members : List ℕ) (m n : ℕ) (given : Given) (p : RaftServer) (t : Times) (complete : Bool) (old new : Durable D disk) (raft2 : Raft) (store : p.store ≡ store_of (durable_state old))
     (yes_stand : stands complete given.now p t ≡ true) where
   abbrev pub rest : Bool → List Put
   rest b = if b then win_puts (put_all p.store (stand_puts m p.store)) else []
 
-  pub stand_failed : (result : Result (Unit {0}) Fault) (fault : Fault) → result ≡ Err fault → DoesPuts (noted WIN (stand_puts m (store_of (durable_state old)) ++ rest (has_quorum members (own_vote m)))) old new (Some fault)
+  pub stand_failed : (result : Result (Unit {0}) Fault) (fault : Fault) → result ≡ Err fault → CallWrites (with_origin WIN (stand_puts m (store_of (durable_state old)) ++ rest (has_quorum members (own_vote m)))) old new (Some fault)
       → Ticks last members m n given p t complete old new raft2 (result_err result)
   stand_failed result fault failed made = rw yes_stand (one_move_failed members m n given TimeOut p t old new raft2 result fault failed
-      (subst (λ (z : Store). DoesPuts (noted WIN (stand_puts m z ++ rest (has_quorum members (own_vote m)))) old new (Some fault)) (sym store) made))
+      (subst (λ (z : Store). CallWrites (with_origin WIN (stand_puts m z ++ rest (has_quorum members (own_vote m)))) old new (Some fault)) (sym store) made))
 
   abbrev pub after_with : Bool → Type 0
   after_with b = StandsFor raft2 members (durable_state new)
@@ -60,10 +60,10 @@ module _ {D : Type 0} {disk : Ghosts D} (last members : List ℕ) (m n : ℕ) (g
       (if b then win (stand given t) else stand given t)
 
   -- with the votes counted
-  pub stood : (b : Bool) → has_quorum members (own_vote m) ≡ b → DoesPuts (noted WIN (stand_puts m (store_of (durable_state old)) ++ rest b)) old new None → after_with b → Ticks last members m n given p t complete old new raft2 None
+  pub stood : (b : Bool) → has_quorum members (own_vote m) ≡ b → CallWrites (with_origin WIN (stand_puts m (store_of (durable_state old)) ++ rest b)) old new None → after_with b → Ticks last members m n given p t complete old new raft2 None
   stood b counted made after = rw yes_stand (one_move members m n given TimeOut p t old new raft2
-      (subst (λ (x : Bool). DoesPuts (noted WIN (stand_puts m p.store ++ rest x)) old new None) (sym counted)
-      (subst (λ (z : Store). DoesPuts (noted WIN (stand_puts m z ++ rest b)) old new None) (sym store) made))
+      (subst (λ (x : Bool). CallWrites (with_origin WIN (stand_puts m p.store ++ rest x)) old new None) (sym counted)
+      (subst (λ (z : Store). CallWrites (with_origin WIN (stand_puts m z ++ rest b)) old new None) (sym store) made))
       (subst (λ (x : Bool). StandsFor raft2 members (durable_state new)
       (record { store = put_all p.store (stand_puts m p.store ++ rest x); memory = if x then win_memory p.store (stand_memory m p.memory) else stand_memory m p.memory })
       (if x then win (stand given t) else stand given t)) (sym counted) after))

@@ -7,13 +7,13 @@ use Rattle.raft_log.specs.declared.origin.TheConstants.{WIN}
 use Rattle.raft_log.specs.declared.durable.Durable.{Durable}
 use Rattle.raft_log.specs.DurableViews.{durable_state}
 use Rattle.raft_model.specs.Moves.Elections.{has_quorum, win_memory, win_puts}
-use Rattle.raft_model.specs.Server.{Plain, Put, Store, put_all}
+use Rattle.raft_model.specs.Server.{RaftServer, Put, Store, put_all}
 use Rattle.raft_core.specs.declared.raft.Raft.{Raft}
 use Rattle.raft_core.specs.Stands.{StandsFor}
-use Rattle.raft_core.specs.StoredPuts.{DoesPuts, noted, store_of}
+use Rattle.raft_core.specs.StoredPuts.{CallWrites, with_origin, store_of}
 use Rattle.raft_core.specs.Times.{Times, win}
 
-module _ {D : Type 0} {disk : Ghosts D} (members : List ℕ) (p : Plain) (t : Times) (votes : ℕ → Bool) (old new : Durable D disk) (raft2 : Raft) where
+module _ {D : Type 0} {disk : Ghosts D} (members : List ℕ) (p : RaftServer) (t : Times) (votes : ℕ → Bool) (old new : Durable D disk) (raft2 : Raft) where
   -- a candidate with these votes, which wins with those of a quorum
   abbrev pub votes_puts : List Put
   votes_puts = if has_quorum members votes then win_puts p.store else []
@@ -23,10 +23,10 @@ module _ {D : Type 0} {disk : Ghosts D} (members : List ℕ) (p : Plain) (t : Ti
       (if has_quorum members votes then record { store = put_all p.store (win_puts p.store); memory = win_memory p.store (record p.memory { votes = votes }) } else record p { memory = record p.memory { votes = votes } })
       (if has_quorum members votes then win t else t)
 
-  pub won_puts : (failed : Option Fault) → has_quorum members votes ≡ true → p.store ≡ store_of (durable_state old) → DoesPuts (noted WIN (win_puts (store_of (durable_state old)))) old new failed → DoesPuts (noted WIN votes_puts) old new failed
-  won_puts failed quorum store made = rw quorum (subst (λ (z : Store). DoesPuts (noted WIN (win_puts z)) old new failed) (sym store) made)
+  pub won_puts : (failed : Option Fault) → has_quorum members votes ≡ true → p.store ≡ store_of (durable_state old) → CallWrites (with_origin WIN (win_puts (store_of (durable_state old)))) old new failed → CallWrites (with_origin WIN votes_puts) old new failed
+  won_puts failed quorum store made = rw quorum (subst (λ (z : Store). CallWrites (with_origin WIN (win_puts z)) old new failed) (sym store) made)
 
-  pub no_puts : (failed : Option Fault) → has_quorum members votes ≡ false → DoesPuts [] old new failed → DoesPuts (noted WIN votes_puts) old new failed
+  pub no_puts : (failed : Option Fault) → has_quorum members votes ≡ false → CallWrites [] old new failed → CallWrites (with_origin WIN votes_puts) old new failed
   no_puts failed quorum made = rw quorum made
 
   pub won_counted : has_quorum members votes ≡ true → StandsFor raft2 members (durable_state new) (record { store = put_all p.store (win_puts p.store); memory = win_memory p.store (record p.memory { votes = votes }) }) (win t) → CountsVotes

@@ -13,14 +13,14 @@ use Rattle.raft_log.specs.Stored.{Stored}
 use Rattle.raft_model.specs.Messages.{Request}
 use Rattle.raft_model.specs.Moves.Elections.{IsGranted, MayGrant, grant_puts, term_memory, term_puts, vote_puts, with_term}
 use Rattle.raft_model.specs.Moves.Move.{TakeVoteRequest}
-use Rattle.raft_model.specs.Server.{Plain, Store, put_all, Role as MachineRole}
+use Rattle.raft_model.specs.Server.{RaftServer, Store, put_all, Role as MachineRole}
 use Rattle.raft_model.specs.Server.Put.{PutVote}
 use Rattle.raft_core.specs.declared.peer.Peer.{Peer}
 use Rattle.raft_core.specs.declared.raft.Raft.{Raft}
 use Rattle.raft_core.specs.Fits.{Fits, IsWithin}
 use Rattle.raft_core.specs.Handled.{MakesMoves}
 use Rattle.raft_core.specs.Stands.{StandsFor}
-use Rattle.raft_core.specs.StoredPuts.{DoesPuts, VoteForNodes, noted, store_of, vote_of}
+use Rattle.raft_core.specs.StoredPuts.{CallWrites, VoteForNodes, with_origin, store_of, vote_of}
 use Rattle.raft_core.specs.Times.{Given, Times, begin_wait, raise, step_down}
 use Rattle.raft_core.proofs.Moving.{one_move, one_move_failed, put_then, store_after, waiting_stands}
 
@@ -51,7 +51,7 @@ down_wait now MachineRole.Follower t = refl
 down_wait now MachineRole.Candidate t = refl
 down_wait now MachineRole.Leader t = refl
 
-raise_wait : (now term : ℕ) (p : Plain) (t : Times) → begin_wait now (raise now term p t) ≡ begin_wait now t
+raise_wait : (now term : ℕ) (p : RaftServer) (t : Times) → begin_wait now (raise now term p t) ≡ begin_wait now t
 raise_wait now term p t = by_test (nat_lt p.store.term term) where
   by_test : (b : Bool) → begin_wait now (if b then step_down now p.memory.role t else t) ≡ begin_wait now t
   by_test true = down_wait now p.memory.role t
@@ -71,7 +71,7 @@ voted_fits raft raft2 s s2 node fits stored role told me peers = record {
       (subst (λ (z : Stored). IsWithin (slice_index_or raft.peers q d) (length z.log)) (sym stored) (fits.peers (sym role ∙ leads) q d below));
 }
 
-module _ {D : Type 0} {disk : Ghosts D} (members : List ℕ) (m n : ℕ) (given : Given) (p : Plain) (t : Times) (r : Request) (granted : Bool) (is : IsGranted (with_term p.store r.term) r granted)
+module _ {D : Type 0} {disk : Ghosts D} (members : List ℕ) (m n : ℕ) (given : Given) (p : RaftServer) (t : Times) (r : Request) (granted : Bool) (is : IsGranted (with_term p.store r.term) r granted)
     (old : Durable D disk) (raft : Raft) (st : StandsFor raft members (durable_state old) p t) where
   -- what is made of it, and what is answered
   abbrev pub IsVoted : Durable D disk → Raft → Result VoteAnswer Fault → Type 0
@@ -79,10 +79,10 @@ module _ {D : Type 0} {disk : Ghosts D} (members : List ℕ) (m n : ℕ) (given 
       IfOk result (λ answer. (answer.term ≡ (with_term p.store r.term).term) × (answer.granted ≡ granted))
 
   pub vote_failed : (new : Durable D disk) (fault : Fault) (raft2 : Raft) (result : Result VoteAnswer Fault) → result ≡ Err fault
-      → DoesPuts (noted LEADER (term_puts (store_of (durable_state old)) r.term ++ grant_puts (with_term p.store r.term) r granted)) old new (Some fault) → IsVoted new raft2 result
+      → CallWrites (with_origin LEADER (term_puts (store_of (durable_state old)) r.term ++ grant_puts (with_term p.store r.term) r granted)) old new (Some fault) → IsVoted new raft2 result
   vote_failed new fault raft2 result failed made = (
     one_move_failed members m n given (TakeVoteRequest r granted) p t old new raft2 result fault failed
-        (subst (λ (z : Store). DoesPuts (noted LEADER (term_puts z r.term ++ grant_puts (with_term p.store r.term) r granted)) old new (Some fault)) (sym st.store) made),
+        (subst (λ (z : Store). CallWrites (with_origin LEADER (term_puts z r.term ++ grant_puts (with_term p.store r.term) r granted)) old new (Some fault)) (sym st.store) made),
     subst (λ (x : Result VoteAnswer Fault). IfOk x (λ answer. (answer.term ≡ (with_term p.store r.term).term) × (answer.granted ≡ granted))) (sym failed) tt,
   )
 
@@ -97,13 +97,13 @@ module _ {D : Type 0} {disk : Ghosts D} (members : List ℕ) (m n : ℕ) (given 
 
       -- it is not granted
       pub vote_denied : (MayGrant (store_of (durable_state mid)) r → ⊥)
-          → DoesPuts (noted LEADER (term_puts (store_of (durable_state old)) r.term ++ [])) old mid None
+          → CallWrites (with_origin LEADER (term_puts (store_of (durable_state old)) r.term ++ [])) old mid None
           → IsVoted mid raft1 (Ok (record { term = term; granted = false }))
       vote_denied no_grant made =
           subst (λ (b : Bool). MakesMoves members m n given (TakeVoteRequest r b ∷ []) p t old mid raft1 None × ((term ≡ (with_term p.store r.term).term) × (false ≡ b)))
           (sym (denied (store_of (durable_state mid)) r granted granted_now no_grant)) (
             one_move members m n given (TakeVoteRequest r false) p t old mid raft1
-                (subst (λ (z : Store). DoesPuts (noted LEADER (term_puts z r.term ++ [])) old mid None) (sym st.store) made)
+                (subst (λ (z : Store). CallWrites (with_origin LEADER (term_puts z r.term ++ [])) old mid None) (sym st.store) made)
                 (subst (λ (z : Store). StandsFor raft1 members (durable_state mid) (record { store = z; memory = term_memory p r.term }) (raise given.now r.term p t)) (sym (put_then (term_puts p.store r.term) [] p.store)) st1),
             (term_now, refl),
           )
@@ -111,8 +111,8 @@ module _ {D : Type 0} {disk : Ghosts D} (members : List ℕ) (m n : ℕ) (given 
       -- it is granted
       pub vote_granted : (new : Durable D disk) (raft2 : Raft) → MayGrant (store_of (durable_state mid)) r → 1 ≤ r.from
           → raft2.role ≡ raft1.role → raft2.told ≡ raft1.told → raft2.members ≡ raft1.members → given.now ≡ raft2.since → raft2.word ≡ raft1.word → raft2.peers ≡ raft1.peers
-          → DoesPuts (noted LEADER (vote_puts (store_of (durable_state mid)).vote r.from)) mid new None
-          → DoesPuts (noted LEADER (term_puts (store_of (durable_state old)) r.term ++ vote_puts (store_of (durable_state mid)).vote r.from)) old new None
+          → CallWrites (with_origin LEADER (vote_puts (store_of (durable_state mid)).vote r.from)) mid new None
+          → CallWrites (with_origin LEADER (term_puts (store_of (durable_state old)) r.term ++ vote_puts (store_of (durable_state mid)).vote r.from)) old new None
           → IsVoted new raft2 (Ok (record { term = term; granted = true }))
       vote_granted new raft2 may least role told known since word peers voted made =
           let s = durable_state mid in
@@ -123,8 +123,8 @@ module _ {D : Type 0} {disk : Ghosts D} (members : List ℕ) (m n : ℕ) (given 
           subst (λ (b : Bool). MakesMoves members m n given (TakeVoteRequest r b ∷ []) p t old new raft2 None × ((term ≡ (with_term p.store r.term).term) × (true ≡ b)))
           (sym (allowed (store_of s) r granted granted_now may)) (
             one_move members m n given (TakeVoteRequest r true) p t old new raft2
-                (subst (λ (z : Store). DoesPuts (noted LEADER (term_puts z r.term ++ vote_puts (with_term p.store r.term).vote r.from)) old new None) (sym st.store)
-                (subst (λ (z : Store). DoesPuts (noted LEADER (term_puts (store_of (durable_state old)) r.term ++ vote_puts z.vote r.from)) old new None) same made))
+                (subst (λ (z : Store). CallWrites (with_origin LEADER (term_puts z r.term ++ vote_puts (with_term p.store r.term).vote r.from)) old new None) (sym st.store)
+                (subst (λ (z : Store). CallWrites (with_origin LEADER (term_puts (store_of (durable_state old)) r.term ++ vote_puts z.vote r.from)) old new None) same made))
                 (subst (λ (x : Times). StandsFor raft2 members (durable_state new) (record { store = put_all p.store (term_puts p.store r.term ++ vote_puts (with_term p.store r.term).vote r.from); memory = term_memory p r.term }) x) (raise_wait given.now r.term p t)
                 (waiting_stands raft1 raft2 members s (durable_state new) (record { store = with_term p.store r.term; memory = term_memory p r.term }) (raise given.now r.term p t) given.now _ st1 (sym stored) role told known since word peers)),
             (term_now, refl),

@@ -7,9 +7,9 @@ use Rattle.raft_model.specs.Messages.{Request}
 use Rattle.raft_model.specs.Moves.{Move, puts}
 use Rattle.raft_model.specs.Moves.Elections.{counted, counting_puts, counts, grant_puts, has_quorum, own_vote, stand_puts, term_puts, win_puts, with_term}
 use Rattle.raft_model.specs.Moves.Move.{TimeOut, TakeVoteRequest, TakeVoteAnswer, TakeAppendRequest, TakeAppendAnswer, ProposeEntry, CommitTo, TellPair, TellNothing, CallForVote, CallToAppend, AnswerAgain, GiveUp}
-use Rattle.raft_model.specs.Server.{Plain, Put, Store, put_all}
+use Rattle.raft_model.specs.Server.{RaftServer, Put, Store, put_all}
 use Rattle.raft_model.specs.Server.Put.{PutTerm, PutVote}
-use Rattle.raft_core.specs.StoredPuts.{AreOfNodes, IsOfNode, Noted, VoteForNodes, plain_puts, store_of, stored_put, stored_puts}
+use Rattle.raft_core.specs.StoredPuts.{AreOfNodes, IsOfNode, PutWithOrigin, VoteForNodes, puts_alone, store_of, stored_put, stored_puts}
 use Rattle.raft_core.proofs.Judged.{append_counts}
 use Rattle.raft_core.proofs.Origins.{plain_front}
 use Rattle.raft_core.proofs.Moving.{stored_after}
@@ -34,7 +34,7 @@ grant_counts s r true least = vote_counts s.vote r.from least
 grant_counts s r false least = tt
 
 module _ (members : List ℕ) (m : ℕ) (least : 1 ≤ m) where
-  of_move : (p : Plain) (move : Move) → IsOfNode move → VoteForNodes (puts members m p move)
+  of_move : (p : RaftServer) (move : Move) → IsOfNode move → VoteForNodes (puts members m p move)
   of_move p TimeOut h = both (stand_puts m p.store) _ (tt, (tt, (least, tt)))
       (either (has_quorum members (own_vote m)) (win_puts (put_all p.store (stand_puts m p.store))) [] (win_counts (put_all p.store (stand_puts m p.store))) tt)
   of_move p (TakeVoteRequest r granted) h = both (term_puts p.store r.term) _ (term_counts p.store r.term) (grant_counts (with_term p.store r.term) r granted h)
@@ -51,7 +51,7 @@ module _ (members : List ℕ) (m : ℕ) (least : 1 ≤ m) where
   of_move p (AnswerAgain place) h = tt
   of_move p (GiveUp q) h = tt
 
-  pub of_moves : (n : ℕ) (p : Plain) (moves : List Move) → AreOfNodes moves → VoteForNodes (puts_of_all members m n p moves)
+  pub of_moves : (n : ℕ) (p : RaftServer) (moves : List Move) → AreOfNodes moves → VoteForNodes (puts_of_all members m n p moves)
   of_moves n p [] h = tt
   of_moves n p (move ∷ moves) h = both (puts members m p move) _ (of_move p move h.0) (of_moves n (plain_after members m n p move) moves h.1)
 
@@ -63,12 +63,12 @@ front_votes [] (suc k) h = tt
 front_votes (x ∷ xs) zero h = tt
 front_votes (x ∷ xs) (suc k) h = (h.0, front_votes xs k h.1)
 
-front_stored : (xs : List Noted) (k : ℕ) (s : Stored) → take k (stored_puts xs s) ≡ stored_puts (take k xs) s
+front_stored : (xs : List PutWithOrigin) (k : ℕ) (s : Stored) → take k (stored_puts xs s) ≡ stored_puts (take k xs) s
 front_stored [] zero s = refl
 front_stored [] (suc k) s = refl
 front_stored (x ∷ xs) zero s = refl
 front_stored (x ∷ xs) (suc k) s = ap (λ (rest : List StoredPut). stored_put x s ∷ rest) (front_stored xs k (after_put (stored_put x s) s))
 
-pub front_after : (xs : List Noted) (s : Stored) (k : ℕ) → VoteForNodes (plain_puts xs) → store_of (after_puts (take k (stored_puts xs s)) s) ≡ put_all (store_of s) (take k (plain_puts xs))
+pub front_after : (xs : List PutWithOrigin) (s : Stored) (k : ℕ) → VoteForNodes (puts_alone xs) → store_of (after_puts (take k (stored_puts xs s)) s) ≡ put_all (store_of s) (take k (puts_alone xs))
 front_after xs s k h = ap (λ (l : List StoredPut). store_of (after_puts l s)) (front_stored xs k s)
-    ∙ (stored_after (take k xs) s (subst VoteForNodes (sym (plain_front xs k)) (front_votes (plain_puts xs) k h)) ∙ ap (put_all (store_of s)) (plain_front xs k))
+    ∙ (stored_after (take k xs) s (subst VoteForNodes (sym (plain_front xs k)) (front_votes (puts_alone xs) k h)) ∙ ap (put_all (store_of s)) (plain_front xs k))

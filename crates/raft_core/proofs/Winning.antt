@@ -12,14 +12,14 @@ use Rattle.raft_log.specs.declared.durable.Durable.{Durable}
 use Rattle.raft_log.specs.DurableViews.{durable_state}
 use Rattle.raft_log.specs.Stored.{Stored}
 use Rattle.raft_model.specs.Moves.Elections.{adds_blank, win_memory, win_puts}
-use Rattle.raft_model.specs.Server.{Plain, Store, opened, put_all, Role as MachineRole}
+use Rattle.raft_model.specs.Server.{RaftServer, Store, opened, put_all, Role as MachineRole}
 use Rattle.raft_model.specs.Server.Put.{PutEntry, PutLonger}
 use Rattle.raft_core.specs.declared.peer.Peer.{Peer}
 use Rattle.raft_core.specs.declared.raft.Raft.{Raft}
 use Rattle.raft_core.specs.Fits.{Fits, IsWithin}
 use Rattle.raft_core.specs.Peers.{fresh}
 use Rattle.raft_core.specs.Stands.{StandsFor, Tells, role_of}
-use Rattle.raft_core.specs.StoredPuts.{DoesPuts, VoteForNodes, noted, store_of}
+use Rattle.raft_core.specs.StoredPuts.{CallWrites, VoteForNodes, with_origin, store_of}
 use Rattle.raft_core.specs.Times.{Times, opened_times, win}
 use Rattle.raft_core.proofs.Moving.{store_after}
 
@@ -37,7 +37,7 @@ pub new_peer : (peers : List Peer) (next q : ℕ) (d : Peer) → peers ≡ repli
 new_peer peers next q d is below = ap (λ (l : List Peer). get_or l q d) is ∙ get_or-replicate 128 q (fresh next) d below
 
 module _ (raft raft2 : Raft) (members : List ℕ) (s s2 : Stored) (role : raft2.role ≡ Leader) (peers : raft2.peers ≡ replicate 128 (fresh (length s.log + 1))) (told : raft2.told ≡ s.commit) where
-  pub won_stands : (p : Plain) (t : Times) → StandsFor raft members s p t → raft.role ≢ Follower → raft2.members ≡ raft.members → raft2.since ≡ raft.since → raft2.word ≡ raft.word
+  pub won_stands : (p : RaftServer) (t : Times) → StandsFor raft members s p t → raft.role ≢ Follower → raft2.members ≡ raft.members → raft2.since ≡ raft.since → raft2.word ≡ raft.word
       → store_of s2 ≡ put_all (store_of s) (win_puts (store_of s))
       → StandsFor raft2 members s2 (record { store = put_all p.store (win_puts p.store); memory = win_memory p.store p.memory }) (win t)
   won_stands p t st stood known since word stored = record {
@@ -70,15 +70,15 @@ module _ (raft raft2 : Raft) (members : List ℕ) (s s2 : Stored) (role : raft2.
   }
 
 module _ {D : Type 0} {disk : Ghosts D} (old new : Durable D disk) where
-  pub blank_made : (failed : Option Fault) → adds_blank (store_of (durable_state old)) ≡ true → DoesPuts (noted WIN (PutEntry (blank (durable_state old).term) ∷ PutLonger (blank (durable_state old).term) ∷ [])) old new failed
-      → DoesPuts (noted WIN (win_puts (store_of (durable_state old)))) old new failed
+  pub blank_made : (failed : Option Fault) → adds_blank (store_of (durable_state old)) ≡ true → CallWrites (with_origin WIN (PutEntry (blank (durable_state old).term) ∷ PutLonger (blank (durable_state old).term) ∷ [])) old new failed
+      → CallWrites (with_origin WIN (win_puts (store_of (durable_state old)))) old new failed
   blank_made failed wants made = rw wants made
 
   -- what is stored after it
-  pub won_store : {T : Type 0} (result : Result T Fault) (value : T) → result ≡ Ok value → DoesPuts (noted WIN (win_puts (store_of (durable_state old)))) old new (result_err result)
+  pub won_store : {T : Type 0} (result : Result T Fault) (value : T) → result ≡ Ok value → CallWrites (with_origin WIN (win_puts (store_of (durable_state old)))) old new (result_err result)
       → store_of (durable_state new) ≡ put_all (store_of (durable_state old)) (win_puts (store_of (durable_state old)))
   won_store result value is made =
-      let done : DoesPuts (noted WIN (win_puts (store_of (durable_state old)))) old new None = subst (λ (r : Result _ Fault). DoesPuts (noted WIN (win_puts (store_of (durable_state old)))) old new (result_err r)) is made in
+      let done : CallWrites (with_origin WIN (win_puts (store_of (durable_state old)))) old new None = subst (λ (r : Result _ Fault). CallWrites (with_origin WIN (win_puts (store_of (durable_state old)))) old new (result_err r)) is made in
       ap store_of (done.made.state refl) ∙ store_after WIN (win_puts (store_of (durable_state old))) (durable_state old) (win_counts (store_of (durable_state old)))
 
 -- a member that opens

@@ -6,7 +6,7 @@ use Rattle.raft_model.specs.Messages.{Request}
 use Rattle.raft_model.specs.Moves.{Move}
 use Rattle.raft_model.specs.Moves.Leading.{append_request, vote_request}
 use Rattle.raft_model.specs.Moves.Move.{CallForVote, CallToAppend}
-use Rattle.raft_model.specs.Server.{Plain, Role}
+use Rattle.raft_model.specs.Server.{RaftServer, Role}
 use Rattle.raft_model.specs.Server.Role.{Follower, Candidate, Leader}
 use Rattle.raft_log.specs.Stored.{Stored}
 use Rattle.raft_core.specs.declared.calls.Call.{Call}
@@ -19,7 +19,7 @@ use Rattle.raft_core.specs.Times.{Sending, Times, is_silent}
 
 -- a Candidate calls each peer that has not answered in this term; a Leader one that it has something new
 -- for, or that it was silent to
-abbrev pub due : Role → Plain → Times → ℕ → ℕ → Option Move
+abbrev pub due : Role → RaftServer → Times → ℕ → ℕ → Option Move
 due Follower server times node now = None
 due Candidate server times node now = if times.answered node then None else Some (CallForVote node)
 due Leader server times node now =
@@ -31,7 +31,7 @@ abbrev pub due_unless : Option Request → Option Move → Option Move
 due_unless None move = move
 due_unless (Some request) move = None
 
-abbrev pub owed : Plain → Times → ℕ → ℕ → Option Move
+abbrev pub owed : RaftServer → Times → ℕ → ℕ → Option Move
 owed server times node now = due_unless (server.memory.pending node) (due server.memory.role server times node now)
 
 -- what a call says is the request that the move sends
@@ -47,7 +47,7 @@ pub record SaysAppend (request : AppendRequest) (sent : Request) : Type 0 where
   pub commit : request.commit ≡ sent.commit
   pub entry : request.entry ≡ sent.entry
 
-abbrev pub Says : ℕ → ℕ → Plain → ℕ → Call → Move → Type 0
+abbrev pub Says : ℕ → ℕ → RaftServer → ℕ → Call → Move → Type 0
 Says member step server node (Vote request) move = (move ≡ CallForVote node)
     × SaysVote request (vote_request member step server.store node)
 Says member step server node (Append request) move = (previous : ℕ) × (move ≡ CallToAppend node previous true)
@@ -55,13 +55,13 @@ Says member step server node (Append request) move = (previous : ℕ) × (move �
 
 -- the member owes the peer this call
 abbrev pub Owes : Raft → Stored → ℕ → ℕ → Call → Type 0
-Owes raft state node now call = (members : List ℕ) (step : ℕ) (server : Plain) (times : Times) →
+Owes raft state node now call = (members : List ℕ) (step : ℕ) (server : RaftServer) (times : Times) →
     StandsFor raft members state server times →
     (move : Move) × (owed server times node now ≡ Some move) × Says (raft_me raft) step server node call move
 
 -- and it owes it none
 abbrev pub OwesNone : Raft → Stored → ℕ → ℕ → Type 0
-OwesNone raft state node now = (members : List ℕ) (server : Plain) (times : Times) →
+OwesNone raft state node now = (members : List ℕ) (server : RaftServer) (times : Times) →
     StandsFor raft members state server times → owed server times node now ≡ None
 
 -- what is told of a pending call: its service, 31 for votes and 30 for appends, its transfer ID, its step and its

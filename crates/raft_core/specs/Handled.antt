@@ -12,10 +12,10 @@ use Rattle.raft_model.specs.Messages.{Answer, Request}
 use Rattle.raft_model.specs.Duty.{tick_phase}
 use Rattle.raft_model.specs.Moves.{Move, puts}
 use Rattle.raft_model.specs.Moves.Move.{TimeOut, TakeVoteAnswer, ProposeEntry, GiveUp}
-use Rattle.raft_model.specs.Server.{Plain}
+use Rattle.raft_model.specs.Server.{RaftServer}
 use Rattle.raft_core.specs.declared.raft.Raft.{Raft}
 use Rattle.raft_core.specs.Stands.{StandsFor}
-use Rattle.raft_core.specs.StoredPuts.{DoesPuts, Noted, noted, plain_puts}
+use Rattle.raft_core.specs.StoredPuts.{CallWrites, PutWithOrigin, with_origin, puts_alone}
 use Rattle.raft_core.specs.Times.{Given, Times, has_waited, times_after_all}
 
 -- the origin of the entry that a move puts: the blank of a win, an entry that is proposed with the origin that was
@@ -27,27 +27,27 @@ origin_of given (ProposeEntry entry) = given.origin
 origin_of given move = LEADER
 
 -- the puts of these moves, which are given this, each with its origin
-abbrev pub noted_puts : List ℕ → ℕ → ℕ → Given → Plain → List Move → List Noted
-noted_puts members member step given server [] = []
-noted_puts members member step given server (move ∷ moves) =
-    noted (origin_of given move) (puts members member server move)
-    ++ noted_puts members member step given (plain_after members member step server move) moves
+abbrev pub puts_with_origins : List ℕ → ℕ → ℕ → Given → RaftServer → List Move → List PutWithOrigin
+puts_with_origins members member step given server [] = []
+puts_with_origins members member step given server (move ∷ moves) =
+    with_origin (origin_of given move) (puts members member server move)
+    ++ puts_with_origins members member step given (plain_after members member step server move) moves
 
 -- the member makes these moves in a step: their puts with these origins in order, up to the first that fails; and
 -- where none does, it stands for the server after them, and for these times
 pub record LeavesMoves {D : Type 0} {disk : Ghosts D} (members : List ℕ) (member step : ℕ) (moves : List Move)
-    (server : Plain) (noted : List Noted) (times_then : Times)
+    (server : RaftServer) (with_origin : List PutWithOrigin) (times_then : Times)
     (old new : Durable D disk) (raft : Raft) (failed : Option Fault) : Type 0 where
-  pub plain : plain_puts noted ≡ puts_of_all members member step server moves
-  pub puts : DoesPuts noted old new failed
+  pub plain : puts_alone with_origin ≡ puts_of_all members member step server moves
+  pub puts : CallWrites with_origin old new failed
   pub after : IfNone failed
       (StandsFor raft members (durable_state new) (plain_after_all members member step server moves) times_then)
 
 -- they are given this: the origins are as it says, and they leave the times after them
 abbrev pub MakesMoves : {D : Type 0} {disk : Ghosts D} → List ℕ → ℕ → ℕ → Given → List Move →
-    Plain → Times → Durable D disk → Durable D disk → Raft → Option Fault → Type 0
+    RaftServer → Times → Durable D disk → Durable D disk → Raft → Option Fault → Type 0
 MakesMoves members member step given moves server times =
-    LeavesMoves members member step moves server (noted_puts members member step given server moves)
+    LeavesMoves members member step moves server (puts_with_origins members member step given server moves)
     (times_after_all members member step given server moves times)
 
 -- the request of the machine that a vote request carries, which the node `from` made in a step for the node `to`
@@ -86,7 +86,7 @@ answer_of step from request term success =
     record { step = step; from = from; request = request; term = term; success = success }
 
 -- a tick: whoever has waited, and knows all members, stands for election, if there is a next term and it does not lead
-abbrev pub moves_of_tick : Bool → ℕ → Plain → Times → List Move
+abbrev pub moves_of_tick : Bool → ℕ → RaftServer → Times → List Move
 moves_of_tick complete now server times = tick_phase (complete && has_waited times now) server
 
 -- the members that a tick counts: those of the election that it begins, else those of the last one

@@ -9,7 +9,7 @@ use Rattle.raft_log.specs.declared.durable.Durable.{Durable}
 use Rattle.raft_log.specs.DurableViews.{durable_disk, durable_state}
 use Rattle.raft_model.specs.Moves.Leading.{MayPropose}
 use Rattle.raft_model.specs.Moves.Move.{ProposeEntry}
-use Rattle.raft_model.specs.Server.{Plain, Put}
+use Rattle.raft_model.specs.Server.{RaftServer, Put}
 use Rattle.raft_model.specs.Server.Put.{PutEntry, PutLonger}
 use Rattle.raft_core.specs.declared.propose.Proposed.{Proposed}
 use Rattle.raft_core.specs.declared.propose.Proposed.TheVariants.{Added, NotLeader, LogFull, Taken}
@@ -17,7 +17,7 @@ use Rattle.raft_core.specs.declared.raft.Raft.{Raft}
 use Rattle.raft_core.specs.Handled.{MakesMoves}
 use Rattle.raft_core.specs.RaftViews.{raft_me, raft_role}
 use Rattle.raft_core.specs.Stands.{StandsFor, role_of}
-use Rattle.raft_core.specs.StoredPuts.{DoesPuts, IsStill, KeepsFaults, noted, store_of}
+use Rattle.raft_core.specs.StoredPuts.{CallWrites, IsStill, CallFaultIsSticky, with_origin, store_of}
 use Rattle.raft_core.specs.Taken.{proposal}
 use Rattle.raft_core.specs.Times.{Given, Times}
 
@@ -37,13 +37,13 @@ entry_puts entry = PutEntry entry ∷ PutLonger entry ∷ []
 pub record Appends {D : Type 0} {disk : Ghosts D} (raft : Raft) (uid : List ℕ) (node origin : ℕ)
     (old new : Durable D disk) (result : Result Proposed Fault) : Type 0 where
   -- it is tried exactly where the machine may propose it
-  pub tried : (server : Plain) → server.store ≡ store_of (durable_state old) →
+  pub tried : (server : RaftServer) → server.store ≡ store_of (durable_state old) →
       server.memory.role ≡ role_of (raft_role raft) →
       IsTried result ↔ MayPropose server (proposal server.store.term uid node)
   -- and then its puts are made
   pub puts : IsTried result →
-      DoesPuts (noted origin (entry_puts (proposal (durable_state old).term uid node))) old new (result_err result)
-  pub moves : (members : List ℕ) (step : ℕ) (server : Plain) (times : Times) →
+      CallWrites (with_origin origin (entry_puts (proposal (durable_state old).term uid node))) old new (result_err result)
+  pub moves : (members : List ℕ) (step : ℕ) (server : RaftServer) (times : Times) →
       StandsFor raft members (durable_state old) server times →
       (given : Given) → given.origin ≡ origin →
       let entry = proposal server.store.term uid node in MayPropose server entry →
@@ -53,4 +53,4 @@ pub record Appends {D : Type 0} {disk : Ghosts D} (raft : Raft) (uid : List ℕ)
   pub refused : (IsTried result → ⊥) → new ≡ old
   pub unchanged : result ≢ Ok Added →
       (Rose (disk.faults (durable_disk old)) (disk.faults (durable_disk new)) → ⊥) → IsStill old new
-  pub faults : KeepsFaults old new (result_err result)
+  pub faults : CallFaultIsSticky old new (result_err result)

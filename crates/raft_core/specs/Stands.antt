@@ -4,7 +4,7 @@ use Rattle.can_frame.specs.declared.step.Role.{Role}
 use Rattle.can_frame.specs.declared.step.Role.TheVariants.{Follower, Candidate, Leader}
 use Rattle.raft_log.specs.Stored.{Stored}
 use Rattle.raft_model.specs.Messages.{Request, reach}
-use Rattle.raft_model.specs.Server.{Plain, Role as MachineRole}
+use Rattle.raft_model.specs.Server.{RaftServer, Role as MachineRole}
 use Rattle.raft_core.specs.declared.peer.Asked.{Asked}
 use Rattle.raft_core.specs.declared.peer.Asked.TheVariants.{Vote, Append}
 use Rattle.raft_core.specs.declared.peer.Waiting.{Waiting}
@@ -40,7 +40,7 @@ Waits (Some call) (Some request) None = ⊥
 Waits (Some call) (Some request) (Some sending) = IsWaiting call request sending
 
 -- what is kept of a peer: votes and answers are a Candidate's, places of the log a Leader's
-pub record Tells (peer : Peer) (server : Plain) (times : Times) (node : ℕ) : Type 0 where
+pub record Tells (peer : Peer) (server : RaftServer) (times : Times) (node : ℕ) : Type 0 where
   pub call : Waits peer.call (server.memory.pending node) (times.sending node)
   pub voted : server.memory.role ≡ MachineRole.Candidate → server.memory.votes node ≡ peer.voted
   pub answered : server.memory.role ≡ MachineRole.Candidate → times.answered node ≡ peer.answered
@@ -49,7 +49,8 @@ pub record Tells (peer : Peer) (server : Plain) (times : Times) (node : ℕ) : T
   pub appended : server.memory.role ≡ MachineRole.Leader → times.appended node ≡ peer.appended
 
 -- the member with what it has stored; a Candidate or Leader counts these members
-pub record StandsFor (raft : Raft) (members : List ℕ) (state : Stored) (server : Plain) (times : Times) : Type 0 where
+pub record StandsFor (raft : Raft) (members : List ℕ) (state : Stored) (server : RaftServer) (times : Times)
+    : Type 0 where
   pub store : server.store ≡ store_of state
   pub role : server.memory.role ≡ role_of (raft_role raft)
   pub told : server.memory.told ≡ raft_told raft

@@ -3,7 +3,7 @@ use Rattle.std.specs.Prelude.{◌≡◌, ◌≤◌, ⊤, ℕ, zero, suc, List, [
 use Rattle.disk_model.specs.declared.disk.Disk.{Ghosts}
 use Rattle.kv_store.specs.declared.fault.Fault.{Fault}
 use Rattle.raft_log.specs.declared.durable.Durable.{Durable}
-use Rattle.raft_log.specs.Calls.{KeepsFault, MakesPuts}
+use Rattle.raft_log.specs.Calls.{FaultIsSticky, WritesInOrder}
 use Rattle.raft_log.specs.DurableViews.{durable_disk, durable_fault, durable_state}
 use Rattle.raft_log.specs.Stored.{Stored, after_put, Put as StoredPut}
 use Rattle.raft_model.specs.Moves.{Move}
@@ -25,19 +25,19 @@ store_of state = record { term = state.term; vote = vote_of state.vote; log = st
 
 -- a put of the machine, which knows no origins, and beside it the origin of the entry that it puts; a put of no entry
 -- uses none
-pub record Noted : Type 0 where
+pub record PutWithOrigin : Type 0 where
   pub put : Put
   pub origin : ℕ
 
 -- puts of one origin
-abbrev pub noted : ℕ → List Put → List Noted
-noted origin [] = []
-noted origin (put ∷ puts) = record { put = put; origin = origin } ∷ noted origin puts
+abbrev pub with_origin : ℕ → List Put → List PutWithOrigin
+with_origin origin [] = []
+with_origin origin (put ∷ puts) = record { put = put; origin = origin } ∷ with_origin origin puts
 
 -- the puts alone
-abbrev pub plain_puts : List Noted → List Put
-plain_puts [] = []
-plain_puts (first ∷ rest) = first.put ∷ plain_puts rest
+abbrev pub puts_alone : List PutWithOrigin → List Put
+puts_alone [] = []
+puts_alone (first ∷ rest) = first.put ∷ puts_alone rest
 
 -- a put of the machine as it is made of a stored state, with this origin of its entry: a log that is longer, or
 -- shorter, is put by its last
@@ -50,10 +50,10 @@ put_from origin (PutLonger entry) state =
 put_from origin (PutShorter count) state = StoredPut.PutLast (take count state.log) (take count state.origins)
 put_from origin (PutCommit index) state = StoredPut.PutCommit index
 
-abbrev pub stored_put : Noted → Stored → StoredPut
+abbrev pub stored_put : PutWithOrigin → Stored → StoredPut
 stored_put first state = put_from first.origin first.put state
 
-abbrev pub stored_puts : List Noted → Stored → List StoredPut
+abbrev pub stored_puts : List PutWithOrigin → Stored → List StoredPut
 stored_puts [] state = []
 stored_puts (first ∷ rest) state =
     stored_put first state ∷ stored_puts rest (after_put (stored_put first state) state)
@@ -89,15 +89,16 @@ pub record IsStill {D : Type 0} {ghosts : Ghosts D} (old new : Durable D ghosts)
 
 -- what a call that ended with this fault, or with none, tells of faults: of a store that had none before, what
 -- `raft_log` says of its calls; and of one that had one, nothing changed
-pub record KeepsFaults {D : Type 0} {disk : Ghosts D} (old new : Durable D disk) (failed : Option Fault) : Type 0 where
-  pub works : durable_fault old ≡ None → KeepsFault old new failed
+pub record CallFaultIsSticky {D : Type 0} {disk : Ghosts D} (old new : Durable D disk) (failed : Option Fault)
+    : Type 0 where
+  pub works : durable_fault old ≡ None → FaultIsSticky old new failed
   pub still : (fault : Fault) → durable_fault old ≡ Some fault → IsStill old new
   pub kept : IfSome failed (λ fault. durable_fault new ≡ Some fault)
 
 -- these puts of the machine are made in order, each with its origin, up to the first that fails, whose fault is
 -- answered; so without a put none is
-pub record DoesPuts {D : Type 0} {disk : Ghosts D} (puts : List Noted) (old new : Durable D disk)
+pub record CallWrites {D : Type 0} {disk : Ghosts D} (puts : List PutWithOrigin) (old new : Durable D disk)
     (failed : Option Fault) : Type 0 where
-  pub made : MakesPuts (stored_puts puts (durable_state old)) old new (is_none failed)
+  pub made : WritesInOrder (stored_puts puts (durable_state old)) old new (is_none failed)
   pub needed : puts ≡ [] → failed ≡ None
-  pub faults : KeepsFaults old new failed
+  pub faults : CallFaultIsSticky old new failed

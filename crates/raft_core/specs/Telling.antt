@@ -6,7 +6,7 @@ use Rattle.raft_model.specs.Duty.{tell_phase}
 use Rattle.raft_model.specs.Moves.{Move}
 use Rattle.raft_model.specs.Moves.Leading.{pair_at}
 use Rattle.raft_model.specs.Moves.Move.{TellNothing, TellPair}
-use Rattle.raft_model.specs.Server.{Plain}
+use Rattle.raft_model.specs.Server.{RaftServer}
 use Rattle.raft_core.specs.declared.raft.Raft.{Raft}
 use Rattle.raft_core.specs.declared.tell.Telling.{Telling}
 use Rattle.raft_core.specs.declared.tell.Telling.TheVariants.{Nothing, Skip, Pair}
@@ -14,7 +14,7 @@ use Rattle.raft_core.specs.RaftViews.{raft_told}
 
 -- what it tells, where it has room for a pair or not: nothing; a place without a unique ID, which is passed over; or
 -- the pair of the place
-abbrev pub IsToTell : Plain → Telling → Type 0
+abbrev pub IsToTell : RaftServer → Telling → Type 0
 IsToTell server Nothing = (room : Bool) → tell_phase room server ≡ []
 IsToTell server (Skip place) = (place ≡ server.memory.told + 1)
     × ((room : Bool) → tell_phase room server ≡ TellNothing ∷ [])

@@ -3,7 +3,7 @@
 use Rattle.std.specs.Prelude.{ℕ, ◌+◌, ◌-◌, ◌%◌, ◌&&◌, ◌==◌, Bool, true, false, not, if◌then◌else◌, nat_lt, nat_le, List, [], ◌∷◌, Option, Some, None}
 use Rattle.raft_model.specs.Lists.{at}
 use Rattle.raft_model.specs.Messages.{Request}
-use Rattle.raft_model.specs.Server.{Plain, Role}
+use Rattle.raft_model.specs.Server.{RaftServer, Role}
 use Rattle.raft_model.specs.Server.Role.{Follower, Candidate, Leader}
 use Rattle.raft_model.specs.Handlers.{plain_after}
 use Rattle.raft_model.specs.Moves.{Move}
@@ -89,7 +89,7 @@ awaits None sending append id = false
 awaits (Some request) None append id = false
 awaits (Some request) (Some call) append id = (if append then request.append else not request.append) && (call.id == id)
 
-abbrev pub is_awaited : Plain → Times → ℕ → Bool → ℕ → Bool
+abbrev pub is_awaited : RaftServer → Times → ℕ → Bool → ℕ → Bool
 is_awaited server times node append id = awaits (server.memory.pending node) (times.sending node) append id
 
 -- ---- what a move changes
@@ -103,7 +103,7 @@ step_down now Follower times = times
 step_down now Candidate times = begin_wait now times
 step_down now Leader times = begin_wait now times
 
-abbrev pub raise : ℕ → ℕ → Plain → Times → Times
+abbrev pub raise : ℕ → ℕ → RaftServer → Times → Times
 raise now term server times = if nat_lt server.store.term term then step_down now server.memory.role times else times
 
 abbrev pub stand : Given → Times → Times
@@ -125,7 +125,7 @@ abbrev pub end_vote_call : ℕ → Times → Times
 end_vote_call node times = record (end_call node times) { answered = at times.answered node true }
 
 -- the times after a move of a member, in a cluster of these members
-abbrev pub times_after : List ℕ → ℕ → Given → Plain → Move → Times → Times
+abbrev pub times_after : List ℕ → ℕ → Given → RaftServer → Move → Times → Times
 times_after members member given server TimeOut times =
     if has_quorum members (own_vote member) then win (stand given times) else stand given times
 times_after members member given server (TakeVoteRequest request granted) times =
@@ -152,7 +152,7 @@ times_after members member given server (AnswerAgain place) times = times
 times_after members member given server (GiveUp node) times = end_call node times
 
 -- after these moves of a step with a number
-abbrev pub times_after_all : List ℕ → ℕ → ℕ → Given → Plain → List Move → Times → Times
+abbrev pub times_after_all : List ℕ → ℕ → ℕ → Given → RaftServer → List Move → Times → Times
 times_after_all members member step given server [] times = times
 times_after_all members member step given server (move ∷ moves) times =
     times_after_all members member step given (plain_after members member step server move) moves

@@ -14,10 +14,10 @@ ghost use Rattle.raft_model.specs.Messages.{Answer, Request};
 ghost use Rattle.raft_model.specs.Messages as messages;
 ghost use Rattle.raft_model.specs.Lists.{at};
 ghost use Rattle.raft_model.specs.Moves.Move.{TakeAppendAnswer, TakeAppendRequest};
-ghost use Rattle.raft_model.specs.Server.{Plain};
+ghost use Rattle.raft_model.specs.Server.{RaftServer};
 ghost use Rattle.raft_core.specs.Appending.{commit_puts, cut_to, write_puts};
 ghost use Rattle.raft_core.specs.Handled.{answer_of, append_request_of};
-ghost use Rattle.raft_core.specs.StoredPuts.{DoesPuts, KeepsFaults, noted, store_of};
+ghost use Rattle.raft_core.specs.StoredPuts.{CallWrites, CallFaultIsSticky, with_origin, store_of};
 ghost use Rattle.raft_core.specs.Times.{Times, given_at, is_awaited};
 
 use crate::laws::puts_in_turn;
@@ -49,7 +49,7 @@ impl Raft {
         now: u64,
     ) -> Result<AppendAnswer, Fault>
         requires fits { Fits self.old (durable_state d.old) }
-        ensures moves { (members : List ℕ) (step : ℕ) (server : Plain) (times : Times) →
+        ensures moves { (members : List ℕ) (step : ℕ) (server : RaftServer) (times : Times) →
             StandsFor self.old members (durable_state d.old) server times →
             (made_in : ℕ) →
             let request = append_request_of req.now made_in from (raft_me self.old) in
@@ -59,7 +59,7 @@ impl Raft {
             d.old d.new self.new (result_err result) ×
             IfOk result (λ answer. (answer.term ≡ (with_term server.store request.term).term) ×
             (answer.success ≡ is_accepted verdict)) }
-        ensures fault { KeepsFaults d.old d.new (result_err result) }
+        ensures fault { CallFaultIsSticky d.old d.new (result_err result) }
         ensures fits { OnOk result (Fits self.new (durable_state d.new)) }
         ensures me { raft_me self.new ≡ raft_me self.old }
         ensures size { raft_size self.new ≡ raft_size self.old }
@@ -94,11 +94,11 @@ impl Raft {
     ) -> Result<bool, Fault>
         requires most { from ≤ 125 }
         requires fits { Fits self.old (durable_state d.old) }
-        ensures refused { (members : List ℕ) (server : Plain) (times : Times) →
+        ensures refused { (members : List ℕ) (server : RaftServer) (times : Times) →
             StandsFor self.old members (durable_state d.old) server times →
             is_awaited server times from true id ≡ false → (result ≡ Ok false) ×
             (self.new ≡ self.old) × (d.new ≡ d.old) }
-        ensures moves { (members : List ℕ) (step : ℕ) (server : Plain) (times : Times) →
+        ensures moves { (members : List ℕ) (step : ℕ) (server : RaftServer) (times : Times) →
             StandsFor self.old members (durable_state d.old) server times →
             is_awaited server times from true id ≡ true → (made_in : ℕ) (request : Request) →
             server.memory.pending from ≡ Some request →
@@ -106,7 +106,7 @@ impl Raft {
             (TakeAppendAnswer (answer_of made_in from request ans.now.term ans.now.success) ∷ [])
             server times d.old d.new self.new (result_err result) ×
             IfOk result (λ taken. IsTrue taken) }
-        ensures fault { KeepsFaults d.old d.new (result_err result) }
+        ensures fault { CallFaultIsSticky d.old d.new (result_err result) }
         ensures fits { OnOk result (Fits self.new (durable_state d.new)) }
         ensures me { raft_me self.new ≡ raft_me self.old }
         ensures size { raft_size self.new ≡ raft_size self.old }
@@ -127,7 +127,7 @@ impl Raft {
 
     /// Whether the answer is to a leader of this term.
     fn leads(&self, term: u32, ans: &AppendAnswer) -> bool
-        ensures leads { (server : Plain) (answer : Answer) →
+        ensures leads { (server : RaftServer) (answer : Answer) →
             server.memory.role ≡ role_of self.now.role → server.store.term ≡ term →
             answer.term ≡ ans.now.term →
             result ≡ (is_leader server.memory.role && (answer.term == server.store.term)) }
@@ -141,7 +141,7 @@ impl Raft {
         requires most { from ≤ 125 }
         requires reach { reach ≤ 127 }
         requires matched { (none : Peer) → (slice_index_or self.old.peers from none).matched ≤ 127 }
-        ensures stands { (members : List ℕ) (state : Stored) (server : Plain) (times : Times) →
+        ensures stands { (members : List ℕ) (state : Stored) (server : RaftServer) (times : Times) →
             StandsFor self.old members state server times → self.old.role ≡ Leader →
             (answer : Answer) → answer.from ≡ from → answer.success ≡ success →
             messages.reach answer.request ≡ reach →
@@ -176,10 +176,10 @@ fn accept<D: Disk>(d: &mut Durable<D>, req: &AppendRequest) -> Result<bool, Faul
     ensures puts { (step from to : ℕ) (verdict : Verdict) →
         let request = append_request_of req.now step from to in
         IsRuled (store_of (durable_state d.old)) request verdict →
-        DoesPuts (noted LEADER (append_puts (store_of (durable_state d.old)) request verdict))
+        CallWrites (with_origin LEADER (append_puts (store_of (durable_state d.old)) request verdict))
         d.old d.new (result_err result) ×
         IfOk result (λ success. success ≡ is_accepted verdict) }
-    ensures fault { KeepsFaults d.old d.new (result_err result) }
+    ensures fault { CallFaultIsSticky d.old d.new (result_err result) }
     ensures commit { OnOk result ((durable_state d.old).commit ≤ (durable_state d.new).commit) }
 {
     puts_in_turn::<D>();
@@ -202,10 +202,10 @@ fn take_entry<D: Disk>(d: &mut Durable<D>, req: &AppendRequest, entry: Entry) ->
     ensures puts { (step from to : ℕ) (verdict : Verdict) →
         let request = append_request_of req.now step from to in
         IsRuled (store_of (durable_state d.old)) request verdict →
-        DoesPuts (noted LEADER (append_puts (store_of (durable_state d.old)) request verdict))
+        CallWrites (with_origin LEADER (append_puts (store_of (durable_state d.old)) request verdict))
         d.old d.new (result_err result) ×
         IfOk result (λ success. success ≡ is_accepted verdict) }
-    ensures fault { KeepsFaults d.old d.new (result_err result) }
+    ensures fault { CallFaultIsSticky d.old d.new (result_err result) }
     ensures commit { OnOk result ((durable_state d.old).commit ≤ (durable_state d.new).commit) }
 {
     puts_in_turn::<D>();
@@ -252,7 +252,7 @@ fn may_add<D: Disk>(d: &Durable<D>, previous: u8, entry: &Entry) -> bool
 /// The log is accepted as it is: what the request commits of it is committed. Answers true.
 fn hold<D: Disk>(d: &mut Durable<D>, place: u8) -> Result<bool, Fault>
     requires { place ≤ length (durable_state d.old).log }
-    ensures puts { DoesPuts (noted LEADER (commit_puts (store_of (durable_state d.old)) place))
+    ensures puts { CallWrites (with_origin LEADER (commit_puts (store_of (durable_state d.old)) place))
         d.old d.new (result_err result) }
     ensures commit { OnOk result ((durable_state d.old).commit ≤ (durable_state d.new).commit) }
     ensures accepted { IfOk result (λ success. IsTrue success) }
@@ -271,8 +271,8 @@ fn write<D: Disk>(d: &mut Durable<D>, previous: u8, entry: Entry) -> Result<(), 
     requires kept { (durable_state d.old).commit ≤ previous }
     requires follows { MayFollow (take previous (durable_state d.old).log)
         (durable_state d.old).term entry }
-    ensures puts { DoesPuts
-        (noted LEADER (write_puts (store_of (durable_state d.old)) previous entry))
+    ensures puts { CallWrites
+        (with_origin LEADER (write_puts (store_of (durable_state d.old)) previous entry))
         d.old d.new (result_err result) }
     ensures log { OnOk result ((durable_state d.new).log
         ≡ take previous (durable_state d.old).log ++ (entry ∷ [])) }
@@ -287,7 +287,7 @@ fn write<D: Disk>(d: &mut Durable<D>, previous: u8, entry: Entry) -> Result<(), 
 fn cut<D: Disk>(d: &mut Durable<D>, previous: u8) -> Result<(), Fault>
     requires inside { previous ≤ length (durable_state d.old).log }
     requires kept { (durable_state d.old).commit ≤ previous }
-    ensures puts { DoesPuts (noted LEADER (cut_to (store_of (durable_state d.old)) previous))
+    ensures puts { CallWrites (with_origin LEADER (cut_to (store_of (durable_state d.old)) previous))
         d.old d.new (result_err result) }
     ensures state { OnOk result (durable_state d.new
         ≡ record (durable_state d.old) {

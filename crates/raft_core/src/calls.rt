@@ -8,7 +8,7 @@ ghost use Rattle.raft_model.specs.Lists.{In};
 ghost use Rattle.raft_model.specs.Messages.{Request, items, reach};
 ghost use Rattle.raft_model.specs.Moves.{Move};
 ghost use Rattle.raft_model.specs.Moves.Elections.{ended};
-ghost use Rattle.raft_model.specs.Server.{Plain};
+ghost use Rattle.raft_model.specs.Server.{RaftServer};
 ghost use Rattle.raft_core.specs.Peers.{WaitsForNone};
 ghost use Rattle.raft_core.specs.Times as clock;
 ghost use Rattle.raft_core.specs.Times.{Sending, Times, given_at, given_call, is_awaited, overdue, times_after_all};
@@ -55,7 +55,7 @@ impl Raft {
     /// Calls that were made 1,000 ms ago, or earlier, are given up.
     pub fn expire(&mut self, now: u64)
         ensures moves { (members : List ℕ) (step : ℕ) (state : Stored)
-            (server : Plain) (times : Times) →
+            (server : RaftServer) (times : Times) →
             StandsFor self.old members state server times →
             (nodes : List ℕ) → ((node : ℕ) → node < 128 → server.memory.pending node ≢ None →
             In node nodes) → let moves = moves_of_expire (overdue times now nodes) in
@@ -112,7 +112,7 @@ impl Raft {
         requires most { peer ≤ 125 }
         requires fits { Fits self.old (durable_state d.now) }
         requires owed { Owes self.old (durable_state d.now) peer now what.now }
-        ensures moves { (members : List ℕ) (server : Plain) (times : Times) →
+        ensures moves { (members : List ℕ) (server : RaftServer) (times : Times) →
             StandsFor self.old members (durable_state d.now) server times →
             (move : Move) → owed server times peer now ≡ Some move →
             StandsFor self.new members (durable_state d.now)
@@ -145,13 +145,13 @@ impl Raft {
     pub fn pending(&self, peer: u8) -> Option<Pending>
         requires { peer ≤ 125 }
         ensures some { IfSome result (λ pending. (members : List ℕ) (state : Stored)
-            (server : Plain) (times : Times) →
+            (server : RaftServer) (times : Times) →
             StandsFor self.now members state server times →
             (request : Request) × (sending : Sending) ×
             (server.memory.pending peer ≡ Some request) × (times.sending peer ≡ Some sending) ×
             IsPending pending request sending) }
         ensures none { IsNone result →
-            (members : List ℕ) (state : Stored) (server : Plain) (times : Times) →
+            (members : List ℕ) (state : Stored) (server : RaftServer) (times : Times) →
             StandsFor self.now members state server times → server.memory.pending peer ≡ None }
     {
         let call = self.peers[peer as usize].call?;
@@ -169,7 +169,7 @@ impl Raft {
     /// Whether the call to a node that waits under a transfer ID asks for its vote.
     pub(crate) fn awaits_vote(&self, from: u8, id: u8) -> bool
         requires { from ≤ 125 }
-        ensures { (members : List ℕ) (state : Stored) (server : Plain) (times : Times) →
+        ensures { (members : List ℕ) (state : Stored) (server : RaftServer) (times : Times) →
             StandsFor self.now members state server times →
             result ≡ is_awaited server times from false id }
     {
@@ -180,12 +180,12 @@ impl Raft {
     pub(crate) fn awaited_reach(&self, from: u8, id: u8) -> Option<u8>
         requires { from ≤ 125 }
         ensures some { IfSome result (λ place. (members : List ℕ) (state : Stored)
-            (server : Plain) (times : Times) →
+            (server : RaftServer) (times : Times) →
             StandsFor self.now members state server times →
             (is_awaited server times from true id ≡ true) × ((request : Request) →
             server.memory.pending from ≡ Some request → reach request ≡ place)) }
         ensures none { IsNone result →
-            (members : List ℕ) (state : Stored) (server : Plain) (times : Times) →
+            (members : List ℕ) (state : Stored) (server : RaftServer) (times : Times) →
             StandsFor self.now members state server times →
             is_awaited server times from true id ≡ false }
         ensures within { IfSome result (λ place. (state : Stored) → Fits self.now state →
@@ -200,7 +200,7 @@ impl Raft {
     /// The call to a node waits no more.
     pub(crate) fn end_call(&mut self, from: u8)
         requires { from ≤ 125 }
-        ensures stands { (members : List ℕ) (state : Stored) (server : Plain) (times : Times) →
+        ensures stands { (members : List ℕ) (state : Stored) (server : RaftServer) (times : Times) →
             StandsFor self.old members state server times →
             StandsFor self.new members state (record server { memory = ended server.memory from })
             (clock.end_call from times) }

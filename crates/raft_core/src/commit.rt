@@ -4,8 +4,8 @@ ghost use Rattle.can_frame.specs.declared.step.Role.TheVariants.{Leader};
 ghost use Rattle.raft_log.specs.DurableViews.{durable_state};
 ghost use Rattle.raft_model.specs.Duty.{commit_phase};
 ghost use Rattle.raft_model.specs.Moves.Leading.{CanCommit, IsCommitIndex};
-ghost use Rattle.raft_model.specs.Server.{Plain};
-ghost use Rattle.raft_core.specs.StoredPuts.{KeepsFaults};
+ghost use Rattle.raft_model.specs.Server.{RaftServer};
+ghost use Rattle.raft_core.specs.StoredPuts.{CallFaultIsSticky};
 ghost use Rattle.raft_core.specs.Times.{Given, Times};
 
 use crate::laws::puts_in_turn;
@@ -26,13 +26,13 @@ impl Raft {
     /// which a quorum has, itself included. Others, and a leader without such a place, change nothing.
     pub fn commit<D: Disk>(&mut self, d: &mut Durable<D>) -> Result<(), Fault>
         requires fits { Fits self.old (durable_state d.old) }
-        ensures moves { (members : List ℕ) (step : ℕ) (server : Plain) (times : Times) →
+        ensures moves { (members : List ℕ) (step : ℕ) (server : RaftServer) (times : Times) →
             StandsFor self.old members (durable_state d.old) server times →
             (given : Given) →
             MakesMoves members (raft_me self.old) step given
             (commit_phase members (raft_me self.old) server) server times
             d.old d.new self.new (result_err result) }
-        ensures fault { KeepsFaults d.old d.new (result_err result) }
+        ensures fault { CallFaultIsSticky d.old d.new (result_err result) }
         ensures fits { OnOk result (Fits self.new (durable_state d.new)) }
         ensures same { self.new ≡ self.old }
     {
@@ -47,12 +47,12 @@ impl Raft {
     /// The place that is to be committed.
     fn commit_index<D: Disk>(&self, d: &Durable<D>) -> Option<u8>
         ensures found { IfSome result (λ place. (members : List ℕ)
-            (server : Plain) (times : Times) →
+            (server : RaftServer) (times : Times) →
             StandsFor self.now members (durable_state d.now) server times →
             (self.now.role ≡ Leader) × IsCommitIndex members self.now.me server place) }
         ensures above { IfSome result (λ place. (durable_state d.now).commit < place) }
         ensures inside { IfSome result (λ place. place ≤ length (durable_state d.now).log) }
-        ensures none { IsNone result → (members : List ℕ) (server : Plain) (times : Times) →
+        ensures none { IsNone result → (members : List ℕ) (server : RaftServer) (times : Times) →
             StandsFor self.now members (durable_state d.now) server times →
             self.now.role ≡ Leader → (place : ℕ) → CanCommit members self.now.me server place → ⊥ }
     {
@@ -74,7 +74,7 @@ impl Raft {
         requires role { self.now.role ≡ Leader }
         requires above { (durable_state d.now).commit < place }
         requires inside { place ≤ length (durable_state d.now).log }
-        ensures { (members : List ℕ) (server : Plain) (times : Times) →
+        ensures { (members : List ℕ) (server : RaftServer) (times : Times) →
             StandsFor self.now members (durable_state d.now) server times → IsTrue result ↔
             CanCommit members self.now.me server place }
     {

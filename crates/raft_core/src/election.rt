@@ -6,9 +6,9 @@ ghost use Rattle.can_frame.specs.declared.step.Role.TheVariants.{Follower, Candi
 ghost use Rattle.raft_log.specs.declared.origin.TheConstants.{WIN};
 ghost use Rattle.raft_log.specs.DurableViews.{durable_state};
 ghost use Rattle.raft_model.specs.Moves.Elections.{adds_blank, is_leader, stand_memory, stand_puts, term_limit, win_memory, win_puts};
-ghost use Rattle.raft_model.specs.Server.{Plain, put_all};
+ghost use Rattle.raft_model.specs.Server.{RaftServer, put_all};
 ghost use Rattle.raft_core.specs.Peers.{fresh, voter};
-ghost use Rattle.raft_core.specs.StoredPuts.{DoesPuts, KeepsFaults, noted, store_of};
+ghost use Rattle.raft_core.specs.StoredPuts.{CallWrites, CallFaultIsSticky, with_origin, store_of};
 ghost use Rattle.raft_core.specs.Times as clock;
 ghost use Rattle.raft_core.specs.Times.{Times, given_tick};
 
@@ -42,13 +42,13 @@ impl Raft {
         requires peers { (i : ℕ) → i < length peers.now → slice_index_or peers.now i 0 ≤ 125 }
         requires complete { complete ≡ true → length peers.now + 1 ≡ raft_size self.old }
         requires fits { Fits self.old (durable_state d.old) }
-        ensures moves { (members : List ℕ) (step : ℕ) (server : Plain) (times : Times) →
+        ensures moves { (members : List ℕ) (step : ℕ) (server : RaftServer) (times : Times) →
             StandsFor self.old members (durable_state d.old) server times →
             let moves = moves_of_tick complete now server times in
             let counted = counted_at moves members (raft_me self.old ∷ peers.now) in
             MakesMoves counted (raft_me self.old) step (given_tick now word) moves server times
             d.old d.new self.new (result_err result) }
-        ensures fault { KeepsFaults d.old d.new (result_err result) }
+        ensures fault { CallFaultIsSticky d.old d.new (result_err result) }
         ensures fits { OnOk result (Fits self.new (durable_state d.new)) }
         ensures me { raft_me self.new ≡ raft_me self.old }
         ensures size { raft_size self.new ≡ raft_size self.old }
@@ -67,7 +67,7 @@ impl Raft {
     /// Whether the wait for an election has passed, of one that knows all members, is no leader and is
     /// below the highest term.
     fn may_stand(&self, complete: bool, term: u32, now: u64) -> bool
-        ensures stands { (server : Plain) (times : Times) →
+        ensures stands { (server : RaftServer) (times : Times) →
             server.memory.role ≡ role_of self.now.role → server.store.term ≡ term →
             times.since ≡ self.now.since → times.word ≡ self.now.word →
             result ≡ ((complete && clock.has_waited times now)
@@ -94,10 +94,10 @@ impl Raft {
         requires peers { (i : ℕ) → i < length peers.now → slice_index_or peers.now i 0 ≤ 125 }
         requires complete { length peers.now + 1 ≡ self.old.size }
         requires fits { Fits self.old (durable_state d.old) }
-        ensures puts { DoesPuts
-            (noted WIN (stand_puts self.old.me (store_of (durable_state d.old))))
+        ensures puts { CallWrites
+            (with_origin WIN (stand_puts self.old.me (store_of (durable_state d.old))))
             d.old d.new (result_err result) }
-        ensures stands { (members : List ℕ) (server : Plain) (times : Times) →
+        ensures stands { (members : List ℕ) (server : RaftServer) (times : Times) →
             StandsFor self.old members (durable_state d.old) server times →
             OnOk result (StandsFor self.new (self.old.me ∷ peers.now) (durable_state d.new)
             (record {
@@ -123,9 +123,9 @@ impl Raft {
     pub(crate) fn win<D: Disk>(&mut self, d: &mut Durable<D>) -> Result<(), Fault>
         requires role { self.old.role ≢ Follower }
         requires fits { Fits self.old (durable_state d.old) }
-        ensures puts { DoesPuts (noted WIN (win_puts (store_of (durable_state d.old))))
+        ensures puts { CallWrites (with_origin WIN (win_puts (store_of (durable_state d.old))))
             d.old d.new (result_err result) }
-        ensures stands { (members : List ℕ) (server : Plain) (times : Times) →
+        ensures stands { (members : List ℕ) (server : RaftServer) (times : Times) →
             StandsFor self.old members (durable_state d.old) server times →
             OnOk result (StandsFor self.new members (durable_state d.new)
             (record {
@@ -148,7 +148,7 @@ fn vote_for_itself<D: Disk>(d: &mut Durable<D>, me: u8) -> Result<(), Fault>
     requires term { (durable_state d.old).term < 4294967295 }
     requires least { 1 ≤ me }
     requires most { me ≤ 125 }
-    ensures puts { DoesPuts (noted WIN (stand_puts me (store_of (durable_state d.old))))
+    ensures puts { CallWrites (with_origin WIN (stand_puts me (store_of (durable_state d.old))))
         d.old d.new (result_err result) }
     ensures state { OnOk result (durable_state d.new
         ≡ record (durable_state d.old) { term = (durable_state d.old).term + 1; vote = me }) }
@@ -182,7 +182,7 @@ fn all_members(me: u8, peers: &[u8]) -> ArrayVec<u8, 5>
 
 /// A new leader appends a blank, where its log is not all committed and has room.
 fn add_blank<D: Disk>(d: &mut Durable<D>) -> Result<(), Fault>
-    ensures puts { DoesPuts (noted WIN (win_puts (store_of (durable_state d.old))))
+    ensures puts { CallWrites (with_origin WIN (win_puts (store_of (durable_state d.old))))
         d.old d.new (result_err result) }
     ensures vote { OnOk result ((durable_state d.new).vote ≡ (durable_state d.old).vote) }
     ensures commit { OnOk result ((durable_state d.new).commit ≡ (durable_state d.old).commit) }

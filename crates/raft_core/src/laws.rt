@@ -7,13 +7,13 @@ ghost use Rattle.raft_log.specs.DurableViews.{durable_state};
 ghost use Rattle.raft_log.specs.Stored.{Stored, after_puts, opening_puts};
 ghost use Rattle.raft_model.specs.Handlers.{plain_after_all, puts_of_all};
 ghost use Rattle.raft_model.specs.Moves.{Move};
-ghost use Rattle.raft_model.specs.Server.{Plain, put_all};
+ghost use Rattle.raft_model.specs.Server.{RaftServer, put_all};
 ghost use Rattle.raft_core.specs.declared.raft.Raft.{Raft};
 ghost use Rattle.raft_core.specs.Fits.{Fits};
-ghost use Rattle.raft_core.specs.Handled.{LeavesMoves, noted_puts};
+ghost use Rattle.raft_core.specs.Handled.{LeavesMoves, puts_with_origins};
 ghost use Rattle.raft_core.specs.RaftViews.{raft_members};
 ghost use Rattle.raft_core.specs.Stands.{StandsFor};
-ghost use Rattle.raft_core.specs.StoredPuts.{AreOfNodes, DoesPuts, KeepsFaults, Noted, VoteForNodes, plain_puts, store_of, stored_puts};
+ghost use Rattle.raft_core.specs.StoredPuts.{AreOfNodes, CallWrites, CallFaultIsSticky, PutWithOrigin, VoteForNodes, puts_alone, store_of, stored_puts};
 ghost use Rattle.raft_core.specs.Times.{Given, Times, times_after_all};
 
 use disk_model::Disk;
@@ -21,13 +21,13 @@ use disk_model::Disk;
 /// Puts that were made by two calls, one after the other, are those of both. Where the first call failed
 /// there is no second, and a call without puts changes nothing.
 pub fn puts_in_turn<D: Disk>()
-    ensures nothing { (durable : Durable D D.Disk) → DoesPuts [] durable durable None }
-    ensures joined { (xs ys : List Noted) (old mid new : Durable D D.Disk) (failed : Option Fault) →
-        DoesPuts xs old mid None → DoesPuts ys mid new failed → DoesPuts (xs ++ ys) old new failed }
+    ensures nothing { (durable : Durable D D.Disk) → CallWrites [] durable durable None }
+    ensures joined { (xs ys : List PutWithOrigin) (old mid new : Durable D D.Disk) (failed : Option Fault) →
+        CallWrites xs old mid None → CallWrites ys mid new failed → CallWrites (xs ++ ys) old new failed }
     ensures faults { (old mid new : Durable D D.Disk) (failed : Option Fault) →
-        KeepsFaults old mid None → KeepsFaults mid new failed → KeepsFaults old new failed }
-    ensures cut_off { (xs ys : List Noted) (old new : Durable D D.Disk) (fault : Fault) →
-        DoesPuts xs old new (Some fault) → DoesPuts (xs ++ ys) old new (Some fault) }
+        CallFaultIsSticky old mid None → CallFaultIsSticky mid new failed → CallFaultIsSticky old new failed }
+    ensures cut_off { (xs ys : List PutWithOrigin) (old new : Durable D D.Disk) (fault : Fault) →
+        CallWrites xs old new (Some fault) → CallWrites (xs ++ ys) old new (Some fault) }
 {
     raft_log::laws::puts_in_turn::<D>();
 }
@@ -37,27 +37,27 @@ pub fn puts_in_turn<D: Disk>()
 /// leaves, which began with those of the first. Where the first call failed there is no second, and a call
 /// without moves changes nothing.
 pub fn moves_in_turn<D: Disk>()
-    ensures nothing { (members : List ℕ) (member step : ℕ) (server : Plain) (times : Times)
+    ensures nothing { (members : List ℕ) (member step : ℕ) (server : RaftServer) (times : Times)
         (durable : Durable D D.Disk) (raft : Raft) →
         StandsFor raft members (durable_state durable) server times →
         LeavesMoves members member step [] server [] times durable durable raft None }
-    ensures joined { (members : List ℕ) (member step : ℕ) (xs ys : List Move) (server : Plain)
-        (one two : List Noted) (first second : Times)
+    ensures joined { (members : List ℕ) (member step : ℕ) (xs ys : List Move) (server : RaftServer)
+        (one two : List PutWithOrigin) (first second : Times)
         (old mid new : Durable D D.Disk) (before after : Raft) (failed : Option Fault) →
         LeavesMoves members member step xs server one first old mid before None →
         LeavesMoves members member step ys (plain_after_all members member step server xs)
         two second mid new after failed →
         LeavesMoves members member step (xs ++ ys) server (one ++ two) second old new after failed }
-    ensures cut_off { (members : List ℕ) (member step : ℕ) (xs ys : List Move) (server : Plain)
-        (one two : List Noted) (first second : Times)
+    ensures cut_off { (members : List ℕ) (member step : ℕ) (xs ys : List Move) (server : RaftServer)
+        (one two : List PutWithOrigin) (first second : Times)
         (old new : Durable D D.Disk) (raft after : Raft) (fault : Fault) →
         LeavesMoves members member step xs server one first old new raft (Some fault) →
-        plain_puts two
+        puts_alone two
         ≡ puts_of_all members member step (plain_after_all members member step server xs) ys →
         LeavesMoves members member step (xs ++ ys) server (one ++ two) second
         old new after (Some fault) }
     ensures times { (members : List ℕ) (member step : ℕ) (given : Given) (xs ys : List Move)
-        (server : Plain) (times : Times) →
+        (server : RaftServer) (times : Times) →
         times_after_all members member step given server (xs ++ ys) times
         ≡ times_after_all members member step given
         (plain_after_all members member step server xs) ys
@@ -71,16 +71,16 @@ pub fn moves_in_turn<D: Disk>()
 /// other.
 pub fn noted_puts_are_the_puts()
     ensures plain { (members : List ℕ) (member step : ℕ) (given : Given)
-        (server : Plain) (moves : List Move) →
-        plain_puts (noted_puts members member step given server moves)
+        (server : RaftServer) (moves : List Move) →
+        puts_alone (puts_with_origins members member step given server moves)
         ≡ puts_of_all members member step server moves }
-    ensures both { (xs ys : List Noted) → plain_puts (xs ++ ys) ≡ plain_puts xs ++ plain_puts ys }
-    ensures front { (puts : List Noted) (count : ℕ) →
-        plain_puts (take count puts) ≡ take count (plain_puts puts) }
+    ensures both { (xs ys : List PutWithOrigin) → puts_alone (xs ++ ys) ≡ puts_alone xs ++ puts_alone ys }
+    ensures front { (puts : List PutWithOrigin) (count : ℕ) →
+        puts_alone (take count puts) ≡ take count (puts_alone puts) }
     ensures in_turn { (members : List ℕ) (member step : ℕ) (given : Given)
-        (server : Plain) (xs ys : List Move) →
-        noted_puts members member step given server (xs ++ ys)
-        ≡ noted_puts members member step given server xs ++ noted_puts members member step given
+        (server : RaftServer) (xs ys : List Move) →
+        puts_with_origins members member step given server (xs ++ ys)
+        ≡ puts_with_origins members member step given server xs ++ puts_with_origins members member step given
         (plain_after_all members member step server xs) ys }
 {}
 
@@ -88,16 +88,16 @@ pub fn noted_puts_are_the_puts()
 /// some of the first of them: a stop leaves the server that the machine has then. The machine's vote for
 /// node 0 would be stored as none; no move of a member makes one.
 pub fn puts_are_stored()
-    ensures votes { (members : List ℕ) (member step : ℕ) (server : Plain) (moves : List Move) →
+    ensures votes { (members : List ℕ) (member step : ℕ) (server : RaftServer) (moves : List Move) →
         1 ≤ member → AreOfNodes moves →
         VoteForNodes (puts_of_all members member step server moves) }
-    ensures same { (puts : List Noted) (state : Stored) → VoteForNodes (plain_puts puts) →
+    ensures same { (puts : List PutWithOrigin) (state : Stored) → VoteForNodes (puts_alone puts) →
         store_of (after_puts (stored_puts puts state) state)
-        ≡ put_all (store_of state) (plain_puts puts) }
-    ensures front { (puts : List Noted) (state : Stored) (count : ℕ) →
-        VoteForNodes (plain_puts puts) →
+        ≡ put_all (store_of state) (puts_alone puts) }
+    ensures front { (puts : List PutWithOrigin) (state : Stored) (count : ℕ) →
+        VoteForNodes (puts_alone puts) →
         store_of (after_puts (take count (stored_puts puts state)) state)
-        ≡ put_all (store_of state) (take count (plain_puts puts)) }
+        ≡ put_all (store_of state) (take count (puts_alone puts)) }
 {}
 
 /// An opening that gives a store its second form changes nothing of what the machine's server has stored,
@@ -111,7 +111,7 @@ pub fn an_opening_keeps_the_store()
 /// members of its last election. So what a call says of each server that the member stands for, and
 /// names no server, it says of the member.
 pub fn every_member_stands()
-    ensures { (raft : Raft) (state : Stored) → (server : Plain) × (times : Times) ×
+    ensures { (raft : Raft) (state : Stored) → (server : RaftServer) × (times : Times) ×
         StandsFor raft (raft_members raft) state server times }
 {}
 

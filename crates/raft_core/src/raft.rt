@@ -6,7 +6,7 @@ ghost use Rattle.raft_log.specs.DurableViews.{durable_state};
 ghost use Rattle.raft_log.specs.Stored.{Stored};
 ghost use Rattle.raft_model.specs.Lists.{how_many};
 ghost use Rattle.raft_model.specs.Moves.Elections.{term_memory, term_puts, with_term};
-ghost use Rattle.raft_model.specs.Server.{Plain, quorum, opened};
+ghost use Rattle.raft_model.specs.Server.{RaftServer, quorum, opened};
 ghost use Rattle.raft_core.specs.Peers.{WaitsForNone};
 
 use crate::laws::puts_in_turn;
@@ -72,7 +72,7 @@ impl Raft {
     ghost use Rattle.raft_core.specs.RaftViews.{raft_me, raft_role, raft_size};
     ghost use Rattle.raft_core.specs.Roles.{StepsDown};
     ghost use Rattle.raft_core.specs.Stands.{StandsFor, role_of};
-    ghost use Rattle.raft_core.specs.StoredPuts.{DoesPuts, KeepsFaults, noted, store_of};
+    ghost use Rattle.raft_core.specs.StoredPuts.{CallWrites, CallFaultIsSticky, with_origin, store_of};
     ghost use Rattle.raft_core.specs.Times as clock;
     ghost use Rattle.raft_core.specs.Times.{Times, opened_times};
 
@@ -105,7 +105,7 @@ impl Raft {
 
     pub fn role(&self) -> Role
         ensures role { result ≡ raft_role self.now }
-        ensures stands { (members : List ℕ) (state : Stored) (server : Plain) (times : Times) →
+        ensures stands { (members : List ℕ) (state : Stored) (server : RaftServer) (times : Times) →
             StandsFor self.now members state server times → server.memory.role ≡ role_of result }
     {
         self.role
@@ -130,10 +130,10 @@ impl Raft {
     ) -> Result<(), Fault>
         // These puts have no entry, and so no origin.
         ensures puts { (origin : ℕ) →
-            DoesPuts (noted origin (term_puts (store_of (durable_state d.old)) term))
+            CallWrites (with_origin origin (term_puts (store_of (durable_state d.old)) term))
             d.old d.new (result_err result) }
-        ensures fault { KeepsFaults d.old d.new (result_err result) }
-        ensures stands { (members : List ℕ) (server : Plain) (times : Times) →
+        ensures fault { CallFaultIsSticky d.old d.new (result_err result) }
+        ensures stands { (members : List ℕ) (server : RaftServer) (times : Times) →
             StandsFor self.old members (durable_state d.old) server times →
             OnOk result (StandsFor self.new members (durable_state d.new)
             (record { store = with_term server.store term; memory = term_memory server term })

@@ -3,7 +3,7 @@ ghost use Rattle.raft_log.specs.DurableViews.{durable_state};
 ghost use Rattle.raft_log.specs.Stored.{Stored};
 ghost use Rattle.raft_model.specs.Handlers.{plain_after_all};
 ghost use Rattle.raft_model.specs.Moves.{Move};
-ghost use Rattle.raft_model.specs.Server.{Plain};
+ghost use Rattle.raft_model.specs.Server.{RaftServer};
 ghost use Rattle.raft_core.specs.Times.{Given, Times, times_after_all};
 
 use crate::raft::Raft;
@@ -34,7 +34,7 @@ impl Raft {
     /// What is to be told next: the entry after the last that was told, where it is committed.
     pub fn tell<D: Disk>(&self, d: &Durable<D>) -> Telling
         requires fits { Fits self.now (durable_state d.now) }
-        ensures says { (members : List ℕ) (server : Plain) (times : Times) →
+        ensures says { (members : List ℕ) (server : RaftServer) (times : Times) →
             StandsFor self.now members (durable_state d.now) server times → IsToTell server result }
         ensures next { TellsNext self.now (durable_state d.now) result }
     {
@@ -54,7 +54,7 @@ impl Raft {
     pub fn told(&mut self, place: u8)
         requires { place ≡ raft_told self.old + 1 }
         ensures moves { (members : List ℕ) (step : ℕ) (state : Stored)
-            (server : Plain) (times : Times) →
+            (server : RaftServer) (times : Times) →
             StandsFor self.old members state server times →
             (given : Given) (move : Move) → IsTelling move →
             StandsFor self.new members state

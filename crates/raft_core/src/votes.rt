@@ -11,9 +11,9 @@ ghost use Rattle.raft_model.specs.Lists.{at};
 ghost use Rattle.raft_model.specs.Log.{NotAbove};
 ghost use Rattle.raft_model.specs.Moves.Elections.{MayGrant, counts, has_quorum, vote_puts, win_memory, win_puts, with_term};
 ghost use Rattle.raft_model.specs.Moves.Move.{TakeVoteRequest, TakeVoteAnswer};
-ghost use Rattle.raft_model.specs.Server.{Plain, put_all};
+ghost use Rattle.raft_model.specs.Server.{RaftServer, put_all};
 ghost use Rattle.raft_core.specs.Handled.{answer_of, vote_request_of};
-ghost use Rattle.raft_core.specs.StoredPuts.{DoesPuts, KeepsFaults, noted, store_of};
+ghost use Rattle.raft_core.specs.StoredPuts.{CallWrites, CallFaultIsSticky, with_origin, store_of};
 ghost use Rattle.raft_core.specs.Times as clock;
 ghost use Rattle.raft_core.specs.Times.{Times, given_at, is_awaited};
 
@@ -45,7 +45,7 @@ impl Raft {
         requires least { 1 ≤ from }
         requires most { from ≤ 125 }
         requires fits { Fits self.old (durable_state d.old) }
-        ensures moves { (members : List ℕ) (step : ℕ) (server : Plain) (times : Times) →
+        ensures moves { (members : List ℕ) (step : ℕ) (server : RaftServer) (times : Times) →
             StandsFor self.old members (durable_state d.old) server times →
             (made_in : ℕ) → let request = vote_request_of req.now made_in from (raft_me self.old) in
             let granted = grants (with_term server.store request.term) request in
@@ -54,7 +54,7 @@ impl Raft {
             d.old d.new self.new (result_err result) ×
             IfOk result (λ answer. (answer.term ≡ (with_term server.store request.term).term) ×
             (answer.granted ≡ granted)) }
-        ensures fault { KeepsFaults d.old d.new (result_err result) }
+        ensures fault { CallFaultIsSticky d.old d.new (result_err result) }
         ensures fits { OnOk result (Fits self.new (durable_state d.new)) }
         ensures me { raft_me self.new ≡ raft_me self.old }
         ensures size { raft_size self.new ≡ raft_size self.old }
@@ -88,11 +88,11 @@ impl Raft {
     ) -> Result<bool, Fault>
         requires most { from ≤ 125 }
         requires fits { Fits self.old (durable_state d.old) }
-        ensures refused { (members : List ℕ) (server : Plain) (times : Times) →
+        ensures refused { (members : List ℕ) (server : RaftServer) (times : Times) →
             StandsFor self.old members (durable_state d.old) server times →
             is_awaited server times from false id ≡ false → (result ≡ Ok false) ×
             (self.new ≡ self.old) × (d.new ≡ d.old) }
-        ensures moves { (members : List ℕ) (step : ℕ) (server : Plain) (times : Times) →
+        ensures moves { (members : List ℕ) (step : ℕ) (server : RaftServer) (times : Times) →
             StandsFor self.old members (durable_state d.old) server times →
             is_awaited server times from false id ≡ true → (made_in : ℕ) (request : Request) →
             server.memory.pending from ≡ Some request →
@@ -100,7 +100,7 @@ impl Raft {
             (TakeVoteAnswer (answer_of made_in from request ans.now.term ans.now.granted) ∷ [])
             server times d.old d.new self.new (result_err result) ×
             IfOk result (λ taken. IsTrue taken) }
-        ensures fault { KeepsFaults d.old d.new (result_err result) }
+        ensures fault { CallFaultIsSticky d.old d.new (result_err result) }
         ensures fits { OnOk result (Fits self.new (durable_state d.new)) }
         ensures me { raft_me self.new ≡ raft_me self.old }
         ensures size { raft_size self.new ≡ raft_size self.old }
@@ -121,7 +121,7 @@ impl Raft {
 
     /// Whether an answer counts: a grant, for a candidate of this term.
     fn counts(&self, term: u32, ans: &VoteAnswer) -> bool
-        ensures counts { (server : Plain) (answer : Answer) →
+        ensures counts { (server : RaftServer) (answer : Answer) →
             server.memory.role ≡ role_of self.now.role → server.store.term ≡ term →
             answer.term ≡ ans.now.term → answer.success ≡ ans.now.granted →
             result ≡ counts server answer }
@@ -133,7 +133,7 @@ impl Raft {
     /// A node answered the vote request of this term: it is not asked again.
     fn note_answer(&mut self, from: u8)
         requires { from ≤ 125 }
-        ensures stands { (members : List ℕ) (state : Stored) (server : Plain) (times : Times) →
+        ensures stands { (members : List ℕ) (state : Stored) (server : RaftServer) (times : Times) →
             StandsFor self.old members state server times →
             StandsFor self.new members state server
             (record times { answered = at times.answered from true }) }
@@ -147,7 +147,7 @@ impl Raft {
     /// The vote of a node counts.
     fn count(&mut self, from: u8)
         requires { from ≤ 125 }
-        ensures stands { (members : List ℕ) (state : Stored) (server : Plain) (times : Times) →
+        ensures stands { (members : List ℕ) (state : Stored) (server : RaftServer) (times : Times) →
             StandsFor self.old members state server times →
             StandsFor self.new members state
             (record server {
@@ -169,14 +169,14 @@ impl Raft {
         requires most { from ≤ 125 }
         requires role { self.old.role ≡ Candidate }
         requires fits { Fits self.old (durable_state d.old) }
-        ensures puts { (members : List ℕ) (server : Plain) (times : Times) →
+        ensures puts { (members : List ℕ) (server : RaftServer) (times : Times) →
             StandsFor self.old members (durable_state d.old) server times →
-            DoesPuts
-            (noted WIN
+            CallWrites
+            (with_origin WIN
             (if has_quorum members (at server.memory.votes from true) then win_puts server.store
             else []))
             d.old d.new (result_err result) }
-        ensures stands { (members : List ℕ) (server : Plain) (times : Times) →
+        ensures stands { (members : List ℕ) (server : RaftServer) (times : Times) →
             StandsFor self.old members (durable_state d.old) server times →
             let counted = record server.memory { votes = at server.memory.votes from true } in
             OnOk result (StandsFor self.new members (durable_state d.new)
@@ -186,7 +186,7 @@ impl Raft {
               memory = win_memory server.store counted;
             } else record server { memory = counted })
             (if has_quorum members counted.votes then clock.win times else times)) }
-        ensures fault { KeepsFaults d.old d.new (result_err result) }
+        ensures fault { CallFaultIsSticky d.old d.new (result_err result) }
         ensures fits { OnOk result (Fits self.new (durable_state d.new)) }
         ensures me { raft_me self.new ≡ raft_me self.old }
         ensures size { raft_size self.new ≡ raft_size self.old }
@@ -204,7 +204,7 @@ impl Raft {
 fn vote<D: Disk>(d: &mut Durable<D>, node: u8) -> Result<(), Fault>
     requires least { 1 ≤ node }
     requires most { node ≤ 125 }
-    ensures puts { DoesPuts (noted LEADER (vote_puts (store_of (durable_state d.old)).vote node))
+    ensures puts { CallWrites (with_origin LEADER (vote_puts (store_of (durable_state d.old)).vote node))
         d.old d.new (result_err result) }
     ensures state { OnOk result (durable_state d.new
         ≡ record (durable_state d.old) {

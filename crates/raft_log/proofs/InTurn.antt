@@ -8,7 +8,7 @@ use Rattle.kv_store.specs.Image.{put_calls, turned}
 use Rattle.outside.specs.Faults.{Rose}
 use Rattle.raft_log.specs.declared.durable.Durable.{Durable}
 use Rattle.raft_log.specs.Allowed.{AreAllowed, nexts_after}
-use Rattle.raft_log.specs.Calls.{IsCutAt, KeepsFault, MakesPuts, MakesPutsAfter}
+use Rattle.raft_log.specs.Calls.{IsCutAt, FaultIsSticky, WritesInOrder, WritesInOrderAfter}
 use Rattle.raft_log.specs.DeviceCalls.{bytes_of, copies_after, device_calls, key_of}
 use Rattle.raft_log.specs.DurableViews.{durable_copies, durable_disk, durable_fault, durable_state}
 use Rattle.raft_log.specs.Rules.{AlwaysStandsForState, StandsForState}
@@ -96,7 +96,7 @@ was_open (Some f) P Q closed = let none : None ≡ Some f = closed.0 in absurd (
 
 module _ {D : Type 0} {disk : Ghosts D} where
   -- the first puts failed
-  pub cut_short : (next : Option Kept) (xs ys : List Put) (old new : Durable D disk) → MakesPutsAfter next xs old new false → MakesPutsAfter next (xs ++ ys) old new false
+  pub cut_short : (next : Option Kept) (xs ys : List Put) (old new : Durable D disk) → WritesInOrderAfter next xs old new false → WritesInOrderAfter next (xs ++ ys) old new false
   cut_short next xs ys old new first = record {
     state = λ done. absurd (cc done);
     durable = λ works done. absurd (cc done);
@@ -110,11 +110,11 @@ module _ {D : Type 0} {disk : Ghosts D} where
   }
 
   pub cut_by : {T : Type 0} (next : Option Kept) (xs ys : List Put) (old new : Durable D disk) (result : Result T Fault) (fault : Fault) → result ≡ Err fault
-      → MakesPutsAfter next xs old new false → MakesPutsAfter next (xs ++ ys) old new (is_ok result)
-  cut_by {T} next xs ys old new result fault is first = subst (λ (r : Result T Fault). MakesPutsAfter next (xs ++ ys) old new (is_ok r)) (sym is) (cut_short next xs ys old new first)
+      → WritesInOrderAfter next xs old new false → WritesInOrderAfter next (xs ++ ys) old new (is_ok result)
+  cut_by {T} next xs ys old new result fault is first = subst (λ (r : Result T Fault). WritesInOrderAfter next (xs ++ ys) old new (is_ok r)) (sym is) (cut_short next xs ys old new first)
 
   -- the first puts were done, and then the others were made
-  module _ (next then : Option Kept) (xs ys : List Put) (old mid new : Durable D disk) (ok : Bool) (first : MakesPutsAfter next xs old mid true) (keeps : durable_fault old ≡ None → KeepsFault old mid None) where
+  module _ (next then : Option Kept) (xs ys : List Put) (old mid new : Durable D disk) (ok : Bool) (first : WritesInOrderAfter next xs old mid true) (keeps : durable_fault old ≡ None → FaultIsSticky old mid None) where
     abbrev between : Stored
     between = after_puts xs (durable_state old)
 
@@ -134,7 +134,7 @@ module _ {D : Type 0} {disk : Ghosts D} where
       both_allowed : (zs : List Put) → AreAllowed zs (durable_state mid) then → AreAllowed (xs ++ zs) (durable_state old) next
       both_allowed zs allowed = allowed_then xs zs (durable_state old) next (first.allowed refl) (subst (λ s. AreAllowed zs s (nexts_after xs next)) (first.state refl) (still zs (durable_state mid) allowed))
 
-      pub puts_after : MakesPutsAfter then ys mid new ok → MakesPutsAfter next (xs ++ ys) old new ok
+      pub puts_after : WritesInOrderAfter then ys mid new ok → WritesInOrderAfter next (xs ++ ys) old new ok
       puts_after rest = record {
         state = λ done. rest.state done ∙ (ap (after_puts ys) (first.state refl) ∙ sym (after_both xs ys (durable_state old)));
         durable = λ works done told. rest.durable (keeps works).kept done ((keeps works).tells ∙ told);
@@ -154,7 +154,7 @@ module _ {D : Type 0} {disk : Ghosts D} where
         };
       }
 
-  pub fault_after : (old mid new : Durable D disk) (failed : Option Fault) → KeepsFault old mid None → (durable_fault mid ≡ None → KeepsFault mid new failed) → KeepsFault old new failed
+  pub fault_after : (old mid new : Durable D disk) (failed : Option Fault) → FaultIsSticky old mid None → (durable_fault mid ≡ None → FaultIsSticky mid new failed) → FaultIsSticky old new failed
   fault_after old mid new failed keeps then =
       let rest = then keeps.kept in record {
         closed = open_yet (durable_fault old) _ (was_open (durable_fault old) (durable_disk mid ≡ durable_disk old) (durable_state mid ≡ durable_state old) keeps.closed);
@@ -166,7 +166,7 @@ module _ {D : Type 0} {disk : Ghosts D} where
 
   -- no put at all
   pub without_puts : (durable : Durable D disk)
-      → (durable_fault durable ≡ None → disk.tells (durable_disk durable) ≡ true → AlwaysStandsForState (disk.contents (durable_disk durable)) (durable_state durable)) → MakesPuts [] durable durable true
+      → (durable_fault durable ≡ None → disk.tells (durable_disk durable) ≡ true → AlwaysStandsForState (disk.contents (durable_disk durable)) (durable_state durable)) → WritesInOrder [] durable durable true
   without_puts durable always = record {
     state = λ done. refl;
     durable = λ works done. always works;
@@ -178,7 +178,7 @@ module _ {D : Type 0} {disk : Ghosts D} where
     tried = λ failed. absurd (cc failed);
   }
 
-  pub unchanged : (durable : Durable D disk) → durable_fault durable ≡ None → KeepsFault durable durable None
+  pub unchanged : (durable : Durable D disk) → durable_fault durable ≡ None → FaultIsSticky durable durable None
   unchanged durable works = record {
     closed = open_yet (durable_fault durable) _ works;
     kept = works;

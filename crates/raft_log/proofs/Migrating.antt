@@ -7,7 +7,7 @@ use Rattle.can_frame.specs.declared.entry.Entry.{Entry}
 use Rattle.can_frame.specs.Log.{blank}
 use Rattle.disk_model.specs.declared.disk.Disk.{Ghosts}
 use Rattle.raft_log.specs.Allowed.{nexts_after}
-use Rattle.raft_log.specs.Calls.{KeepsFault, MakesPuts}
+use Rattle.raft_log.specs.Calls.{FaultIsSticky, WritesInOrder}
 use Rattle.raft_log.specs.declared.durable.Durable.{Durable}
 use Rattle.raft_log.specs.DurableViews.{durable_state}
 use Rattle.raft_log.specs.Making.{put_at}
@@ -78,7 +78,7 @@ none_at place log origins origins' same some =
 module _ {D : Type 0} {disk : Ghosts D} (place : ℕ) (old mid new : Durable D disk) (ok : Bool)
     (within : place < length (durable_state mid).log) (log : (durable_state mid).log ≡ (durable_state old).log)
     (later : (i : ℕ) → place ≤ i → get_or (durable_state mid).origins i None ≡ get_or (durable_state old).origins i None)
-    (first : MakesPuts (puts_before place (durable_state old)) old mid true) (keeps : KeepsFault old mid None) (then : MakesPuts (put_at place (durable_state mid)) mid new ok) where
+    (first : WritesInOrder (puts_before place (durable_state old)) old mid true) (keeps : FaultIsSticky old mid None) (then : WritesInOrder (put_at place (durable_state mid)) mid new ok) where
   abbrev here : Entry
   here = get_or (durable_state mid).log place (blank 0)
 
@@ -88,8 +88,8 @@ module _ {D : Type 0} {disk : Ghosts D} (place : ℕ) (old mid new : Durable D d
   same_put : put_at place (durable_state mid) ≡ put_at place (durable_state old)
   same_put = ap (λ (l : List Entry). origin_put place (get_or l place (blank 0)) origin_here) log ∙ ap (λ (o : Option ℕ). origin_put place (get_or (durable_state old).log place (blank 0)) o) (later place (omega arith))
 
-  pub further_puts : MakesPuts (puts_before (place + 1) (durable_state old)) old new ok
-  further_puts = subst (λ (puts : List Put). MakesPuts puts old new ok)
+  pub further_puts : WritesInOrder (puts_before (place + 1) (durable_state old)) old new ok
+  further_puts = subst (λ (puts : List Put). WritesInOrder puts old new ok)
       (ap (λ (puts : List Put). puts_before place (durable_state old) ++ puts) same_put ∙ sym (puts_before_next place (durable_state old) old.storable.count (subst (λ (l : List Entry). place < length l) log within)))
       (puts_after None None (puts_before place (durable_state old)) (put_at place (durable_state mid)) old mid new ok first (λ works. keeps) (λ zs s allowed. still_allowed zs s (nexts_after (puts_before place (durable_state old)) None) allowed) then)
 

@@ -12,7 +12,7 @@ use Rattle.raft_log.specs.Allowed.{IsAllowed, IsNext, next_after}
 use Rattle.raft_log.specs.declared.change.Change.{Change}
 use Rattle.raft_log.specs.declared.change.Change.TheVariants.{Term, Vote, Next, Longer, Shorter, Commit, Origin, Version}
 use Rattle.raft_log.specs.Changes.{FitsBytes, MayMake, next_for, put_of}
-use Rattle.raft_log.specs.Calls.{MakesPutsAfter}
+use Rattle.raft_log.specs.Calls.{WritesInOrderAfter}
 use Rattle.raft_log.specs.DeviceCalls.{bytes_of, key_of}
 use Rattle.raft_log.specs.DurableViews.{durable_copies, durable_disk, durable_fault, durable_state}
 use Rattle.raft_log.specs.Rules.{StandsForState, Stores}
@@ -59,8 +59,8 @@ module _ {D : Type 0} {disk : Ghosts D} (next : Option Kept) (put : Put) (old ne
   pub put_failed : {T : Type 0} (result : Result T Fault) (fault : Fault) → result ≡ Err fault → disk.tells (durable_disk new) ≡ disk.tells (durable_disk old) → durable_state new ≡ durable_state old
       → (durable_fault old ≡ None → disk.tells (durable_disk old) ≡ true → (image : List ℕ) → MayLeave (disk.contents (durable_disk new)) image
       → StandsFor image (store_map old.store) ⊎ StandsFor image (put_in (store_map old.store) key bytes))
-      → MadeAt key bytes false → MakesPutsAfter next (put ∷ []) old new (is_ok result)
-  put_failed {T} result fault is tells same left_either made = subst (λ (r : Result T Fault). MakesPutsAfter next (put ∷ []) old new (is_ok r)) (sym is) (record {
+      → MadeAt key bytes false → WritesInOrderAfter next (put ∷ []) old new (is_ok result)
+  put_failed {T} result fault is tells same left_either made = subst (λ (r : Result T Fault). WritesInOrderAfter next (put ∷ []) old new (is_ok r)) (sym is) (record {
     state = λ done. absurd (cc done);
     durable = λ works done. absurd (cc done);
     cut = λ works failed. inl (record { state = same; images = λ told. stop works (sym tells ∙ told) });
@@ -79,7 +79,7 @@ module _ {D : Type 0} {disk : Ghosts D} (next : Option Kept) (put : Put) (old ne
       → (disk.tells (durable_disk old) ≡ true → AlwaysStandsFor (disk.contents (durable_disk new)) (store_map new.store))
       → MadeAt key bytes true
       → ((k : ℕ) → durable_copies new k ≡ turned key (durable_copies old) k)
-      → MakesPutsAfter next (put ∷ []) old new true
+      → WritesInOrderAfter next (put ∷ []) old new true
   put_done state always made copies = record {
     state = λ done. state;
     durable = λ works done. stands;

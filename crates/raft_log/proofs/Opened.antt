@@ -5,7 +5,7 @@ use Rattle.disk_model.specs.declared.disk.Disk.{Ghosts}
 use Rattle.disk_model.specs.Contents.{AddsNoImage}
 use Rattle.disk_model.specs.Device.{Makes}
 use Rattle.kv_store.specs.Image.{chosen_copy, key_count, open_calls}
-use Rattle.raft_log.specs.Calls.{MakesPuts}
+use Rattle.raft_log.specs.Calls.{WritesInOrder}
 use Rattle.raft_log.specs.declared.durable.Durable.{Durable}
 use Rattle.raft_log.specs.DeviceCalls.{device_calls}
 use Rattle.raft_log.specs.DurableViews.{durable_copies, durable_disk, durable_fault, durable_state}
@@ -24,10 +24,10 @@ module _ {D : Type 0} {ghosts : Ghosts D} (disk : D) (read new : Durable D ghost
   abbrev puts : List Put
   puts = opening_puts (durable_state read)
 
-  all_calls : (ok : Bool) → MakesPuts puts read new ok → Makes ghosts.does (opening_calls (durable_state read) (durable_copies read)) ok disk (durable_disk new)
+  all_calls : (ok : Bool) → WritesInOrder puts read new ok → Makes ghosts.does (opening_calls (durable_state read) (durable_copies read)) ok disk (durable_disk new)
   all_calls ok then = calls_joined ghosts.does open_calls (device_calls puts (durable_state read) (durable_copies read)) ok disk (durable_disk read) (durable_disk new) made (then.made works)
 
-  pub opens_to : (ghosts.tells disk ≡ true → AddsNoImage (ghosts.contents disk) (ghosts.contents (durable_disk read))) → MakesPuts puts read new true → OpensTo disk new
+  pub opens_to : (ghosts.tells disk ≡ true → AddsNoImage (ghosts.contents disk) (ghosts.contents (durable_disk read))) → WritesInOrder puts read new true → OpensTo disk new
   opens_to images then = record {
     found = durable_state read;
     copies = durable_copies read;
@@ -40,7 +40,7 @@ module _ {D : Type 0} {ghosts : Ghosts D} (disk : D) (read new : Durable D ghost
         subst (λ (d : D). AddsNoImage (ghosts.contents disk) (ghosts.contents d)) (sym nothing.1) (images told);
   }
 
-  pub is_not_put : MakesPuts puts read new false → IsNotPut ghosts disk (durable_disk new)
+  pub is_not_put : WritesInOrder puts read new false → IsNotPut ghosts disk (durable_disk new)
   is_not_put then = record {
     found = durable_state read;
     copies = durable_copies read;

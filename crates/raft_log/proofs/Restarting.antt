@@ -3,27 +3,27 @@ use Rattle.std.proofs.Common.{◌≡◌, ℕ, suc, ◌+◌, ◌<◌, ◌≤◌, 
 use Rattle.std.specs.Prelude.{Option, None, Some, ◌&&◌, not, if◌then◌else◌}
 use Rattle.disk_model.specs.declared.calls.Calls.{Calls}
 use Rattle.disk_model.specs.Calls.{acts, after_call}
-use Rattle.kv_store.specs.Shelf.{Loose, Shelf, after_three, after_two, is_put, keeps, restarted_on, turned_to}
+use Rattle.kv_store.specs.KeyDisk.{Unsynced, KeyDisk, after_three, after_two, is_put, keeps, restarted_on, turned_to}
 use Rattle.kv_store.specs.Image.{turned}
 use Rattle.outside.specs.declared.pattern.Pattern.{Pattern}
 use Rattle.raft_log.specs.DeviceCalls.{key_of}
 use Rattle.raft_log.specs.Stored.{Put, Stored, after_put, after_puts}
 use Rattle.raft_log.proofs.StatesOnShelf.{both_true, put_done}
-use Rattle.raft_log.specs.Shelf.{are_put, done_on, found_by, kept_by, put_state_on, puts_on}
+use Rattle.raft_log.specs.KeyDisk.{are_put, done_on, found_by, kept_by, put_state_on, puts_on}
 
 -- a shelf on which nothing is loose
-abbrev firm : Stored → (ℕ → ℕ) → Calls → Shelf Stored
-firm s copies calls = record { store = s; copies = copies; loose = None; calls = calls }
+abbrev nothing_unsynced : Stored → (ℕ → ℕ) → Calls → KeyDisk Stored
+nothing_unsynced s copies calls = record { store = s; copies = copies; unsynced = None; calls = calls }
 
 -- what is found of a put that failed: the state before it, or after it
-abbrev IsFound : Pattern → Put → Stored → Shelf Stored → Type 0
-IsFound pattern put s shelf = (restarted_on pattern shelf).store ≡ after_puts (take (found_by pattern shelf) (put ∷ [])) s
+abbrev IsFound : Pattern → Put → Stored → KeyDisk Stored → Type 0
+IsFound pattern put s key_disk = (restarted_on pattern key_disk).store ≡ after_puts (take (found_by pattern key_disk) (put ∷ [])) s
 
 loose_found : (pattern : Pattern) (put : Put) (s : Stored) (copies : ℕ → ℕ) (calls : Calls)
-    → IsFound pattern put s (turned_to (key_of put s) (after_put put s) (firm s copies calls) (Some (record { key = key_of put s; before = s })) calls)
+    → IsFound pattern put s (turned_to (key_of put s) (after_put put s) (nothing_unsynced s copies calls) (Some (record { key = key_of put s; before = s })) calls)
 loose_found pattern put s copies calls = by (keeps pattern (turned (key_of put s) copies (key_of put s))) where
-  by : (b : Bool) → (if b then record { store = after_put put s; copies = turned (key_of put s) copies; loose = None; calls = calls }
-      else turned_to (key_of put s) s (turned_to (key_of put s) (after_put put s) (firm s copies calls) (Some (record { key = key_of put s; before = s })) calls) None calls).store
+  by : (b : Bool) → (if b then record { store = after_put put s; copies = turned (key_of put s) copies; unsynced = None; calls = calls }
+      else turned_to (key_of put s) s (turned_to (key_of put s) (after_put put s) (nothing_unsynced s copies calls) (Some (record { key = key_of put s; before = s })) calls) None calls).store
       ≡ after_puts (take (if b then 1 else 0) (put ∷ [])) s
   by true = refl
   by false = refl
@@ -31,12 +31,12 @@ loose_found pattern put s copies calls = by (keeps pattern (turned (key_of put s
 -- a put fails at its first, second, third or fourth device call
 module _ (put : Put) (s : Stored) (copies : ℕ → ℕ) where
   -- the shelf after a put, by which of its device calls act
-  abbrev by_calls : Bool → Bool → Bool → Bool → Calls → Shelf Stored
+  abbrev by_calls : Bool → Bool → Bool → Bool → Calls → KeyDisk Stored
   by_calls a b c d calls =
-      if not a then firm s copies (after_call calls)
-      else if not b then firm s copies (after_two calls)
-      else if not c then firm s copies (after_three calls)
-      else turned_to (key_of put s) (after_put put s) (firm s copies calls) (if d then None else Some (record { key = key_of put s; before = s })) (after_call (after_three calls))
+      if not a then nothing_unsynced s copies (after_call calls)
+      else if not b then nothing_unsynced s copies (after_two calls)
+      else if not c then nothing_unsynced s copies (after_three calls)
+      else turned_to (key_of put s) (after_put put s) (nothing_unsynced s copies calls) (if d then None else Some (record { key = key_of put s; before = s })) (after_call (after_three calls))
 
   any_found : (pattern : Pattern) (a b c d : Bool) (calls : Calls) → (a && (b && (c && d))) ≡ false → IsFound pattern put s (by_calls a b c d calls)
   any_found pattern false b c d calls e = refl
@@ -45,7 +45,7 @@ module _ (put : Put) (s : Stored) (copies : ℕ → ℕ) where
   any_found pattern true true true false calls e = loose_found pattern put s copies (after_call (after_three calls))
   any_found pattern true true true true calls e = absurd (cc e)
 
-  failed_found : (pattern : Pattern) (calls : Calls) → is_put calls ≡ false → IsFound pattern put s (put_state_on put (firm s copies calls))
+  failed_found : (pattern : Pattern) (calls : Calls) → is_put calls ≡ false → IsFound pattern put s (put_state_on put (nothing_unsynced s copies calls))
   failed_found pattern calls e = any_found pattern (acts calls) (acts (after_call calls)) (acts (after_two calls)) (acts (after_three calls)) calls e
 
 none_left : (puts : List Put) → take 0 puts ≡ []
@@ -60,17 +60,17 @@ at_most_one : (found : Bool) (put : Put) (puts : List Put) (s : Stored) → afte
 at_most_one true put puts s = refl
 at_most_one false put puts s = refl
 
-kept_one : (pattern : Pattern) (loose : Option (Loose Stored)) (shelf : Shelf Stored) (put : Put) (puts : List Put) (s : Stored)
-    → after_puts (take (kept_by pattern loose shelf) (put ∷ [])) s ≡ after_puts (take (kept_by pattern loose shelf) (put ∷ puts)) s
-kept_one pattern None shelf put puts s = refl
-kept_one pattern (Some loose) shelf put puts s = at_most_one (keeps pattern (shelf.copies loose.key)) put puts s
+kept_one : (pattern : Pattern) (unsynced : Option (Unsynced Stored)) (key_disk : KeyDisk Stored) (put : Put) (puts : List Put) (s : Stored)
+    → after_puts (take (kept_by pattern unsynced key_disk) (put ∷ [])) s ≡ after_puts (take (kept_by pattern unsynced key_disk) (put ∷ puts)) s
+kept_one pattern None key_disk put puts s = refl
+kept_one pattern (Some unsynced) key_disk put puts s = at_most_one (keeps pattern (key_disk.copies unsynced.key)) put puts s
 
 module _ (put : Put) (puts : List Put) (s : Stored) (copies : ℕ → ℕ) (calls : Calls) (pattern : Pattern) where
-  abbrev on : Shelf Stored
-  on = put_state_on put (firm s copies calls)
+  abbrev on : KeyDisk Stored
+  on = put_state_on put (nothing_unsynced s copies calls)
 
-  abbrev next : Shelf Stored
-  next = firm (after_put put s) (turned (key_of put s) copies) (after_call (after_three calls))
+  abbrev next : KeyDisk Stored
+  next = nothing_unsynced (after_put put s) (turned (key_of put s) copies) (after_call (after_three calls))
 
   abbrev later : ℕ
   later = done_on puts (after_call (after_three calls))
@@ -78,24 +78,24 @@ module _ (put : Put) (puts : List Put) (s : Stored) (copies : ℕ → ℕ) (call
   abbrev Later : Type 0
   Later = (restarted_on pattern (puts_on puts next)).store ≡ after_puts (take (later + found_by pattern (puts_on puts next)) puts) (after_put put s)
 
-  none_more : kept_by pattern on.loose on ≡ 0 + found_by pattern on
+  none_more : kept_by pattern on.unsynced on ≡ 0 + found_by pattern on
   none_more = omega arith
 
   by : Later → (b : Bool) → is_put calls ≡ b
       → (restarted_on pattern (if b then puts_on puts on else on)).store
       ≡ after_puts (take ((if b then 1 + later else 0) + found_by pattern (if b then puts_on puts on else on)) (put ∷ puts)) s
   by rest true e =
-      let done : on ≡ next = put_done (key_of put s) (after_put put s) (firm s copies calls) e in
+      let done : on ≡ next = put_done (key_of put s) (after_put put s) (nothing_unsynced s copies calls) e in
       let sum : 1 + (later + found_by pattern (puts_on puts next)) ≡ (1 + later) + found_by pattern (puts_on puts next) = omega arith in
-      subst (λ (x : Shelf Stored). (restarted_on pattern (puts_on puts x)).store ≡ after_puts (take ((1 + later) + found_by pattern (puts_on puts x)) (put ∷ puts)) s) (sym done)
+      subst (λ (x : KeyDisk Stored). (restarted_on pattern (puts_on puts x)).store ≡ after_puts (take ((1 + later) + found_by pattern (puts_on puts x)) (put ∷ puts)) s) (sym done)
       (rest ∙ (sym (one_first (later + found_by pattern (puts_on puts next)) put puts s) ∙ ap (λ (k : ℕ). after_puts (take k (put ∷ puts)) s) sum))
-  by rest false e = failed_found put s copies pattern calls e ∙ (kept_one pattern on.loose on put puts s ∙ ap (λ (k : ℕ). after_puts (take k (put ∷ puts)) s) none_more)
+  by rest false e = failed_found put s copies pattern calls e ∙ (kept_one pattern on.unsynced on put puts s ∙ ap (λ (k : ℕ). after_puts (take k (put ∷ puts)) s) none_more)
 
-  step : Later → (restarted_on pattern (puts_on (put ∷ puts) (firm s copies calls))).store ≡ after_puts (take (done_on (put ∷ puts) calls + found_by pattern (puts_on (put ∷ puts) (firm s copies calls))) (put ∷ puts)) s
+  step : Later → (restarted_on pattern (puts_on (put ∷ puts) (nothing_unsynced s copies calls))).store ≡ after_puts (take (done_on (put ∷ puts) calls + found_by pattern (puts_on (put ∷ puts) (nothing_unsynced s copies calls))) (put ∷ puts)) s
   step rest = by rest (is_put calls) refl
 
 pub finds : (puts : List Put) (s : Stored) (copies : ℕ → ℕ) (calls : Calls) (pattern : Pattern)
-    → (restarted_on pattern (puts_on puts (firm s copies calls))).store ≡ after_puts (take (done_on puts calls + found_by pattern (puts_on puts (firm s copies calls))) puts) s
+    → (restarted_on pattern (puts_on puts (nothing_unsynced s copies calls))).store ≡ after_puts (take (done_on puts calls + found_by pattern (puts_on puts (nothing_unsynced s copies calls))) puts) s
 finds [] s copies calls pattern = refl
 finds (put ∷ puts) s copies calls pattern = step put puts s copies calls pattern (finds puts (after_put put s) (turned (key_of put s) copies) (after_call (after_three calls)) pattern)
 
@@ -125,7 +125,7 @@ some_left [] calls e = absurd (cc e)
 some_left (put ∷ puts) calls e =
     let rest = less_by (done_on puts (after_call (after_three calls))) (length puts) (is_put calls) (are_put puts (after_call (after_three calls))) (some_left puts (after_call (after_three calls))) e in omega (arith, rest)
 
-pub restart_finds : (puts : List Put) (shelf : Shelf Stored) (pattern : Pattern) → shelf.loose ≡ None
-    → (restarted_on pattern (puts_on puts shelf)).store ≡ after_puts (take (done_on puts shelf.calls + found_by pattern (puts_on puts shelf)) puts) shelf.store
-restart_finds puts shelf pattern none = subst (λ (loose : Option (Loose Stored)). let on : Shelf Stored = record { store = shelf.store; copies = shelf.copies; loose = loose; calls = shelf.calls } in
-    (restarted_on pattern (puts_on puts on)).store ≡ after_puts (take (done_on puts shelf.calls + found_by pattern (puts_on puts on)) puts) shelf.store) (sym none) (finds puts shelf.store shelf.copies shelf.calls pattern)
+pub restart_finds : (puts : List Put) (key_disk : KeyDisk Stored) (pattern : Pattern) → key_disk.unsynced ≡ None
+    → (restarted_on pattern (puts_on puts key_disk)).store ≡ after_puts (take (done_on puts key_disk.calls + found_by pattern (puts_on puts key_disk)) puts) key_disk.store
+restart_finds puts key_disk pattern none = subst (λ (unsynced : Option (Unsynced Stored)). let on : KeyDisk Stored = record { store = key_disk.store; copies = key_disk.copies; unsynced = unsynced; calls = key_disk.calls } in
+    (restarted_on pattern (puts_on puts on)).store ≡ after_puts (take (done_on puts key_disk.calls + found_by pattern (puts_on puts on)) puts) key_disk.store) (sym none) (finds puts key_disk.store key_disk.copies key_disk.calls pattern)

@@ -32,7 +32,7 @@ pub record FailsAllowed {D : Type 0} {disk : Ghosts D} (next : Option Kept) (put
 
 -- a call makes these puts in order, up to the first that fails, where this was put after the last; ok says that none
 -- failed
-pub record MakesPutsAfter {D : Type 0} {disk : Ghosts D} (next : Option Kept) (puts : List Put)
+pub record WritesInOrderAfter {D : Type 0} {disk : Ghosts D} (next : Option Kept) (puts : List Put)
     (old new : Durable D disk) (ok : Bool) : Type 0 where
   -- once it has succeeded all of them are done, and a stop leaves the state after them
   pub state : ok ≡ true → durable_state new ≡ after_puts puts (durable_state old)
@@ -53,12 +53,13 @@ pub record MakesPutsAfter {D : Type 0} {disk : Ghosts D} (next : Option Kept) (p
   pub allowed : ok ≡ true → AreAllowed puts (durable_state old) next
   pub tried : ok ≡ false → FailsAllowed next puts old new
 
-abbrev pub MakesPuts : {D : Type 0} {disk : Ghosts D} → List Put → Durable D disk → Durable D disk →
+abbrev pub WritesInOrder : {D : Type 0} {disk : Ghosts D} → List Put → Durable D disk → Durable D disk →
     Bool → Type 0
-MakesPuts puts old new ok = MakesPutsAfter None puts old new ok
+WritesInOrder puts old new ok = WritesInOrderAfter None puts old new ok
 
 -- a fault has a cause and is kept: every later call answers it, and changes nothing
-pub record KeepsFault {D : Type 0} {disk : Ghosts D} (old new : Durable D disk) (failed : Option Fault) : Type 0 where
+pub record FaultIsSticky {D : Type 0} {disk : Ghosts D} (old new : Durable D disk) (failed : Option Fault)
+    : Type 0 where
   pub closed : IfSome (durable_fault old) (λ fault. (failed ≡ Some fault)
       × (durable_disk new ≡ durable_disk old) × (durable_state new ≡ durable_state old))
   pub kept : durable_fault new ≡ failed

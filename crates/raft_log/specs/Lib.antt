@@ -7,6 +7,6 @@ pub mod Making
 pub mod MayFollow
 pub mod Opening
 pub mod Rules
-pub mod Shelf
+pub mod KeyDisk
 pub mod StateViews
 pub mod Stored

@@ -6,7 +6,7 @@ use Rattle.kv_store.specs.StoreViews.{store_map}
 use Rattle.raft_log.specs.declared.change.Change.{Change}
 use Rattle.raft_log.specs.declared.durable.Durable.{Durable}
 use Rattle.raft_log.specs.Allowed.{IsNext, next_after}
-use Rattle.raft_log.specs.Calls.{MakesPutsAfter}
+use Rattle.raft_log.specs.Calls.{WritesInOrderAfter}
 use Rattle.raft_log.specs.Changes.{next_for, put_of}
 use Rattle.raft_log.specs.DurableViews.{durable_state}
 use Rattle.raft_log.specs.Stored.{Put, Stored, origin_put}
@@ -19,7 +19,8 @@ put_at place state =
 module _ {D : Type 0} {disk : Ghosts D} where
   -- the put of a change is made
   abbrev pub MakesChange : Change → Durable D disk → Durable D disk → Bool → Type 0
-  MakesChange change old new ok = MakesPutsAfter (next_for change) (put_of change (durable_state old) ∷ []) old new ok
+  MakesChange change old new ok =
+      WritesInOrderAfter (next_for change) (put_of change (durable_state old) ∷ []) old new ok
 
   -- the entry that the change counts stands after the last
   abbrev pub HasNext : Change → Durable D disk → Type 0

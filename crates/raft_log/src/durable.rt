@@ -34,7 +34,7 @@ impl<D: Disk> Durable<D> {
     ghost use Rattle.kv_store.specs.declared.fault.Fault.{Fault};
     ghost use Rattle.kv_store.specs.declared.fault.OpenFault.TheVariants.{Fault as DiskFault, Damaged};
     ghost use Rattle.raft_log.specs.DurableViews.{durable_state, durable_disk, durable_fault, durable_copies};
-    ghost use Rattle.raft_log.specs.Calls.{KeepsFault, MakesPuts};
+    ghost use Rattle.raft_log.specs.Calls.{FaultIsSticky, WritesInOrder};
     ghost use Rattle.raft_log.specs.Changes.{FitsBytes, MayMake};
     ghost use Rattle.raft_log.specs.Making.{HasNext, LeavesNext, MakesChange, put_at};
     ghost use Rattle.raft_log.specs.Opening.{FailsToOpen, IsNotRead, OpensTo};
@@ -142,8 +142,8 @@ impl<D: Disk> Durable<D> {
     pub fn set_term(&mut self, term: u32) -> Result<(), Fault>
         requires { (durable_state self.old).term < term }
         ensures allowed { AreAllowed (puts_of_term term) (durable_state self.old) None }
-        ensures puts { MakesPuts (puts_of_term term) self.old self.new (is_ok result) }
-        ensures fault { KeepsFault self.old self.new (result_err result) }
+        ensures puts { WritesInOrder (puts_of_term term) self.old self.new (is_ok result) }
+        ensures fault { FaultIsSticky self.old self.new (result_err result) }
     {
         self.make(Change::Term(term))?;
         self.make(Change::Vote(0))
@@ -155,8 +155,8 @@ impl<D: Disk> Durable<D> {
         requires least { 1 ≤ node }
         requires most { node ≤ 125 }
         ensures allowed { AreAllowed (PutVote node ∷ []) (durable_state self.old) None }
-        ensures puts { MakesPuts (PutVote node ∷ []) self.old self.new (is_ok result) }
-        ensures fault { KeepsFault self.old self.new (result_err result) }
+        ensures puts { WritesInOrder (PutVote node ∷ []) self.old self.new (is_ok result) }
+        ensures fault { FaultIsSticky self.old self.new (result_err result) }
     {
         self.make(Change::Vote(node))
     }
@@ -170,9 +170,9 @@ impl<D: Disk> Durable<D> {
         requires origin { origin ≤ origin_limit }
         ensures allowed { AreAllowed (puts_of_append entry origin (durable_state self.old))
             (durable_state self.old) None }
-        ensures puts { MakesPuts (puts_of_append entry origin (durable_state self.old))
+        ensures puts { WritesInOrder (puts_of_append entry origin (durable_state self.old))
             self.old self.new (is_ok result) }
-        ensures fault { KeepsFault self.old self.new (result_err result) }
+        ensures fault { FaultIsSticky self.old self.new (result_err result) }
     {
         self.make(Change::Next(entry, origin))?;
         self.make(Change::Longer(entry, origin))
@@ -184,9 +184,9 @@ impl<D: Disk> Durable<D> {
         requires shorter { place < length (durable_state self.old).log }
         ensures allowed { AreAllowed (puts_of_cut place (durable_state self.old))
             (durable_state self.old) None }
-        ensures puts { MakesPuts (puts_of_cut place (durable_state self.old)) self.old self.new
+        ensures puts { WritesInOrder (puts_of_cut place (durable_state self.old)) self.old self.new
             (is_ok result) }
-        ensures fault { KeepsFault self.old self.new (result_err result) }
+        ensures fault { FaultIsSticky self.old self.new (result_err result) }
     {
         self.make(Change::Shorter(place))
     }
@@ -196,8 +196,8 @@ impl<D: Disk> Durable<D> {
         requires later { (durable_state self.old).commit < place }
         requires there { place ≤ length (durable_state self.old).log }
         ensures allowed { AreAllowed (PutCommit place ∷ []) (durable_state self.old) None }
-        ensures puts { MakesPuts (PutCommit place ∷ []) self.old self.new (is_ok result) }
-        ensures fault { KeepsFault self.old self.new (result_err result) }
+        ensures puts { WritesInOrder (PutCommit place ∷ []) self.old self.new (is_ok result) }
+        ensures fault { FaultIsSticky self.old self.new (result_err result) }
     {
         self.make(Change::Commit(place))
     }
@@ -258,9 +258,9 @@ impl<D: Disk> Durable<D> {
     /// Brings the store to the newest version: each entry gets its origin first.
     fn migrate(&mut self) -> Result<(), Fault>
         requires works { durable_fault self.old ≡ None }
-        ensures puts { MakesPuts (opening_puts (durable_state self.old)) self.old self.new
+        ensures puts { WritesInOrder (opening_puts (durable_state self.old)) self.old self.new
             (is_ok result) }
-        ensures fault { KeepsFault self.old self.new (result_err result) }
+        ensures fault { FaultIsSticky self.old self.new (result_err result) }
         ensures version { OnOk result ((durable_state self.new).version ≡ 2) }
     {
         a_state_is_durable::<D>();
@@ -275,8 +275,8 @@ impl<D: Disk> Durable<D> {
     fn put_origins(&mut self) -> Result<(), Fault>
         requires works { durable_fault self.old ≡ None }
         ensures puts { let state = durable_state self.old in
-            MakesPuts (origin_puts 0 state.log state.origins) self.old self.new (is_ok result) }
-        ensures fault { KeepsFault self.old self.new (result_err result) }
+            WritesInOrder (origin_puts 0 state.log state.origins) self.old self.new (is_ok result) }
+        ensures fault { FaultIsSticky self.old self.new (result_err result) }
         ensures have { OnOk result (HaveOrigins (durable_state self.new).origins) }
     {
         a_state_is_durable::<D>();
@@ -290,9 +290,9 @@ impl<D: Disk> Durable<D> {
     fn put_origin(&mut self, place: u8) -> Result<(), Fault>
         requires works { durable_fault self.old ≡ None }
         requires there { place < length (durable_state self.old).log }
-        ensures puts { MakesPuts (put_at place (durable_state self.old)) self.old self.new
+        ensures puts { WritesInOrder (put_at place (durable_state self.old)) self.old self.new
             (is_ok result) }
-        ensures fault { KeepsFault self.old self.new (result_err result) }
+        ensures fault { FaultIsSticky self.old self.new (result_err result) }
     {
         a_state_is_durable::<D>();
         if self.state.origins[place as usize].is_some() {
@@ -306,7 +306,7 @@ impl<D: Disk> Durable<D> {
         requires may { MayMake change (durable_state self.old) }
         requires next { HasNext change self.old }
         ensures puts { MakesChange change self.old self.new (is_ok result) }
-        ensures fault { KeepsFault self.old self.new (result_err result) }
+        ensures fault { FaultIsSticky self.old self.new (result_err result) }
         ensures fits { FitsBytes change (durable_state self.old) }
         ensures next { OnOk result (LeavesNext change self.old self.new) }
     {

@@ -9,15 +9,15 @@ ghost use Rattle.disk_model.specs.Device.{Makes};
 ghost use Rattle.disk_model.specs.Memory.{DoesInMemory, Restarts, memory_calls, memory_contents};
 ghost use Rattle.disk_model.specs.Pattern.{IsUsable};
 ghost use Rattle.kv_store.specs.Image.{chosen_copy, key_count, open_calls};
-ghost use Rattle.kv_store.specs.Shelf.{Shelf, is_opened, opened_on, restarted_on};
+ghost use Rattle.kv_store.specs.KeyDisk.{KeyDisk, is_opened, opened_on, restarted_on};
 ghost use Rattle.outside.specs.declared.pattern.Pattern.{Pattern};
 ghost use Rattle.outside.specs.declared.pattern.Pattern.TheVariants.{New};
 ghost use Rattle.raft_log.specs.DeviceCalls.{copies_after, device_calls};
 ghost use Rattle.raft_log.specs.Opening.{FailsToOpen, IsReadAs, OpensTo, opening_calls};
-ghost use Rattle.raft_log.specs.Shelf.{IsOn, IsOnShelf, IsReady, are_put, done_on, found_by, is_open_on, opening_done, opening_on, puts_on};
+ghost use Rattle.raft_log.specs.KeyDisk.{IsOn, IsKeyDisk, IsReady, are_put, done_on, found_by, is_open_on, opening_done, opening_on, puts_on};
 ghost use Rattle.kv_store.specs.declared.fault.Fault.{Fault};
 ghost use Rattle.raft_log.specs.Allowed.{AreAllowed};
-ghost use Rattle.raft_log.specs.Calls.{KeepsFault, MakesPuts};
+ghost use Rattle.raft_log.specs.Calls.{FaultIsSticky, WritesInOrder};
 ghost use Rattle.raft_log.specs.declared.durable.Durable.{Durable};
 ghost use Rattle.raft_log.specs.DurableViews.{durable_copies, durable_disk, durable_fault, durable_state};
 ghost use Rattle.raft_log.specs.MayFollow.{IsKept, IsStorable};
@@ -96,17 +96,17 @@ pub fn an_opening_goes_on()
 /// Puts that were made by two calls, one after the other, are those of both. Where the first call failed
 /// there is no second, and a call without puts changes nothing.
 pub fn puts_in_turn<D: Disk>()
-    ensures nothing { (durable : Durable D D.Disk) → MakesPuts [] durable durable true }
+    ensures nothing { (durable : Durable D D.Disk) → WritesInOrder [] durable durable true }
     ensures still { (durable : Durable D D.Disk) → durable_fault durable ≡ None →
-        KeepsFault durable durable None }
+        FaultIsSticky durable durable None }
     ensures joined { (xs ys : List Put) (old mid new : Durable D D.Disk) (ok : Bool) →
-        MakesPuts xs old mid true → (durable_fault old ≡ None → KeepsFault old mid None) →
-        MakesPuts ys mid new ok → MakesPuts (xs ++ ys) old new ok }
+        WritesInOrder xs old mid true → (durable_fault old ≡ None → FaultIsSticky old mid None) →
+        WritesInOrder ys mid new ok → WritesInOrder (xs ++ ys) old new ok }
     ensures kept { (old mid new : Durable D D.Disk) (failed : Option Fault) →
-        KeepsFault old mid None → (durable_fault mid ≡ None → KeepsFault mid new failed) →
-        KeepsFault old new failed }
+        FaultIsSticky old mid None → (durable_fault mid ≡ None → FaultIsSticky mid new failed) →
+        FaultIsSticky old new failed }
     ensures cut_off { (xs ys : List Put) (old new : Durable D D.Disk) →
-        MakesPuts xs old new false → MakesPuts (xs ++ ys) old new false }
+        WritesInOrder xs old new false → WritesInOrder (xs ++ ys) old new false }
     ensures allowed { (xs ys : List Put) (state : Stored) →
         AreAllowed xs state None → AreAllowed ys (after_puts xs state) None →
         AreAllowed (xs ++ ys) state None }
@@ -120,47 +120,47 @@ pub fn puts_in_turn<D: Disk>()
 /// opening among them, finds those done that were, and the one that failed where its selector was written
 /// and is kept.
 pub fn the_disk_by_states()
-    ensures found { (disk : MemoryDisk) (shelf : Shelf Stored) → IsOn disk shelf →
-        StandsForState (memory_contents disk).seen shelf.store ×
+    ensures found { (disk : MemoryDisk) (key_disk : KeyDisk Stored) → IsOn disk key_disk →
+        StandsForState (memory_contents disk).seen key_disk.store ×
         ((key : ℕ) → key < key_count →
-        chosen_copy (memory_contents disk).seen key ≡ shelf.copies key) }
-    ensures puts { (old new : MemoryDisk) (shelf : Shelf Stored) (copies : ℕ → ℕ)
-        (puts : List Put) (ok : Bool) → IsReady old shelf →
-        ((key : ℕ) → key < key_count → copies key ≡ shelf.copies key) →
-        AreAllowed puts shelf.store None →
-        Makes DoesInMemory (device_calls puts shelf.store copies) ok old new →
-        IsOn new (puts_on puts shelf) × (ok ≡ are_put puts shelf.calls) ×
-        (ok ≡ true → IsReady new (puts_on puts shelf)) }
-    ensures done { (shelf : Shelf Stored) (puts : List Put) → are_put puts shelf.calls ≡ true →
-        ((puts_on puts shelf).store ≡ after_puts puts shelf.store) ×
-        ((puts_on puts shelf).copies ≡ copies_after puts shelf.store shelf.copies) }
+        chosen_copy (memory_contents disk).seen key ≡ key_disk.copies key) }
+    ensures puts { (old new : MemoryDisk) (key_disk : KeyDisk Stored) (copies : ℕ → ℕ)
+        (puts : List Put) (ok : Bool) → IsReady old key_disk →
+        ((key : ℕ) → key < key_count → copies key ≡ key_disk.copies key) →
+        AreAllowed puts key_disk.store None →
+        Makes DoesInMemory (device_calls puts key_disk.store copies) ok old new →
+        IsOn new (puts_on puts key_disk) × (ok ≡ are_put puts key_disk.calls) ×
+        (ok ≡ true → IsReady new (puts_on puts key_disk)) }
+    ensures done { (key_disk : KeyDisk Stored) (puts : List Put) → are_put puts key_disk.calls ≡ true →
+        ((puts_on puts key_disk).store ≡ after_puts puts key_disk.store) ×
+        ((puts_on puts key_disk).copies ≡ copies_after puts key_disk.store key_disk.copies) }
     ensures counted { (puts : List Put) (calls : Calls) → done_on puts calls ≤ length puts ×
         (are_put puts calls ≡ true → done_on puts calls ≡ length puts) ×
         (are_put puts calls ≡ false → done_on puts calls < length puts) }
-    ensures found_again { (puts : List Put) (shelf : Shelf Stored) (pattern : Pattern) →
-        shelf.loose ≡ None → let after = puts_on puts shelf in
-        let count = done_on puts shelf.calls + found_by pattern after in
-        (restarted_on pattern after).store ≡ after_puts (take count puts) shelf.store }
-    ensures opened { (old new : MemoryDisk) (shelf : Shelf Stored) (copies : ℕ → ℕ) (ok : Bool) →
-        IsOn old shelf → ((key : ℕ) → key < key_count → copies key ≡ shelf.copies key) →
-        shelf.store.term < 2 ^ 32 →
-        Makes DoesInMemory (opening_calls shelf.store copies) ok old new →
-        IsOn new (opening_on shelf) × (ok ≡ is_open_on shelf) ×
-        (ok ≡ true → IsReady new (opening_on shelf)) }
-    ensures read { (old new : MemoryDisk) (shelf : Shelf Stored) (ok : Bool) → IsOn old shelf →
-        Makes DoesInMemory open_calls ok old new → let after = opened_on shelf in
-        IsOn new after × (ok ≡ is_opened shelf.calls) × (ok ≡ true → IsReady new after) }
-    ensures restarted { (old new : MemoryDisk) (shelf : Shelf Stored) (pattern : Pattern) →
-        IsOn old shelf → IsUsable pattern →
-        Restarts pattern old new → IsReady new (restarted_on pattern shelf) }
-    ensures set { (old new : MemoryDisk) (shelf : Shelf Stored) (calls : Calls) → IsOn old shelf →
+    ensures found_again { (puts : List Put) (key_disk : KeyDisk Stored) (pattern : Pattern) →
+        key_disk.unsynced ≡ None → let after = puts_on puts key_disk in
+        let count = done_on puts key_disk.calls + found_by pattern after in
+        (restarted_on pattern after).store ≡ after_puts (take count puts) key_disk.store }
+    ensures opened { (old new : MemoryDisk) (key_disk : KeyDisk Stored) (copies : ℕ → ℕ) (ok : Bool) →
+        IsOn old key_disk → ((key : ℕ) → key < key_count → copies key ≡ key_disk.copies key) →
+        key_disk.store.term < 2 ^ 32 →
+        Makes DoesInMemory (opening_calls key_disk.store copies) ok old new →
+        IsOn new (opening_on key_disk) × (ok ≡ is_open_on key_disk) ×
+        (ok ≡ true → IsReady new (opening_on key_disk)) }
+    ensures read { (old new : MemoryDisk) (key_disk : KeyDisk Stored) (ok : Bool) → IsOn old key_disk →
+        Makes DoesInMemory open_calls ok old new → let after = opened_on key_disk in
+        IsOn new after × (ok ≡ is_opened key_disk.calls) × (ok ≡ true → IsReady new after) }
+    ensures restarted { (old new : MemoryDisk) (key_disk : KeyDisk Stored) (pattern : Pattern) →
+        IsOn old key_disk → IsUsable pattern →
+        Restarts pattern old new → IsReady new (restarted_on pattern key_disk) }
+    ensures set { (old new : MemoryDisk) (key_disk : KeyDisk Stored) (calls : Calls) → IsOn old key_disk →
         memory_contents new ≡ memory_contents old → memory_calls new ≡ calls →
-        IsOn new (record shelf { calls = calls }) }
+        IsOn new (record key_disk { calls = calls }) }
     ensures begun { (disk : MemoryDisk) (state : Stored) →
         StandsForState (memory_contents disk).seen state → IsSettled (memory_contents disk) →
         IsReady disk (record {
           store = state;
-          loose = None;
+          unsynced = None;
           copies = λ key. chosen_copy (memory_contents disk).seen key;
           calls = memory_calls disk;
         }) }
@@ -173,21 +173,21 @@ pub fn the_disk_by_states()
 /// again.
 pub fn a_member_on_the_disk_by_states()
     ensures opened { (disk : MemoryDisk) (new : Durable MemoryDisk ⟦<MemoryDisk as Disk>⟧)
-        (shelf : Shelf Stored) → IsOn disk shelf → OpensTo disk new → durable_fault new ≡ None →
-        (is_open_on shelf ≡ true) × IsOnShelf new (opening_on shelf) }
-    ensures not_opened { (disk new : MemoryDisk) (shelf : Shelf Stored) → IsOn disk shelf →
+        (key_disk : KeyDisk Stored) → IsOn disk key_disk → OpensTo disk new → durable_fault new ≡ None →
+        (is_open_on key_disk ≡ true) × IsKeyDisk new (opening_on key_disk) }
+    ensures not_opened { (disk new : MemoryDisk) (key_disk : KeyDisk Stored) → IsOn disk key_disk →
         FailsToOpen ⟦<MemoryDisk as Disk>⟧ disk new →
-        (is_open_on shelf ≡ false) × IsOn new (opening_on shelf) }
+        (is_open_on key_disk ≡ false) × IsOn new (opening_on key_disk) }
     ensures puts { (puts : List Put) (old new : Durable MemoryDisk ⟦<MemoryDisk as Disk>⟧)
-        (shelf : Shelf Stored) (ok : Bool) → IsOnShelf old shelf → MakesPuts puts old new ok →
-        (ok ≡ true → durable_fault new ≡ None) → let after = puts_on puts shelf in
-        IsOn (durable_disk new) after × (ok ≡ are_put puts shelf.calls) ×
-        (ok ≡ true → IsOnShelf new after) }
-    ensures set { (old new : Durable MemoryDisk ⟦<MemoryDisk as Disk>⟧) (shelf : Shelf Stored)
-        (calls : Calls) → IsOnShelf old shelf → durable_state new ≡ durable_state old →
+        (key_disk : KeyDisk Stored) (ok : Bool) → IsKeyDisk old key_disk → WritesInOrder puts old new ok →
+        (ok ≡ true → durable_fault new ≡ None) → let after = puts_on puts key_disk in
+        IsOn (durable_disk new) after × (ok ≡ are_put puts key_disk.calls) ×
+        (ok ≡ true → IsKeyDisk new after) }
+    ensures set { (old new : Durable MemoryDisk ⟦<MemoryDisk as Disk>⟧) (key_disk : KeyDisk Stored)
+        (calls : Calls) → IsKeyDisk old key_disk → durable_state new ≡ durable_state old →
         durable_copies new ≡ durable_copies old → durable_fault new ≡ durable_fault old →
         memory_contents (durable_disk new) ≡ memory_contents (durable_disk old) →
-        memory_calls (durable_disk new) ≡ calls → IsOnShelf new (record shelf { calls = calls }) }
+        memory_calls (durable_disk new) ≡ calls → IsKeyDisk new (record key_disk { calls = calls }) }
 {
     an_image_stands_for_one_state();
     the_disk_by_states();
@@ -198,19 +198,19 @@ pub fn a_member_on_the_disk_by_states()
 /// its selector was written and is kept. The next opening makes the others. What reads give without a
 /// restart is what a restart finds that keeps all that was written.
 pub fn an_opening_on_the_disk_by_states()
-    ensures done { (shelf : Shelf Stored) → let puts = opening_puts shelf.store in
-        is_open_on shelf ≡ true →
-        ((opening_on shelf).store ≡ after_puts puts shelf.store) ×
-        ((opening_on shelf).copies ≡ copies_after puts shelf.store shelf.copies) }
-    ensures counted { (shelf : Shelf Stored) → let count = length (opening_puts shelf.store) in
-        opening_done shelf ≤ count × (is_open_on shelf ≡ true → opening_done shelf ≡ count) ×
-        (is_opened shelf.calls ≡ true → is_open_on shelf ≡ false → opening_done shelf < count) }
-    ensures found_again { (shelf : Shelf Stored) (pattern : Pattern) →
-        (acts shelf.calls ≡ false → shelf.loose ≡ None) → let after = opening_on shelf in
-        let count = opening_done shelf + found_by pattern after in
-        let puts = opening_puts shelf.store in
-        ((restarted_on pattern after).store ≡ after_puts (take count puts) shelf.store) ×
+    ensures done { (key_disk : KeyDisk Stored) → let puts = opening_puts key_disk.store in
+        is_open_on key_disk ≡ true →
+        ((opening_on key_disk).store ≡ after_puts puts key_disk.store) ×
+        ((opening_on key_disk).copies ≡ copies_after puts key_disk.store key_disk.copies) }
+    ensures counted { (key_disk : KeyDisk Stored) → let count = length (opening_puts key_disk.store) in
+        opening_done key_disk ≤ count × (is_open_on key_disk ≡ true → opening_done key_disk ≡ count) ×
+        (is_opened key_disk.calls ≡ true → is_open_on key_disk ≡ false → opening_done key_disk < count) }
+    ensures found_again { (key_disk : KeyDisk Stored) (pattern : Pattern) →
+        (acts key_disk.calls ≡ false → key_disk.unsynced ≡ None) → let after = opening_on key_disk in
+        let count = opening_done key_disk + found_by pattern after in
+        let puts = opening_puts key_disk.store in
+        ((restarted_on pattern after).store ≡ after_puts (take count puts) key_disk.store) ×
         (opening_puts (restarted_on pattern after).store ≡ drop count puts) }
-    ensures at_most_one { (shelf : Shelf Stored) (pattern : Pattern) → found_by pattern shelf ≤ 1 }
-    ensures as_it_is { (shelf : Shelf Stored) → (restarted_on New shelf).store ≡ shelf.store }
+    ensures at_most_one { (key_disk : KeyDisk Stored) (pattern : Pattern) → found_by pattern key_disk ≤ 1 }
+    ensures as_it_is { (key_disk : KeyDisk Stored) → (restarted_on New key_disk).store ≡ key_disk.store }
 {}

@@ -13,7 +13,7 @@
 //!
 //! Each call says besides which device calls it made; [`laws::puts_in_turn`] joins what several calls say,
 //! and [`laws::the_disk_by_states`] follows them on a disk in memory, with the stored state in place of
-//! bytes (`specs/Shelf.antt`), [`laws::an_opening_on_the_disk_by_states`] an opening.
+//! bytes (`specs/KeyDisk.antt`), [`laws::an_opening_on_the_disk_by_states`] an opening.
 //!
 //! The state is that of the Raft paper (term, vote, log) and the commit index, which the paper keeps in
 //! memory; the keys are those of libuavcan's distributed server in a form of our own.

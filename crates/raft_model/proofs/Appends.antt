@@ -6,10 +6,10 @@ use Rattle.can_frame.specs.Log.{IsInjective, IsWellFormed, blank, last_term, log
 use Rattle.raft_model.specs.Log.{term_at}
 use Rattle.raft_model.specs.Messages.{Request, reach}
 use Rattle.raft_model.specs.Messages.Message.{Answers}
-use Rattle.raft_model.specs.Server.{Memory, Plain, Put, put}
+use Rattle.raft_model.specs.Server.{Memory, RaftServer, Put, put}
 use Rattle.raft_model.specs.Server.Role.{Follower, Leader}
 use Rattle.raft_model.specs.Server.Put.{PutEntry, PutLonger, PutShorter, PutCommit}
-use Rattle.raft_model.specs.Moves.{Verdict, Comes, Adds, IsCurrent, with_term, term_puts, term_memory, advance_puts, answer_to}
+use Rattle.raft_model.specs.Moves.{Verdict, IsEnabled, Adds, IsCurrent, with_term, term_puts, term_memory, advance_puts, answer_to}
 use Rattle.raft_model.specs.Moves.Move.{TakeAppendRequest}
 use Rattle.raft_model.specs.Moves.Verdict.{Outdated, Refused, Held, Added}
 use Rattle.raft_model.proofs.Micro.{HasPrevious, Holds}
@@ -23,13 +23,13 @@ use Rattle.raft_model.proofs.Terms.{same_commit, term_focus, leg_term, term_up, 
 use Rattle.raft_model.proofs.Elections.{only_said, covered_term}
 use Rattle.raft_model.proofs.Lists.{term_at_less}
 
-pub current_term : (p : Plain) (r : Request) → IsCurrent p r → r.term ≡ (with_term p.store r.term).term
+pub current_term : (p : RaftServer) (r : Request) → IsCurrent p r → r.term ≡ (with_term p.store r.term).term
 current_term p r h = elim (lt_tells p.store.term r.term) [
   | inl z ↦ rw (z.0) refl
   | inr z ↦ elim h [ inl l ↦ absurd (omega (arith, l, z.1)) | inr e ↦ rw (z.0) e.0 ]
 ]
 
-pub current_role : (p : Plain) (r : Request) → IsCurrent p r → (term_memory p r.term).role ≢ Leader
+pub current_role : (p : RaftServer) (r : Request) → IsCurrent p r → (term_memory p r.term).role ≢ Leader
 current_role p r h = elim (lt_tells p.store.term r.term) [
   | inl z ↦ rw (z.0) (λ e. two e)
   | inr z ↦ elim h [ inl l ↦ absurd (omega (arith, l, z.1)) | inr e ↦ rw (z.0) e.1 ]
@@ -215,7 +215,7 @@ term_cut l zero = refl
 term_cut l (suc i) = ap (λ (x : Entry). x.term) (get_or-take (suc i) l i (blank 0) (omega arith))
 
 pub append_request_lawful : (members : List ℕ) (m n : ℕ) (f : Focus) (r : Request) (v : Verdict) → f.plain.memory.up ≡ true
-    → Covered f.ledger f.plain.store → Comes members m f.bag [] f.plain (TakeAppendRequest r v)
+    → Covered f.ledger f.plain.store → IsEnabled members m f.bag [] f.plain (TakeAppendRequest r v)
     → Whole members m n f (TakeAppendRequest r v)
 append_request_lawful members m n f r Outdated up c h =
     let low : r.term ≤ f.plain.store.term = elim h.3 [ inl z ↦ omega (arith, z) | inr z ↦ omega (arith, z.0) ] in

@@ -3,9 +3,9 @@ use Rattle.std.proofs.Common.{◌≡◌, ℕ, List, [], ◌∷◌, ◌++◌, ref
 use Rattle.raft_model.specs.Lists.{In, at}
 use Rattle.raft_model.specs.Messages.{Message}
 use Rattle.raft_model.specs.Messages.Message.{Requests, Answers, Pairs}
-use Rattle.raft_model.specs.Server.{Plain}
-use Rattle.raft_model.specs.Stops.{Site, stopped_within, stopped, all_moved}
-use Rattle.raft_model.specs.Runs.{World, Event, beginning, site_of, with_site, posted, after, MayCome, Lawful, run as run_events}
+use Rattle.raft_model.specs.Server.{RaftServer}
+use Rattle.raft_model.specs.Stops.{LocalState, stopped_within, stopped, all_moved}
+use Rattle.raft_model.specs.Runs.{World, Event, beginning, site_of, with_site, posted, after, MayOccur, Lawful, run as run_events}
 use Rattle.raft_model.specs.Runs.Event.{Opens, Steps, Stops, StopsWithin}
 use Rattle.raft_model.proofs.Micro.{State, Micro, did, IsSaid, start, run, Lawful as LawfulMicro}
 use Rattle.raft_model.proofs.Micro.Micro.{Open, Post}
@@ -29,19 +29,19 @@ world_of z k = record {
 pub server_at : (z : State) (m : ℕ) (f : Focus) → at (λ i. (focus_of z i).plain) m f.plain ≡ (λ i. (focus_of (at_focus z m f) i).plain)
 server_at z m f = sym (λ j i. record {
   store = record {
-    term = at_field (λ (p : Plain). p.store.term) (λ k. (focus_of z k).plain) m f.plain j i;
-    vote = at_field (λ (p : Plain). p.store.vote) (λ k. (focus_of z k).plain) m f.plain j i;
-    log = at_field (λ (p : Plain). p.store.log) (λ k. (focus_of z k).plain) m f.plain j i;
-    commit = at_field (λ (p : Plain). p.store.commit) (λ k. (focus_of z k).plain) m f.plain j i;
+    term = at_field (λ (p : RaftServer). p.store.term) (λ k. (focus_of z k).plain) m f.plain j i;
+    vote = at_field (λ (p : RaftServer). p.store.vote) (λ k. (focus_of z k).plain) m f.plain j i;
+    log = at_field (λ (p : RaftServer). p.store.log) (λ k. (focus_of z k).plain) m f.plain j i;
+    commit = at_field (λ (p : RaftServer). p.store.commit) (λ k. (focus_of z k).plain) m f.plain j i;
   };
   memory = record {
-    up = at_field (λ (p : Plain). p.memory.up) (λ k. (focus_of z k).plain) m f.plain j i;
-    role = at_field (λ (p : Plain). p.memory.role) (λ k. (focus_of z k).plain) m f.plain j i;
-    told = at_field (λ (p : Plain). p.memory.told) (λ k. (focus_of z k).plain) m f.plain j i;
-    votes = at_field (λ (p : Plain). p.memory.votes) (λ k. (focus_of z k).plain) m f.plain j i;
-    next = at_field (λ (p : Plain). p.memory.next) (λ k. (focus_of z k).plain) m f.plain j i;
-    matched = at_field (λ (p : Plain). p.memory.matched) (λ k. (focus_of z k).plain) m f.plain j i;
-    pending = at_field (λ (p : Plain). p.memory.pending) (λ k. (focus_of z k).plain) m f.plain j i;
+    up = at_field (λ (p : RaftServer). p.memory.up) (λ k. (focus_of z k).plain) m f.plain j i;
+    role = at_field (λ (p : RaftServer). p.memory.role) (λ k. (focus_of z k).plain) m f.plain j i;
+    told = at_field (λ (p : RaftServer). p.memory.told) (λ k. (focus_of z k).plain) m f.plain j i;
+    votes = at_field (λ (p : RaftServer). p.memory.votes) (λ k. (focus_of z k).plain) m f.plain j i;
+    next = at_field (λ (p : RaftServer). p.memory.next) (λ k. (focus_of z k).plain) m f.plain j i;
+    matched = at_field (λ (p : RaftServer). p.memory.matched) (λ k. (focus_of z k).plain) m f.plain j i;
+    pending = at_field (λ (p : RaftServer). p.memory.pending) (λ k. (focus_of z k).plain) m f.plain j i;
   };
 })
 
@@ -59,7 +59,7 @@ reach_start z k m = record {
   said = λ g i. absurd i;
 }
 
-pub site_back : (z : State) (k m : ℕ) (x : Site) (r : Reached z m x) → with_site (world_of z k) m x ≡ world_of (run z r.es) k
+pub site_back : (z : State) (k m : ℕ) (x : LocalState) (r : Reached z m x) → with_site (world_of z k) m x ≡ world_of (run z r.es) k
 site_back z k m x r = there ∙ sym (ap (λ (u : State). world_of u k) r.ends)
   where
     server : at (λ i. (focus_of z i).plain) m x.plain ≡ (λ i. (focus_of (at_focus z m r.focus) i).plain)
@@ -90,11 +90,11 @@ said_there z m f (Requests r) h = h
 said_there z m f (Answers a) h = h
 said_there z m f (Pairs p) h = h
 
-pub said_reached : (z : State) (m : ℕ) (x : Site) (r : Reached z m x) (g : Message) → In g x.offered → IsSaid (run z r.es) g
+pub said_reached : (z : State) (m : ℕ) (x : LocalState) (r : Reached z m x) (g : Message) → In g x.offered → IsSaid (run z r.es) g
 said_reached z m x r g i = subst (λ (u : State). IsSaid u g) (sym r.ends) (said_there z m r.focus g (r.said g i))
 
 -- the law of events: lawful micro moves with the same result
-pub event_lawful : (z : State) (k : ℕ) (e : Event) → Facts z → MayCome (world_of z k) e
+pub event_lawful : (z : State) (k : ℕ) (e : Event) → Facts z → MayOccur (world_of z k) e
     → (es : List Micro) × LawfulMicro z es × (n : ℕ) × (after (world_of z k) e ≡ world_of (run z es) n)
 event_lawful z k (Opens m) f h = (Open m ∷ [], ((h.1, h.0), tt), k, opens)
   where

@@ -273,10 +273,10 @@ committed_commit s m k h f = elim (less_or k (length s.ledger)) [
 
     whole : IsSettled s.members s.led s.leader s.list s.bag (take k (s.log m)) (s.term m)
     whole =
-        let firm = firm_commit s m k h f in (
+        let nothing_unsynced = firm_commit s m k h f in (
           k,
           omega (arith, n),
-          firm,
+          nothing_unsynced,
           ap (λ (j : ℕ). take j (take k (s.log m))) n
               ∙ (take-take k k (s.log m) (omega arith)
               ∙ (ap (take k) (f.running.leads m h.role).2 ∙ ap (λ (j : ℕ). take j (s.list (s.term m))) (sym n))),

@@ -112,10 +112,10 @@ acked_there s f t k m led inside h = elim (tell (s.leader t == m)) [
 -- completeness, below a bound
 pub complete_below : (s : State) → Facts s → (t k : ℕ) → Firm s.members s.led s.leader s.list s.bag t k → (n u : ℕ) → u < n → t < u
     → s.led u ≡ true → Same k (s.list u) (s.list t)
-complete_below s f t k firm zero u h above led = absurd (omega (arith, h))
-complete_below s f t k firm (suc n) u h above led =
+complete_below s f t k nothing_unsynced zero u h above led = absurd (omega (arith, h))
+complete_below s f t k nothing_unsynced (suc n) u h above led =
     let both
-    = quorums_meet s.members (λ v. any (is_vote v (s.leader u) u) s.kept) (has_acked s.leader s.bag t k) (f.led.votes u led) firm.held
+    = quorums_meet s.members (λ v. any (is_vote v (s.leader u) u) s.kept) (has_acked s.leader s.bag t k) (f.led.votes u led) nothing_unsynced.held
     in
     let g = any_found (is_vote both.0 (s.leader u) u) s.kept both.2 in
     let x : KeptVote = g.0 in
@@ -126,10 +126,10 @@ complete_below s f t k firm (suc n) u h above led =
     let e2 : x.term ≡ u = eqb-true x.term u (and_left (x.term == u) _ r1) in
     let e3 : x.led ≡ false = not_true x.led (and_right (x.term == u) _ r1) in
     let acked : Acked s.led s.leader s.list s.answers x.voter t k
-    = subst (λ (m : ℕ). Acked s.led s.leader s.list s.answers m t k) (sym e0) (acked_there s f t k both.0 firm.there firm.inside both.3)
+    = subst (λ (m : ℕ). Acked s.led s.leader s.list s.answers m t k) (sym e0) (acked_there s f t k both.0 nothing_unsynced.there nothing_unsynced.inside both.3)
     in
     let ih : (w : ℕ) → w < u → t < w → s.led w ≡ true → Same k (s.list w) (s.list t)
-    = λ w b a l. complete_below s f t k firm n w (omega (arith, b, h)) a l in
+    = λ w b a l. complete_below s f t k nothing_unsynced n w (omega (arith, b, h)) a l in
     let c = f.votes.candidacy x g.1 in
     let d = f.led.candidacy u led in
     let same_log : c.0.log ≡ d.0.log = f.stood.one c.0 d.0 c.1 d.2 (c.2 ∙ (e1 ∙ sym d.3)) (c.3 ∙ (e2 ∙ sym d.4)) in
@@ -139,11 +139,11 @@ complete_below s f t k firm (suc n) u h above led =
           let p
           = passes_on s.led s.list x.log c.0.log t k u x.term (f.matching.voted x g.1) (f.matching.stood c.0 c.1) (f.votes.rising x g.1)
           (λ i b. let z : (get_or c.0.log i (blank 0)).term < c.0.term = f.stood.below c.0 i c.1 b in omega (arith, z, c.3, e2))
-          (f.led.rising t) firm.low firm.inside firm.own_term same c.4 ih in
+          (f.led.rising t) nothing_unsynced.low nothing_unsynced.inside nothing_unsynced.own_term same c.4 ih in
           let one : Same k (s.list u) (c.0.log ++ d.1) = ap (take k) (d.5 ∙ ap (λ (l : List Entry). l ++ d.1) (sym same_log)) in
           one ∙ (same_append k c.0.log d.1 p.1 ∙ p.0)
     ]
 
 pub completeness : (s : State) → Facts s → (t k : ℕ) → Firm s.members s.led s.leader s.list s.bag t k → (u : ℕ) → t < u → s.led u ≡ true
     → Same k (s.list u) (s.list t)
-completeness s f t k firm u above led = complete_below s f t k firm (u + 1) u (omega arith) above led
+completeness s f t k nothing_unsynced u above led = complete_below s f t k nothing_unsynced (u + 1) u (omega arith) above led

@@ -10,7 +10,7 @@ use Rattle.can_frame.specs.Zeros.{zeros}
 use Rattle.raft_model.specs.Lists.{how_many}
 use Rattle.raft_model.specs.Log.{term_at}
 use Rattle.raft_model.specs.Messages.{Request}
-use Rattle.raft_model.specs.Server.{Role, Store, Plain, quorum}
+use Rattle.raft_model.specs.Server.{Role, Store, RaftServer, quorum}
 use Rattle.raft_model.specs.Server.Role.{Follower, Candidate, Leader}
 use Rattle.raft_model.specs.Moves.{Verdict, MayGrant, IsGranted, HasPrevious, Adds, IsThere, IsRuled, IsCurrent, IsOutdated, IsJudged, with_term, MayPropose, CanCommit, IsCommitIndex, has_matched, is_leader}
 use Rattle.raft_model.specs.Moves.Verdict.{Outdated, Refused, Held, Added}
@@ -181,12 +181,12 @@ leader_decided Follower = (λ e. cross e, λ h. absurd (cc))
 leader_decided Candidate = (λ e. cross e, λ h. absurd (cc))
 leader_decided Leader = (λ e. refl, λ h. refl)
 
-current_decided : (server : Plain) (request : Request) → Decides (is_current server request) (IsCurrent server request)
+current_decided : (server : RaftServer) (request : Request) → Decides (is_current server request) (IsCurrent server request)
 current_decided server request = either (less server.store.term request.term)
     (both (equal request.term server.store.term) (never (leader_decided server.memory.role)))
 
 -- a verdict that the rules on log and entry give is a verdict on the request, where its term is current
-judged_by_rules : (server : Plain) (request : Request) (verdict : Verdict) → IsCurrent server request
+judged_by_rules : (server : RaftServer) (request : Request) (verdict : Verdict) → IsCurrent server request
     → IsRuled (with_term server.store request.term) request verdict → IsJudged server request verdict
 judged_by_rules server request Outdated current ruled = elim ruled [ ]
 judged_by_rules server request Refused current ruled = (current, ruled)
@@ -253,7 +253,7 @@ ruled_on_entry store request (Some entry) e fits = elim (tell (nat_lt log_limit 
       injective = h.1.1.1.1;
     }
 
-outdated : (server : Plain) (request : Request) → (IsCurrent server request → ⊥) → IsOutdated server request
+outdated : (server : RaftServer) (request : Request) → (IsCurrent server request → ⊥) → IsOutdated server request
 outdated server request n = elim (lt_tells request.term server.store.term) [
   | inl z ↦ inl z.1
   | inr z ↦ elim (eqb_tells request.term server.store.term) [
@@ -267,7 +267,7 @@ outdated server request n = elim (lt_tells request.term server.store.term) [
     is_leader_if Candidate h = absurd (h (λ e. cc))
     is_leader_if Leader h = refl
 
-pub judged : (server : Plain) (request : Request) → IsJudged server request (judges server request)
+pub judged : (server : RaftServer) (request : Request) → IsJudged server request (judges server request)
 judged server request = elim (tell (is_current server request)) [
   | inr a ↦ rw (a) (outdated server request (refuted (current_decided server request) a))
   | inl a ↦ rw (a) (elim (tell (has_previous (with_term server.store request.term) request)) [
@@ -284,7 +284,7 @@ judged server request = elim (tell (is_current server request)) [
 
 -- Proposals.
 
-propose_decided : (server : Plain) (entry : Entry) → Decides (may_propose server entry) (MayPropose server entry)
+propose_decided : (server : RaftServer) (entry : Entry) → Decides (may_propose server entry) (MayPropose server entry)
 propose_decided server entry = told
     (λ h. record {
       leads = h.0;
@@ -299,12 +299,12 @@ propose_decided server entry = told
     (both (equal entry.term server.store.term)
     (both (either (pair_decided entry) (reservation_decided entry)) (injective_decided (server.store.log ++ (entry ∷ [])))))))
 
-pub proposal : (server : Plain) (entry : Entry) → (may_propose server entry ≡ true) ↔ MayPropose server entry
+pub proposal : (server : RaftServer) (entry : Entry) → (may_propose server entry ≡ true) ↔ MayPropose server entry
 proposal server entry = propose_decided server entry
 
 -- Commit.
 
-can_commit_decided : (members : List ℕ) (member : ℕ) (server : Plain) (index : ℕ)
+can_commit_decided : (members : List ℕ) (member : ℕ) (server : RaftServer) (index : ℕ)
     → Decides (can_commit members member server index) (CanCommit members member server index)
 can_commit_decided members member server index = told (λ h. record { above = h.0; inside = h.1.0; own_term = h.1.1.0; held = h.1.1.1 })
     (λ h. (h.above, (h.inside, (h.own_term, h.held))))
@@ -350,11 +350,11 @@ greatest (suc limit) test = elim (tell (test (suc limit))) [
   })
 ]
 
-greatest_index : (members : List ℕ) (member : ℕ) (server : Plain)
+greatest_index : (members : List ℕ) (member : ℕ) (server : RaftServer)
     → IsGreatest (length server.store.log) (can_commit members member server) (commit_index members member server)
 greatest_index members member server = greatest (length server.store.log) (can_commit members member server)
 
-pub commit : (members : List ℕ) (member : ℕ) (server : Plain) (index : ℕ) → commit_index members member server ≡ Some index
+pub commit : (members : List ℕ) (member : ℕ) (server : RaftServer) (index : ℕ) → commit_index members member server ≡ Some index
     → IsCommitIndex members member server index
 commit members member server index e = record {
   can = (can_commit_decided members member server index).0 ((greatest_index members member server).passes index e);
@@ -362,12 +362,12 @@ commit members member server index e = record {
       ((can_commit_decided members member server place).1 can);
 }
 
-pub no_commit : (members : List ℕ) (member : ℕ) (server : Plain) → commit_index members member server ≡ None → (index : ℕ)
+pub no_commit : (members : List ℕ) (member : ℕ) (server : RaftServer) → commit_index members member server ≡ None → (index : ℕ)
     → CanCommit members member server index → ⊥
 no_commit members member server e index can = cross
     (sym ((greatest_index members member server).none e index can.inside) ∙ (can_commit_decided members member server index).1 can)
 
-pub one_commit : (members : List ℕ) (member : ℕ) (server : Plain) (index : ℕ) → IsCommitIndex members member server index
+pub one_commit : (members : List ℕ) (member : ℕ) (server : RaftServer) (index : ℕ) → IsCommitIndex members member server index
     → commit_index members member server ≡ Some index
 one_commit members member server index is = by_answer (commit_index members member server) refl
   where

@@ -7,12 +7,12 @@ use Rattle.can_frame.specs.declared.entry.Entry.{Entry}
 use Rattle.can_frame.specs.Log.{blank, log_limit}
 use Rattle.can_frame.specs.Zeros.{zeros}
 use Rattle.raft_model.specs.Messages.{Message}
-use Rattle.raft_model.specs.Server.{Role, Store, Plain, put_all}
+use Rattle.raft_model.specs.Server.{Role, Store, RaftServer, put_all}
 use Rattle.raft_model.specs.Server.Role.{Follower, Candidate, Leader}
-use Rattle.raft_model.specs.Moves.{Move, Comes, MayPropose, has_quorum, own_vote, counts, counted, is_leader, term_limit, adds_blank, win_puts, stand_puts}
+use Rattle.raft_model.specs.Moves.{Move, IsEnabled, MayPropose, has_quorum, own_vote, counts, counted, is_leader, term_limit, adds_blank, win_puts, stand_puts}
 use Rattle.raft_model.specs.Moves.Move.{TimeOut, TakeVoteRequest, TakeVoteAnswer, TakeAppendRequest, TakeAppendAnswer, TellPair}
 use Rattle.raft_model.specs.Moves.Verdict.{Outdated, Refused, Held, Added}
-use Rattle.raft_model.specs.Stops.{Site, AllCome}
+use Rattle.raft_model.specs.Stops.{LocalState, AllEnabled}
 use Rattle.raft_model.specs.Decisions.{commit_index}
 use Rattle.raft_model.specs.Handlers.{plain_after, plain_after_all, offers_of_all}
 use Rattle.raft_model.specs.Duty.{tick_phase, commit_moves, commit_phase, tell_phase, TickDuty, CommitDuty, TellDuty, WinDuty}
@@ -29,8 +29,8 @@ no_leader Follower h e = cc
 no_leader Candidate h e = cc
 no_leader Leader h e = cc
 
-pub tick_comes : (members : List ℕ) (member step : ℕ) (bag : List Message) (waited : Bool) (site : Site)
-    → AllCome members member step bag site (tick_phase waited site.plain)
+pub tick_comes : (members : List ℕ) (member step : ℕ) (bag : List Message) (waited : Bool) (site : LocalState)
+    → AllEnabled members member step bag site (tick_phase waited site.plain)
 tick_comes members member step bag false site = tt
 tick_comes members member step bag true site = elim (tell (not (is_leader site.plain.memory.role) && nat_lt site.plain.store.term term_limit)) [
   | inl h ↦ rw (h) ((no_leader site.plain.memory.role (and_left _ _ h), low (and_right _ _ h)), tt)
@@ -43,13 +43,13 @@ tick_comes members member step bag true site = elim (tell (not (is_leader site.p
 win_term : (store : Store) → (put_all store (win_puts store)).term ≡ store.term
 win_term store = elim (tell (adds_blank store)) [ inl h ↦ rw (h) refl | inr h ↦ rw (h) refl ]
 
-time_out : (members : List ℕ) (member step : ℕ) (server : Plain) → TickDuty server (plain_after members member step server TimeOut)
+time_out : (members : List ℕ) (member step : ℕ) (server : RaftServer) → TickDuty server (plain_after members member step server TimeOut)
 time_out members member step server = elim (tell (has_quorum members (own_vote member))) [
   | inl h ↦ rw (h) (record { stands = λ e. cc; next = win_term (put_all server.store (stand_puts member server.store)) })
   | inr h ↦ rw (h) (record { stands = λ e. cc; next = refl })
 ]
 
-pub tick_duty : (members : List ℕ) (member step : ℕ) (server : Plain) → server.memory.role ≢ Leader → server.store.term < term_limit
+pub tick_duty : (members : List ℕ) (member step : ℕ) (server : RaftServer) → server.memory.role ≢ Leader → server.store.term < term_limit
     → TickDuty server (plain_after_all members member step server (tick_phase true server))
 tick_duty members member step server role low = elim (lt_tells server.store.term term_limit) [
   | inl z ↦ rw (is_not server.memory.role role) (rw (z.0) (time_out members member step server))
@@ -63,19 +63,19 @@ tick_duty members member step server role low = elim (lt_tells server.store.term
 
 -- Commits.
 
-pub commit_comes : (members : List ℕ) (member step : ℕ) (bag : List Message) (site : Site)
-    → AllCome members member step bag site (commit_phase members member site.plain)
+pub commit_comes : (members : List ℕ) (member step : ℕ) (bag : List Message) (site : LocalState)
+    → AllEnabled members member step bag site (commit_phase members member site.plain)
 commit_comes members member step bag site = elim (tell (is_leader site.plain.memory.role)) [
   | inr h ↦ rw (h) tt
   | inl h ↦ rw (h) (go (commit_index members member site.plain) refl (leader_is site.plain.memory.role h))
 ]
   where
     go : (found : Option ℕ) → commit_index members member site.plain ≡ found → site.plain.memory.role ≡ Leader
-        → AllCome members member step bag site (commit_moves found)
+        → AllEnabled members member step bag site (commit_moves found)
     go None e leads = tt
     go (Some index) e leads = ((leads, commit members member site.plain index e), tt)
 
-pub commit_duty : (members : List ℕ) (member step : ℕ) (server : Plain) → server.memory.role ≡ Leader
+pub commit_duty : (members : List ℕ) (member step : ℕ) (server : RaftServer) → server.memory.role ≡ Leader
     → CommitDuty members member server (plain_after_all members member step server (commit_phase members member server))
 commit_duty members member step server leads = rw (ap is_leader leads) (go (commit_index members member server) refl)
   where
@@ -86,8 +86,8 @@ commit_duty members member step server leads = rw (ap is_leader leads) (go (comm
 
 -- Pairs.
 
-pub tell_comes : (members : List ℕ) (member step : ℕ) (bag : List Message) (room : Bool) (site : Site)
-    → AllCome members member step bag site (tell_phase room site.plain)
+pub tell_comes : (members : List ℕ) (member step : ℕ) (bag : List Message) (room : Bool) (site : LocalState)
+    → AllEnabled members member step bag site (tell_phase room site.plain)
 tell_comes members member step bag room site = elim (lt_tells site.plain.memory.told site.plain.store.commit) [
   | inr z ↦ rw (z.0) (elim (tell (is_leader site.plain.memory.role)) [ inl h ↦ rw (h) tt | inr h ↦ rw (h) tt ])
   | inl z ↦ rw (z.0) (elim (tell (is_leader site.plain.memory.role)) [
@@ -112,11 +112,11 @@ tell_comes members member step bag room site = elim (lt_tells site.plain.memory.
   where
     go : (fits : Bool) → site.plain.memory.role ≡ Leader → site.plain.memory.told < site.plain.store.commit
         → (get_or site.plain.store.log site.plain.memory.told (blank 0)).uid ≢ zeros →
-        AllCome members member step bag site (if fits then TellPair ∷ [] else [])
+        AllEnabled members member step bag site (if fits then TellPair ∷ [] else [])
     go true leads below uid = ((leads, below, uid), tt)
     go false leads below uid = tt
 
-pub tell_duty : (members : List ℕ) (member step : ℕ) (room : Bool) (server : Plain) → server.memory.role ≡ Leader →
+pub tell_duty : (members : List ℕ) (member step : ℕ) (room : Bool) (server : RaftServer) → server.memory.role ≡ Leader →
     TellDuty member step room server (plain_after_all members member step server (tell_phase room server))
     (offers_of_all members member step server (tell_phase room server))
 tell_duty members member step room server leads = rw (ap is_leader leads) (elim (lt_tells server.memory.told server.store.commit) [
@@ -158,13 +158,13 @@ tell_duty members member step room server leads = rw (ap is_leader leads) (elim 
 
 -- A full log.
 
-pub full_duty : (server : Plain) (entry : Entry) → length server.store.log ≡ log_limit → MayPropose server entry → ⊥
+pub full_duty : (server : RaftServer) (entry : Entry) → length server.store.log ≡ log_limit → MayPropose server entry → ⊥
 full_duty server entry full may = omega (arith, full, may.room)
 
 -- Quorums.
 
-pub win_duty : (members : List ℕ) (member step : ℕ) (bag : List Message) (called : List ℕ) (server : Plain) (move : Move)
-    → Comes members member bag called server move → WinDuty members server → WinDuty members (plain_after members member step server move)
+pub win_duty : (members : List ℕ) (member step : ℕ) (bag : List Message) (called : List ℕ) (server : RaftServer) (move : Move)
+    → IsEnabled members member bag called server move → WinDuty members server → WinDuty members (plain_after members member step server move)
 win_duty members member step bag called server TimeOut comes h = elim (tell (has_quorum members (own_vote member)))
     [ inl q ↦ rw (q) (λ e. absurd (cc)) | inr q ↦ rw (q) (λ e. q) ]
 win_duty members member step bag called server (TakeVoteRequest request granted) comes h = elim (lt_tells server.store.term request.term)

@@ -11,7 +11,7 @@ use Rattle.raft_model.specs.Server.Role.{Follower, Candidate, Leader}
 use Rattle.raft_model.specs.Server.Put.{PutTerm, PutVote}
 use Rattle.raft_model.specs.History.{voted}
 use Rattle.raft_model.specs.Ledger.{ledger_with}
-use Rattle.raft_model.specs.Moves.{Move, Comes, has_quorum, own_vote, stand_puts, is_candidate, counts, counted, vote_puts, vote_history, answer_to}
+use Rattle.raft_model.specs.Moves.{Move, IsEnabled, has_quorum, own_vote, stand_puts, is_candidate, counts, counted, vote_puts, vote_history, answer_to}
 use Rattle.raft_model.specs.Moves.Move.{TimeOut, TakeVoteRequest, TakeVoteAnswer}
 use Rattle.raft_model.proofs.Micro.Micro.{Raise, Clear, Stand, Grant, Deny, Count, Drop}
 use Rattle.raft_model.proofs.Focus.{Focus, focused}
@@ -98,7 +98,7 @@ pub covered_term : (f : Focus) (t : ℕ) → Covered f.ledger f.plain.store → 
 covered_term f t c = same_commit f.ledger f.plain.store (term_focus f t).plain.store c (term_log f.plain.store t).1
 
 pub vote_request_lawful : (members : List ℕ) (m n : ℕ) (f : Focus) (r : Request) (granted : Bool) → f.plain.memory.up ≡ true
-    → Covered f.ledger f.plain.store → Comes members m f.bag [] f.plain (TakeVoteRequest r granted)
+    → Covered f.ledger f.plain.store → IsEnabled members m f.bag [] f.plain (TakeVoteRequest r granted)
     → Whole members m n f (TakeVoteRequest r granted)
 vote_request_lawful members m n f r false up c h = record {
   between = term_focus f r.term;
@@ -200,7 +200,7 @@ candidate_is Candidate h = refl
 candidate_is Leader h = absurd (cc)
 
 pub vote_answer_lawful : (members : List ℕ) (m n : ℕ) (f : Focus) (a : Answer) → f.plain.memory.up ≡ true → Covered f.ledger f.plain.store
-    → Comes members m f.bag [] f.plain (TakeVoteAnswer a) → Whole members m n f (TakeVoteAnswer a)
+    → IsEnabled members m f.bag [] f.plain (TakeVoteAnswer a) → Whole members m n f (TakeVoteAnswer a)
 vote_answer_lawful members m n f a up c h = elim (lt_tells f.plain.store.term a.term) [
   | inl z ↦ rw (z.0) (record {
     between = focused m (focused m (focused m f (Drop m a.from)) (Raise m a.term)) (Clear m);

@@ -1,10 +1,10 @@
 -- Every server of every run is fit, and no Candidate counts a quorum.
 use Rattle.std.proofs.Common.{◌≡◌, ℕ, List, [], ◌∷◌, refl, ◌∙◌, subst}
 use Rattle.raft_model.specs.Messages.{Message}
-use Rattle.raft_model.specs.Server.{Store, Plain, lost, opened}
+use Rattle.raft_model.specs.Server.{Store, RaftServer, lost, opened}
 use Rattle.raft_model.specs.Moves.{Move}
-use Rattle.raft_model.specs.Stops.{Site, moved, all_moved, AllCome}
-use Rattle.raft_model.specs.Runs.{World, Event, beginning, site_of, after, MayCome, run, Lawful}
+use Rattle.raft_model.specs.Stops.{LocalState, moved, all_moved, AllEnabled}
+use Rattle.raft_model.specs.Runs.{World, Event, beginning, site_of, after, MayOccur, run, Lawful}
 use Rattle.raft_model.specs.Runs.Event.{Opens, Steps, Stops, StopsWithin}
 use Rattle.raft_model.specs.Duty.{WinDuty}
 use Rattle.raft_model.specs.Fit.{IsFit}
@@ -12,7 +12,7 @@ use Rattle.raft_model.proofs.At.{at_each}
 use Rattle.raft_model.proofs.Duty.{win_duty}
 use Rattle.raft_model.proofs.Fit.{fit_after, opens_fit, loses_fit}
 
-pub record IsFinished (members : List ℕ) (member : ℕ) (server : Plain) : Type 0 where
+pub record IsFinished (members : List ℕ) (member : ℕ) (server : RaftServer) : Type 0 where
   pub fit : IsFit member server
   pub wins : WinDuty members server
 
@@ -22,8 +22,8 @@ opens members member store = record { fit = opens_fit member store; wins = λ e.
 loses : (members : List ℕ) (member : ℕ) (store : Store) → IsFinished members member (record { store = store; memory = lost })
 loses members member store = record { fit = loses_fit member store; wins = λ e. absurd (cc) }
 
-moves_finish : (members : List ℕ) (member step : ℕ) (bag : List Message) (moves : List Move) (site : Site)
-    → AllCome members member step bag site moves →
+moves_finish : (members : List ℕ) (member step : ℕ) (bag : List Message) (moves : List Move) (site : LocalState)
+    → AllEnabled members member step bag site moves →
     IsFinished members member site.plain → IsFinished members member (all_moved members member step site moves).plain
 moves_finish members member step bag [] site come before = before
 moves_finish members member step bag (move ∷ moves) site come before =
@@ -35,7 +35,7 @@ moves_finish members member step bag (move ∷ moves) site come before =
 abbrev AllFinished : World → Type 0
 AllFinished world = (member : ℕ) → IsFinished world.members member (world.server member)
 
-event_finishes : (world : World) (event : Event) → MayCome world event → AllFinished world → AllFinished (after world event)
+event_finishes : (world : World) (event : Event) → MayOccur world event → AllFinished world → AllFinished (after world event)
 event_finishes world (Opens member) may before = at_each (IsFinished world.members) world.server member _
     (opens world.members member (world.server member).store) (λ i n. before i)
 event_finishes world (Steps member step moves fitted) may before =

@@ -4,9 +4,9 @@ use Rattle.std.specs.Prelude.{◌&&◌, ◌==◌}
 use Rattle.can_frame.specs.Log.{blank}
 use Rattle.raft_model.specs.Lists.{at}
 use Rattle.raft_model.specs.Messages.{Request, Answer, Message, reach}
-use Rattle.raft_model.specs.Server.{Role, Store, Memory, Plain, put_all, lost, opened}
+use Rattle.raft_model.specs.Server.{Role, Store, Memory, RaftServer, put_all, lost, opened}
 use Rattle.raft_model.specs.Server.Role.{Follower, Candidate, Leader}
-use Rattle.raft_model.specs.Moves.{Move, Verdict, Comes, IsJudged, is_candidate, append_memory, term_puts, with_term, term_memory, stand_puts, stand_memory, has_quorum, own_vote, adds_blank, win_puts, win_memory, grant_puts, vote_puts, counts, counted, ended, is_leader, advance_puts, append_puts, matched_memory, matched_after, next_after, vote_request, append_request}
+use Rattle.raft_model.specs.Moves.{Move, Verdict, IsEnabled, IsJudged, is_candidate, append_memory, term_puts, with_term, term_memory, stand_puts, stand_memory, has_quorum, own_vote, adds_blank, win_puts, win_memory, grant_puts, vote_puts, counts, counted, ended, is_leader, advance_puts, append_puts, matched_memory, matched_after, next_after, vote_request, append_request}
 use Rattle.raft_model.specs.Moves.Move.{TimeOut, TakeVoteRequest, TakeVoteAnswer, TakeAppendRequest, TakeAppendAnswer, ProposeEntry, CommitTo, TellPair, TellNothing, CallForVote, CallToAppend, AnswerAgain, GiveUp}
 use Rattle.raft_model.specs.Moves.Verdict.{Outdated, Refused, Held, Added}
 use Rattle.raft_model.specs.Handlers.{plain_after}
@@ -19,7 +19,7 @@ use Rattle.raft_model.proofs.Handled.{put_then}
 use Rattle.raft_model.proofs.Complete.{and_left}
 use Rattle.raft_model.proofs.Terms.{term_log}
 
-abbrev Both : Store → Memory → Plain
+abbrev Both : Store → Memory → RaftServer
 Both store memory = record { store = store; memory = memory }
 
 follower : (member : ℕ) (store : Store) (memory : Memory) → memory.role ≡ Follower → memory.told ≤ store.commit
@@ -67,7 +67,7 @@ won member store memory vote term = elim (tell (adds_blank store)) [
 ]
 
 -- a higher term makes a Follower, and changes neither log nor commit
-raised : (member : ℕ) (server : Plain) (term : ℕ) → IsFit member server
+raised : (member : ℕ) (server : RaftServer) (term : ℕ) → IsFit member server
     → IsFit member (Both (with_term server.store term) (term_memory server term))
 raised member server term fit = elim (lt_tells server.store.term term) [
   | inl h ↦
@@ -177,7 +177,7 @@ no_follower Candidate a b = cc
 no_follower Leader a b = cc
 
 -- an append request that is not outdated makes a Follower
-follows : (member : ℕ) (server : Plain) (request : Request) (verdict : Verdict) → IsFit member server →
+follows : (member : ℕ) (server : RaftServer) (request : Request) (verdict : Verdict) → IsFit member server →
     IsFit member
     (Both
     (put_all server.store
@@ -195,7 +195,7 @@ follows member server request verdict fit =
     (omega
     (arith, fit.told, split, (term_log server.store request.term).1, commit_after (with_term server.store request.term) request verdict))
 
-judged : (member : ℕ) (server : Plain) (request : Request) (verdict : Verdict) → IsJudged server request verdict → IsFit member server →
+judged : (member : ℕ) (server : RaftServer) (request : Request) (verdict : Verdict) → IsJudged server request verdict → IsFit member server →
     IsFit member
     (Both
     (put_all server.store
@@ -209,8 +209,8 @@ judged member server request Refused is fit = follows member server request Refu
 judged member server request Held is fit = follows member server request Held fit
 judged member server request (Added entry) is fit = follows member server request (Added entry) fit
 
-pub fit_after : (members : List ℕ) (member step : ℕ) (bag : List Message) (called_before : List ℕ) (server : Plain) (move : Move)
-    → Comes members member bag called_before server move →
+pub fit_after : (members : List ℕ) (member step : ℕ) (bag : List Message) (called_before : List ℕ) (server : RaftServer) (move : Move)
+    → IsEnabled members member bag called_before server move →
     IsFit member server → IsFit member (plain_after members member step server move)
 fit_after members member step bag called_before server TimeOut comes fit = elim (tell (has_quorum members (own_vote member))) [
   | inl h ↦

@@ -5,7 +5,7 @@ use Rattle.raft_model.specs.Lists.{at, at_here}
 use Rattle.can_frame.specs.declared.entry.Entry.{Entry}
 use Rattle.can_frame.specs.Log.{blank}
 use Rattle.raft_model.specs.Messages.{Request, reach, Answer, Pair, Message}
-use Rattle.raft_model.specs.Server.{Store, Memory, Plain, put, lost, opened}
+use Rattle.raft_model.specs.Server.{Store, Memory, RaftServer, put, lost, opened}
 use Rattle.raft_model.specs.Server.Role.{Follower, Candidate, Leader}
 use Rattle.raft_model.specs.Server.Put.{PutTerm, PutVote, PutLonger, PutShorter, PutCommit}
 use Rattle.raft_model.specs.History.{History, voted, stood, elected, lengthened}
@@ -16,7 +16,7 @@ use Rattle.raft_model.proofs.Micro.Micro.{Open, Halt, Raise, Clear, Stand, Grant
 
 -- a server, every message offered so far, and what is shared
 pub record Focus : Type 0 where
-  pub plain : Plain
+  pub plain : RaftServer
   pub fresh : Bool
   pub requests : List Request
   pub answers : List Answer

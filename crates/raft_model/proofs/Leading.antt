@@ -8,7 +8,7 @@ use Rattle.raft_model.specs.Server.{Role, Store, put}
 use Rattle.raft_model.specs.Server.Role.{Follower, Candidate, Leader}
 use Rattle.raft_model.specs.Server.Put.{PutTerm, PutVote, PutEntry, PutLonger, PutCommit}
 use Rattle.raft_model.specs.Ledger.{ledger_with}
-use Rattle.raft_model.specs.Moves.{Move, Comes, is_leader, vote_request, append_request, pair_at}
+use Rattle.raft_model.specs.Moves.{Move, IsEnabled, is_leader, vote_request, append_request, pair_at}
 use Rattle.raft_model.specs.Moves.Move.{TimeOut, TakeVoteRequest, TakeVoteAnswer, TakeAppendRequest, TakeAppendAnswer, ProposeEntry, CommitTo, TellPair, TellNothing, CallForVote, CallToAppend, AnswerAgain, GiveUp}
 use Rattle.raft_model.proofs.Micro.Micro.{Raise, Clear, Drop, Taken, Write, Propose, Commit, Tell, Pass, Again, CallVote, CallAppend}
 use Rattle.raft_model.proofs.Focus.{Focus, focused}
@@ -27,7 +27,7 @@ leader_is Candidate h = absurd (cc)
 leader_is Leader h = refl
 
 pub append_answer_lawful : (members : List ℕ) (m n : ℕ) (f : Focus) (a : Answer) → f.plain.memory.up ≡ true → Covered f.ledger f.plain.store
-    → Comes members m f.bag [] f.plain (TakeAppendAnswer a) → Whole members m n f (TakeAppendAnswer a)
+    → IsEnabled members m f.bag [] f.plain (TakeAppendAnswer a) → Whole members m n f (TakeAppendAnswer a)
 append_answer_lawful members m n f a up c h = elim (lt_tells f.plain.store.term a.term) [
   | inl z ↦ rw (z.0) (record {
     between = focused m (focused m (focused m f (Drop m a.from)) (Raise m a.term)) (Clear m);
@@ -104,7 +104,7 @@ append_answer_lawful members m n f a up c h = elim (lt_tells f.plain.store.term 
 
 -- every move is a lawful list of micro moves with the result that the table says
 pub move_lawful : (members : List ℕ) (m n : ℕ) (f : Focus) (called : List ℕ) (mv : Move) → f.plain.memory.up ≡ true
-    → Covered f.ledger f.plain.store → Comes members m f.bag called f.plain mv → Whole members m n f mv
+    → Covered f.ledger f.plain.store → IsEnabled members m f.bag called f.plain mv → Whole members m n f mv
 move_lawful members m n f called TimeOut up c h = time_out members m n f up c
 move_lawful members m n f called (TakeVoteRequest r g) up c h = vote_request_lawful members m n f r g up c h
 move_lawful members m n f called (TakeVoteAnswer a) up c h = vote_answer_lawful members m n f a up c h

@@ -2,7 +2,7 @@
 use Rattle.std.proofs.Common.{◌≡◌, ◌≢◌, ℕ, true, List, [], ◌∷◌, ◌++◌, refl, sym, ◌∙◌, ap, subst, inl, inr, ◌⊎◌}
 use Rattle.std.specs.Prelude.{◌&&◌, ◌==◌}
 use Rattle.raft_model.specs.Messages.{Message, Answer, Request}
-use Rattle.raft_model.specs.Server.{Role, Plain, Put, put_all}
+use Rattle.raft_model.specs.Server.{Role, RaftServer, Put, put_all}
 use Rattle.raft_model.specs.Server.Role.{Follower, Candidate, Leader}
 use Rattle.raft_model.specs.History.{History}
 use Rattle.raft_model.specs.Ledger.{ledger_through}
@@ -10,7 +10,7 @@ use Rattle.raft_model.specs.Moves.{Move, Verdict, acknowledges, append_memory, c
 use Rattle.raft_model.specs.Moves.Move.{TimeOut, TakeVoteRequest, TakeVoteAnswer, TakeAppendRequest, TakeAppendAnswer, ProposeEntry, CommitTo, TellPair, TellNothing, CallForVote, CallToAppend, AnswerAgain, GiveUp}
 use Rattle.raft_model.specs.Moves.Verdict.{Outdated, Refused, Held, Added}
 use Rattle.raft_model.specs.Handlers.{plain_after, plain_after_all, puts_of_all, offers_of_all}
-use Rattle.raft_model.specs.Stops.{Site, moved, all_moved, AllCome}
+use Rattle.raft_model.specs.Stops.{LocalState, moved, all_moved, AllEnabled}
 use Rattle.raft_model.specs.Members.{IsAll, KnowsEnough, counts_votes}
 use Rattle.raft_model.proofs.Apart.{candidate_no_follower, false_true}
 use Rattle.raft_model.proofs.Complete.{and_left}
@@ -20,7 +20,7 @@ use Rattle.raft_model.proofs.Whole.{lt_tells}
 
 -- ---- a Follower stays one in every move but a time out
 
-appended : (server : Plain) (request : Request) (verdict : Verdict) → server.memory.role ≡ Follower
+appended : (server : RaftServer) (request : Request) (verdict : Verdict) → server.memory.role ≡ Follower
     → (append_memory server request verdict).role ≡ Follower
 appended server request Outdated e = e
 appended server request Refused e = refl
@@ -28,7 +28,7 @@ appended server request Held e = refl
 appended server request (Added entry) e = refl
 
 -- and counts no votes
-counts_none : (server : Plain) (answer : Answer) → server.memory.role ≡ Follower → counts server answer ≡ true → ⊥
+counts_none : (server : RaftServer) (answer : Answer) → server.memory.role ≡ Follower → counts server answer ≡ true → ⊥
 counts_none server answer e c =
     candidate_no_follower server.memory.role
     (candidate server.memory.role (and_left (is_candidate server.memory.role) ((answer.term == server.store.term) && answer.success) c)) e
@@ -38,7 +38,7 @@ counts_none server answer e c =
     candidate Candidate h = refl
     candidate Leader h = absurd (false_true h)
 
-follows : (list : List ℕ) (member step : ℕ) (server : Plain) (move : Move) → server.memory.role ≡ Follower
+follows : (list : List ℕ) (member step : ℕ) (server : RaftServer) (move : Move) → server.memory.role ≡ Follower
     → (move ≡ TimeOut) ⊎ ((memory_after list member step server move).role ≡ Follower)
 follows list member step server TimeOut e = inl refl
 follows list member step server (TakeVoteRequest request granted) e = inr (elim (lt_tells server.store.term request.term)
@@ -65,14 +65,14 @@ follows list member step server (GiveUp peer) e = inr e
 
 module _ (list members : List ℕ) (member step : ℕ) where
   -- where a move counts votes
-  counted_over_all : (server : Plain) (move : Move) (moves : List Move) → KnowsEnough list members server (move ∷ moves)
+  counted_over_all : (server : RaftServer) (move : Move) (moves : List Move) → KnowsEnough list members server (move ∷ moves)
       → counts_votes server move ≡ true → IsAll list members
   counted_over_all server TimeOut moves knows c = knows.standing (inl refl)
   counted_over_all server (TakeVoteAnswer answer) moves knows c = knows.counting (λ e. counts_none server answer e c)
   counted_over_all server _ moves knows c = absurd (false_true c)
 
   -- the moves after one count over all too
-  knows_later : (server : Plain) (move : Move) (moves : List Move) → KnowsEnough list members server (move ∷ moves)
+  knows_later : (server : RaftServer) (move : Move) (moves : List Move) → KnowsEnough list members server (move ∷ moves)
       → KnowsEnough list members (plain_after list member step server move) moves
   knows_later server move moves knows = record {
     counting = λ n. either (follower_or server.memory.role) n;
@@ -92,14 +92,14 @@ module _ (list members : List ℕ) (member step : ℕ) where
         | inr stays ↦ absurd (n stays)
       ]
 
-  same_after : (server : Plain) (move : Move) → (counts_votes server move ≡ true → IsAll list members)
+  same_after : (server : RaftServer) (move : Move) → (counts_votes server move ≡ true → IsAll list members)
       → plain_after list member step server move ≡ plain_after members member step server move
   same_after server move all = λ i. record {
     store = put_all server.store (same_puts list members member server move all i);
     memory = same_memory list members member step server move all i;
   }
 
-  same_history : (server : Plain) (move : Move) (history : History) → (counts_votes server move ≡ true → IsAll list members)
+  same_history : (server : RaftServer) (move : Move) (history : History) → (counts_votes server move ≡ true → IsAll list members)
       → move_history list member server move history ≡ move_history members member server move history
   same_history server TimeOut history all = rw (same_quorum list members (own_vote member) (all refl)) refl
   same_history server (TakeVoteAnswer answer) history all = elim (tell (counts server answer)) [
@@ -108,7 +108,7 @@ module _ (list members : List ℕ) (member step : ℕ) where
   ]
   same_history server _ history all = refl
 
-  same_moved : (site : Site) (move : Move) → (counts_votes site.plain move ≡ true → IsAll list members)
+  same_moved : (site : LocalState) (move : Move) → (counts_votes site.plain move ≡ true → IsAll list members)
       → moved list member step site move ≡ moved members member step site move
   same_moved site move all = λ i. record {
     plain = same_after site.plain move all i;
@@ -128,14 +128,14 @@ module _ (list members : List ℕ) (member step : ℕ) where
 
   -- ---- all of them
 
-  pub all_after : (server : Plain) (moves : List Move) → KnowsEnough list members server moves
+  pub all_after : (server : RaftServer) (moves : List Move) → KnowsEnough list members server moves
       → plain_after_all list member step server moves ≡ plain_after_all members member step server moves
   all_after server [] knows = refl
   all_after server (move ∷ moves) knows =
       all_after (plain_after list member step server move) moves (knows_later server move moves knows)
-      ∙ ap (λ (p : Plain). plain_after_all members member step p moves) (same_after server move (counted_over_all server move moves knows))
+      ∙ ap (λ (p : RaftServer). plain_after_all members member step p moves) (same_after server move (counted_over_all server move moves knows))
 
-  pub all_puts : (server : Plain) (moves : List Move) → KnowsEnough list members server moves
+  pub all_puts : (server : RaftServer) (moves : List Move) → KnowsEnough list members server moves
       → puts_of_all list member step server moves ≡ puts_of_all members member step server moves
   all_puts server [] knows = refl
   all_puts server (move ∷ moves) knows =
@@ -143,28 +143,28 @@ module _ (list members : List ℕ) (member step : ℕ) where
       (same_puts list members member server move (counted_over_all server move moves knows))
       ∙ ap (λ (xs : List Put). puts members member server move ++ xs)
       (all_puts (plain_after list member step server move) moves (knows_later server move moves knows)
-      ∙ ap (λ (p : Plain). puts_of_all members member step p moves) (same_after server move (counted_over_all server move moves knows)))
+      ∙ ap (λ (p : RaftServer). puts_of_all members member step p moves) (same_after server move (counted_over_all server move moves knows)))
 
-  pub all_offers : (server : Plain) (moves : List Move) → KnowsEnough list members server moves
+  pub all_offers : (server : RaftServer) (moves : List Move) → KnowsEnough list members server moves
       → offers_of_all list member step server moves ≡ offers_of_all members member step server moves
   all_offers server [] knows = refl
   all_offers server (move ∷ moves) knows = ap (λ (xs : List Message). xs ++ offers member step server move)
       (all_offers (plain_after list member step server move) moves (knows_later server move moves knows)
-      ∙ ap (λ (p : Plain). offers_of_all members member step p moves) (same_after server move (counted_over_all server move moves knows)))
+      ∙ ap (λ (p : RaftServer). offers_of_all members member step p moves) (same_after server move (counted_over_all server move moves knows)))
 
-  pub all_site : (site : Site) (moves : List Move) → KnowsEnough list members site.plain moves
+  pub all_site : (site : LocalState) (moves : List Move) → KnowsEnough list members site.plain moves
       → all_moved list member step site moves ≡ all_moved members member step site moves
   all_site site [] knows = refl
   all_site site (move ∷ moves) knows =
       all_site (moved list member step site move) moves (knows_later site.plain move moves knows)
-      ∙ ap (λ (x : Site). all_moved members member step x moves) (same_moved site move (counted_over_all site.plain move moves knows))
+      ∙ ap (λ (x : LocalState). all_moved members member step x moves) (same_moved site move (counted_over_all site.plain move moves knows))
 
-  pub all_come : (bag : List Message) (site : Site) (moves : List Move) → KnowsEnough list members site.plain moves
-      → AllCome list member step bag site moves → AllCome members member step bag site moves
+  pub all_come : (bag : List Message) (site : LocalState) (moves : List Move) → KnowsEnough list members site.plain moves
+      → AllEnabled list member step bag site moves → AllEnabled members member step bag site moves
   all_come bag site [] knows come = tt
   all_come bag site (move ∷ moves) knows come = (
     same_come list members member bag site.called site.plain move knows.counting come.0,
-    subst (λ (x : Site). AllCome members member step bag x moves)
+    subst (λ (x : LocalState). AllEnabled members member step bag x moves)
         (same_moved site move (counted_over_all site.plain move moves knows))
         (all_come bag (moved list member step site move) moves (knows_later site.plain move moves knows) come.1),
   )

@@ -3,9 +3,9 @@ use Rattle.std.proofs.Common.{◌≡◌, ◌≢◌, ℕ, ◌≤◌, zero, suc, �
 use Rattle.std.specs.Prelude.{if◌then◌else◌, nat_le, ◌/◌}
 use Rattle.raft_model.specs.Lists.{In, how_many}
 use Rattle.raft_model.specs.Messages.{Message}
-use Rattle.raft_model.specs.Server.{Plain, quorum}
+use Rattle.raft_model.specs.Server.{RaftServer, quorum}
 use Rattle.raft_model.specs.Server.Role.{Follower}
-use Rattle.raft_model.specs.Moves.{Move, Comes, CanCommit, MayCall, puts, memory_after, counts, counted, has_matched, has_quorum, own_vote}
+use Rattle.raft_model.specs.Moves.{Move, IsEnabled, CanCommit, MayCall, puts, memory_after, counts, counted, has_matched, has_quorum, own_vote}
 use Rattle.raft_model.specs.Moves.Move.{TimeOut, TakeVoteRequest, TakeVoteAnswer, TakeAppendRequest, TakeAppendAnswer, ProposeEntry, CommitTo, TellPair, TellNothing, CallForVote, CallToAppend, AnswerAgain, GiveUp}
 use Rattle.raft_model.specs.Members.{IsAll, counts_votes}
 use Rattle.raft_model.specs.Decisions.{can_commit, greatest_to, commit_index}
@@ -58,7 +58,7 @@ pub same_quorum : (list members : List ℕ) (votes : ℕ → Bool) → IsAll lis
 same_quorum list members votes h = ap (λ (n : ℕ). nat_le (n / 2 + 1) (how_many votes list)) h.as_many
     ∙ ap (λ (n : ℕ). nat_le (quorum members) n) (same_count list members votes h)
 
-pub same_puts : (list members : List ℕ) (member : ℕ) (server : Plain) (move : Move) → (counts_votes server move ≡ true → IsAll list members)
+pub same_puts : (list members : List ℕ) (member : ℕ) (server : RaftServer) (move : Move) → (counts_votes server move ≡ true → IsAll list members)
     → puts list member server move ≡ puts members member server move
 same_puts list members member server TimeOut h = rw (same_quorum list members (own_vote member) (h refl)) refl
 same_puts list members member server (TakeVoteAnswer answer) h = elim (tell (counts server answer)) [
@@ -67,7 +67,7 @@ same_puts list members member server (TakeVoteAnswer answer) h = elim (tell (cou
 ]
 same_puts list members member server _ h = refl
 
-pub same_memory : (list members : List ℕ) (member step : ℕ) (server : Plain) (move : Move)
+pub same_memory : (list members : List ℕ) (member step : ℕ) (server : RaftServer) (move : Move)
     → (counts_votes server move ≡ true → IsAll list members)
     → memory_after list member step server move ≡ memory_after members member step server move
 same_memory list members member step server TimeOut h = rw (same_quorum list members (own_vote member) (h refl)) refl
@@ -77,7 +77,7 @@ same_memory list members member step server (TakeVoteAnswer answer) h = elim (te
 ]
 same_memory list members member step server _ h = refl
 
-same_can : (list members : List ℕ) (member : ℕ) (server : Plain) (index : ℕ) → IsAll list members
+same_can : (list members : List ℕ) (member : ℕ) (server : RaftServer) (index : ℕ) → IsAll list members
     → can_commit list member server index ≡ can_commit members member server index
 same_can list members member server index h = rw (same_quorum list members (has_matched member server index) h) refl
 
@@ -86,12 +86,12 @@ same_greatest zero a b h = rw (h zero) refl
 same_greatest (suc limit) a b h = rw (h (suc limit))
     (ap (λ (o : Option ℕ). if b (suc limit) then Some (suc limit) else o) (same_greatest limit a b h))
 
-pub same_commit : (list members : List ℕ) (member : ℕ) (server : Plain) → IsAll list members
+pub same_commit : (list members : List ℕ) (member : ℕ) (server : RaftServer) → IsAll list members
     → commit_index list member server ≡ commit_index members member server
 same_commit list members member server h = same_greatest (length server.store.log) (can_commit list member server)
     (can_commit members member server) (λ i. same_can list members member server i h)
 
-can_over : (list members : List ℕ) (member : ℕ) (server : Plain) (index : ℕ)
+can_over : (list members : List ℕ) (member : ℕ) (server : RaftServer) (index : ℕ)
     → how_many (has_matched member server index) list ≡ how_many (has_matched member server index) members → length list ≡ length members
     → CanCommit list member server index → CanCommit members member server index
 can_over list members member server index count as_many can = record {
@@ -102,15 +102,15 @@ can_over list members member server index count as_many can = record {
       (subst (λ (n : ℕ). quorum list ≤ n) count can.held);
 }
 
-calls_over : (list members : List ℕ) (member : ℕ) (called : List ℕ) (server : Plain) (peer : ℕ) → IsAll list members
+calls_over : (list members : List ℕ) (member : ℕ) (called : List ℕ) (server : RaftServer) (peer : ℕ) → IsAll list members
     → MayCall list member called server peer → MayCall members member called server peer
 calls_over list members member called server peer all may = record
     { other = may.other; listed = all.among peer may.listed; free = may.free; first = may.first }
 
 -- a move that may come by a list of all members may come
-pub same_come : (list members : List ℕ) (member : ℕ) (bag : List Message) (called : List ℕ) (server : Plain) (move : Move)
+pub same_come : (list members : List ℕ) (member : ℕ) (bag : List Message) (called : List ℕ) (server : RaftServer) (move : Move)
     → (server.memory.role ≢ Follower → IsAll list members)
-    → Comes list member bag called server move → Comes members member bag called server move
+    → IsEnabled list member bag called server move → IsEnabled members member bag called server move
 same_come list members member bag called server TimeOut all comes = comes
 same_come list members member bag called server (TakeVoteRequest request granted) all comes = comes
 same_come list members member bag called server (TakeVoteAnswer answer) all comes = comes

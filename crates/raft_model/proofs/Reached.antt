@@ -3,11 +3,11 @@ use Rattle.std.proofs.Common.{◌≡◌, ℕ, true, List, [], ◌∷◌, ◌++�
 use Rattle.std.specs.Prelude.{nat_lt, ◌&&◌, ◌==◌}
 use Rattle.raft_model.specs.Lists.{In}
 use Rattle.raft_model.specs.Messages.{Message}
-use Rattle.raft_model.specs.Server.{Store, Plain, Put, put_all, lost}
-use Rattle.raft_model.specs.Moves.{Move, Comes, puts, memory_after, offers, move_history, has_quorum, own_vote, counts, counted, is_leader}
+use Rattle.raft_model.specs.Server.{Store, RaftServer, Put, put_all, lost}
+use Rattle.raft_model.specs.Moves.{Move, IsEnabled, puts, memory_after, offers, move_history, has_quorum, own_vote, counts, counted, is_leader}
 use Rattle.raft_model.specs.Moves.Move.{TimeOut, TakeVoteRequest, TakeVoteAnswer, TakeAppendRequest, TakeAppendAnswer, ProposeEntry, CommitTo, TellPair, TellNothing, CallForVote, CallToAppend, AnswerAgain, GiveUp}
 use Rattle.raft_model.specs.Moves.Verdict.{Outdated, Refused, Held, Added}
-use Rattle.raft_model.specs.Stops.{Site, moved, stopped_within, stopped, all_moved, AllCome}
+use Rattle.raft_model.specs.Stops.{LocalState, moved, stopped_within, stopped, all_moved, AllEnabled}
 use Rattle.raft_model.proofs.Micro.{State, Micro, did, run, Lawful}
 use Rattle.raft_model.proofs.Micro.Micro.{Halt}
 use Rattle.raft_model.proofs.Facts.{Facts}
@@ -29,7 +29,7 @@ run_then [] ds z = refl
 run_then (e ∷ es) ds z = run_then es ds (did z e)
 
 -- no move but a stop brings a server down
-pub stays_up : (members : List ℕ) (m n : ℕ) (p : Plain) (mv : Move) → (memory_after members m n p mv).up ≡ p.memory.up
+pub stays_up : (members : List ℕ) (m n : ℕ) (p : RaftServer) (mv : Move) → (memory_after members m n p mv).up ≡ p.memory.up
 stays_up members m n p TimeOut = elim (tell (has_quorum members (own_vote m))) [ inl h ↦ rw (h) refl | inr h ↦ rw (h) refl ]
 stays_up members m n p (TakeVoteRequest r g) = term_up p r.term
 stays_up members m n p (TakeVoteAnswer a) = elim (tell (nat_lt p.store.term a.term)) [
@@ -57,7 +57,7 @@ stays_up members m n p (AnswerAgain i) = refl
 stays_up members m n p (GiveUp q) = refl
 
 -- a lawful list of micro moves leads from z to this site at m
-pub record Reached (z : State) (m : ℕ) (x : Site) : Type 0 where
+pub record Reached (z : State) (m : ℕ) (x : LocalState) : Type 0 where
   pub es : List Micro
   pub lawful : Lawful z es
   pub focus : Focus
@@ -72,7 +72,7 @@ pub covered_of : (z : State) (m : ℕ) → Facts z → Covered (focus_of z m).le
 covered_of z m f = record { commit = f.committed.below m; stamps = f.committed.stamped }
 
 -- more micro moves of m after those
-pub further : (z : State) (m : ℕ) (x y : Site) (r : Reached z m x) (es : List Micro) → LawfulHere z.members m r.focus es →
+pub further : (z : State) (m : ℕ) (x y : LocalState) (r : Reached z m x) (es : List Micro) → LawfulHere z.members m r.focus es →
     y.plain ≡ (focuses m r.focus es).plain → y.history ≡ (focuses m r.focus es).history → y.ledger ≡ (focuses m r.focus es).ledger
     → (focuses m r.focus es).bag ≡ r.focus.bag →
     ((g : Message) → In g y.offered → SaidHere (focuses m r.focus es) g) → Reached z m y
@@ -93,29 +93,29 @@ further z m x y r es l a b c d said =
       said = said;
     }
 
-pub covered_reached : (z : State) (m : ℕ) (x : Site) → Facts z → (r : Reached z m x) → Covered r.focus.ledger r.focus.plain.store
+pub covered_reached : (z : State) (m : ℕ) (x : LocalState) → Facts z → (r : Reached z m x) → Covered r.focus.ledger r.focus.plain.store
 covered_reached z m x f r = subst (λ (q : Focus). Covered q.ledger q.plain.store)
     (ap (λ (u : State). focus_of u m) r.ends ∙ focus_at z m r.focus) (covered_of (run z r.es) m (run_keeps r.es z r.lawful f))
 
 -- the site of a focus
-abbrev pub site_of : Focus → List Message → List ℕ → Site
+abbrev pub site_of : Focus → List Message → List ℕ → LocalState
 site_of f offered called = record { plain = f.plain; history = f.history; ledger = f.ledger; offered = offered; called = called }
 
-pub at_site : (z : State) (m : ℕ) (x : Site) (r : Reached z m x) → x ≡ site_of r.focus x.offered x.called
+pub at_site : (z : State) (m : ℕ) (x : LocalState) (r : Reached z m x) → x ≡ site_of r.focus x.offered x.called
 at_site z m x r = λ i. record { plain = r.plain i; history = r.history i; ledger = r.ledger i; offered = x.offered; called = x.called }
 
 pub in_either : {A : Type 0} (x : A) (xs ys : List A) → In x (xs ++ ys) → In x xs ⊎ In x ys
 in_either x [] ys i = inr i
 in_either x (y ∷ xs) ys i = elim i [ inl e ↦ inl (inl e) | inr j ↦ elim (in_either x xs ys j) [ inl k ↦ inl (inr k) | inr k ↦ inr k ] ]
 
-pub reach_move : (z : State) (m n : ℕ) (x : Site) (mv : Move) → Facts z → (r : Reached z m x) → x.plain.memory.up ≡ true
-    → Comes z.members m z.bag x.called x.plain mv → Reached z m (moved z.members m n x mv)
+pub reach_move : (z : State) (m n : ℕ) (x : LocalState) (mv : Move) → Facts z → (r : Reached z m x) → x.plain.memory.up ≡ true
+    → IsEnabled z.members m z.bag x.called x.plain mv → Reached z m (moved z.members m n x mv)
 reach_move z m n x mv f r up comes =
     let q : x ≡ site_of r.focus x.offered x.called = at_site z m x r in
-    let up2 : r.focus.plain.memory.up ≡ true = subst (λ (p : Plain). p.memory.up ≡ true) r.plain up in
-    let comes2 : Comes z.members m r.focus.bag x.called r.focus.plain mv
-    = subst (λ (b : List Message). Comes z.members m b x.called r.focus.plain mv) (sym r.bag)
-    (subst (λ (p : Plain). Comes z.members m z.bag x.called p mv) r.plain comes) in
+    let up2 : r.focus.plain.memory.up ≡ true = subst (λ (p : RaftServer). p.memory.up ≡ true) r.plain up in
+    let comes2 : IsEnabled z.members m r.focus.bag x.called r.focus.plain mv
+    = subst (λ (b : List Message). IsEnabled z.members m b x.called r.focus.plain mv) (sym r.bag)
+    (subst (λ (p : RaftServer). IsEnabled z.members m z.bag x.called p mv) r.plain comes) in
     let w : Whole z.members m n r.focus mv = move_lawful z.members m n r.focus x.called mv up2 (covered_reached z m x f r) comes2 in
     let ends : focuses m r.focus (micros w.leg.marks ++ w.rest) ≡ focuses m w.between w.rest
     = focuses_append m (micros w.leg.marks) w.rest r.focus ∙ ap (λ (g : Focus). focuses m g w.rest) w.leg.ends in
@@ -129,7 +129,7 @@ reach_move z m n x mv f r up comes =
     = sym (ap (λ (g : Focus). g.plain.store) ends ∙ (w.store ∙ follows2.store)) in
     let memory : memory_after z.members m n r.focus.plain mv ≡ (focuses m r.focus (micros w.leg.marks ++ w.rest)).plain.memory
     = sym (ap (λ (g : Focus). g.plain.memory) ends ∙ w.memory) in
-    subst (λ (y : Site). Reached z m (moved z.members m n y mv)) (sym q)
+    subst (λ (y : LocalState). Reached z m (moved z.members m n y mv)) (sym q)
     (further z m x (moved z.members m n (site_of r.focus x.offered x.called) mv) r (micros w.leg.marks ++ w.rest)
     (lawful_append z.members m (micros w.leg.marks) w.rest r.focus (walk_lawful z.members m mv w.leg.marks r.focus
     w.leg.walk) (subst (λ (g : Focus). LawfulHere z.members m g w.rest) (sym w.leg.ends) w.lawful))
@@ -144,18 +144,18 @@ reach_move z m n x mv f r up comes =
           (r.said g j)
     ]))
 
-pub reach_stop : (z : State) (m : ℕ) (x : Site) → Reached z m x → Reached z m (stopped x)
+pub reach_stop : (z : State) (m : ℕ) (x : LocalState) → Reached z m x → Reached z m (stopped x)
 reach_stop z m x r = further z m x (stopped x) r (Halt m ∷ []) (tt, tt)
-    (ap (λ (p : Plain). record { store = p.store; memory = lost }) r.plain) r.history r.ledger refl (λ g i. absurd i)
+    (ap (λ (p : RaftServer). record { store = p.store; memory = lost }) r.plain) r.history r.ledger refl (λ g i. absurd i)
 
-pub reach_stop_within : (z : State) (m n k : ℕ) (x : Site) (mv : Move) → Facts z → (r : Reached z m x) → x.plain.memory.up ≡ true
-    → Comes z.members m z.bag x.called x.plain mv → Reached z m (stopped_within z.members m k x mv)
+pub reach_stop_within : (z : State) (m n k : ℕ) (x : LocalState) (mv : Move) → Facts z → (r : Reached z m x) → x.plain.memory.up ≡ true
+    → IsEnabled z.members m z.bag x.called x.plain mv → Reached z m (stopped_within z.members m k x mv)
 reach_stop_within z m n k x mv f r up comes =
     let q : x ≡ site_of r.focus x.offered x.called = at_site z m x r in
-    let up2 : r.focus.plain.memory.up ≡ true = subst (λ (p : Plain). p.memory.up ≡ true) r.plain up in
-    let comes2 : Comes z.members m r.focus.bag x.called r.focus.plain mv
-    = subst (λ (b : List Message). Comes z.members m b x.called r.focus.plain mv) (sym r.bag)
-    (subst (λ (p : Plain). Comes z.members m z.bag x.called p mv) r.plain comes) in
+    let up2 : r.focus.plain.memory.up ≡ true = subst (λ (p : RaftServer). p.memory.up ≡ true) r.plain up in
+    let comes2 : IsEnabled z.members m r.focus.bag x.called r.focus.plain mv
+    = subst (λ (b : List Message). IsEnabled z.members m b x.called r.focus.plain mv) (sym r.bag)
+    (subst (λ (p : RaftServer). IsEnabled z.members m z.bag x.called p mv) r.plain comes) in
     let w : Whole z.members m n r.focus mv = move_lawful z.members m n r.focus x.called mv up2 (covered_reached z m x f r) comes2 in
     let part = stop_walk z.members m mv k w.leg.marks r.focus w.leg.walk in
     let follows : Follows m mv r.focus (focuses m r.focus part.0) (take k (puts z.members m r.focus.plain mv))
@@ -163,7 +163,7 @@ reach_stop_within z m n k x mv f r up comes =
     let ends : focuses m r.focus (part.0 ++ (Halt m ∷ [])) ≡ focused m (focuses m r.focus part.0) (Halt m)
     = focuses_append m part.0 (Halt m ∷ []) r.focus in
     let same_bag : (focuses m r.focus part.0).bag ≡ r.focus.bag = follows.bag in
-    subst (λ (y : Site). Reached z m (stopped_within z.members m k y mv)) (sym q)
+    subst (λ (y : LocalState). Reached z m (stopped_within z.members m k y mv)) (sym q)
     (further z m x (stopped_within z.members m k (site_of r.focus x.offered x.called) mv) r (part.0 ++ (Halt m ∷ []))
     (lawful_append z.members m part.0 (Halt m ∷ []) r.focus part.1 (tt, tt))
     (sym (ap (λ (g : Focus). g.plain) ends ∙ ap (λ (s : Store). record { store = s; memory = lost }) follows.store))
@@ -173,8 +173,8 @@ reach_stop_within z m n k x mv f r up comes =
     (λ g i. absurd i))
 
 -- these moves, one after another
-pub reach_moves : (z : State) (m n : ℕ) (mvs : List Move) (x : Site) → Facts z → Reached z m x → x.plain.memory.up ≡ true
-    → AllCome z.members m n z.bag x mvs
+pub reach_moves : (z : State) (m n : ℕ) (mvs : List Move) (x : LocalState) → Facts z → Reached z m x → x.plain.memory.up ≡ true
+    → AllEnabled z.members m n z.bag x mvs
     → Reached z m (all_moved z.members m n x mvs) × ((all_moved z.members m n x mvs).plain.memory.up ≡ true)
 reach_moves z m n [] x f r up h = (r, up)
 reach_moves z m n (mv ∷ mvs) x f r up h = reach_moves z m n mvs (moved z.members m n x mv) f (reach_move z m n x mv f r up h.0)

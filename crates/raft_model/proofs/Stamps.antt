@@ -3,14 +3,14 @@ use Rattle.std.proofs.Common.{◌≡◌, ◌≢◌, ℕ, zero, suc, ◌≤◌, t
 use Rattle.raft_model.specs.Lists.{In, at_here}
 use Rattle.raft_model.specs.Messages.{Message, Request, reach}
 use Rattle.raft_model.specs.Messages.Message.{Requests}
-use Rattle.raft_model.specs.Server.{Store, Plain, Put, put, put_all, committed, lost}
+use Rattle.raft_model.specs.Server.{Store, RaftServer, Put, put, put_all, committed, lost}
 use Rattle.raft_model.specs.Server.Put.{PutTerm, PutVote, PutEntry, PutLonger, PutShorter, PutCommit}
 use Rattle.raft_model.specs.Ledger.{Ledger, ledger_through}
-use Rattle.raft_model.specs.Moves.{Move, Verdict, Comes, puts, term_puts, with_term, win_puts, adds_blank, has_quorum, own_vote, counts, counted, stand_puts, grant_puts, vote_puts, append_puts, advance_puts, cut_puts}
+use Rattle.raft_model.specs.Moves.{Move, Verdict, IsEnabled, puts, term_puts, with_term, win_puts, adds_blank, has_quorum, own_vote, counts, counted, stand_puts, grant_puts, vote_puts, append_puts, advance_puts, cut_puts}
 use Rattle.raft_model.specs.Moves.Move.{TimeOut, TakeVoteRequest, TakeVoteAnswer, TakeAppendRequest, TakeAppendAnswer, ProposeEntry, CommitTo, TellPair, TellNothing, CallForVote, CallToAppend, AnswerAgain, GiveUp}
 use Rattle.raft_model.specs.Moves.Verdict.{Outdated, Refused, Held, Added}
-use Rattle.raft_model.specs.Stops.{Site, moved, AllCome}
-use Rattle.raft_model.specs.Runs.{World, Event, beginning, site_of, site_after, after, MayCome, run, Lawful}
+use Rattle.raft_model.specs.Stops.{LocalState, moved, AllEnabled}
+use Rattle.raft_model.specs.Runs.{World, Event, beginning, site_of, site_after, after, MayOccur, run, Lawful}
 use Rattle.raft_model.specs.Runs.Event.{Steps, Stops, StopsWithin}
 use Rattle.raft_model.specs.Invariants.{Invariants}
 use Rattle.raft_model.specs.Safety.{IsSafe}
@@ -110,8 +110,8 @@ append_low top store request (Added entry) low = both_low top (cut_puts store re
     cut = elim (lt_tells request.previous (length store.log)) [ inl h ↦ rw (h.0) tt | inr h ↦ rw (h.0) tt ]
 
 -- a move that is no commit puts no commit index above the ledger
-puts_low : (members : List ℕ) (member : ℕ) (bag : List Message) (called : List ℕ) (server : Plain) (move : Move) (top : ℕ)
-    → Comes members member bag called server move →
+puts_low : (members : List ℕ) (member : ℕ) (bag : List Message) (called : List ℕ) (server : RaftServer) (move : Move) (top : ℕ)
+    → IsEnabled members member bag called server move →
     ((request : Request) → In (Requests request) bag → request.append ≡ true → request.commit ≤ top) → ((index : ℕ) → move ≢ CommitTo index)
     → EachLow top (puts members member server move)
 puts_low members member bag called server TimeOut top comes low other = elim (tell (has_quorum members (own_vote member))) [
@@ -164,16 +164,16 @@ covered world member holds safe = record {
 -- after some moves of a step, puts that are no commit of a Leader leave the ledger
 module _ (members : List ℕ) (events : List Event) (member step : ℕ) (moves : List Move) (next : Move) (lawful : Lawful (beginning members) events)
     (may : (((run (beginning members) events).server member).memory.up ≡ true)
-    × AllCome (run (beginning members) events).members member step (run (beginning members) events).bag
+    × AllEnabled (run (beginning members) events).members member step (run (beginning members) events).bag
     (site_of (run (beginning members) events) member) moves
-    × Comes (run (beginning members) events).members member (run (beginning members) events).bag
+    × IsEnabled (run (beginning members) events).members member (run (beginning members) events).bag
     (site_after (run (beginning members) events) member step moves).called (site_after (run (beginning members) events) member step moves).plain
     next)
     (other : (index : ℕ) → next ≢ CommitTo index) where
   abbrev world : World
   world = run (beginning members) events
 
-  abbrev site : Site
+  abbrev site : LocalState
   site = site_after world member step moves
 
   stop : Lawful (beginning members) (events ++ (Stops member step moves ∷ []))
@@ -189,7 +189,7 @@ module _ (members : List ℕ) (events : List Event) (member step : ℕ) (moves :
 
   here : Covered site.ledger site.plain.store
   here = subst (Covered site.ledger)
-      (ap (λ (p : Plain). p.store) (at_here world.server member member (record { store = site.plain.store; memory = lost }) refl))
+      (ap (λ (p : RaftServer). p.store) (at_here world.server member member (record { store = site.plain.store; memory = lost }) refl))
       (covered (after world (Stops member step moves)) member holds safe)
 
   low : EachLow (length site.ledger.entries) (puts world.members member site.plain next)
@@ -205,11 +205,11 @@ module _ (members : List ℕ) (events : List Event) (member step : ℕ) (moves :
 
 pub ledger_waits : (members : List ℕ) (events : List Event) → Lawful (beginning members) events
     → (member step : ℕ) (moves : List Move) (next : Move) (rest : List Move) (fitted : List Message)
-    → MayCome (run (beginning members) events) (Steps member step (moves ++ (next ∷ rest)) fitted) → ((index : ℕ) → next ≢ CommitTo index) →
+    → MayOccur (run (beginning members) events) (Steps member step (moves ++ (next ∷ rest)) fitted) → ((index : ℕ) → next ≢ CommitTo index) →
     (site_after (run (beginning members) events) member step (moves ++ (next ∷ []))).ledger
     ≡ (site_after (run (beginning members) events) member step moves).ledger
 ledger_waits members events lawful member step moves next rest fitted may other =
-    ap (λ (x : Site). x.ledger) (joined_moves world.members member step moves (next ∷ []) (site_of world member))
+    ap (λ (x : LocalState). x.ledger) (joined_moves world.members member step moves (next ∷ []) (site_of world member))
     ∙ move_waits members events member step moves next lawful (stop_comes world member step moves next rest fitted 0 may) other
   where
     world : World
@@ -217,7 +217,7 @@ ledger_waits members events lawful member step moves next rest fitted may other 
 
 pub ledger_cut : (members : List ℕ) (events : List Event) → Lawful (beginning members) events
     → (member step : ℕ) (moves : List Move) (next : Move) (count : ℕ)
-    → MayCome (run (beginning members) events) (StopsWithin member step moves next count) → ((index : ℕ) → next ≢ CommitTo index) →
+    → MayOccur (run (beginning members) events) (StopsWithin member step moves next count) → ((index : ℕ) → next ≢ CommitTo index) →
     (after (run (beginning members) events) (StopsWithin member step moves next count)).ledger
     ≡ (site_after (run (beginning members) events) member step moves).ledger
 ledger_cut members events lawful member step moves next count may other = cut_waits members events member step moves next lawful may other

@@ -1,7 +1,7 @@
 -- A higher term is raised and cleared.
 use Rattle.std.proofs.Common.{◌≡◌, ℕ, true, List, [], ◌∷◌, refl, arith, sym, inl, inr, None}
 use Rattle.std.specs.Prelude.{nat_lt, if◌then◌else◌}
-use Rattle.raft_model.specs.Server.{Store, Plain, put}
+use Rattle.raft_model.specs.Server.{Store, RaftServer, put}
 use Rattle.raft_model.specs.Server.Role.{Follower}
 use Rattle.raft_model.specs.Server.Put.{PutTerm, PutVote}
 use Rattle.raft_model.specs.History.{History}
@@ -83,8 +83,8 @@ leg_term members m mv f t up c = elim (lt_tells f.plain.store.term t) [
 pub term_log : (s : Store) (t : ℕ) → ((with_term s t).log ≡ s.log) × ((with_term s t).commit ≡ s.commit)
 term_log s t = elim (lt_tells s.term t) [ inl h ↦ rw (h.0) (refl, refl) | inr h ↦ rw (h.0) (refl, refl) ]
 
-pub term_up : (p : Plain) (t : ℕ) → (term_memory p t).up ≡ p.memory.up
+pub term_up : (p : RaftServer) (t : ℕ) → (term_memory p t).up ≡ p.memory.up
 term_up p t = elim (lt_tells p.store.term t) [ inl h ↦ rw (h.0) refl | inr h ↦ rw (h.0) refl ]
 
-pub term_follower : (p : Plain) (t : ℕ) → record (term_memory p t) { role = Follower } ≡ record p.memory { role = Follower }
+pub term_follower : (p : RaftServer) (t : ℕ) → record (term_memory p t) { role = Follower } ≡ record p.memory { role = Follower }
 term_follower p t = elim (lt_tells p.store.term t) [ inl h ↦ rw (h.0) refl | inr h ↦ rw (h.0) refl ]

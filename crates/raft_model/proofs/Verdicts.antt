@@ -2,14 +2,14 @@
 use Rattle.std.proofs.Common.{◌≡◌, refl, arith, sym, ◌∙◌, ap, subst, inl, inr}
 use Rattle.can_frame.specs.declared.entry.Entry.{Entry}
 use Rattle.raft_model.specs.Messages.{Request}
-use Rattle.raft_model.specs.Server.{Store, Plain}
+use Rattle.raft_model.specs.Server.{Store, RaftServer}
 use Rattle.raft_model.specs.Moves.{Verdict, Holds, Adds, IsThere, IsBadEntry, IsRefused, IsCurrent, IsOutdated, IsJudged, with_term}
 use Rattle.raft_model.specs.Moves.Verdict.{Outdated, Refused, Held, Added}
 use Rattle.raft_model.specs.Decisions.{judges}
 use Rattle.raft_model.proofs.Apart.{none_some, some_same}
 use Rattle.raft_model.proofs.Decisions.{judged}
 
-not_both : (p : Plain) (r : Request) → IsOutdated p r → IsCurrent p r → ⊥
+not_both : (p : RaftServer) (r : Request) → IsOutdated p r → IsCurrent p r → ⊥
 not_both p r o c = elim o [
   | inl a ↦ elim c [ inl b ↦ omega (arith, a, b) | inr b ↦ omega (arith, a, b.0) ]
   | inr a ↦ elim c [ inl b ↦ omega (arith, a.0, b) | inr b ↦ b.1 a.1 ]
@@ -53,7 +53,7 @@ held_added s r e h a = elim h.has [
   | inr y ↦ a.not_there (subst (IsThere s r) (some_same y.0 e (sym y.1 ∙ a.carried)) y.3)
 ]
 
-two_verdicts : (p : Plain) (r : Request) (u v : Verdict) → IsJudged p r u → IsJudged p r v → u ≡ v
+two_verdicts : (p : RaftServer) (r : Request) (u v : Verdict) → IsJudged p r u → IsJudged p r v → u ≡ v
 two_verdicts p r Outdated Outdated x y = refl
 two_verdicts p r Outdated Refused x y = absurd (not_both p r x y.0)
 two_verdicts p r Outdated Held x y = absurd (not_both p r x y.0)
@@ -71,6 +71,6 @@ two_verdicts p r (Added e) Refused x y = absurd (refused_added (with_term p.stor
 two_verdicts p r (Added e) Held x y = absurd (held_added (with_term p.store r.term) r e y.1 x.1)
 two_verdicts p r (Added e) (Added d) x y = ap (λ (z : Entry). Added z) (some_same e d (sym x.1.carried ∙ y.1.carried))
 
-pub one_verdict : (server : Plain) (request : Request) (verdict : Verdict) → IsJudged server request verdict
+pub one_verdict : (server : RaftServer) (request : Request) (verdict : Verdict) → IsJudged server request verdict
     → verdict ≡ judges server request
 one_verdict server request verdict is = two_verdicts server request verdict (judges server request) is (judged server request)

@@ -2,7 +2,7 @@
 use Rattle.std.proofs.Common.{◌≡◌, ℕ, Bool, true, false, List, [], ◌∷◌, ◌++◌, length, min, refl, inl, inr, Option, Some, None}
 use Rattle.raft_model.specs.Messages.{Request, reach}
 use Rattle.can_frame.specs.declared.entry.Entry.{Entry}
-use Rattle.raft_model.specs.Server.{Store, Plain, Put, AreWritten, put_all}
+use Rattle.raft_model.specs.Server.{Store, RaftServer, Put, AreWritten, put_all}
 use Rattle.raft_model.specs.Server.Put.{PutTerm, PutVote, PutEntry, PutLonger, PutShorter, PutCommit}
 use Rattle.raft_model.specs.Handlers.{plain_after, puts_of_all}
 use Rattle.raft_model.specs.Moves.{Move, Verdict, puts, term_puts, with_term, win_puts, adds_blank, has_quorum, own_vote, counts, counted, stand_puts, grant_puts, vote_puts, append_puts, advance_puts}
@@ -38,7 +38,7 @@ append_written store request (Added entry) = elim (lt_tells request.previous (le
   | inr h ↦ rw (h.0) (refl, advance_written store request)
 ]
 
-pub puts_written : (members : List ℕ) (member : ℕ) (server : Plain) (move : Move) → AreWritten None (puts members member server move)
+pub puts_written : (members : List ℕ) (member : ℕ) (server : RaftServer) (move : Move) → AreWritten None (puts members member server move)
 puts_written members member server TimeOut = elim (tell (has_quorum members (own_vote member))) [
   | inl h ↦ rw (h) (win_written (put_all server.store (stand_puts member server.store)))
   | inr h ↦ rw (h) tt
@@ -89,7 +89,7 @@ both_written written (PutLonger entry ∷ xs) ys a b = (a.0, both_written None x
 both_written written (PutShorter place ∷ xs) ys a b = both_written None xs ys a b
 both_written written (PutCommit place ∷ xs) ys a b = both_written None xs ys a b
 
-pub step_written : (members : List ℕ) (member step : ℕ) (server : Plain) (moves : List Move)
+pub step_written : (members : List ℕ) (member step : ℕ) (server : RaftServer) (moves : List Move)
     → AreWritten None (puts_of_all members member step server moves)
 step_written members member step server [] = tt
 step_written members member step server (move ∷ moves) = both_written None (puts members member server move)

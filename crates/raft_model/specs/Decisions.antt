@@ -6,7 +6,7 @@ use Rattle.can_frame.specs.Log.{last_term, log_limit}
 use Rattle.can_frame.specs.Zeros.{zeros}
 use Rattle.raft_model.specs.Log.{term_at}
 use Rattle.raft_model.specs.Messages.{Request}
-use Rattle.raft_model.specs.Server.{Store, Plain}
+use Rattle.raft_model.specs.Server.{Store, RaftServer}
 use Rattle.raft_model.specs.Moves.{Verdict, has_quorum, is_leader, has_matched, with_term}
 use Rattle.raft_model.specs.Moves.Verdict.{Outdated, Refused, Held, Added}
 
@@ -79,19 +79,19 @@ rule_on_entry store request (Some entry) =
 abbrev pub rule : Store → Request → Verdict
 rule store request = if has_previous store request then rule_on_entry store request request.entry else Refused
 
-abbrev pub is_current : Plain → Request → Bool
+abbrev pub is_current : RaftServer → Request → Bool
 is_current server request =
     nat_lt server.store.term request.term || ((request.term == server.store.term) && not (is_leader server.memory.role))
 
 -- what becomes of an append request
-abbrev pub judges : Plain → Request → Verdict
+abbrev pub judges : RaftServer → Request → Verdict
 judges server request =
     if is_current server request then rule (with_term server.store request.term) request else Outdated
 
 -- Proposals.
 
 -- whether an entry may be proposed
-abbrev pub may_propose : Plain → Entry → Bool
+abbrev pub may_propose : RaftServer → Entry → Bool
 may_propose server entry = is_leader server.memory.role
     && (nat_lt (length server.store.log) log_limit
     && ((entry.term == server.store.term)
@@ -99,7 +99,7 @@ may_propose server entry = is_leader server.memory.role
 
 -- Commit.
 
-abbrev pub can_commit : List ℕ → ℕ → Plain → ℕ → Bool
+abbrev pub can_commit : List ℕ → ℕ → RaftServer → ℕ → Bool
 can_commit members member server index = nat_lt server.store.commit index
     && (nat_le index (length server.store.log)
     && ((term_at server.store.log index == server.store.term)
@@ -111,5 +111,5 @@ greatest_to zero test = if test zero then Some zero else None
 greatest_to (suc limit) test = if test (suc limit) then Some (suc limit) else greatest_to limit test
 
 -- the index to which a leader commits, where there is one
-abbrev pub commit_index : List ℕ → ℕ → Plain → Option ℕ
+abbrev pub commit_index : List ℕ → ℕ → RaftServer → Option ℕ
 commit_index members member server = greatest_to (length server.store.log) (can_commit members member server)

@@ -6,14 +6,14 @@ use Rattle.can_frame.specs.Log.{blank}
 use Rattle.can_frame.specs.Zeros.{zeros}
 use Rattle.raft_model.specs.Messages.{Message}
 use Rattle.raft_model.specs.Messages.Message.{Pairs}
-use Rattle.raft_model.specs.Server.{Plain}
+use Rattle.raft_model.specs.Server.{RaftServer}
 use Rattle.raft_model.specs.Server.Role.{Follower, Candidate}
 use Rattle.raft_model.specs.Moves.{Move, CanCommit, has_quorum, is_leader, term_limit, pair_at}
 use Rattle.raft_model.specs.Moves.Move.{TimeOut, CommitTo, TellPair, TellNothing}
 use Rattle.raft_model.specs.Decisions.{commit_index}
 
 -- a tick: who is no Leader and has waited stands for election, where there is a next term
-abbrev pub tick_phase : Bool → Plain → List Move
+abbrev pub tick_phase : Bool → RaftServer → List Move
 tick_phase waited server =
     if waited && (not (is_leader server.memory.role) && nat_lt server.store.term term_limit) then TimeOut ∷ [] else []
 
@@ -22,35 +22,35 @@ commit_moves None = []
 commit_moves (Some index) = CommitTo index ∷ []
 
 -- a Leader commits as far as it can
-abbrev pub commit_phase : List ℕ → ℕ → Plain → List Move
+abbrev pub commit_phase : List ℕ → ℕ → RaftServer → List Move
 commit_phase members member server =
     if is_leader server.memory.role then commit_moves (commit_index members member server) else []
 
 -- a Leader whose told is below commit tells the next place, if there is room for its frames and anything to tell
-abbrev pub next_entry : Plain → Entry
+abbrev pub next_entry : RaftServer → Entry
 next_entry server = get_or server.store.log server.memory.told (blank 0)
 
 abbrev pub tell_moves : Bool → Entry → List Move
 tell_moves room entry = if bytes_eq entry.uid zeros then TellNothing ∷ [] else (if room then TellPair ∷ [] else [])
 
-abbrev pub tell_phase : Bool → Plain → List Move
+abbrev pub tell_phase : Bool → RaftServer → List Move
 tell_phase room server =
     if is_leader server.memory.role && nat_lt server.memory.told server.store.commit
     then tell_moves room (next_entry server) else []
 
 -- the tick made a Candidate or Leader of the next term
-pub record TickDuty (before after : Plain) : Type 0 where
+pub record TickDuty (before after : RaftServer) : Type 0 where
   pub stands : after.memory.role ≢ Follower
   pub next : after.store.term ≡ before.store.term + 1
 
 -- commit is the greatest index above the former one that can be committed; where there is none it is unchanged
-pub record CommitDuty (members : List ℕ) (member : ℕ) (before after : Plain) : Type 0 where
+pub record CommitDuty (members : List ℕ) (member : ℕ) (before after : RaftServer) : Type 0 where
   pub greatest : (index : ℕ) → CanCommit members member before index → index ≤ after.store.commit
   pub only : (after.store.commit ≡ before.store.commit) ⊎ CanCommit members member before after.store.commit
 
 -- of the place after told: with a unique ID of zeros it is passed over, another is told where there is room; told
 -- goes on by one exactly then
-pub record TellDuty (member step : ℕ) (room : Bool) (before after : Plain) (offered : List Message) : Type 0 where
+pub record TellDuty (member step : ℕ) (room : Bool) (before after : RaftServer) (offered : List Message) : Type 0 where
   pub passed : before.memory.told < before.store.commit → (next_entry before).uid ≡ zeros
       → (after.memory.told ≡ before.memory.told + 1) × (offered ≡ [])
   pub told : before.memory.told < before.store.commit → (next_entry before).uid ≢ zeros → room ≡ true
@@ -61,5 +61,5 @@ pub record TellDuty (member step : ℕ) (room : Bool) (before after : Plain) (of
   pub nothing : before.store.commit ≤ before.memory.told → (after ≡ before) × (offered ≡ [])
 
 -- a Candidate that counts a quorum has become Leader
-abbrev pub WinDuty : List ℕ → Plain → Type 0
+abbrev pub WinDuty : List ℕ → RaftServer → Type 0
 WinDuty members server = server.memory.role ≡ Candidate → has_quorum members server.memory.votes ≡ false

@@ -1,30 +1,30 @@
 -- The plain server after moves, their puts and the messages that they offer: a step without the model's memory.
 use Rattle.std.specs.Prelude.{◌≡◌, ℕ, ◌+◌, ◌<◌, ◌≤◌, List, [], ◌∷◌, ◌++◌, length, take}
 use Rattle.raft_model.specs.Messages.{Message}
-use Rattle.raft_model.specs.Server.{Plain, Put, put_all}
+use Rattle.raft_model.specs.Server.{RaftServer, Put, put_all}
 use Rattle.raft_model.specs.Moves.{Move, puts, memory_after, offers, calls}
 
 -- the server after one move, and after these
-abbrev pub plain_after : List ℕ → ℕ → ℕ → Plain → Move → Plain
+abbrev pub plain_after : List ℕ → ℕ → ℕ → RaftServer → Move → RaftServer
 plain_after members member step server move = record {
   store = put_all server.store (puts members member server move);
   memory =
       memory_after members member step server move;
 }
 
-abbrev pub plain_after_all : List ℕ → ℕ → ℕ → Plain → List Move → Plain
+abbrev pub plain_after_all : List ℕ → ℕ → ℕ → RaftServer → List Move → RaftServer
 plain_after_all members member step server [] = server
 plain_after_all members member step server (move ∷ moves) = plain_after_all members member step
     (plain_after members member step server move) moves
 
 -- all their puts, in order
-abbrev pub puts_of_all : List ℕ → ℕ → ℕ → Plain → List Move → List Put
+abbrev pub puts_of_all : List ℕ → ℕ → ℕ → RaftServer → List Move → List Put
 puts_of_all members member step server [] = []
 puts_of_all members member step server (move ∷ moves) = puts members member server move
     ++ puts_of_all members member step (plain_after members member step server move) moves
 
 -- the messages that they offer, the latest first
-abbrev pub offers_of_all : List ℕ → ℕ → ℕ → Plain → List Move → List Message
+abbrev pub offers_of_all : List ℕ → ℕ → ℕ → RaftServer → List Move → List Message
 offers_of_all members member step server [] = []
 offers_of_all members member step server (move ∷ moves) = offers_of_all members member step
     (plain_after members member step server move) moves
@@ -37,7 +37,7 @@ calls_of_all (move ∷ moves) = calls_of_all moves ++ calls move
 
 -- where so many puts of a step end: behind all puts of the moves before one of them, and so many of that one's, at
 -- most all
-pub record IsCut (members : List ℕ) (member step : ℕ) (server : Plain) (moves : List Move)
+pub record IsCut (members : List ℕ) (member step : ℕ) (server : RaftServer) (moves : List Move)
     (count : ℕ) : Type 0 where
   pub before : List Move
   pub next : Move
@@ -51,7 +51,7 @@ pub record IsCut (members : List ℕ) (member step : ℕ) (server : Plain) (move
 
 -- where the put stands that failed after so many others: in one of the moves, behind so many puts of it; whether it
 -- is found undone or done, the puts that are done end within this move
-pub record IsBreak (members : List ℕ) (member step : ℕ) (server : Plain) (moves : List Move)
+pub record IsBreak (members : List ℕ) (member step : ℕ) (server : RaftServer) (moves : List Move)
     (done : ℕ) : Type 0 where
   pub before : List Move
   pub next : Move

@@ -14,7 +14,7 @@ use Rattle.can_frame.specs.Log.{blank}
 use Rattle.can_frame.specs.Zeros.{zeros}
 use Rattle.raft_model.specs.Messages.{Request, Answer, Message}
 use Rattle.raft_model.specs.Messages.Message.{Requests, Answers, Pairs}
-use Rattle.raft_model.specs.Server.{Store, Memory, Plain, Put, put, put_all}
+use Rattle.raft_model.specs.Server.{Store, Memory, RaftServer, Put, put, put_all}
 use Rattle.raft_model.specs.Server.Role.{Candidate, Leader}
 use Rattle.raft_model.specs.Server.Put.{PutVote, PutEntry, PutLonger, PutCommit}
 use Rattle.raft_model.specs.History.{History, voted, stood, elected, lengthened}
@@ -35,39 +35,39 @@ pub data Move : Type 0 where
   GiveUp : (peer : ℕ) → Move
 
 -- when a move may come to a server that is up
-abbrev pub Comes : List ℕ → ℕ → List Message → List ℕ → Plain → Move → Type 0
-Comes members member bag called server TimeOut = (server.memory.role ≢ Leader) × (server.store.term < term_limit)
-Comes members member bag called server (TakeVoteRequest request granted) = In (Requests request) bag
+abbrev pub IsEnabled : List ℕ → ℕ → List Message → List ℕ → RaftServer → Move → Type 0
+IsEnabled members member bag called server TimeOut = (server.memory.role ≢ Leader) × (server.store.term < term_limit)
+IsEnabled members member bag called server (TakeVoteRequest request granted) = In (Requests request) bag
     × (request.to ≡ member)
     × (request.append ≡ false) × IsGranted (with_term server.store request.term) request granted
-Comes members member bag called server (TakeVoteAnswer answer) = In (Answers answer) bag
+IsEnabled members member bag called server (TakeVoteAnswer answer) = In (Answers answer) bag
     × (answer.request.from ≡ member)
     × (answer.request.append ≡ false) × (server.memory.pending answer.from ≡ Some answer.request)
-Comes members member bag called server (TakeAppendRequest request verdict) = In (Requests request) bag
+IsEnabled members member bag called server (TakeAppendRequest request verdict) = In (Requests request) bag
     × (request.to ≡ member)
     × (request.append ≡ true) × IsJudged server request verdict
-Comes members member bag called server (TakeAppendAnswer answer) = In (Answers answer) bag
+IsEnabled members member bag called server (TakeAppendAnswer answer) = In (Answers answer) bag
     × (answer.request.from ≡ member)
     × (answer.request.append ≡ true) × (server.memory.pending answer.from ≡ Some answer.request)
-Comes members member bag called server (ProposeEntry entry) = MayPropose server entry
-Comes members member bag called server (CommitTo index) = (server.memory.role ≡ Leader)
+IsEnabled members member bag called server (ProposeEntry entry) = MayPropose server entry
+IsEnabled members member bag called server (CommitTo index) = (server.memory.role ≡ Leader)
     × IsCommitIndex members member server index
-Comes members member bag called server TellPair =
+IsEnabled members member bag called server TellPair =
     (server.memory.role ≡ Leader) × (server.memory.told < server.store.commit)
     × ((get_or server.store.log server.memory.told (blank 0)).uid ≢ zeros)
-Comes members member bag called server TellNothing = (server.memory.role ≡ Leader)
+IsEnabled members member bag called server TellNothing = (server.memory.role ≡ Leader)
     × (server.memory.told < server.store.commit)
     × ((get_or server.store.log server.memory.told (blank 0)).uid ≡ zeros)
-Comes members member bag called server (CallForVote peer) = (server.memory.role ≡ Candidate)
+IsEnabled members member bag called server (CallForVote peer) = (server.memory.role ≡ Candidate)
     × MayCall members member called server peer
-Comes members member bag called server (CallToAppend peer previous with_entry) = (server.memory.role ≡ Leader)
+IsEnabled members member bag called server (CallToAppend peer previous with_entry) = (server.memory.role ≡ Leader)
     × (previous ≤ length server.store.log) × MayCall members member called server peer
-Comes members member bag called server (AnswerAgain place) = (place < server.store.commit)
+IsEnabled members member bag called server (AnswerAgain place) = (place < server.store.commit)
     × ((get_or server.store.log place (blank 0)).uid ≢ zeros)
-Comes members member bag called server (GiveUp peer) = Unit {0}
+IsEnabled members member bag called server (GiveUp peer) = Unit {0}
 
 -- its puts, in order; the other moves have none
-abbrev pub puts : List ℕ → ℕ → Plain → Move → List Put
+abbrev pub puts : List ℕ → ℕ → RaftServer → Move → List Put
 puts members member server TimeOut = stand_puts member server.store
     ++ (if has_quorum members (own_vote member)
     then win_puts (put_all server.store (stand_puts member server.store)) else [])
@@ -84,7 +84,7 @@ puts members member server (CommitTo index) = PutCommit index ∷ []
 puts members member server move = []
 
 -- memory after it; the other moves leave it
-abbrev pub memory_after : List ℕ → ℕ → ℕ → Plain → Move → Memory
+abbrev pub memory_after : List ℕ → ℕ → ℕ → RaftServer → Move → Memory
 memory_after members member step server TimeOut =
     if has_quorum members (own_vote member) then win_memory server.store (stand_memory member server.memory)
     else stand_memory member server.memory
@@ -106,7 +106,7 @@ memory_after members member step server (GiveUp peer) = ended server.memory peer
 memory_after members member step server move = server.memory
 
 -- the messages that it offers
-abbrev pub offers : ℕ → ℕ → Plain → Move → List Message
+abbrev pub offers : ℕ → ℕ → RaftServer → Move → List Message
 offers member step server (TakeVoteRequest request granted) =
     Answers (answer_to member step (with_term server.store request.term) request granted) ∷ []
 offers member step server (TakeAppendRequest request verdict) =
@@ -143,7 +143,7 @@ puts_history member move store (first ∷ rest) history = puts_history member mo
     (put_history member move store first history)
 
 -- what the model remembers besides when the move is done: a win without a blank, and a vote granted again
-abbrev pub move_history : List ℕ → ℕ → Plain → Move → History → History
+abbrev pub move_history : List ℕ → ℕ → RaftServer → Move → History → History
 move_history members member server TimeOut history =
     if has_quorum members (own_vote member)
     then win_history member (put_all server.store (stand_puts member server.store)) history

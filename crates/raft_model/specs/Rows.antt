@@ -7,7 +7,7 @@ use Rattle.raft_model.specs.Messages.{Message, Pair}
 use Rattle.raft_model.specs.Messages.Message.{Pairs}
 use Rattle.raft_model.specs.Server.Role.{Leader}
 use Rattle.raft_model.specs.Moves.{Move, offers}
-use Rattle.raft_model.specs.Runs.{World, MayCome}
+use Rattle.raft_model.specs.Runs.{World, MayOccur}
 use Rattle.raft_model.specs.Runs.Event.{Steps}
 use Rattle.raft_model.specs.Safety.{given}
 
@@ -20,7 +20,7 @@ pub record IsReady (world : World) (member step : ℕ) : Type 0 where
 abbrev pub MayTake : World → ℕ → ℕ → Move → Type 0
 MayTake world member step move = (fitted : List Message)
     → ((message : Message) → In message fitted → In message (offers member step (world.server member) move))
-    → MayCome world (Steps member step (move ∷ []) fitted)
+    → MayOccur world (Steps member step (move ∷ []) fitted)
 
 -- a pair and a reservation are committed; the leader has told the pair, and has passed the reservation over
 pub record IsAtWork (world : World) (leader : ℕ) : Type 0 where

@@ -2,17 +2,17 @@
 use Rattle.std.specs.Prelude.{◌≡◌, ℕ, ◌<◌, true, false, List, [], ◌∷◌}
 use Rattle.raft_model.specs.Lists.{In, at}
 use Rattle.raft_model.specs.Messages.{Message}
-use Rattle.raft_model.specs.Server.{Plain, empty_store, lost, opened}
+use Rattle.raft_model.specs.Server.{RaftServer, empty_store, lost, opened}
 use Rattle.raft_model.specs.History.{History, no_history}
 use Rattle.raft_model.specs.Ledger.{Ledger, empty_ledger}
-use Rattle.raft_model.specs.Moves.{Move, Comes}
-use Rattle.raft_model.specs.Stops.{Site, stopped_within, stopped, all_moved, AllCome}
+use Rattle.raft_model.specs.Moves.{Move, IsEnabled}
+use Rattle.raft_model.specs.Stops.{LocalState, stopped_within, stopped, all_moved, AllEnabled}
 
 -- the whole: the members, their servers, the bag of messages, what the model remembers, and the number of the latest
 -- step
 pub record World : Type 0 where
   pub members : List ℕ
-  pub server : ℕ → Plain
+  pub server : ℕ → RaftServer
   pub bag : List Message
   pub history : History
   pub ledger : Ledger
@@ -40,16 +40,16 @@ beginning members = record {
 }
 
 -- the server of a member at the beginning of its step
-abbrev pub site_of : World → ℕ → Site
+abbrev pub site_of : World → ℕ → LocalState
 site_of world member = record
     { plain = world.server member; history = world.history; ledger = world.ledger; offered = []; called = [] }
 
 -- the server of a member after these moves of its step
-abbrev pub site_after : World → ℕ → ℕ → List Move → Site
+abbrev pub site_after : World → ℕ → ℕ → List Move → LocalState
 site_after world member step moves = all_moved world.members member step (site_of world member) moves
 
 -- the world with this at the member's server
-abbrev pub with_site : World → ℕ → Site → World
+abbrev pub with_site : World → ℕ → LocalState → World
 with_site world member site = record world
     { server = at world.server member site.plain; history = site.history; ledger = site.ledger }
 
@@ -69,16 +69,16 @@ after world (StopsWithin member step moves next count) = with_site world member
 
 -- when an event may come: a member that is down opens; a server that is up takes a step, with a number above all
 -- before; one that is up stops
-abbrev pub MayCome : World → Event → Type 0
-MayCome world (Opens member) = In member world.members × ((world.server member).memory.up ≡ false)
-MayCome world (Steps member step moves fitted) = ((world.server member).memory.up ≡ true) × (world.steps < step)
-    × AllCome world.members member step world.bag (site_of world member) moves
+abbrev pub MayOccur : World → Event → Type 0
+MayOccur world (Opens member) = In member world.members × ((world.server member).memory.up ≡ false)
+MayOccur world (Steps member step moves fitted) = ((world.server member).memory.up ≡ true) × (world.steps < step)
+    × AllEnabled world.members member step world.bag (site_of world member) moves
     × ((message : Message) → In message fitted → In message (site_after world member step moves).offered)
-MayCome world (Stops member step moves) = ((world.server member).memory.up ≡ true)
-    × AllCome world.members member step world.bag (site_of world member) moves
-MayCome world (StopsWithin member step moves next count) = ((world.server member).memory.up ≡ true)
-    × AllCome world.members member step world.bag (site_of world member) moves
-    × Comes world.members member world.bag (site_after world member step moves).called
+MayOccur world (Stops member step moves) = ((world.server member).memory.up ≡ true)
+    × AllEnabled world.members member step world.bag (site_of world member) moves
+MayOccur world (StopsWithin member step moves next count) = ((world.server member).memory.up ≡ true)
+    × AllEnabled world.members member step world.bag (site_of world member) moves
+    × IsEnabled world.members member world.bag (site_after world member step moves).called
     (site_after world member step moves).plain
     next
 
@@ -90,7 +90,7 @@ run world (event ∷ events) = run (after world event) events
 -- each event may come when its turn is there
 abbrev pub Lawful : World → List Event → Type 0
 Lawful world [] = Unit {0}
-Lawful world (event ∷ events) = MayCome world event × Lawful (after world event) events
+Lawful world (event ∷ events) = MayOccur world event × Lawful (after world event) events
 
 -- a fact of the world holds at each moment of every run
 abbrev pub InEveryRun : (World → Type 0) → Type 0

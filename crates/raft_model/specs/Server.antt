@@ -25,7 +25,7 @@ pub record Memory : Type 0 where
   pub matched : ℕ → ℕ
   pub pending : ℕ → Option Request
 
-pub record Plain : Type 0 where
+pub record RaftServer : Type 0 where
   pub store : Store
   pub memory : Memory
 

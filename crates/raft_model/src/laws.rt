@@ -10,17 +10,17 @@ ghost use Rattle.can_frame.specs.Zeros.{zeros};
 ghost use Rattle.raft_model.specs.Lists.{In, how_many};
 ghost use Rattle.raft_model.specs.Messages.{Answer, Message, Pair, Request};
 ghost use Rattle.raft_model.specs.Messages.Message.{Answers, Pairs, Requests};
-ghost use Rattle.raft_model.specs.Server.{AreWritten, Plain, Store, opened, put_all};
+ghost use Rattle.raft_model.specs.Server.{AreWritten, RaftServer, Store, opened, put_all};
 ghost use Rattle.raft_model.specs.Server.Role.{Candidate, Follower, Leader};
-ghost use Rattle.raft_model.specs.Moves.{CanCommit, Comes, IsCommitIndex, IsGranted, IsJudged, MayCall, MayPropose, Move, Verdict, memory_after, puts, term_limit, with_term};
+ghost use Rattle.raft_model.specs.Moves.{CanCommit, IsEnabled, IsCommitIndex, IsGranted, IsJudged, MayCall, MayPropose, Move, Verdict, memory_after, puts, term_limit, with_term};
 ghost use Rattle.raft_model.specs.Moves.Move.{AnswerAgain, CallForVote, CallToAppend, CommitTo, GiveUp, ProposeEntry, TakeAppendAnswer, TakeAppendRequest, TakeVoteAnswer, TakeVoteRequest, TellNothing, TellPair, TimeOut};
 ghost use Rattle.raft_model.specs.Decisions.{commit_index, grants, judges, may_propose};
 ghost use Rattle.raft_model.specs.Members.{IsAll, KnowsEnough, counts_votes};
 ghost use Rattle.raft_model.specs.Handlers.{IsBreak, IsCut, calls_of_all, offers_of_all, plain_after, plain_after_all, puts_of_all};
 ghost use Rattle.raft_model.specs.Fit.{IsFit};
 ghost use Rattle.raft_model.specs.Duty.{CommitDuty, TellDuty, TickDuty, WinDuty, commit_phase, tell_phase, tick_phase};
-ghost use Rattle.raft_model.specs.Stops.{AllCome, Site, all_moved};
-ghost use Rattle.raft_model.specs.Runs.{Event, FromEachMoment, InEveryRun, Lawful, MayCome, World, after, beginning, run, site_after};
+ghost use Rattle.raft_model.specs.Stops.{AllEnabled, LocalState, all_moved};
+ghost use Rattle.raft_model.specs.Runs.{Event, FromEachMoment, InEveryRun, Lawful, MayOccur, World, after, beginning, run, site_after};
 ghost use Rattle.raft_model.specs.Runs.Event.{Steps, Stops, StopsWithin};
 ghost use Rattle.raft_model.specs.Rows.{IsAtWork, IsReady, MayTake};
 ghost use Rattle.raft_model.specs.Invariants.{AcknowledgedKept, AcknowledgedVoted, CallsSound, CommitsSettled, ExactlyKept, ExactlyVoted, Invariants, LeadersComplete, LeadersElected, LogsMatch, StaysSettled, StoresSound, VotesBound};
@@ -35,7 +35,7 @@ pub fn law_every_run()
     ensures safe { InEveryRun IsSafe }
     ensures prefixes { InEveryRun (λ world. (member step : ℕ) (moves : List Move) (next : Move)
         (rest : List Move) (fitted : List Message) (count : ℕ)
-        → MayCome world (Steps member step (moves ++ (next ∷ rest)) fitted)
+        → MayOccur world (Steps member step (moves ++ (next ∷ rest)) fitted)
         → Invariants (after world (StopsWithin member step moves next count))
         × IsSafe (after world (StopsWithin member step moves next count))) }
     ensures lasts { FromEachMoment Lasts }
@@ -90,19 +90,19 @@ pub fn law_reservations()
 pub fn law_ledger()
     ensures waits { InEveryRun (λ world. (member step : ℕ) (moves : List Move) (next : Move)
         (rest : List Move) (fitted : List Message)
-        → MayCome world (Steps member step (moves ++ (next ∷ rest)) fitted)
+        → MayOccur world (Steps member step (moves ++ (next ∷ rest)) fitted)
         → ((index : ℕ) → next ≢ CommitTo index)
         → (site_after world member step (moves ++ (next ∷ []))).ledger
         ≡ (site_after world member step moves).ledger) }
     ensures cut { InEveryRun
         (λ world. (member step : ℕ) (moves : List Move) (next : Move) (count : ℕ)
-        → MayCome world (StopsWithin member step moves next count)
+        → MayOccur world (StopsWithin member step moves next count)
         → ((index : ℕ) → next ≢ CommitTo index)
         → (after world (StopsWithin member step moves next count)).ledger
         ≡ (site_after world member step moves).ledger) }
     ensures leader { (members : List ℕ) (member : ℕ) (bag : List Message) (called : List ℕ)
-        (server : Plain) (index : ℕ)
-        → Comes members member bag called server (CommitTo index) → server.memory.role ≡ Leader }
+        (server : RaftServer) (index : ℕ)
+        → IsEnabled members member bag called server (CommitTo index) → server.memory.role ≡ Leader }
 {}
 
 /// A step that may come may also be stopped: after any of its moves, and after any number of the puts of
@@ -112,18 +112,18 @@ pub fn law_ledger()
 pub fn law_stops()
     ensures stop { (world : World) (member step : ℕ) (moves : List Move) (next : Move)
         (rest : List Move) (fitted : List Message) (count : ℕ)
-        → MayCome world (Steps member step (moves ++ (next ∷ rest)) fitted)
-        → MayCome world (StopsWithin member step moves next count) }
+        → MayOccur world (Steps member step (moves ++ (next ∷ rest)) fitted)
+        → MayOccur world (StopsWithin member step moves next count) }
     ensures between { (world : World) (member step : ℕ) (moves rest : List Move)
         (fitted : List Message)
-        → MayCome world (Steps member step (moves ++ rest) fitted)
-        → MayCome world (Stops member step moves) }
-    ensures cut { (members : List ℕ) (member step : ℕ) (server : Plain) (moves : List Move)
+        → MayOccur world (Steps member step (moves ++ rest) fitted)
+        → MayOccur world (Stops member step moves) }
+    ensures cut { (members : List ℕ) (member step : ℕ) (server : RaftServer) (moves : List Move)
         (count : ℕ)
         → 0 < length (puts_of_all members member step server moves)
         → count ≤ length (puts_of_all members member step server moves)
         → IsCut members member step server moves count }
-    ensures failed { (members : List ℕ) (member step : ℕ) (server : Plain) (moves : List Move)
+    ensures failed { (members : List ℕ) (member step : ℕ) (server : RaftServer) (moves : List Move)
         (done : ℕ)
         → done < length (puts_of_all members member step server moves)
         → IsBreak members member step server moves done }
@@ -137,9 +137,9 @@ pub fn law_stops()
 
 /// Each move puts an entry just before it raises last by it, and so does a step of many moves.
 pub fn law_puts()
-    ensures of_move { (members : List ℕ) (member : ℕ) (server : Plain) (move : Move)
+    ensures of_move { (members : List ℕ) (member : ℕ) (server : RaftServer) (move : Move)
         → AreWritten None (puts members member server move) }
-    ensures of_step { (members : List ℕ) (member step : ℕ) (server : Plain) (moves : List Move)
+    ensures of_step { (members : List ℕ) (member step : ℕ) (server : RaftServer) (moves : List Move)
         → AreWritten None (puts_of_all members member step server moves) }
 {}
 
@@ -149,7 +149,7 @@ pub fn law_one_more()
     ensures run { (world : World) (events : List Event) (event : Event)
         → run world (events ++ (event ∷ [])) ≡ after (run world events) event }
     ensures lawful { (world : World) (events : List Event) (event : Event) → Lawful world events
-        → MayCome (run world events) event → Lawful world (events ++ (event ∷ [])) }
+        → MayOccur (run world events) event → Lawful world (events ++ (event ∷ [])) }
     ensures joined { (world : World) (first second : List Event)
         → run world (first ++ second) ≡ run (run world first) second }
     ensures come { (world : World) (first second : List Event) → Lawful world first
@@ -161,16 +161,16 @@ pub fn law_one_more()
 /// Moves told of the plain server alone are those of its step: the server after them, what is stored then,
 /// the messages that they offer, and the peers that they call.
 pub fn law_handlers()
-    ensures plain { (members : List ℕ) (member step : ℕ) (moves : List Move) (site : Site)
+    ensures plain { (members : List ℕ) (member step : ℕ) (moves : List Move) (site : LocalState)
         → (all_moved members member step site moves).plain
         ≡ plain_after_all members member step site.plain moves }
-    ensures store { (members : List ℕ) (member step : ℕ) (moves : List Move) (server : Plain)
+    ensures store { (members : List ℕ) (member step : ℕ) (moves : List Move) (server : RaftServer)
         → (plain_after_all members member step server moves).store
         ≡ put_all server.store (puts_of_all members member step server moves) }
-    ensures offers { (members : List ℕ) (member step : ℕ) (moves : List Move) (site : Site)
+    ensures offers { (members : List ℕ) (member step : ℕ) (moves : List Move) (site : LocalState)
         → (all_moved members member step site moves).offered
         ≡ offers_of_all members member step site.plain moves ++ site.offered }
-    ensures calls { (members : List ℕ) (member step : ℕ) (moves : List Move) (site : Site)
+    ensures calls { (members : List ℕ) (member step : ℕ) (moves : List Move) (site : LocalState)
         → (all_moved members member step site moves).called ≡ calls_of_all moves ++ site.called }
 {}
 
@@ -178,34 +178,34 @@ pub fn law_handlers()
 /// may come together exactly where each may come in its turn.
 pub fn law_joined()
     ensures server { (members : List ℕ) (member step : ℕ) (first second : List Move)
-        (server : Plain)
+        (server : RaftServer)
         → plain_after_all members member step server (first ++ second)
         ≡ plain_after_all members member step
         (plain_after_all members member step server first) second }
-    ensures puts { (members : List ℕ) (member step : ℕ) (first second : List Move) (server : Plain)
+    ensures puts { (members : List ℕ) (member step : ℕ) (first second : List Move) (server : RaftServer)
         → puts_of_all members member step server (first ++ second)
         ≡ puts_of_all members member step server first
         ++ puts_of_all members member step
         (plain_after_all members member step server first) second }
     ensures offers { (members : List ℕ) (member step : ℕ) (first second : List Move)
-        (server : Plain)
+        (server : RaftServer)
         → offers_of_all members member step server (first ++ second)
         ≡ offers_of_all members member step
         (plain_after_all members member step server first) second
         ++ offers_of_all members member step server first }
-    ensures site { (members : List ℕ) (member step : ℕ) (first second : List Move) (site : Site)
+    ensures site { (members : List ℕ) (member step : ℕ) (first second : List Move) (site : LocalState)
         → all_moved members member step site (first ++ second)
         ≡ all_moved members member step (all_moved members member step site first) second }
     ensures come { (members : List ℕ) (member step : ℕ) (bag : List Message)
-        (first second : List Move) (site : Site)
-        → AllCome members member step bag site first
-        → AllCome members member step bag (all_moved members member step site first) second
-        → AllCome members member step bag site (first ++ second) }
+        (first second : List Move) (site : LocalState)
+        → AllEnabled members member step bag site first
+        → AllEnabled members member step bag (all_moved members member step site first) second
+        → AllEnabled members member step bag site (first ++ second) }
     ensures apart { (members : List ℕ) (member step : ℕ) (bag : List Message)
-        (first second : List Move) (site : Site)
-        → AllCome members member step bag site (first ++ second)
-        → AllCome members member step bag site first
-        × AllCome members member step bag (all_moved members member step site first) second }
+        (first second : List Move) (site : LocalState)
+        → AllEnabled members member step bag site (first ++ second)
+        → AllEnabled members member step bag site first
+        × AllEnabled members member step bag (all_moved members member step site first) second }
 {}
 
 /// What a server decides is what the moves ask for, and they ask for nothing else: whether a vote is
@@ -216,20 +216,20 @@ pub fn law_decisions()
         → IsGranted store request (grants store request) }
     ensures one_grant { (store : Store) (request : Request) (granted : Bool)
         → IsGranted store request granted → granted ≡ grants store request }
-    ensures judged { (server : Plain) (request : Request)
+    ensures judged { (server : RaftServer) (request : Request)
         → IsJudged server request (judges server request) }
-    ensures one_verdict { (server : Plain) (request : Request) (verdict : Verdict)
+    ensures one_verdict { (server : RaftServer) (request : Request) (verdict : Verdict)
         → IsJudged server request verdict
         → verdict ≡ judges server request }
-    ensures proposal { (server : Plain) (entry : Entry)
+    ensures proposal { (server : RaftServer) (entry : Entry)
         → (may_propose server entry ≡ true) ↔ MayPropose server entry }
-    ensures commit { (members : List ℕ) (member : ℕ) (server : Plain) (index : ℕ)
+    ensures commit { (members : List ℕ) (member : ℕ) (server : RaftServer) (index : ℕ)
         → commit_index members member server ≡ Some index
         → IsCommitIndex members member server index }
-    ensures one_commit { (members : List ℕ) (member : ℕ) (server : Plain) (index : ℕ)
+    ensures one_commit { (members : List ℕ) (member : ℕ) (server : RaftServer) (index : ℕ)
         → IsCommitIndex members member server index
         → commit_index members member server ≡ Some index }
-    ensures no_commit { (members : List ℕ) (member : ℕ) (server : Plain)
+    ensures no_commit { (members : List ℕ) (member : ℕ) (server : RaftServer)
         → commit_index members member server ≡ None → (index : ℕ)
         → CanCommit members member server index → ⊥ }
 {}
@@ -242,39 +242,39 @@ pub fn law_decisions()
 pub fn law_members()
     ensures count { (list members : List ℕ) (test : ℕ → Bool) → IsAll list members
         → how_many test list ≡ how_many test members }
-    ensures puts { (list members : List ℕ) (member : ℕ) (server : Plain) (move : Move)
+    ensures puts { (list members : List ℕ) (member : ℕ) (server : RaftServer) (move : Move)
         → (counts_votes server move ≡ true → IsAll list members)
         → puts list member server move ≡ puts members member server move }
-    ensures memory { (list members : List ℕ) (member step : ℕ) (server : Plain) (move : Move)
+    ensures memory { (list members : List ℕ) (member step : ℕ) (server : RaftServer) (move : Move)
         → (counts_votes server move ≡ true → IsAll list members)
         → memory_after list member step server move ≡ memory_after members member step server move }
-    ensures commit { (list members : List ℕ) (member : ℕ) (server : Plain) → IsAll list members
+    ensures commit { (list members : List ℕ) (member : ℕ) (server : RaftServer) → IsAll list members
         → commit_index list member server ≡ commit_index members member server }
     ensures come { (list members : List ℕ) (member : ℕ) (bag : List Message) (called : List ℕ)
-        (server : Plain) (move : Move)
+        (server : RaftServer) (move : Move)
         → (server.memory.role ≢ Follower → IsAll list members)
-        → Comes list member bag called server move → Comes members member bag called server move }
-    ensures all_after { (list members : List ℕ) (member step : ℕ) (server : Plain)
+        → IsEnabled list member bag called server move → IsEnabled members member bag called server move }
+    ensures all_after { (list members : List ℕ) (member step : ℕ) (server : RaftServer)
         (moves : List Move)
         → KnowsEnough list members server moves
         → plain_after_all list member step server moves
         ≡ plain_after_all members member step server moves }
-    ensures all_puts { (list members : List ℕ) (member step : ℕ) (server : Plain)
+    ensures all_puts { (list members : List ℕ) (member step : ℕ) (server : RaftServer)
         (moves : List Move)
         → KnowsEnough list members server moves
         → puts_of_all list member step server moves ≡ puts_of_all members member step server moves }
-    ensures all_offers { (list members : List ℕ) (member step : ℕ) (server : Plain)
+    ensures all_offers { (list members : List ℕ) (member step : ℕ) (server : RaftServer)
         (moves : List Move)
         → KnowsEnough list members server moves
         → offers_of_all list member step server moves
         ≡ offers_of_all members member step server moves }
-    ensures all_site { (list members : List ℕ) (member step : ℕ) (site : Site) (moves : List Move)
+    ensures all_site { (list members : List ℕ) (member step : ℕ) (site : LocalState) (moves : List Move)
         → KnowsEnough list members site.plain moves
         → all_moved list member step site moves ≡ all_moved members member step site moves }
-    ensures all_come { (list members : List ℕ) (member step : ℕ) (bag : List Message) (site : Site)
+    ensures all_come { (list members : List ℕ) (member step : ℕ) (bag : List Message) (site : LocalState)
         (moves : List Move)
         → KnowsEnough list members site.plain moves
-        → AllCome list member step bag site moves → AllCome members member step bag site moves }
+        → AllEnabled list member step bag site moves → AllEnabled members member step bag site moves }
 {}
 
 /// A server that opens is fit, every move that may come keeps it fit, and so is each server of every run.
@@ -282,8 +282,8 @@ pub fn law_fit()
     ensures opened { (member : ℕ) (store : Store)
         → IsFit member (record { store = store; memory = opened }) }
     ensures kept { (members : List ℕ) (member step : ℕ) (bag : List Message) (called : List ℕ)
-        (server : Plain) (move : Move)
-        → Comes members member bag called server move → IsFit member server
+        (server : RaftServer) (move : Move)
+        → IsEnabled members member bag called server move → IsFit member server
         → IsFit member (plain_after members member step server move) }
     ensures run { (members : List ℕ) (events : List Event) (member : ℕ)
         → Lawful (beginning members) events
@@ -296,30 +296,30 @@ pub fn law_fit()
 /// every run.
 pub fn law_duty()
     ensures tick_comes { (members : List ℕ) (member step : ℕ) (bag : List Message) (waited : Bool)
-        (site : Site)
-        → AllCome members member step bag site (tick_phase waited site.plain) }
-    ensures tick { (members : List ℕ) (member step : ℕ) (server : Plain)
+        (site : LocalState)
+        → AllEnabled members member step bag site (tick_phase waited site.plain) }
+    ensures tick { (members : List ℕ) (member step : ℕ) (server : RaftServer)
         → server.memory.role ≢ Leader → server.store.term < term_limit
         → TickDuty server (plain_after_all members member step server (tick_phase true server)) }
-    ensures commit_comes { (members : List ℕ) (member step : ℕ) (bag : List Message) (site : Site)
-        → AllCome members member step bag site (commit_phase members member site.plain) }
-    ensures commit { (members : List ℕ) (member step : ℕ) (server : Plain)
+    ensures commit_comes { (members : List ℕ) (member step : ℕ) (bag : List Message) (site : LocalState)
+        → AllEnabled members member step bag site (commit_phase members member site.plain) }
+    ensures commit { (members : List ℕ) (member step : ℕ) (server : RaftServer)
         → server.memory.role ≡ Leader
         → CommitDuty members member server
         (plain_after_all members member step server (commit_phase members member server)) }
     ensures tell_comes { (members : List ℕ) (member step : ℕ) (bag : List Message) (room : Bool)
-        (site : Site)
-        → AllCome members member step bag site (tell_phase room site.plain) }
-    ensures tell { (members : List ℕ) (member step : ℕ) (room : Bool) (server : Plain)
+        (site : LocalState)
+        → AllEnabled members member step bag site (tell_phase room site.plain) }
+    ensures tell { (members : List ℕ) (member step : ℕ) (room : Bool) (server : RaftServer)
         → server.memory.role ≡ Leader
         → TellDuty member step room server
         (plain_after_all members member step server (tell_phase room server))
         (offers_of_all members member step server (tell_phase room server)) }
-    ensures full { (server : Plain) (entry : Entry) → length server.store.log ≡ log_limit
+    ensures full { (server : RaftServer) (entry : Entry) → length server.store.log ≡ log_limit
         → MayPropose server entry → ⊥ }
     ensures win_kept { (members : List ℕ) (member step : ℕ) (bag : List Message) (called : List ℕ)
-        (server : Plain) (move : Move)
-        → Comes members member bag called server move → WinDuty members server
+        (server : RaftServer) (move : Move)
+        → IsEnabled members member bag called server move → WinDuty members server
         → WinDuty members (plain_after members member step server move) }
     ensures win { (members : List ℕ) (events : List Event) (member : ℕ)
         → Lawful (beginning members) events

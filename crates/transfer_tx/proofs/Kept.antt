@@ -66,16 +66,16 @@ module _ (frame : ℕ → Queued) (earlier : ℕ → ℕ) (n : ℕ) (next : Goes
   others_stay = rest_is (offered_of frame earlier (suc n)) (earlier n) next ∙ remove-insert (earlier n) (offered_of frame earlier n) (frame n) within
 
 module _ (frames : List Queued) (earlier : ℕ → ℕ) where
-  going-offered : (n : ℕ) → n ≤ length frames →
+  step_state-offered : (n : ℕ) → n ≤ length frames →
       ((k : ℕ) → k < n → GoesNext (offered_of (λ j. get_or frames j blank) earlier (suc k)) (earlier k)) →
       first_out n (offered_of (λ j. get_or frames j blank) earlier n) ≡ reverse (take n frames)
-  going-offered zero h next = refl
-  going-offered (suc n) h next =
+  step_state-offered zero h next = refl
+  step_state-offered (suc n) h next =
       let last = next n (omega arith) in
       let out = last_is_next (λ j. get_or frames j blank) earlier n last in
       let rest = others_stay (λ j. get_or frames j blank) earlier n last in
       rw (out, rest)
-      (ap (λ more. get_or frames n blank ∷ more) (going-offered n (omega arith) (λ k l. next k (omega arith)))
+      (ap (λ more. get_or frames n blank ∷ more) (step_state-offered n (omega arith) (λ k l. next k (omega arith)))
       ∙ sym (ap reverse (take-suc frames n blank (omega arith)) ∙ reverse-append (take n frames) (get_or frames n blank ∷ [])))
 
 pub kept_in_order : (size : ℕ) (frames : List Queued) (earlier : List ℕ) → IsInOrder size frames earlier →
@@ -85,7 +85,7 @@ kept_in_order size frames earlier kept =
     let at = λ (k : ℕ). get_or earlier k 0 in
     let n = length-offered (λ j. get_or frames j blank) at (length frames) in
     sym (ap reverse (ap (λ m. first_out m (in_order_of_offering frames earlier)) n
-    ∙ going-offered frames at (length frames) (omega arith) kept.next
+    ∙ step_state-offered frames at (length frames) (omega arith) kept.next
     ∙ ap reverse (take_all (length frames) frames (omega arith))) ∙ reverse-reverse frames)
 
 -- ---- taking the last one

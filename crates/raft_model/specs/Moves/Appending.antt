@@ -5,7 +5,7 @@ use Rattle.can_frame.specs.declared.entry.Entry.{Entry}
 use Rattle.can_frame.specs.Log.{IsInjective, IsWellFormed, log_limit}
 use Rattle.raft_model.specs.Log.{term_at}
 use Rattle.raft_model.specs.Messages.{Request, reach, Answer}
-use Rattle.raft_model.specs.Server.{Store, Memory, Plain, Put}
+use Rattle.raft_model.specs.Server.{Store, Memory, RaftServer, Put}
 use Rattle.raft_model.specs.Server.Role.{Follower, Leader}
 use Rattle.raft_model.specs.Server.Put.{PutEntry, PutLonger, PutShorter, PutCommit}
 use Rattle.raft_model.specs.Moves.Elections.{is_leader, with_term}
@@ -20,11 +20,11 @@ pub data Verdict : Type 0 where
 -- Append requests, judged on what is stored after the request's term.
 
 -- the term is not lower, and not its own while it is Leader
-abbrev pub IsCurrent : Plain → Request → Type 0
+abbrev pub IsCurrent : RaftServer → Request → Type 0
 IsCurrent server request = (server.store.term < request.term)
     ⊎ ((request.term ≡ server.store.term) × (server.memory.role ≢ Leader))
 
-abbrev pub IsOutdated : Plain → Request → Type 0
+abbrev pub IsOutdated : RaftServer → Request → Type 0
 IsOutdated server request = (request.term < server.store.term)
     ⊎ ((request.term ≡ server.store.term) × (server.memory.role ≡ Leader))
 
@@ -79,7 +79,7 @@ IsRuled store request Held = Holds store request
 IsRuled store request (Added entry) = Adds store request entry
 
 -- the verdict on a request: first its term, then log and entry
-abbrev pub IsJudged : Plain → Request → Verdict → Type 0
+abbrev pub IsJudged : RaftServer → Request → Verdict → Type 0
 IsJudged server request Outdated = IsOutdated server request
 IsJudged server request verdict = IsCurrent server request
     × IsRuled (with_term server.store request.term) request verdict
@@ -106,14 +106,14 @@ append_puts store request Held = advance_puts store request
 append_puts store request (Added entry) =
     cut_puts store request ++ (PutEntry entry ∷ PutLonger entry ∷ advance_puts store request)
 
-abbrev pub append_memory : Plain → Request → Verdict → Memory
+abbrev pub append_memory : RaftServer → Request → Verdict → Memory
 append_memory server request Outdated = server.memory
 append_memory server request verdict = record server.memory { role = Follower }
 
 -- Append answers.
 
 -- an answer counts for a Leader of its term
-abbrev pub acknowledges : Plain → Answer → Bool
+abbrev pub acknowledges : RaftServer → Answer → Bool
 acknowledges server answer = is_leader server.memory.role && (answer.term == server.store.term)
 
 abbrev pub matched_after : Memory → Answer → ℕ

@@ -4,7 +4,7 @@ use Rattle.raft_model.specs.Lists.{at, how_many}
 use Rattle.can_frame.specs.Log.{blank, last_term, log_limit}
 use Rattle.raft_model.specs.Log.{NotAbove}
 use Rattle.raft_model.specs.Messages.{Request, Answer}
-use Rattle.raft_model.specs.Server.{Role, Store, Memory, Plain, quorum, Put, put_all}
+use Rattle.raft_model.specs.Server.{Role, Store, Memory, RaftServer, quorum, Put, put_all}
 use Rattle.raft_model.specs.Server.Role.{Follower, Candidate, Leader}
 use Rattle.raft_model.specs.Server.Put.{PutTerm, PutVote, PutEntry, PutLonger}
 use Rattle.raft_model.specs.History.{History, voted, elected}
@@ -31,7 +31,7 @@ term_puts store term = if nat_lt store.term term then PutTerm term ∷ PutVote N
 abbrev pub with_term : Store → ℕ → Store
 with_term store term = put_all store (term_puts store term)
 
-abbrev pub term_memory : Plain → ℕ → Memory
+abbrev pub term_memory : RaftServer → ℕ → Memory
 term_memory server term =
     if nat_lt server.store.term term then record server.memory { role = Follower } else server.memory
 
@@ -104,7 +104,7 @@ grant_history member store request true history = vote_history member store requ
 grant_history member store request false history = history
 
 -- a grant counts for a Candidate of this term
-abbrev pub counts : Plain → Answer → Bool
+abbrev pub counts : RaftServer → Answer → Bool
 counts server answer = is_candidate server.memory.role && ((answer.term == server.store.term) && answer.success)
 
 abbrev pub counted : Memory → Answer → ℕ → Bool
@@ -122,15 +122,15 @@ stepped_down memory peer = record (ended memory peer) { role = Follower }
 abbrev pub with_vote : Memory → Answer → Memory
 with_vote memory answer = record (ended memory answer.from) { votes = counted memory answer }
 
-abbrev pub counting_puts : List ℕ → Plain → Answer → List Put
+abbrev pub counting_puts : List ℕ → RaftServer → Answer → List Put
 counting_puts members server answer =
     if has_quorum members (counted server.memory answer) then win_puts server.store else []
 
-abbrev pub counting_memory : List ℕ → Plain → Answer → Memory
+abbrev pub counting_memory : List ℕ → RaftServer → Answer → Memory
 counting_memory members server answer =
     if has_quorum members (counted server.memory answer)
     then win_memory server.store (with_vote server.memory answer) else with_vote server.memory answer
 
-abbrev pub counting_history : List ℕ → ℕ → Plain → Answer → History → History
+abbrev pub counting_history : List ℕ → ℕ → RaftServer → Answer → History → History
 counting_history members member server answer history =
     if has_quorum members (counted server.memory answer) then win_history member server.store history else history

@@ -5,11 +5,11 @@ use Rattle.can_frame.specs.declared.entry.Entry.{Entry}
 use Rattle.can_frame.specs.Log.{IsInjective, IsPair, IsReservation, blank, last_term, log_limit}
 use Rattle.raft_model.specs.Log.{term_at}
 use Rattle.raft_model.specs.Messages.{Request, Answer, Pair}
-use Rattle.raft_model.specs.Server.{Store, Memory, Plain, quorum}
+use Rattle.raft_model.specs.Server.{Store, Memory, RaftServer, quorum}
 use Rattle.raft_model.specs.Server.Role.{Leader}
 
 -- a pair or a reservation of its term, for which there is room and which keeps the log injective
-pub record MayPropose (server : Plain) (entry : Entry) : Type 0 where
+pub record MayPropose (server : RaftServer) (entry : Entry) : Type 0 where
   pub leads : server.memory.role ≡ Leader
   pub room : length server.store.log < log_limit
   pub own_term : entry.term ≡ server.store.term
@@ -17,18 +17,18 @@ pub record MayPropose (server : Plain) (entry : Entry) : Type 0 where
   pub injective : IsInjective (server.store.log ++ (entry ∷ []))
 
 -- the leader itself, and each peer whose matched index is as high
-abbrev pub has_matched : ℕ → Plain → ℕ → ℕ → Bool
+abbrev pub has_matched : ℕ → RaftServer → ℕ → ℕ → Bool
 has_matched member server index peer = if peer == member then true else nat_le index (server.memory.matched peer)
 
 -- an entry of its own term above commit, which a quorum has matched, the leader included
-pub record CanCommit (members : List ℕ) (member : ℕ) (server : Plain) (index : ℕ) : Type 0 where
+pub record CanCommit (members : List ℕ) (member : ℕ) (server : RaftServer) (index : ℕ) : Type 0 where
   pub above : server.store.commit < index
   pub inside : index ≤ length server.store.log
   pub own_term : term_at server.store.log index ≡ server.store.term
   pub held : quorum members ≤ how_many (has_matched member server index) members
 
 -- the greatest index that can be committed
-pub record IsCommitIndex (members : List ℕ) (member : ℕ) (server : Plain) (index : ℕ) : Type 0 where
+pub record IsCommitIndex (members : List ℕ) (member : ℕ) (server : RaftServer) (index : ℕ) : Type 0 where
   pub can : CanCommit members member server index
   pub greatest : (place : ℕ) → CanCommit members member server place → place ≤ index
 
@@ -83,7 +83,7 @@ abbrev pub calling : Memory → ℕ → Request → Memory
 calling memory peer request = record memory { pending = at memory.pending peer (Some request) }
 
 -- no call is pending to this other member, and none was made to it before in this step
-pub record MayCall (members : List ℕ) (member : ℕ) (called : List ℕ) (server : Plain) (peer : ℕ) : Type 0 where
+pub record MayCall (members : List ℕ) (member : ℕ) (called : List ℕ) (server : RaftServer) (peer : ℕ) : Type 0 where
   pub other : peer ≢ member
   pub listed : In peer members
   pub free : server.memory.pending peer ≡ None

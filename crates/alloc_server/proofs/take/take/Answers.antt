@@ -1,15 +1,15 @@
 use Rattle.std.proofs.Common.{ap, subst, sym, ◌∙◌, ℕ, List}
-use Rattle.server_parts.specs.declared.event.Event.{Event}
-use Rattle.server_parts.specs.Accepted.{setting_for}
-use Rattle.server_parts.specs.Going.{Going}
-use Rattle.server_parts.specs.Step.{at_sessions, at_step, begins, step, takes_answer, with_answer}
-use Rattle.server_parts.specs.Tick.{ticks}
+use Rattle.alloc_step.specs.declared.event.Event.{Event}
+use Rattle.alloc_step.specs.Accepted.{setting_for}
+use Rattle.alloc_step.specs.StepState.{StepState}
+use Rattle.alloc_step.specs.Step.{at_sessions, at_step, begins, step, takes_answer, with_answer}
+use Rattle.alloc_step.specs.Tick.{ticks}
 use Rattle.transfer_rx.specs.declared.accept.AcceptRow.{AcceptRow}
 use Rattle.transfer_rx.specs.Acceptance.{first_signature}
 use Rattle.transfer_rx.specs.Reassembly.{Answer, Arrival, Setting, answer, arrival_of, next}
 use Rattle.transfer_rx.specs.Sessions.{Session}
 use Rattle.transfer_rx.specs.Views as receiver
-use Rattle.alloc_member.specs.Stands.{SeesTo}
+use Rattle.alloc_core.specs.Stands.{SeesTo}
 use Rattle.alloc_server.specs.Server.{ComesTo, event_of}
 use Rattle.alloc_server.proofs.take.take.Goals as goal
 
@@ -26,8 +26,8 @@ pub returns-in-Tick-clause-comes : goal.returns-in-Tick-clause-comes
 unfolding step
 returns-in-Tick-clause-comes g c t h sess set =
     let s = c.args.offered.now.step in
-    let g0 : Going = begins s c.in-Tick.now t in
-    let g1 : Going = ticks s c.in-Tick.word g0 in
+    let g0 : StepState = begins s c.in-Tick.now t in
+    let g1 : StepState = ticks s c.in-Tick.word g0 in
     subst (λ (e : Event). ComesTo c.args.member.now.durable t c.take_tick.new.self c.args.receiver.now c.take_tick.new.offered (step t s (event_of e)) c.take_tick.result) (sym c.in-Tick.is) (record {
       sees = c.take_tick.ensures.sees t h;
       sessions = subst (λ (list : List Session). receiver.HasSessions c.args.receiver.now list) (sym ((c.phases_add_puts.ensures.ends s g1).sessions ∙ (c.phases_add_puts.ensures.ticks s c.in-Tick.word g0).sessions)) sess;
@@ -38,13 +38,13 @@ pub returns-in-Rx-clause-comes : goal.returns-in-Rx-clause-comes
 unfolding step
 returns-in-Rx-clause-comes g c t h sess set =
     let s = c.args.offered.now.step in
-    let g0 : Going = begins s c.in-Rx.now t in
+    let g0 : StepState = begins s c.in-Rx.now t in
     let arrival : Arrival = at_step g0.timed (arrival_of c.in-Rx.frame c.in-Rx.mark c.in-Rx.now) in
     let sessions : List Session = next (setting_for t.me) t.sessions arrival in
-    let g1 : Going = at_sessions sessions g0 in
+    let g1 : StepState = at_sessions sessions g0 in
     let found : Answer = answer (setting_for t.me) t.sessions arrival in
-    let g2 : Going = (with_answer s found g1).going in
-    let h1 = c.begin.ensures.going t h c.args.offered.now c.requires.fresh s sessions in
+    let g2 : StepState = (with_answer s found g1).step_state in
+    let h1 = c.begin.ensures.step_state t h c.args.offered.now c.requires.fresh s sessions in
     let said = c.take-took.ensures.answer t.sessions sess
     ∙ ap (λ (setting : Setting). answer setting t.sessions (arrival_of c.in-Rx.frame c.in-Rx.mark c.begin.new.self.latest)) set
     ∙ ap (λ (now : ℕ). answer (setting_for t.me) t.sessions (arrival_of c.in-Rx.frame c.in-Rx.mark now)) h1.stands.now in

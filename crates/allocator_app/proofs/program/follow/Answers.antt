@@ -1,5 +1,5 @@
 use Rattle.std.proofs.Common.{sym, ◌∙◌}
-use Rattle.node_turns.specs.Nodes.{RunsNodes}
+use Rattle.app_node.specs.Nodes.{RunsNodes}
 use Rattle.allocator_app.proofs.Ending.{as_planned}
 use Rattle.allocator_app.proofs.program.follow.Goals as goal
 

@@ -1,5 +1,5 @@
 use Rattle.std.proofs.Common.{inl, inr}
-use Rattle.world_parts.specs.Cluster.{cluster}
+use Rattle.bus_spec.specs.Cluster.{cluster}
 use Rattle.allocator_app.specs.Nodes.{RunsInTraces}
 use Rattle.allocator_app.specs.Promise.{KeepsPromise}
 use Rattle.allocator_app.proofs.Ending.{all_lawful, as_asked, asked, asked_to_soak, completed, holds_along, node_plan, nothing_given, words_for_rows}

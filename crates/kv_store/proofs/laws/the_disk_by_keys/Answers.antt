@@ -8,7 +8,7 @@ pub returns-clause-opened : goal.returns-clause-opened
 returns-clause-opened c = open_made
 
 pub returns-clause-restarted : goal.returns-clause-restarted
-returns-clause-restarted c = λ old new shelf pattern. restart_made old new shelf.store shelf.copies shelf.loose shelf.calls pattern
+returns-clause-restarted c = λ old new key_disk pattern. restart_made old new key_disk.store key_disk.copies key_disk.unsynced key_disk.calls pattern
 
 pub returns-clause-begun : goal.returns-clause-begun
 returns-clause-begun c = begun

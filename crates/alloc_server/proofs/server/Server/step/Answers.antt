@@ -3,10 +3,10 @@ use Rattle.std.specs.Prelude.{IfOk, Option, None, Some, Result}
 use Rattle.std.specs.Result.{result_err}
 use Rattle.can_frame.specs.declared.step.Seen.{Seen}
 use Rattle.kv_store.specs.declared.fault.Fault.{Fault}
-use Rattle.raft_core.specs.StoredPuts.{DoesPuts}
-use Rattle.server_parts.specs.Accepted.{setting_for}
-use Rattle.server_parts.specs.Delivered.{Sight}
-use Rattle.server_parts.specs.Step as steps
+use Rattle.raft_core.specs.StoredPuts.{CallWrites}
+use Rattle.alloc_step.specs.Accepted.{setting_for}
+use Rattle.alloc_step.specs.Delivered.{StepResult}
+use Rattle.alloc_step.specs.Step as steps
 use Rattle.alloc_server.specs.Server.{ComesTo, event_of}
 use Rattle.alloc_server.proofs.server.Server.step.Goals as goal
 
@@ -15,25 +15,25 @@ returns-in-Some-clause-steps g c t h = let sound = h.sound in cc
 
 pub returns-in-Ok-clause-steps : goal.returns-in-Ok-clause-steps
 returns-in-Ok-clause-steps g c t h =
-    let sight : Sight = steps.step t c.args.step (event_of c.args.event) in
+    let step_result : StepResult = steps.step t c.args.step (event_of c.args.event) in
     let comes = subst (λ (n : ℕ). ComesTo c.args.self.now.member.durable t c.take.new.member c.take.new.receiver c.take.new.offered (steps.step t n (event_of c.args.event)) c.take.result) c.new-offered.ensures.step
     (c.take.ensures.comes t h.member h.sessions h.setting) in
     let none : result_err c.take.result ≡ None = ap result_err c.in-Ok.is in
-    let going = comes.sees.goes.going none in
-    let puts = subst (λ (f : Option Fault). DoesPuts sight.going.puts c.args.self.now.member.durable c.take.new.member.durable f) none comes.sees.goes.puts in
+    let step_state = comes.sees.goes.step_state none in
+    let puts = subst (λ (f : Option Fault). CallWrites step_result.step_state.puts c.args.self.now.member.durable c.take.new.member.durable f) none comes.sees.goes.puts in
     let faults = puts.faults.works h.works in
     record {
       stands = record {
-        member = going.stands;
+        member = step_state.stands;
         sessions = comes.sessions;
         setting = c.take.ensures.setting ∙ h.setting ∙ ap setting_for (sym comes.me);
         sound = h.sound;
         works = faults.kept;
       };
       tells = record {
-        seen = subst (λ (r : Result Seen Fault). IfOk r (λ seen. seen ≡ sight.seen)) c.in-Ok.is comes.sees.seen;
-        sent = going.sent;
-        given = going.given;
+        seen = subst (λ (r : Result Seen Fault). IfOk r (λ seen. seen ≡ step_result.seen)) c.in-Ok.is comes.sees.seen;
+        sent = step_state.sent;
+        given = step_state.given;
       };
       leaves = λ tells image left. puts.made.stop h.works tells image left;
       made = puts.made.made h.works;
@@ -43,11 +43,11 @@ returns-in-Ok-clause-steps g c t h =
 
 pub returns-in-Err-clause-steps : goal.returns-in-Err-clause-steps
 returns-in-Err-clause-steps g c t h =
-    let sight : Sight = steps.step t c.args.step (event_of c.args.event) in
+    let step_result : StepResult = steps.step t c.args.step (event_of c.args.event) in
     let comes = subst (λ (n : ℕ). ComesTo c.args.self.now.member.durable t c.take.new.member c.take.new.receiver c.take.new.offered (steps.step t n (event_of c.args.event)) c.take.result) c.new-offered.ensures.step
     (c.take.ensures.comes t h.member h.sessions h.setting) in
     let failed : result_err c.take.result ≡ Some c.in-Err.fault = ap result_err c.in-Err.is in
-    let puts = subst (λ (f : Option Fault). DoesPuts sight.going.puts c.args.self.now.member.durable c.take.new.member.durable f) failed comes.sees.goes.puts in
+    let puts = subst (λ (f : Option Fault). CallWrites step_result.step_state.puts c.args.self.now.member.durable c.take.new.member.durable f) failed comes.sees.goes.puts in
     let faults = puts.faults.works h.works in
     record {
       stands = tt;

@@ -1,24 +1,24 @@
 use Rattle.std.proofs.Common.{ℕ, ◌∙◌, refl, sym, subst}
 use Rattle.std.specs.Prelude.{if◌then◌else◌}
 use Rattle.disk_model.specs.Memory.{memory_contents}
-use Rattle.kv_store.specs.Shelf.{restarted_on}
+use Rattle.kv_store.specs.KeyDisk.{restarted_on}
 use Rattle.outside.specs.declared.pattern.Pattern.{Pattern}
 use Rattle.raft_core.specs.StoredPuts.{store_of}
-use Rattle.raft_log.specs.Shelf.{is_open_on, opening_on}
-use Rattle.server_parts.specs.TimedServer.{opening}
+use Rattle.raft_log.specs.KeyDisk.{is_open_on, opening_on}
+use Rattle.alloc_step.specs.AllocatorState.{opening}
 use Rattle.alloc_server.specs.Server.{durable_of}
-use Rattle.world_parts.specs.Members.{unopened}
-use Rattle.world_parts.specs.Members.Life.{Up}
-use Rattle.world_parts.specs.Telling.{telling_of}
+use Rattle.bus_spec.specs.Members.{unopened}
+use Rattle.bus_spec.specs.Members.MemberStatus.{Up}
+use Rattle.bus_spec.specs.Telling.{telling_of}
 use Rattle.bus_world.specs.Places.{IsDownOn}
 use Rattle.bus_world.specs.declared.place.Place.TheVariants.{Up as UpAt}
 use Rattle.bus_world.proofs.Opening.{is_down, is_up, not_damaged, opened_by, opened_told, pattern_kept, refused_told}
 use Rattle.bus_world.proofs.member.Member.open_disk.Goals as goal
 
 pub returns-in-Ok-clause-told : goal.returns-in-Ok-clause-told
-returns-in-Ok-clause-told g c = λ shelf on.
-    let opened = c.a_member_on_the_disk_by_states.ensures.opened c.args.disk (durable_of c.in-Ok.server) shelf on c.in-Ok.ensures.opens c.in-Ok.ensures.stands.works in
-    c.opened-told.ensures ∙ opened_told c.in-Ok.server c.args.self.now.id c.args.size c.args.moment c.args.word shelf opened.0 opened.1 c.view.result
+returns-in-Ok-clause-told g c = λ key_disk on.
+    let opened = c.a_member_on_the_disk_by_states.ensures.opened c.args.disk (durable_of c.in-Ok.server) key_disk on c.in-Ok.ensures.opens c.in-Ok.ensures.stands.works in
+    c.opened-told.ensures ∙ opened_told c.in-Ok.server c.args.self.now.id c.args.size c.args.moment c.args.word key_disk opened.0 opened.1 c.view.result
     c.view.ensures.term c.view.ensures.vote c.view.ensures.last c.view.ensures.commit
 
 pub returns-in-Ok-clause-stands : goal.returns-in-Ok-clause-stands
@@ -33,12 +33,12 @@ returns-in-Ok-clause-stands g c = λ x on pattern down.
     }
 
 pub returns-in-Err-clause-told : goal.returns-in-Err-clause-told
-returns-in-Err-clause-told g c = λ shelf on.
-    let not_opened = c.a_member_on_the_disk_by_states.ensures.not_opened c.args.disk c.in-Err.refused.disk shelf on
+returns-in-Err-clause-told g c = λ key_disk on.
+    let not_opened = c.a_member_on_the_disk_by_states.ensures.not_opened c.args.disk c.in-Err.refused.disk key_disk on
     (not_damaged _ c.in-Err.refused.why c.in-Err.ensures.failed (λ key e.
-    c.an_image_stands_for_one_state.ensures.either (memory_contents c.args.disk).seen shelf.store key
-    (c.the_disk_by_states.ensures.found c.args.disk shelf on).0 (c.in-Err.ensures.damaged key e refl))) in
-    refused_told c.args.self.now.id shelf (telling_of c.stay_stopped.result) not_opened.0 (c.stay_stopped.ensures.told (opening_on shelf) not_opened.1)
+    c.an_image_stands_for_one_state.ensures.either (memory_contents c.args.disk).seen key_disk.store key
+    (c.the_disk_by_states.ensures.found c.args.disk key_disk on).0 (c.in-Err.ensures.damaged key e refl))) in
+    refused_told c.args.self.now.id key_disk (telling_of c.stay_stopped.result) not_opened.0 (c.stay_stopped.ensures.told (opening_on key_disk) not_opened.1)
 
 pub returns-in-Err-clause-stands : goal.returns-in-Err-clause-stands
 returns-in-Err-clause-stands g c = λ x on pattern down.

@@ -1,8 +1,8 @@
 use Rattle.std.proofs.Common.{ℕ, ◌∙◌, ap, sym, subst}
 use Rattle.bus_world.specs.Stands.{StandsFor}
 use Rattle.bus_world.specs.declared.member.Member.{Member}
-use Rattle.world_parts.specs.Members.{failing}
-use Rattle.world_parts.specs.Telling.Telling.{IsArmed}
+use Rattle.bus_spec.specs.Members.{failing}
+use Rattle.bus_spec.specs.Telling.Telling.{IsArmed}
 use Rattle.bus_world.proofs.Finding.{set_few, alike_there, set_alike, its_id, set_holds, stands_there}
 use Rattle.bus_world.proofs.members.Members.fault.Goals as goal
 

@@ -1,11 +1,11 @@
 use Rattle.std.proofs.Common.{◌≡◌, ℕ, List, length, ◌∙◌, ap, sym, subst}
 use Rattle.std.proofs.lemmas.List.{length-map}
 use Rattle.bus_world.specs.Stands.{StandsFor}
-use Rattle.world_parts.specs.Telling.{telling_of}
+use Rattle.bus_spec.specs.Telling.{telling_of}
 use Rattle.bus_world.specs.declared.member.Member.{Member}
-use Rattle.world_parts.specs.Cluster.{is_member}
-use Rattle.world_parts.specs.Members.{is_running, opened}
-use Rattle.world_parts.specs.Report.{opening_told}
+use Rattle.bus_spec.specs.Cluster.{is_member}
+use Rattle.bus_spec.specs.Members.{is_running, opened}
+use Rattle.bus_spec.specs.Report.{opening_told}
 use Rattle.bus_world.proofs.Finding.{alike_there, set_alike, set_few, its_id, set_holds, stands_there, stopped_from}
 use Rattle.bus_world.proofs.members.Members.open.Goals as goal
 

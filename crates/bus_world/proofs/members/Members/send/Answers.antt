@@ -5,12 +5,12 @@ use Rattle.can_frame.specs.declared.frame.Frame.{Frame}
 use Rattle.transfer_tx.specs.declared.marked.Marked.{Marked}
 use Rattle.transfer_tx.specs.Queue.{Queued}
 use Rattle.transfer_tx.specs.Views.{queued_of}
-use Rattle.world_parts.specs.Cluster.{in_list}
-use Rattle.world_parts.specs.Members.{after_sending, next_frame}
-use Rattle.world_parts.specs.Lawful.{no_node, not_running, nothing_to_send}
-use Rattle.world_parts.specs.Report.{sending_told}
+use Rattle.bus_spec.specs.Cluster.{in_list}
+use Rattle.bus_spec.specs.Members.{after_sending, next_frame}
+use Rattle.bus_spec.specs.Lawful.{no_node, not_running, nothing_to_send}
+use Rattle.bus_spec.specs.Report.{sending_told}
 use Rattle.bus_world.specs.Stands.{StandsFor}
-use Rattle.world_parts.specs.Telling.Telling.{HasSent}
+use Rattle.bus_spec.specs.Telling.Telling.{HasSent}
 use Rattle.bus_world.specs.declared.member.Member.{Member}
 use Rattle.bus_world.proofs.Finding.{its_id, past_two, set_holds, stands_there}
 use Rattle.bus_world.proofs.members.Members.send.Goals as goal

@@ -1,10 +1,10 @@
 use Rattle.std.proofs.Common.{◌≡◌, ℕ, ◌+◌, ◌∙◌, ap, sym, subst}
-use Rattle.server_parts.specs.Step.{Event}
-use Rattle.world_parts.specs.Cluster.{is_member}
-use Rattle.world_parts.specs.Members.{is_running, stepped}
-use Rattle.world_parts.specs.Report.{step_told}
+use Rattle.alloc_step.specs.Step.{Event}
+use Rattle.bus_spec.specs.Cluster.{is_member}
+use Rattle.bus_spec.specs.Members.{is_running, stepped}
+use Rattle.bus_spec.specs.Report.{step_told}
 use Rattle.bus_world.specs.Stands.{StandsFor}
-use Rattle.world_parts.specs.Telling.{telling_of}
+use Rattle.bus_spec.specs.Telling.{telling_of}
 use Rattle.bus_world.specs.declared.member.Member.{Member}
 use Rattle.bus_world.proofs.Finding.{set_few, alike_there, serves, set_alike, its_id, runs_from, set_holds, stands_there}
 use Rattle.bus_world.proofs.members.Members.tick.Goals as goal

@@ -7,7 +7,7 @@ use Rattle.raft_model.specs.Server.{Store}
 use Rattle.raft_core.specs.declared.propose.Proposed.TheVariants.{NotLeader, LogFull, Taken}
 use Rattle.raft_core.specs.Proposing.{entry_puts}
 use Rattle.raft_core.specs.Stands.{role_of}
-use Rattle.raft_core.specs.StoredPuts.{noted}
+use Rattle.raft_core.specs.StoredPuts.{with_origin}
 use Rattle.raft_core.specs.Taken.{IsTaken, proposal}
 use Rattle.raft_core.proofs.Moving.{leads}
 use Rattle.raft_core.proofs.Proposing.{MayBeProposed, added, fits_grown, free_follows, may_not, may_propose, not_tried, same_proposal, same_puts, try_failed}
@@ -47,7 +47,7 @@ returns-in_err-append-clause-appends g c =
     let e = proposal s.term c.args.uid.now c.args.node in
     let same = same_proposal s.term c.term.result c.args.node c.get-2.result c.args.uid.now (sym c.term.ensures) (sym c.get-2.ensures.number) in
     try_failed raft c.args.uid.now c.args.node c.args.origin c.args.d.now _ may c.in_err-append.field-0.0 _ (search rules)
-    (does (noted c.args.origin (entry_puts e)) _ c.args.d.now _ false (Some c.in_err-append.field-0.0) tt refl (same_puts c.args.origin s e _ same) c.in_err-append.ensures.puts c.in_err-append.ensures.fault)
+    (does (with_origin c.args.origin (entry_puts e)) _ c.args.d.now _ false (Some c.in_err-append.field-0.0) tt refl (same_puts c.args.origin s e _ same) c.in_err-append.ensures.puts c.in_err-append.ensures.fault)
 
 pub returns-clause-appends : goal.returns-clause-appends
 returns-clause-appends g c =
@@ -62,7 +62,7 @@ returns-clause-appends g c =
     let e = proposal s.term c.args.uid.now c.args.node in
     let same = same_proposal s.term c.term.result c.args.node c.get-2.result c.args.uid.now (sym c.term.ensures) (sym c.get-2.ensures.number) in
     added raft c.args.uid.now c.args.node c.args.origin c.args.d.now _ may
-    (does (noted c.args.origin (entry_puts e)) _ c.args.d.now _ true None tt refl (same_puts c.args.origin s e _ same) c.in_ok-append.ensures.puts c.in_ok-append.ensures.fault)
+    (does (with_origin c.args.origin (entry_puts e)) _ c.args.d.now _ true None tt refl (same_puts c.args.origin s e _ same) c.in_ok-append.ensures.puts c.in_ok-append.ensures.fault)
 
 pub append-requires-clause-follows : goal.append-requires-clause-follows
 append-requires-clause-follows g c =

@@ -4,9 +4,9 @@ use Rattle.raft_log.specs.declared.origin.TheConstants.{LEADER}
 use Rattle.raft_log.specs.DurableViews.{durable_state}
 use Rattle.raft_model.specs.Moves.Elections.{ended, term_puts}
 use Rattle.raft_model.specs.Moves.Move.{TakeAppendAnswer}
-use Rattle.raft_model.specs.Server.{Plain, Store}
+use Rattle.raft_model.specs.Server.{RaftServer, Store}
 use Rattle.raft_core.specs.Handled.{answer_of}
-use Rattle.raft_core.specs.StoredPuts.{DoesPuts, noted}
+use Rattle.raft_core.specs.StoredPuts.{CallWrites, with_origin}
 use Rattle.raft_core.specs.Times.{end_call, given_at}
 use Rattle.raft_core.proofs.Answering.{leader_stays, matched, not_higher, not_matched, unraised}
 use Rattle.raft_core.proofs.Moving.{one_move_failed}
@@ -27,7 +27,7 @@ returns-in_err-raise-clause-moves g c = λ members n p t st awaited step r is.
     let old = c.args.d.now in
     let a = answer_of step c.args.from r c.args.ans.now.term c.args.ans.now.success in (
       one_move_failed members c.args.self.now.me n (given_at c.args.now) (TakeAppendAnswer a) p t old _ c.raise.new.self _ c.in_err-raise.field-0.0 (search rules)
-          (subst (λ (z : Store). DoesPuts (noted LEADER (term_puts z a.term)) old c.raise.new.d (Some c.in_err-raise.field-0.0)) (sym st.store) (c.in_err-raise.ensures.puts LEADER)),
+          (subst (λ (z : Store). CallWrites (with_origin LEADER (term_puts z a.term)) old c.raise.new.d (Some c.in_err-raise.field-0.0)) (sym st.store) (c.in_err-raise.ensures.puts LEADER)),
       search rules,
     )
 
@@ -40,14 +40,14 @@ pub returns-then-not-leads-clause-moves : goal.returns-then-not-leads-clause-mov
 returns-then-not-leads-clause-moves g c = λ members n p t st awaited step r is.
     let old = c.args.d.now in
     let a = answer_of step c.args.from r c.args.ans.now.term c.args.ans.now.success in
-    let p1 : Plain = record p { memory = ended p.memory c.args.from } in
+    let p1 : RaftServer = record p { memory = ended p.memory c.args.from } in
     let t1 = end_call c.args.from t in
     let st2 = c.in_ok-raise.ensures.stands members p1 t1 (c.end_call.ensures.stands members (durable_state old) p t st) in
     let none = λ (low : nat_lt p.store.term a.term ≡ false).
     let st3 = unraised c.raise.new.self members (durable_state c.raise.new.d) p1 t1 c.args.now a.term low st2 in
     sym (c.leads.ensures.leads p1 a st3.role (ap (λ (z : Store). z.term) st3.store ∙ sym c.term.ensures) refl) ∙ c.if-not-leads.true in (
       not_matched members c.args.self.now.me n (given_at c.args.now) p t a old c.raise.new.d c.raise.new.self none
-          (subst (λ (z : Store). DoesPuts (noted LEADER (term_puts z a.term)) old c.raise.new.d None) (sym st.store) (c.in_ok-raise.ensures.puts LEADER)) st2,
+          (subst (λ (z : Store). CallWrites (with_origin LEADER (term_puts z a.term)) old c.raise.new.d None) (sym st.store) (c.in_ok-raise.ensures.puts LEADER)) st2,
       refl,
     )
 
@@ -76,7 +76,7 @@ pub returns-clause-moves : goal.returns-clause-moves
 returns-clause-moves g c = λ members n p t st awaited step r is.
     let old = c.args.d.now in
     let a = answer_of step c.args.from r c.args.ans.now.term c.args.ans.now.success in
-    let p1 : Plain = record p { memory = ended p.memory c.args.from } in
+    let p1 : RaftServer = record p { memory = ended p.memory c.args.from } in
     let t1 = end_call c.args.from t in
     let leads = c.if-not-leads.ensures.leader refl in
     let st2 = c.in_ok-raise.ensures.stands members p1 t1 (c.end_call.ensures.stands members (durable_state old) p t st) in
@@ -84,7 +84,7 @@ returns-clause-moves g c = λ members n p t st awaited step r is.
     let st3 = unraised c.raise.new.self members (durable_state c.raise.new.d) p1 t1 c.args.now a.term low st2 in
     let so = sym (c.leads.ensures.leads p1 a st3.role (ap (λ (z : Store). z.term) st3.store ∙ sym c.term.ensures) refl) ∙ c.if-not-leads.false in (
       matched members c.args.self.now.me n (given_at c.args.now) p t a old c.raise.new.d _ low so
-          (subst (λ (z : Store). DoesPuts (noted LEADER (term_puts z a.term)) old c.raise.new.d None) (sym st.store) (c.in_ok-raise.ensures.puts LEADER))
+          (subst (λ (z : Store). CallWrites (with_origin LEADER (term_puts z a.term)) old c.raise.new.d None) (sym st.store) (c.in_ok-raise.ensures.puts LEADER))
           (c.move_on.ensures.stands members (durable_state c.raise.new.d) p1 t1 st3 leads a refl refl ((c.in-Some.ensures.some members (durable_state old) p t st).1 r is)),
       refl,
     )

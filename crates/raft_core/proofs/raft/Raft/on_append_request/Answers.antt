@@ -7,7 +7,7 @@ use Rattle.raft_model.specs.Moves.Appending.{append_puts}
 use Rattle.raft_model.specs.Server.{Put}
 use Rattle.raft_model.specs.Moves.Elections.{term_puts, with_term}
 use Rattle.raft_core.specs.Handled.{append_request_of}
-use Rattle.raft_core.specs.StoredPuts.{DoesPuts, noted, store_of}
+use Rattle.raft_core.specs.StoredPuts.{CallWrites, with_origin, store_of}
 use Rattle.raft_core.specs.Times.{given_at}
 use Rattle.raft_core.proofs.Judged.{IsLate}
 use Rattle.raft_core.proofs.AppendRequest.{puts_now, refused_late, ruled_now, taken, term_failed}
@@ -30,7 +30,7 @@ returns-in_err-raise-clause-moves g c = λ members n p t st step.
     let not : IsLate raft members (durable_state old) p t r st → ⊥ = λ late. search (rules, late) in
     term_failed members raft.me n (given_at c.args.now) p t r (judges p r) (c.law_decisions.ensures.judged p r) old _ raft st not c.in_err-raise.field-0.0 _ _ (search rules)
     (alike LEADER (term_puts (store_of (durable_state old)) r.term) (append_puts (with_term p.store r.term) r (judges p r)) old _ (Some c.in_err-raise.field-0.0)
-    (c.puts_in_turn.ensures.cut_off _ (noted LEADER (append_puts (with_term p.store r.term) r (judges p r))) old _ c.in_err-raise.field-0.0 (c.in_err-raise.ensures.puts LEADER)))
+    (c.puts_in_turn.ensures.cut_off _ (with_origin LEADER (append_puts (with_term p.store r.term) r (judges p r))) old _ c.in_err-raise.field-0.0 (c.in_err-raise.ensures.puts LEADER)))
 
 pub returns-in_err-success-clause-moves : goal.returns-in_err-success-clause-moves
 returns-in_err-success-clause-moves g c = λ members n p t st step.
@@ -44,7 +44,7 @@ returns-in_err-success-clause-moves g c = λ members n p t st step.
     let not : IsLate raft members (durable_state old) p t r st → ⊥ = λ late. search (rules, late) in
     let ruled = ruled_now members raft.me n (given_at c.args.now) p t r v judged old c.accept.new.d raft st not mid c.raise.new.self st1 in
     let appended = (c.in_err-success.ensures.puts step c.args.from raft.me v ruled).0 in
-    let made = subst (λ (l : List Put). DoesPuts (noted LEADER l) mid c.accept.new.d (Some c.in_err-success.field-0.0)) (puts_now members raft.me n (given_at c.args.now) p t r v judged old c.accept.new.d raft st not mid c.raise.new.self st1) appended in
+    let made = subst (λ (l : List Put). CallWrites (with_origin LEADER l) mid c.accept.new.d (Some c.in_err-success.field-0.0)) (puts_now members raft.me n (given_at c.args.now) p t r v judged old c.accept.new.d raft st not mid c.raise.new.self st1) appended in
     term_failed members raft.me n (given_at c.args.now) p t r v judged old _ raft st not c.in_err-success.field-0.0 _ _ (search rules)
     (alike LEADER (term_puts (store_of (durable_state old)) r.term) (append_puts (with_term p.store r.term) r v) old _ (Some c.in_err-success.field-0.0)
     (c.puts_in_turn.ensures.joined _ _ old mid _ _ (c.in_ok-raise.ensures.puts LEADER) made))
@@ -61,7 +61,7 @@ returns-clause-moves g c = λ members n p t st step.
     let not : IsLate raft members (durable_state old) p t r st → ⊥ = λ late. search (rules, late) in
     let ruled = ruled_now members raft.me n (given_at c.args.now) p t r v judged old c.accept.new.d raft st not mid c.raise.new.self st1 in
     let answer = c.in_ok-success.ensures.puts step c.args.from raft.me v ruled in
-    let made = subst (λ (l : List Put). DoesPuts (noted LEADER l) mid c.accept.new.d None) (puts_now members raft.me n (given_at c.args.now) p t r v judged old c.accept.new.d raft st not mid c.raise.new.self st1) answer.0 in
+    let made = subst (λ (l : List Put). CallWrites (with_origin LEADER l) mid c.accept.new.d None) (puts_now members raft.me n (given_at c.args.now) p t r v judged old c.accept.new.d raft st not mid c.raise.new.self st1) answer.0 in
     taken members raft.me n (given_at c.args.now) p t r v judged old c.accept.new.d raft st not mid c.raise.new.self st1 _ _ _ refl refl refl refl refl answer.1 refl answer.0
     (alike LEADER (term_puts (store_of (durable_state old)) r.term) (append_puts (with_term p.store r.term) r v) old _ None
     (c.puts_in_turn.ensures.joined _ _ old mid _ _ (c.in_ok-raise.ensures.puts LEADER) made))

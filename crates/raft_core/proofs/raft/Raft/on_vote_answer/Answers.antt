@@ -3,9 +3,9 @@ use Rattle.std.specs.Prelude.{List, Some, None, nat_lt}
 use Rattle.raft_log.specs.declared.origin.TheConstants.{WIN}
 use Rattle.raft_log.specs.DurableViews.{durable_state}
 use Rattle.raft_model.specs.Moves.Elections.{counted, ended, term_puts}
-use Rattle.raft_model.specs.Server.{Plain, Put, Store}
+use Rattle.raft_model.specs.Server.{RaftServer, Put, Store}
 use Rattle.raft_core.specs.Handled.{answer_of}
-use Rattle.raft_core.specs.StoredPuts.{DoesPuts, noted, store_of}
+use Rattle.raft_core.specs.StoredPuts.{CallWrites, with_origin, store_of}
 use Rattle.raft_core.specs.Times.{end_vote_call, given_at}
 use Rattle.raft_core.proofs.Answering.{count_failed, low_puts, no_vote_counted, not_higher, rest, term_failed, unraised, vote_counted}
 use Rattle.raft_core.proofs.VoteAnswer.{votes_puts}
@@ -26,9 +26,9 @@ returns-in_err-raise-clause-moves g c = λ members n p t st awaited step r is.
     let a = answer_of step c.args.from r c.args.ans.now.term c.args.ans.now.granted in
     let more = rest members c.args.self.now.me n (given_at c.args.now) p t a old c.raise.new.d c.raise.new.self in (
       term_failed members c.args.self.now.me n (given_at c.args.now) p t a old c.raise.new.d c.raise.new.self _ c.in_err-raise.field-0.0 (search rules)
-          (subst (λ (z : Store). DoesPuts (noted WIN (term_puts z a.term ++ more)) old c.raise.new.d (Some c.in_err-raise.field-0.0)) (sym st.store)
+          (subst (λ (z : Store). CallWrites (with_origin WIN (term_puts z a.term ++ more)) old c.raise.new.d (Some c.in_err-raise.field-0.0)) (sym st.store)
           (alike WIN (term_puts (store_of (durable_state old)) a.term) more old _ (Some c.in_err-raise.field-0.0)
-          (c.puts_in_turn.ensures.cut_off _ (noted WIN more) old _ c.in_err-raise.field-0.0 (c.in_err-raise.ensures.puts WIN)))),
+          (c.puts_in_turn.ensures.cut_off _ (with_origin WIN more) old _ c.in_err-raise.field-0.0 (c.in_err-raise.ensures.puts WIN)))),
       search rules,
     )
 
@@ -40,7 +40,7 @@ pub returns-then-not-counts-clause-moves : goal.returns-then-not-counts-clause-m
 returns-then-not-counts-clause-moves g c = λ members n p t st awaited step r is.
     let old = c.args.d.now in
     let a = answer_of step c.args.from r c.args.ans.now.term c.args.ans.now.granted in
-    let p1 : Plain = record p { memory = ended p.memory c.args.from } in
+    let p1 : RaftServer = record p { memory = ended p.memory c.args.from } in
     let t1 = end_vote_call c.args.from t in
     let st1 = c.note_answer.ensures.stands members (durable_state old) p1 _ (c.end_call.ensures.stands members (durable_state old) p t st) in
     let st2 = c.in_ok-raise.ensures.stands members p1 t1 st1 in
@@ -48,7 +48,7 @@ returns-then-not-counts-clause-moves g c = λ members n p t st awaited step r is
     let st3 = unraised c.raise.new.self members (durable_state c.raise.new.d) p1 t1 c.args.now a.term low st2 in
     sym (c.counts.ensures.counts p1 a st3.role (ap (λ (z : Store). z.term) st3.store ∙ sym c.term.ensures) refl refl) ∙ c.if-not-counts.true in (
       no_vote_counted members c.args.self.now.me n (given_at c.args.now) p t a old c.raise.new.d c.raise.new.self none
-          (subst (λ (z : Store). DoesPuts (noted WIN (term_puts z a.term)) old c.raise.new.d None) (sym st.store) (c.in_ok-raise.ensures.puts WIN)) st2,
+          (subst (λ (z : Store). CallWrites (with_origin WIN (term_puts z a.term)) old c.raise.new.d None) (sym st.store) (c.in_ok-raise.ensures.puts WIN)) st2,
       refl,
     )
 
@@ -68,7 +68,7 @@ returns-in_err-count_vote-clause-moves g c = λ members n p t st awaited step r 
     let mid = c.raise.new.d in
     let broken = Some c.in_err-count_vote.field-0.0 in
     let a = answer_of step c.args.from r c.args.ans.now.term c.args.ans.now.granted in
-    let p1 : Plain = record p { memory = ended p.memory c.args.from } in
+    let p1 : RaftServer = record p { memory = ended p.memory c.args.from } in
     let t1 = end_vote_call c.args.from t in
     let stands = c.if-not-counts.ensures.candidate refl in
     let st1 = c.note_answer.ensures.stands members (durable_state old) p1 _ (c.end_call.ensures.stands members (durable_state old) p t st) in
@@ -78,10 +78,10 @@ returns-in_err-count_vote-clause-moves g c = λ members n p t st awaited step r 
     let so = sym (c.counts.ensures.counts p1 a st3.role (ap (λ (z : Store). z.term) st3.store ∙ sym c.term.ensures) refl refl) ∙ c.if-not-counts.false in
     let votes = votes_puts members p1 t (counted p.memory a) old c.count_vote.new.d c.count_vote.new.self in (
       count_failed members c.args.self.now.me n (given_at c.args.now) p t a old c.count_vote.new.d c.count_vote.new.self _ c.in_err-count_vote.field-0.0 (search rules) low so
-          (subst (λ (l : List Put). DoesPuts (noted WIN l) old c.count_vote.new.d broken) (low_puts p.store a.term votes low)
-          (subst (λ (z : Store). DoesPuts (noted WIN (term_puts z a.term ++ votes)) old c.count_vote.new.d broken) (sym st.store)
+          (subst (λ (l : List Put). CallWrites (with_origin WIN l) old c.count_vote.new.d broken) (low_puts p.store a.term votes low)
+          (subst (λ (z : Store). CallWrites (with_origin WIN (term_puts z a.term ++ votes)) old c.count_vote.new.d broken) (sym st.store)
           (alike WIN (term_puts (store_of (durable_state old)) a.term) votes old c.count_vote.new.d broken
-          (c.puts_in_turn.ensures.joined _ (noted WIN votes) old mid c.count_vote.new.d broken (c.in_ok-raise.ensures.puts WIN)
+          (c.puts_in_turn.ensures.joined _ (with_origin WIN votes) old mid c.count_vote.new.d broken (c.in_ok-raise.ensures.puts WIN)
           (c.in_err-count_vote.ensures.puts members p1 t1 st3))))),
       search rules,
     )
@@ -95,7 +95,7 @@ returns-clause-moves g c = λ members n p t st awaited step r is.
     let old = c.args.d.now in
     let mid = c.raise.new.d in
     let a = answer_of step c.args.from r c.args.ans.now.term c.args.ans.now.granted in
-    let p1 : Plain = record p { memory = ended p.memory c.args.from } in
+    let p1 : RaftServer = record p { memory = ended p.memory c.args.from } in
     let t1 = end_vote_call c.args.from t in
     let stands = c.if-not-counts.ensures.candidate refl in
     let st1 = c.note_answer.ensures.stands members (durable_state old) p1 _ (c.end_call.ensures.stands members (durable_state old) p t st) in
@@ -105,10 +105,10 @@ returns-clause-moves g c = λ members n p t st awaited step r is.
     let so = sym (c.counts.ensures.counts p1 a st3.role (ap (λ (z : Store). z.term) st3.store ∙ sym c.term.ensures) refl refl) ∙ c.if-not-counts.false in
     let votes = votes_puts members p1 t (counted p.memory a) old c.count_vote.new.d c.count_vote.new.self in (
       vote_counted members c.args.self.now.me n (given_at c.args.now) p t a old c.count_vote.new.d c.count_vote.new.self low so
-          (subst (λ (l : List Put). DoesPuts (noted WIN l) old c.count_vote.new.d None) (low_puts p.store a.term votes low)
-          (subst (λ (z : Store). DoesPuts (noted WIN (term_puts z a.term ++ votes)) old c.count_vote.new.d None) (sym st.store)
+          (subst (λ (l : List Put). CallWrites (with_origin WIN l) old c.count_vote.new.d None) (low_puts p.store a.term votes low)
+          (subst (λ (z : Store). CallWrites (with_origin WIN (term_puts z a.term ++ votes)) old c.count_vote.new.d None) (sym st.store)
           (alike WIN (term_puts (store_of (durable_state old)) a.term) votes old c.count_vote.new.d None
-          (c.puts_in_turn.ensures.joined _ (noted WIN votes) old mid c.count_vote.new.d _ (c.in_ok-raise.ensures.puts WIN)
+          (c.puts_in_turn.ensures.joined _ (with_origin WIN votes) old mid c.count_vote.new.d _ (c.in_ok-raise.ensures.puts WIN)
           (c.in_ok-count_vote.ensures.puts members p1 t1 st3)))))
           (c.in_ok-count_vote.ensures.stands members p1 t1 st3),
       refl,

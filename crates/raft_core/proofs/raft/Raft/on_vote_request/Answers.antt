@@ -6,7 +6,7 @@ use Rattle.raft_model.specs.Decisions.{grants}
 use Rattle.raft_model.specs.Server.{Put}
 use Rattle.raft_model.specs.Moves.Elections.{MayGrant, grant_puts, term_puts, vote_puts, with_term}
 use Rattle.raft_core.specs.Handled.{vote_request_of}
-use Rattle.raft_core.specs.StoredPuts.{DoesPuts, noted, store_of}
+use Rattle.raft_core.specs.StoredPuts.{CallWrites, with_origin, store_of}
 use Rattle.raft_core.specs.Times.{given_at}
 use Rattle.raft_core.proofs.Puts.{alike, faults_at}
 use Rattle.raft_core.proofs.VoteRequest.{granted_puts, vote_denied, vote_failed, vote_granted, voted_fits}
@@ -20,7 +20,7 @@ returns-in_err-raise-clause-moves g c = λ members n p t st step.
     let granted = grants (with_term p.store r.term) r in
     vote_failed members raft.me n (given_at c.args.now) p t r granted (c.law_decisions.ensures.granted (with_term p.store r.term) r) old raft st _ c.in_err-raise.field-0.0 _ _ (search rules)
     (alike LEADER (term_puts (store_of (durable_state old)) r.term) (grant_puts (with_term p.store r.term) r granted) old _ (Some c.in_err-raise.field-0.0)
-    (c.puts_in_turn.ensures.cut_off _ (noted LEADER (grant_puts (with_term p.store r.term) r granted)) old _ c.in_err-raise.field-0.0 (c.in_err-raise.ensures.puts LEADER)))
+    (c.puts_in_turn.ensures.cut_off _ (with_origin LEADER (grant_puts (with_term p.store r.term) r granted)) old _ c.in_err-raise.field-0.0 (c.in_err-raise.ensures.puts LEADER)))
 
 pub returns-then-not-may_grant-clause-moves : goal.returns-then-not-may_grant-clause-moves
 returns-then-not-may_grant-clause-moves g c = λ members n p t st step.
@@ -44,8 +44,8 @@ returns-in_err-vote-clause-moves g c = λ members n p t st step.
     let may : MayGrant (store_of (durable_state mid)) r = (c.may_grant.ensures step raft.me).0 (search rules) in
     vote_failed members raft.me n (given_at c.args.now) p t r granted is old raft st _ c.in_err-vote.field-0.0 _ _ (search rules)
     (alike LEADER (term_puts (store_of (durable_state old)) r.term) (grant_puts (with_term p.store r.term) r granted) old _ (Some c.in_err-vote.field-0.0)
-    (c.puts_in_turn.ensures.joined _ (noted LEADER (grant_puts (with_term p.store r.term) r granted)) old mid _ _ (c.in_ok-raise.ensures.puts LEADER)
-    (subst (λ (l : List Put). DoesPuts (noted LEADER l) mid c.vote.new.d (Some c.in_err-vote.field-0.0)) (granted_puts members raft.me n (given_at c.args.now) p t r granted is old raft st mid c.raise.new.self st1 may) c.in_err-vote.ensures.puts)))
+    (c.puts_in_turn.ensures.joined _ (with_origin LEADER (grant_puts (with_term p.store r.term) r granted)) old mid _ _ (c.in_ok-raise.ensures.puts LEADER)
+    (subst (λ (l : List Put). CallWrites (with_origin LEADER l) mid c.vote.new.d (Some c.in_err-vote.field-0.0)) (granted_puts members raft.me n (given_at c.args.now) p t r granted is old raft st mid c.raise.new.self st1 may) c.in_err-vote.ensures.puts)))
 
 pub returns-clause-moves : goal.returns-clause-moves
 returns-clause-moves g c = λ members n p t st step.

@@ -1,7 +1,7 @@
 use Rattle.std.proofs.Common.{rules, ◌+◌, ◌<◌, List, length, drop, refl, sym, ap, subst, arith}
 use Rattle.std.specs.Prelude.{None, false, is_ok, true}
 use Rattle.can_frame.specs.declared.entry.Entry.{Entry}
-use Rattle.raft_log.specs.Calls.{MakesPuts}
+use Rattle.raft_log.specs.Calls.{WritesInOrder}
 use Rattle.raft_log.specs.StateViews.{stored_of}
 use Rattle.raft_log.specs.Stored.{Put, origin_puts}
 use Rattle.raft_log.proofs.InTurn.{cut_by, fault_after, unchanged, without_puts}
@@ -27,7 +27,7 @@ returns-in_err-put_origin-clause-puts g c =
     let log = ap (λ (l : List Entry). length l) kept.log in
     let within : place < length c.loop-place.self.state.log.items = omega (arith, log, c.loop-place-test.true, c.last-place-end.ensures.last) in
     let tried = further_puts place old c.loop-place.self c.put_origin.new.self false within kept.log kept.later kept.puts kept.fault c.in_err-put_origin.ensures.puts in
-    subst (λ (puts : List Put). MakesPuts puts old c.put_origin.new.self (is_ok c.from_residual.result)) (sym (puts_parted (place + 1) 0 s.log s.origins))
+    subst (λ (puts : List Put). WritesInOrder puts old c.put_origin.new.self (is_ok c.from_residual.result)) (sym (puts_parted (place + 1) 0 s.log s.origins))
     (cut_by None (puts_before (place + 1) s) (origin_puts (0 + (place + 1)) (drop (place + 1) s.log) (drop (place + 1) s.origins)) old c.put_origin.new.self c.from_residual.result c.in_err-put_origin.field-0.0 (search rules) tried)
 
 pub loop-place-preserved : goal.loop-place-preserved
@@ -51,7 +51,7 @@ loop-place-preserved g c =
 pub returns-clause-puts : goal.returns-clause-puts
 returns-clause-puts g c =
     let old = c.args.self.now in
-    subst (λ (puts : List Put). MakesPuts puts old c.loop-place.self true)
+    subst (λ (puts : List Put). WritesInOrder puts old c.loop-place.self true)
     (all_before c.loop-place.place (stored_of old.state) old.storable.count (omega (arith, c.loop-place-test.false, c.last-place-end.ensures.last))) c.loop-place.invariant.puts
 
 pub returns-clause-have : goal.returns-clause-have

@@ -1,0 +1,44 @@
+-- A step that begins.
+use Rattle.std.proofs.Common.{◌≡◌, ℕ, List, [], ◌∷◌, refl, sym, subst}
+use Rattle.std.specs.Prelude.{None}
+use Rattle.disk_model.specs.declared.disk.Disk.{Ghosts}
+use Rattle.raft_log.specs.declared.durable.Durable.{Durable}
+use Rattle.raft_core.specs.Handled.{moves_of_expire, puts_with_origins}
+use Rattle.raft_core.specs.StoredPuts.{CallWrites, PutWithOrigin}
+use Rattle.raft_core.specs.Times.{Given, given_at, overdue}
+use Rattle.raft_model.specs.Handlers.{plain_after}
+use Rattle.raft_model.specs.Moves.Move.{GiveUp}
+use Rattle.raft_model.specs.Server.{RaftServer}
+use Rattle.alloc_step.specs.declared.offered.Offered.{Offered}
+use Rattle.alloc_step.specs.Step.{all_nodes, at_moment, at_sessions, begins}
+use Rattle.alloc_step.specs.AllocatorState.{AllocatorState, members_of}
+use Rattle.transfer_rx.specs.Sessions.{Session}
+use Rattle.alloc_core.specs.declared.member.Member.{Member}
+use Rattle.alloc_core.specs.Stands.{IsFresh, IsInStep, StandsFor}
+
+-- giving up calls makes no puts
+expire_is_quiet : (members : List ℕ) (me step : ℕ) (given : Given) (plain : RaftServer) (nodes : List ℕ) → puts_with_origins members me step given plain (moves_of_expire nodes) ≡ []
+expire_is_quiet members me step given plain [] = refl
+expire_is_quiet members me step given plain (node ∷ nodes) = expire_is_quiet members me step given (plain_after members me step plain (GiveUp node)) nodes
+
+pub begun : {D : Type 0} {disk : Ghosts D} (start : Durable D disk) (member : Member D disk) (t : AllocatorState) (offered : Offered) (step now : ℕ) (sessions : List Session)
+    → CallWrites [] start start None → member.durable ≡ start → IsFresh offered → StandsFor member (begins step now t).timed
+    → IsInStep start member offered (at_sessions sessions (begins step now t))
+begun start member t offered step now sessions nothing same fresh h = record {
+  stands = record {
+    me = h.me;
+    size = h.size;
+    raft = h.raft;
+    exchange = h.exchange;
+    watch = h.watch;
+    cluster = h.cluster;
+    outbox = h.outbox;
+    opened_at = h.opened_at;
+    now = h.now;
+    status_at = h.status_at;
+  };
+  sent = fresh.sent;
+  given = fresh.given;
+  puts = subst (λ (list : List PutWithOrigin). CallWrites list start member.durable None) (sym (expire_is_quiet (members_of t) t.me step (given_at (at_moment now t).now) t.plain (overdue t.times (at_moment now t).now all_nodes)))
+      (subst (λ (d : Durable _ _). CallWrites [] start d None) (sym same) nothing);
+}

@@ -1,0 +1,13 @@
+pub mod Accepted
+pub mod Delivered
+pub mod Ending
+pub mod Exchange
+pub mod Extends
+pub mod StepState
+pub mod Judging
+pub mod Outbox
+pub mod Services
+pub mod Step
+pub mod Tick
+pub mod AllocatorState
+pub mod Transfers

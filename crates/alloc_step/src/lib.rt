@@ -1,0 +1,32 @@
+//! What one allocator's step is, and the parts that a server of it is made of.
+//!
+//! The definition (`specs/`): a server in time is a server of the message machine (`raft_model`)
+//! with the moments and lists that its step goes by (`AllocatorState`). A step is a function of it:
+//! what an event, with its moment, makes of a server where no put fails (`Step`). It says what the
+//! server is afterwards, which moves of the machine it made, with which puts, and which transfers
+//! it offered, in order (`StepState`). Whether a frame fits a server under test is said over the same
+//! definition (`Judging`).
+//!
+//! The parts: the transfers that an allocator sends and receives ([`accept_rows`], [`ident_of`]),
+//! the queue with its transfer IDs ([`Outbox`]), the list of what a step offered ([`Offered`]), and
+//! what goes in and out of a step ([`Event`], [`Outcome`], [`View`]). [`laws`] says that phases of
+//! a step only add puts, and which origin the entries have that a leader records.
+#![tactic(auto)]
+
+mod counters;
+mod event;
+pub mod laws;
+mod offered;
+mod outbox;
+mod rows;
+mod transfers;
+
+pub use can_frame::{Judged, Role, Seen, Sent, What};
+pub use event::{Event, Outcome, View};
+pub use offered::Offered;
+pub use outbox::Outbox;
+pub use rows::{accept, accept_rows};
+pub use transfers::{
+    ALLOCATION, APPEND_ENTRIES, DISCOVERY, GET_NODE_INFO, NODE_STATUS, REQUEST_VOTE, ident_of,
+    signature_of,
+};

@@ -1,0 +1,5 @@
+use Rattle.alloc_step_laws.proofs.Saying.{all_say}
+use Rattle.alloc_step_laws.proofs.laws.what_transfers_say.Goals as goal
+
+pub returns : goal.returns
+returns c = all_say

@@ -1,0 +1,17 @@
+-- The exit code of each status.
+use Rattle.std.specs.Prelude.{ℕ}
+use Rattle.app_base.specs.declared.status.Status.{Status}
+use Rattle.app_base.specs.declared.status.Status.TheVariants.{Done, Usage, BadRow, Unlawful, ReadFault, WriteFault, Memory, Limit, LinkFault, DiskFault, Damaged}
+
+abbrev pub status_code : Status → ℕ
+status_code Done = 0
+status_code Usage = 2
+status_code (BadRow row) = 3
+status_code (Unlawful row number) = 4
+status_code ReadFault = 5
+status_code WriteFault = 6
+status_code Memory = 7
+status_code (Limit row) = 8
+status_code (LinkFault id) = 9
+status_code (DiskFault id) = 10
+status_code (Damaged id key) = 11

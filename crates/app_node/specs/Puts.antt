@@ -1,0 +1,41 @@
+-- What the steps of a turn put, in order.
+use Rattle.std.specs.Prelude.{◌≡◌, ◌⊎◌, ℕ, suc, List, [], ◌++◌, length, Option, Some, None}
+use Rattle.outside.specs.declared.received.Received.{Received}
+use Rattle.outside.specs.Traffic.{items_behind, next_item}
+use Rattle.app_base.specs.Draws.{moved, word_at}
+use Rattle.raft_core.specs.StoredPuts.{PutWithOrigin}
+use Rattle.alloc_step.specs.Step.{Event, Tick, step}
+use Rattle.app_node.specs.Frames.{event_in}
+use Rattle.app_node.specs.Turn.{Turning, ticks}
+
+-- the next step
+abbrev pub step_puts : Event → Turning → List PutWithOrigin
+step_puts event t = (step t.running.timed (suc (length t.lines)) event).step_state.puts
+
+-- the step at its clock
+abbrev pub tick_puts : ℕ → Turning → List PutWithOrigin
+tick_puts moment t = step_puts (Tick moment (word_at (moved t.running.draws))) t
+
+abbrev pub taken_puts : Option Event → Turning → List PutWithOrigin
+taken_puts None t = []
+taken_puts (Some event) t = step_puts event t
+
+-- the step of the next item of its link, if it makes one
+abbrev pub heard_puts : ℕ → Turning → List PutWithOrigin
+heard_puts moment t = taken_puts (event_in moment (next_item t.running.coming)) t
+
+-- both
+unfoldable pub turn_puts : ℕ → Turning → List PutWithOrigin
+turn_puts moment t = tick_puts moment t ++ heard_puts moment (ticks moment t)
+
+-- ---- a turn that was cut off, when these items are left of its link: what holds of the puts up to there
+
+-- the next item was not taken, and nothing was put for it; or it was taken
+abbrev pub IsHeardIn : ℕ → Turning → Option (List Received) → (List PutWithOrigin → Type 0) → Type 0
+IsHeardIn moment t left Holds = ((left ≡ Some t.running.coming) × Holds [])
+    ⊎ ((left ≡ Some (items_behind t.running.coming)) × Holds (heard_puts moment t))
+
+-- the next item was not taken, and only the step at its clock has put; or it was taken
+abbrev pub IsCutIn : ℕ → Turning → Option (List Received) → (List PutWithOrigin → Type 0) → Type 0
+IsCutIn moment t left Holds = ((left ≡ Some t.running.coming) × Holds (tick_puts moment t))
+    ⊎ ((left ≡ Some (items_behind t.running.coming)) × Holds (turn_puts moment t))

@@ -1,0 +1,38 @@
+-- What a run writes.
+use Rattle.std.specs.Prelude.{ℕ, ◌-◌, List, [], ◌++◌, length, drop, flat_map, codes, decimal}
+use Rattle.app_base.specs.declared.status.Status.{Status}
+use Rattle.app_base.specs.declared.status.Status.TheVariants.{LinkFault, DiskFault, Damaged}
+use Rattle.bus_spec.specs.Report.{end_line}
+
+-- how many steps are told of, the last ones
+abbrev pub steps_told : ℕ
+steps_told = 256
+
+abbrev pub last_lines : List (List ℕ) → List (List ℕ)
+last_lines lines = drop (length lines - steps_told) lines
+
+-- some lines, one after the other
+abbrev pub joined : List (List ℕ) → List ℕ
+joined lines = flat_map (λ line. line) lines
+
+-- the lines of the last steps, each under its number, and the number of turns
+abbrev pub report : ℕ → List (List ℕ) → List ℕ
+report turns lines = joined (last_lines lines) ++ end_line turns
+
+-- ---- the one line of a run that did not come to its end
+
+abbrev pub link_fault_line : ℕ → List ℕ
+link_fault_line id = codes "link fault " ++ decimal id ++ codes "\n"
+
+abbrev pub disk_fault_line : ℕ → List ℕ
+disk_fault_line id = codes "disk fault " ++ decimal id ++ codes "\n"
+
+abbrev pub damaged_line : ℕ → ℕ → List ℕ
+damaged_line id key = codes "damaged " ++ decimal id ++ codes " " ++ decimal key ++ codes "\n"
+
+-- by its status
+abbrev pub line_of : Status → List ℕ
+line_of (LinkFault id) = link_fault_line id
+line_of (DiskFault id) = disk_fault_line id
+line_of (Damaged id key) = damaged_line id key
+line_of _ = []

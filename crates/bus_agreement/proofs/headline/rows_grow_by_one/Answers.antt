@@ -1,0 +1,6 @@
+use Rattle.bus_agreement.proofs.Joining.{ids_stay}
+use Rattle.bus_agreement.proofs.Longer.{fits, grown, lawful, made_more, shown}
+use Rattle.bus_agreement.proofs.headline.rows_grow_by_one.Goals as goal
+
+pub returns : goal.returns
+returns c = record { members = ids_stay; world = grown; lawful = lawful; events = shown; fits = fits; made = made_more }

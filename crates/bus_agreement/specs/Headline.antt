@@ -1,0 +1,93 @@
+-- The headline. Whatever frames are delivered, lost or repeated, whatever clocks read and wherever inside store writes
+-- allocators stop: each allocator's committed log is always a prefix of one injective, growing list of unique ID and
+-- node ID pairs, every allocation offered to the bus is a pair of it by then, and every later leader holds it.
+--
+-- A schedule is cut at any two places: `first` came, `more` follow, and then the rest. So "now" is after any row, or
+-- before all of them, and "later" is now or after any row from then on.
+use Rattle.std.specs.Prelude.{◌≡◌, ◌≢◌, ℕ, ◌<◌, ◌≤◌, nat_lt, Bool, if◌then◌else◌}
+use Rattle.std.specs.Prelude.{List, [], ◌∷◌, ◌++◌, length, slice_index_or}
+use Rattle.can_frame.specs.declared.entry.Entry.{Entry}
+use Rattle.can_frame.specs.Log.{HasPair, IsInjective, IsPrefix, IsWellFormed, blank}
+use Rattle.dsdl_codec.specs.declared.allocation.Allocation.{Allocation}
+use Rattle.dsdl_codec.specs.Entry.{IsEntry}
+use Rattle.kv_store.specs.KeyDisk.{restarted_on}
+use Rattle.outside.specs.declared.pattern.Pattern.{Pattern}
+use Rattle.raft_core.specs.StoredPuts.{store_of}
+use Rattle.raft_model.specs.Lists.{In}
+use Rattle.raft_model.specs.Server.Role.{Leader}
+use Rattle.replay_text.specs.declared.row.Row.{Row}
+use Rattle.alloc_step.specs.AllocatorState.{AllocatorState}
+use Rattle.transfer_tx.specs.Queue.{Queued}
+use Rattle.bus_spec.specs.Cluster.{Cluster, cluster, world_of}
+use Rattle.bus_spec.specs.Logs.{IsFound, IsGivenFrom, IsOfAllocation, IsOffered, committed, stored}
+use Rattle.bus_spec.specs.Members.MemberStatus.{Up}
+use Rattle.bus_spec.specs.Choices.{Fits}
+use Rattle.bus_spec.specs.Refinement.{made}
+
+-- the one list: the longest that a member has committed. All of them are prefixes of one list (`prefix`), so any two
+-- of one length are equal
+abbrev pub longest : (ℕ → Bool) → Cluster → List ℕ → List Entry
+longest choice w [] = []
+longest choice w (n ∷ ns) =
+    if nat_lt (length (longest choice w ns)) (length (committed choice w n))
+    then committed choice w n
+    else longest choice w ns
+
+abbrev pub the_list : (ℕ → Bool) → Cluster → List Entry
+the_list choice w = longest choice w w.ids
+
+-- the member runs as Leader
+pub record Leads (w : Cluster) (n : ℕ) (server : AllocatorState) : Type 0 where
+  pub runs : (w.member n).life ≡ Up server
+  pub role : server.plain.memory.role ≡ Leader
+
+pub record Headline (choice : ℕ → Bool) (now later : Cluster) : Type 0 where
+  -- each committed log is a prefix of the list, and of each that its member has later, through stops and openings
+  pub prefix : (n : ℕ) → In n now.ids → IsPrefix (committed choice now n) (the_list choice now)
+  pub kept : (n : ℕ) → In n now.ids → IsPrefix (committed choice now n) (committed choice later n)
+  -- a running member goes by what it has stored
+  pub shown : (n : ℕ) (server : AllocatorState) → In n now.ids → (now.member n).life ≡ Up server
+      → server.plain.store ≡ stored choice now n
+  -- whatever image a stop now would leave of a member's disk, it stands for what is stored; of a failed step it stands
+  -- for one of the two that choices may say
+  pub found : (n : ℕ) (pattern : Pattern) → In n now.ids
+      → IsFound (now.member n).life (now.member n).disk (store_of (restarted_on pattern (now.member n).disk).store)
+  -- the list has pairs, reservations and blanks, each with a unique ID of 16 bytes
+  pub formed : (place : ℕ) → place < length (the_list choice now)
+      → IsWellFormed (slice_index_or (the_list choice now) place (blank 0))
+  pub entries : (place : ℕ) → place < length (the_list choice now)
+      → IsEntry (slice_index_or (the_list choice now) place (blank 0))
+  -- no two of it but blanks have one node ID, and no two pairs one unique ID; it only grows
+  pub injective : IsInjective (the_list choice now)
+  pub grows : IsPrefix (the_list choice now) (the_list choice later)
+  -- no member's own node ID is ever given or kept back
+  pub outside : (place n : ℕ) → place < length (the_list choice now) → In n now.ids
+      → (slice_index_or (the_list choice now) place (blank 0)).node ≢ n
+  -- an Allocation with a node ID that waits in a running member's queue is a pair of the member's committed log, and so
+  -- of the list; each Allocation that fits waits whole when its row is over (`queue_of_a_step` of `alloc_step_laws`)
+  pub offered : (n : ℕ) (server : AllocatorState) (answer : Allocation) → In n now.ids
+      → (now.member n).life ≡ Up server
+      → IsOffered server.queue n answer → answer.node ≢ 0
+      → HasPair (committed choice now n) answer.uid.items answer.node
+  -- what a member has committed now begins the log of every Leader later whose term is at least the one that the member
+  -- has stored now. Take as "now" the row in which a place was first committed: the member's term is then the one that
+  -- committed it
+  pub leaders : (n leader : ℕ) (server : AllocatorState) → In n now.ids → In leader now.ids
+      → Leads later leader server
+      → (stored choice now n).term ≤ server.plain.store.term
+      → IsPrefix (committed choice now n) server.plain.store.log
+
+-- Of a list of rows: the headline holds from each of its moments to each later one, for every choice that fits the rows
+-- up to the later one; and there is a choice that fits all of it, and so up to every moment.
+pub record HasHeadline (ids : List ℕ) (rows : List Row) : Type 0 where
+  pub some : (choice : ℕ → Bool) × Fits choice (cluster ids) rows
+  pub holds : (first more rest : List Row) (choice : ℕ → Bool) → rows ≡ first ++ (more ++ rest)
+      → Fits choice (cluster ids) (first ++ more)
+      → Headline choice (world_of ids first) (world_of ids (first ++ more))
+  -- On the bus there are no other Allocations: at each moment each frame whose identifier reads as an Allocation of a
+  -- node is that member's, of an Allocation that it made in a step by then, and what this one gives is a pair of the
+  -- member's committed log.
+  pub bus : (first rest : List Row) (choice : ℕ → Bool) → rows ≡ first ++ rest
+      → Fits choice (cluster ids) first
+      → (frame : Queued) (n : ℕ) → In frame (world_of ids first).frames → IsOfAllocation frame n
+      → In n ids × IsGivenFrom (committed choice (world_of ids first) n) (made (cluster ids) first []) frame n

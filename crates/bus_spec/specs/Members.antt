@@ -1,0 +1,142 @@
+-- A member of a cluster: a disk, and where it runs, a server in time over it. It opens, takes steps, and stops.
+--
+-- The disk is the one by states (`raft_log`): what is stored, the copy that each selector chooses, the one selector
+-- that was written and not synced, and which of its calls fail.
+use Rattle.std.specs.Prelude.{ℕ, ◌+◌, ◌==◌, Bool, true, false, [], Option, None, take, if◌then◌else◌, List}
+use Rattle.disk_model.specs.Memory.{nothing_set}
+use Rattle.kv_store.specs.KeyDisk.{KeyDisk, restarted_on}
+use Rattle.outside.specs.declared.pattern.Pattern.{Pattern}
+use Rattle.outside.specs.declared.pattern.Pattern.TheVariants.{Old}
+use Rattle.raft_core.specs.StoredPuts.{puts_alone, store_of, stored_puts}
+use Rattle.raft_log.specs.KeyDisk.{are_put, done_on, is_open_on, opening_on, puts_on}
+use Rattle.raft_log.specs.Stored.{Put, Stored}
+use Rattle.raft_model.specs.Server.{Store, put_all}
+use Rattle.transfer_tx.specs.Queue.{Queued, next_out}
+use Rattle.alloc_step.specs.StepState.{StepState}
+use Rattle.alloc_step.specs.Step.{Event, popped, step}
+use Rattle.alloc_step.specs.AllocatorState.{AllocatorState, opening}
+
+-- A step that failed, as it is known until its member stops: its row, the server before it, what it set out to do,
+-- and how many of its puts are done for sure. Whether the next one is, a stop finds.
+pub record Failure : Type 0 where
+  pub row : ℕ
+  pub before : AllocatorState
+  pub step_state : StepState
+  pub done : ℕ
+
+pub data MemberStatus : Type 0 where
+  Down : MemberStatus
+  Up : (server : AllocatorState) → MemberStatus
+  -- it runs, and takes no step any more
+  Failed : (failure : Failure) → MemberStatus
+
+pub record Member : Type 0 where
+  pub life : MemberStatus
+  pub disk : KeyDisk Stored
+  -- of the stop that was armed last
+  pub pattern : Pattern
+
+abbrev pub is_running : MemberStatus → Bool
+is_running Down = false
+is_running (Up server) = true
+is_running (Failed failure) = true
+
+-- what is stored after a failed step, where so many more of its puts are done as are for sure
+abbrev pub stored_after : Failure → ℕ → Store
+stored_after failure more =
+    put_all failure.before.plain.store (take (failure.done + more) (puts_alone failure.step_state.puts))
+
+-- ---- a member at the beginning: stopped, on a disk of zeros
+
+abbrev pub zeros_stored : Stored
+zeros_stored = record { term = 0; vote = 0; log = []; commit = 0; origins = []; version = 0 }
+
+abbrev pub fresh_disk : KeyDisk Stored
+fresh_disk = record { store = zeros_stored; copies = λ key. 0; unsynced = None; calls = nothing_set 0 }
+
+abbrev pub fresh : Member
+fresh = record { life = Down; disk = fresh_disk; pattern = Old }
+
+-- ---- a stop: what the server knew is lost, and the disk starts again
+
+abbrev pub stopped_with : Pattern → KeyDisk Stored → Member → Member
+stopped_with pattern disk x = record { life = Down; disk = restarted_on pattern disk; pattern = pattern }
+
+-- ---- an opening
+
+-- one that failed leaves the member stopped; where its disk stopped, it starts again
+abbrev pub unopened : Member → KeyDisk Stored → Member
+unopened x disk = if disk.calls.stopped then stopped_with x.pattern disk x else record x { life = Down; disk = disk }
+
+-- as node n of a cluster of this size
+abbrev pub opened : ℕ → ℕ → ℕ → ℕ → Member → Member
+opened n size moment word x =
+    if is_open_on x.disk
+    then record x {
+      life = Up (opening n size (store_of (opening_on x.disk).store) moment word);
+      disk = opening_on x.disk;
+    }
+    else unopened x (opening_on x.disk)
+
+-- ---- a step
+
+-- its puts, as the disk makes them
+abbrev pub puts_of : Member → StepState → List Put
+puts_of x step_state = stored_puts step_state.puts x.disk.store
+
+-- one that was cut off by the disk: the member stops with it, or stays as one that failed
+abbrev pub cut_off : Member → ℕ → AllocatorState → StepState → KeyDisk Stored → Member
+cut_off x row before step_state disk =
+    if disk.calls.stopped
+    then stopped_with x.pattern disk x
+    else record x {
+      life = Failed
+          (record {
+            row = row;
+            before = before;
+            step_state = step_state;
+            done =
+                done_on (puts_of x step_state) x.disk.calls;
+          });
+      disk = disk;
+    }
+
+abbrev pub wrote : Member → ℕ → AllocatorState → StepState → Member
+wrote x row before step_state =
+    if are_put (puts_of x step_state) x.disk.calls
+    then record x { life = Up step_state.timed; disk = puts_on (puts_of x step_state) x.disk }
+    else cut_off x row before step_state (puts_on (puts_of x step_state) x.disk)
+
+-- a stopped member takes no step, nor does one that failed
+abbrev pub stepped : ℕ → Event → MemberStatus → Member → Member
+stepped row event Down x = x
+stepped row event (Up server) x = wrote x row server (step server row event).step_state
+stepped row event (Failed failure) x = x
+
+-- ---- its queue
+
+-- the frame that goes out next
+abbrev pub next_frame : MemberStatus → Option Queued
+next_frame Down = None
+next_frame (Up server) = next_out server.queue
+next_frame (Failed failure) = None
+
+abbrev pub after_sending : MemberStatus → MemberStatus
+after_sending Down = Down
+after_sending (Up server) = Up (popped server)
+after_sending (Failed failure) = Failed failure
+
+-- ---- what is armed: calls of the disk are counted from here on
+
+-- a stop in place of that call; it takes the place of an earlier one
+abbrev pub armed : ℕ → Pattern → Member → Member
+armed call pattern x =
+    record x { disk = record x.disk { calls = record x.disk.calls { stop_in = call } }; pattern = pattern }
+
+-- a failure of that call; it takes the place of an earlier one
+abbrev pub failing : ℕ → Member → Member
+failing call x = record x { disk = record x.disk { calls = record x.disk.calls { fail_in = call } } }
+
+-- a stop at once, where the number is 0, or in place of that later call
+abbrev pub crashed : ℕ → Pattern → Member → Member
+crashed calls pattern x = if calls == 0 then stopped_with pattern x.disk x else armed calls pattern x

@@ -1,0 +1,121 @@
+-- The run of the message machine that a world shows: the events of each row, in order; and the transfers that were
+-- made.
+--
+-- A step that its disk cut off ends within the move whose put failed. Where the member stopped with it, the disk tells
+-- whether that put was done. Where it did not, a choice says so (`Choices`).
+use Rattle.std.specs.Prelude.{ℕ, ◌+◌, ◌-◌, ◌==◌, nat_lt, Bool, List, [], ◌∷◌, ◌++◌, length, if◌then◌else◌}
+use Rattle.kv_store.specs.KeyDisk.{KeyDisk}
+use Rattle.outside.specs.declared.pattern.Pattern.{Pattern}
+use Rattle.raft_log.specs.KeyDisk.{are_put, done_on, found_by, is_open_on, puts_on}
+use Rattle.raft_log.specs.Stored.{Stored}
+use Rattle.raft_model.specs.Handlers.{plain_after}
+use Rattle.raft_model.specs.Moves.{Move, puts}
+use Rattle.raft_model.specs.Runs.{Event as RunEvent}
+use Rattle.raft_model.specs.Runs.Event.{Opens, Steps, Stops, StopsWithin}
+use Rattle.raft_model.specs.Server.{RaftServer}
+use Rattle.replay_text.specs.declared.row.Row.{Row}
+use Rattle.replay_text.specs.declared.row.Row.TheVariants.{Open, Tick, Rx, Send, Ext, Crash, Fault, AOpen, ATick, ARx, ASend, AEnd}
+use Rattle.alloc_step.specs.StepState.{StepState, messages}
+use Rattle.alloc_step.specs.Step.{Event, step}
+use Rattle.alloc_step.specs.AllocatorState.{AllocatorState}
+use Rattle.alloc_step.specs.Transfers.{SentTransfer, Offer}
+use Rattle.bus_spec.specs.Choices.{one_if}
+use Rattle.bus_spec.specs.Cluster.{Cluster, next, receipt_of, tick_of}
+use Rattle.bus_spec.specs.Members.{MemberStatus, Member, puts_of}
+use Rattle.bus_spec.specs.Members.MemberStatus.{Down, Up, Failed}
+
+-- ---- a step that was cut off
+
+-- A step of member m ends after so many puts of its moves, counted over the members of the cluster. The event names the
+-- moves before the one in which it ends, that move, and how many of that move's puts are done: `more` is 1 where the
+-- put that failed is done, and else 0.
+abbrev pub cut : List ℕ → ℕ → ℕ → RaftServer → List Move → List Move → ℕ → ℕ → List RunEvent
+cut members m number plain before [] done more = Stops m number before ∷ []
+cut members m number plain before (move ∷ moves) done more =
+    if nat_lt done (length (puts members m plain move))
+    then StopsWithin m number before move (done + more) ∷ []
+    else cut members m number (plain_after members m number plain move) (before ++ (move ∷ [])) moves
+    (done - length (puts members m plain move)) more
+
+-- how many more puts are done than are for sure, 0 or 1: a stopped disk tells, by what its restart finds; for a
+-- failed step the choice does
+abbrev pub more_done : (ℕ → Bool) → ℕ → Pattern → KeyDisk Stored → ℕ
+more_done choice row pattern disk = if disk.calls.stopped then found_by pattern disk else one_if (choice row)
+
+-- ---- the events of a row
+
+abbrev pub cut_events : (ℕ → Bool) → List ℕ → ℕ → ℕ → Member → AllocatorState → StepState
+    → List RunEvent
+cut_events choice members m row x server step_state =
+    cut members m row server.plain [] step_state.moves (done_on (puts_of x step_state) x.disk.calls)
+    (more_done choice row x.pattern (puts_on (puts_of x step_state) x.disk))
+
+abbrev pub going_events : (ℕ → Bool) → List ℕ → ℕ → ℕ → Member → AllocatorState → StepState
+    → List RunEvent
+going_events choice members m row x server step_state =
+    if are_put (puts_of x step_state) x.disk.calls
+    then Steps m row step_state.moves (messages row step_state) ∷ []
+    else cut_events choice members m row x server step_state
+
+-- one that is stopped, or has failed, takes no step
+abbrev pub step_events : (ℕ → Bool) → List ℕ → ℕ → ℕ → Event → MemberStatus → Member
+    → List RunEvent
+step_events choice members m row event Down x = []
+step_events choice members m row event (Up server) x =
+    going_events choice members m row x server (step server row event).step_state
+step_events choice members m row event (Failed failure) x = []
+
+-- a stop between two steps; one that failed went down with the step that failed
+abbrev pub stop_events : ℕ → ℕ → MemberStatus → List RunEvent
+stop_events m row Down = []
+stop_events m row (Up server) = Stops m row [] ∷ []
+stop_events m row (Failed failure) = []
+
+-- an opening that succeeded opens; what sends, comes from outside, or arms a disk shows nothing, nor does an allocatee
+abbrev pub row_events : (ℕ → Bool) → Cluster → Row → List RunEvent
+row_events choice w (Open n ms word) = if is_open_on (w.member n).disk then Opens n ∷ [] else []
+row_events choice w (Tick n ms word) =
+    step_events choice w.ids n (w.rows + 1) (tick_of ms word) (w.member n).life (w.member n)
+row_events choice w (Rx n k ms) =
+    step_events choice w.ids n (w.rows + 1) (receipt_of w k ms) (w.member n).life (w.member n)
+row_events choice w (Send n) = []
+row_events choice w (Ext frame) = []
+row_events choice w (Crash n calls pattern) = if calls == 0 then stop_events n (w.rows + 1) (w.member n).life else []
+row_events choice w (Fault n call) = []
+row_events choice w (AOpen a uid pref ms word) = []
+row_events choice w (ATick a ms word) = []
+row_events choice w (ARx a k ms word) = []
+row_events choice w (ASend a) = []
+row_events choice w (AEnd a) = []
+
+abbrev pub events : (ℕ → Bool) → Cluster → List Row → List RunEvent
+events choice w [] = []
+events choice w (row ∷ rows) = row_events choice w row ++ events choice (next w row) rows
+
+-- ---- the transfers that were made
+
+-- those of these offers that fitted, the latest first, before those made earlier
+abbrev pub made_of : ℕ → ℕ → List Offer → List SentTransfer → List SentTransfer
+made_of row m [] earlier = earlier
+made_of row m (offer ∷ offers) earlier =
+    made_of row m offers (if offer.fitted then record { step = row; by = m; offer = offer } ∷ earlier else earlier)
+
+-- of a step that finished
+abbrev pub made_by_going : ℕ → ℕ → Member → StepState → List SentTransfer → List SentTransfer
+made_by_going row m x step_state earlier =
+    if are_put (puts_of x step_state) x.disk.calls then made_of row m step_state.offers earlier else earlier
+
+abbrev pub made_by : ℕ → ℕ → Event → MemberStatus → Member → List SentTransfer → List SentTransfer
+made_by row m event Down x earlier = earlier
+made_by row m event (Up server) x earlier = made_by_going row m x (step server row event).step_state earlier
+made_by row m event (Failed failure) x earlier = earlier
+
+abbrev pub made_in : Cluster → Row → List SentTransfer → List SentTransfer
+made_in w (Tick n ms word) earlier = made_by (w.rows + 1) n (tick_of ms word) (w.member n).life (w.member n) earlier
+made_in w (Rx n k ms) earlier = made_by (w.rows + 1) n (receipt_of w k ms) (w.member n).life (w.member n) earlier
+made_in w row earlier = earlier
+
+-- by these rows, the latest first, before those made earlier
+abbrev pub made : Cluster → List Row → List SentTransfer → List SentTransfer
+made w [] earlier = earlier
+made w (row ∷ rows) earlier = made (next w row) rows (made_in w row earlier)

@@ -1,6 +1,0 @@
-use Rattle.world_laws.proofs.Joining.{ids_stay}
-use Rattle.world_laws.proofs.Longer.{fits, grown, lawful, made_more, shown}
-use Rattle.world_laws.proofs.headline.rows_grow_by_one.Goals as goal
-
-pub returns : goal.returns
-returns c = record { members = ids_stay; world = grown; lawful = lawful; events = shown; fits = fits; made = made_more }
