@@ -22,6 +22,6 @@ mod word;
 pub use line::Line;
 pub use report::write_told;
 pub use row::Row;
-pub use schedule::read_row;
+pub use schedule::{read_frame, read_row};
 pub use told::Told;
-pub use word::read_number;
+pub use word::{read_bytes, read_identifier, read_number};
