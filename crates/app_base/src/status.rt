@@ -37,6 +37,15 @@ pub enum Status {
 
     /// The store of this node is damaged, first at this key.
     Damaged(u8, u8),
+
+    /// At this index, the least such, the committed logs of these two nodes differ.
+    Differ(u8, u8, u8),
+
+    /// The text has no such part.
+    NoPart,
+
+    /// The bytes have no value under that part.
+    NoValue,
 }
 
 impl Status {
@@ -56,6 +65,9 @@ impl Status {
             Status::LinkFault(_) => 9,
             Status::DiskFault(_) => 10,
             Status::Damaged(..) => 11,
+            Status::Differ(..) => 14,
+            Status::NoPart => 15,
+            Status::NoValue => 16,
         }
     }
 }

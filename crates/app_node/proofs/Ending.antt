@@ -6,7 +6,7 @@ use Rattle.disk_model.specs.declared.disk.Disk.{Ghosts}
 use Rattle.outside.specs.Faults.{Rose}
 use Rattle.std.specs.Io.KnownBytes.{Appends, append_known}
 use Rattle.app_base.specs.declared.status.Status.{Status}
-use Rattle.app_base.specs.declared.status.Status.TheVariants.{Done, Usage, BadRow, Unlawful, ReadFault, WriteFault, Memory, Limit, LinkFault, DiskFault, Damaged as DamagedStore}
+use Rattle.app_base.specs.declared.status.Status.TheVariants.{Done, Usage, BadRow, Unlawful, ReadFault, WriteFault, Memory, Limit, LinkFault, DiskFault, Damaged as DamagedStore, Differ, NoPart, NoValue}
 use Rattle.app_node.specs.Ends.{fault_status}
 use Rattle.app_node.specs.Run.{AreStopped, EndsRun}
 use Rattle.app_node.specs.Stands.{AreOpened, runner_disk}
@@ -132,6 +132,9 @@ by_status (Limit row) is = is
 by_status (LinkFault id) is = is
 by_status (DiskFault id) is = is
 by_status (DamagedStore id key) is = is
+by_status (Differ index a b) is = is
+by_status NoPart is = is
+by_status NoValue is = is
 
 pub link_status : (fault : Fault) (id : ℕ) → fault_status fault ≡ LinkFault id → fault ≡ Link id
 link_status (Link node) id is = cc (is)

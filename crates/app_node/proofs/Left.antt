@@ -7,7 +7,7 @@ use Rattle.outside.specs.declared.received.Received.{Received}
 use Rattle.std.specs.Io.KnownBytes.{Appends}
 use Rattle.app_base.specs.Output.{WritesFront}
 use Rattle.app_base.specs.declared.status.Status.{Status}
-use Rattle.app_base.specs.declared.status.Status.TheVariants.{BadRow, Damaged as DamagedStore, DiskFault, Done, Limit, LinkFault, Memory, ReadFault, Unlawful, Usage, WriteFault}
+use Rattle.app_base.specs.declared.status.Status.TheVariants.{BadRow, Damaged as DamagedStore, DiskFault, Done, Limit, LinkFault, Memory, ReadFault, Unlawful, Usage, WriteFault, Differ, NoPart, NoValue}
 use Rattle.raft_log.specs.declared.durable.Durable.{Durable}
 use Rattle.raft_log.specs.DurableViews.{durable_disk, durable_fault, durable_state}
 use Rattle.raft_log.specs.Opening.{IsReadAs}
@@ -84,6 +84,9 @@ line_written ReadFault before now link disk damaged id at = absurd at
 line_written WriteFault before now link disk damaged id at = absurd at
 line_written Memory before now link disk damaged id at = absurd at
 line_written (Limit row) before now link disk damaged id at = absurd at
+line_written (Differ index a b) before now link disk damaged id at = absurd at
+line_written NoPart before now link disk damaged id at = absurd at
+line_written NoValue before now link disk damaged id at = absurd at
 
 -- none of the two statuses with which all were opened
 opened_all : {A : Type 0} (status : Status) → (status ≡ Done → ⊥) → ((id : ℕ) → status ≡ LinkFault id → ⊥) → (status ≡ Done) ⊎ ((id : ℕ) × (status ≡ LinkFault id)) → A

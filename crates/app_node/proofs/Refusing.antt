@@ -6,7 +6,7 @@ use Rattle.disk_model.specs.declared.disk.Disk.{Ghosts}
 use Rattle.raft_log.specs.Rules.{IsDamagedAt, StandsForState}
 use Rattle.raft_log.specs.Stored.{Stored}
 use Rattle.app_base.specs.declared.status.Status.{Status}
-use Rattle.app_base.specs.declared.status.Status.TheVariants.{Done, Usage, BadRow, Unlawful, ReadFault, WriteFault, Memory, Limit, LinkFault, DiskFault, Damaged as DamagedStore}
+use Rattle.app_base.specs.declared.status.Status.TheVariants.{Done, Usage, BadRow, Unlawful, ReadFault, WriteFault, Memory, Limit, LinkFault, DiskFault, Damaged as DamagedStore, Differ, NoPart, NoValue}
 use Rattle.app_node.specs.Status.{DisksTell, IsDamagedDisk, IsEndStatus, IsWhole}
 use Rattle.app_node.proofs.Ending.{some_value}
 
@@ -24,6 +24,9 @@ by_end (Limit row) is write fault = absurd is
 by_end (LinkFault id) is write fault = inr (inl (id, refl))
 by_end (DiskFault id) is write fault = absurd (fault id refl)
 by_end (DamagedStore id key) is write fault = inr (inr (id, key, refl))
+by_end (Differ index a b) is write fault = absurd is
+by_end NoPart is write fault = absurd is
+by_end NoValue is write fault = absurd is
 
 module _ {D : Type 0} (disk : Ghosts D) (ids : List ℕ) (old : List (Option D)) (there : (i : ℕ) → i < length ids → IsSome (slice_index_or old i None))
     (one : (image : List ℕ) (a b : ℕ) → IsDamagedAt image a → IsDamagedAt image b → a ≡ b)
