@@ -1,4 +1,5 @@
-ghost use Rattle.std.specs.Prelude.{◌≡◌, ℕ, false, IfOk, OnOk, if◌then◌else◌};
+ghost use Rattle.std.specs.Prelude.{◌≡◌, ◌≤◌, ℕ, false, length, IfOk, OnOk, if◌then◌else◌};
+ghost use Rattle.disk_model.specs.Contents.{image_size};
 ghost use Rattle.outside.specs.Faults.{HasCause, counted, one_more};
 
 use crate::{Disk, IMAGE};
@@ -12,13 +13,16 @@ use std::rt::Files;
 
 /// A disk in a file of `IMAGE` bytes. It tells no contents.
 ///
-/// It holds an advisory lock on the whole file (`flock`) as long as it lives, so a second disk on the
-/// same file is refused, in this process and in any other. A process that asks for no lock is not held
-/// off: what it writes comes between, and nothing here notices.
+/// One that [`FileDisk::open`] gives holds an advisory lock on the whole file (`flock`) as long as it lives,
+/// so a second such disk on the same file is refused, in this process and in any other. A process that asks
+/// for no lock is not held off: what it writes comes between, and nothing here notices.
 #[derive(Drop)]
 pub struct FileDisk {
     file: File,
     faults: u64,
+
+    /// Whether it holds the lock.
+    locked: bool,
 }
 
 impl FileDisk {
@@ -35,9 +39,40 @@ impl FileDisk {
     {
         match OpenOptions::new().read(true).write(true).open(rt, path) {
             Ok(file) if is_free(&file) && has_size(&file) && is_kept(rt, &file, path) => {
-                Ok(FileDisk { file, faults: 0 })
+                Ok(FileDisk {
+                    file,
+                    faults: 0,
+                    locked: true,
+                })
             }
             Err(error) if error.kind() == ErrorKind::NotFound => FileDisk::make(rt, path),
+            _ => Err(Failed),
+        }
+    }
+
+    /// The disk in a file that is there already, to be read alone: a write to it fails, and counts as a
+    /// fault. It asks for no right to write and takes no lock, so a file of a file system that is mounted
+    /// for reading, and one that somebody else holds the lock on, can be read.
+    ///
+    /// Somebody may write to the file while it is read. So each read reads twice, and fails where the bytes
+    /// are not the same: they may be parts of several writes, which no stop leaves together.
+    ///
+    /// It fails, and changes nothing, where there is no file, and where the file has another length, is no
+    /// plain file or may not be read.
+    pub fn open_old<R: Files<File = File>>(rt: &R, path: &str) -> Result<FileDisk, Failed>
+        ensures { IfOk result (λ disk. disk.faults ≡ 0) }
+    {
+        // What is no plain file is not opened: to open a pipe waits for somebody who writes to it.
+        match fs::metadata(rt, path) {
+            Ok(metadata) if metadata.is_file() => {}
+            _ => return Err(Failed),
+        }
+        match File::open(rt, path) {
+            Ok(file) if has_size(&file) => Ok(FileDisk {
+                file,
+                faults: 0,
+                locked: false,
+            }),
             _ => Err(Failed),
         }
     }
@@ -50,7 +85,11 @@ impl FileDisk {
             return Err(Failed);
         };
         if is_free(&file) && is_zeroed(&file) && is_kept(rt, &file, path) {
-            return Ok(FileDisk { file, faults: 0 });
+            return Ok(FileDisk {
+                file,
+                faults: 0,
+                locked: true,
+            });
         }
         // A file that cannot be taken away either has another length, or is one of zeros.
         let _ = fs::remove_file(rt, path);
@@ -83,6 +122,15 @@ fn has_size(file: &File) -> bool {
         Ok(metadata) => metadata.len() == IMAGE as u64,
         Err(_) => false,
     }
+}
+
+/// Whether another read gives the same bytes.
+fn is_still(file: &File, at: usize, bytes: &[u8]) -> bool
+    requires { length bytes.now ≤ image_size }
+{
+    let mut image = [0; IMAGE];
+    let again = &mut image[..bytes.len()];
+    file.read_exact_at(again, at as u64).is_ok() && *again == *bytes
 }
 
 /// Fills an empty file with zeros.
@@ -120,7 +168,10 @@ impl Disk for FileDisk {
     ghost sound = { λ d told. absurd (false≢true told) };
 
     fn read(&mut self, at: usize, buf: &mut [u8]) -> Result<(), Failed> {
-        let done = self.file.read_exact_at(buf, at as u64);
+        let mut done = self.file.read_exact_at(buf, at as u64);
+        if !self.locked && done.is_ok() && !is_still(&self.file, at, buf) {
+            done = Err(ErrorKind::ResourceBusy.into());
+        }
         self.answer(done)
     }
 
@@ -198,11 +249,33 @@ mod tests {
     }
 
     #[test]
+    fn an_old_file_is_read_beside_the_disk_that_has_its_lock(rt: HostRuntime) -> Result<(), Fail> {
+        let path = "old.store";
+        let _ = fs::remove_file(&rt, path);
+        let mut disk = FileDisk::open(&rt, path)?;
+        disk.write(8190, &[7, 8, 9])?;
+        let mut old = FileDisk::open_old(&rt, path)?;
+        let mut bytes = [0; 3];
+        old.read(8190, &mut bytes)?;
+        assert_eq!(rt; bytes, [7, 8, 9]);
+        assert_eq!(rt; old.faults(), 0);
+        assert_eq!(rt; old.write(8190, &[1]), Err(Failed));
+        assert_eq!(rt; old.faults(), 1);
+        disk.read(8190, &mut bytes)?;
+        assert_eq!(rt; bytes, [7, 8, 9]);
+        fs::remove_file(&rt, path)?;
+        assert!(rt; FileDisk::open_old(&rt, path).is_err());
+        assert!(rt; fs::metadata(&rt, path).is_err());
+        Ok(())
+    }
+
+    #[test]
     fn another_length_is_refused_and_stays(rt: HostRuntime) -> Result<(), Fail> {
         let path = "other.store";
         for len in [0, 5, IMAGE - 1, IMAGE + 1] {
             fs::write(&rt, path, &[7u8; IMAGE + 1][..len])?;
             assert!(rt; FileDisk::open(&rt, path).is_err());
+            assert!(rt; FileDisk::open_old(&rt, path).is_err());
             assert_eq!(rt; fs::metadata(&rt, path)?.len(), len as u64);
         }
         fs::remove_file(&rt, path)?;
@@ -213,6 +286,7 @@ mod tests {
     fn a_folder_and_a_file_in_no_folder_are_refused(rt: HostRuntime) {
         for path in [".", "/", "", "no/such/folder", "/dev/full"] {
             assert!(rt; FileDisk::open(&rt, path).is_err());
+            assert!(rt; FileDisk::open_old(&rt, path).is_err());
         }
         assert!(rt; fs::metadata(&rt, "no").is_err());
     }
@@ -221,7 +295,11 @@ mod tests {
     fn a_full_device_takes_no_bytes_and_is_not_synced(rt: HostRuntime) -> Result<(), Fail> {
         let file = OpenOptions::new().write(true).open(&rt, "/dev/full")?;
         assert!(rt; !is_zeroed(&file));
-        let mut disk = FileDisk { file, faults: 0 };
+        let mut disk = FileDisk {
+            file,
+            faults: 0,
+            locked: true,
+        };
         assert_eq!(rt; disk.write(0, &[1]), Err(Failed));
         assert_eq!(rt; disk.faults(), 1);
         assert_eq!(rt; disk.sync(), Err(Failed));

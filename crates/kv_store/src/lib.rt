@@ -6,6 +6,9 @@
 //! new one alone. After a put that failed a store answers the same fault for ever; whether that put is
 //! done, only an opening finds.
 //!
+//! What an image holds can be read without a store, too: one value of it by [`Image::value`], all of them by
+//! [`Table::read`].
+//!
 //! [`Store::put`] and [`Store::open`] say besides which device calls were made. On a disk in memory these
 //! can be followed call by call: `specs/KeyDisk.antt` is the disk by keys, and [`laws::the_disk_by_keys`]
 //! says that it is just what becomes of such a disk.
@@ -21,4 +24,5 @@ mod value;
 
 pub use fault::{Fault, OpenFault, OpenRefused};
 pub use store::Store;
-pub use value::{KEYS, VALUE, Value, value_of};
+pub use table::Table;
+pub use value::{Image, KEYS, VALUE, Value, value_of};

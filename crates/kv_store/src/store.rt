@@ -29,7 +29,7 @@ pub struct Store<D: Disk> {
 
 impl<D: Disk> Store<D> {
     ghost use Rattle.kv_store.specs.Opening.{was_read};
-    ghost use Rattle.kv_store.specs.StoreViews.{store_map, store_disk, store_fault, store_copy};
+    ghost use Rattle.kv_store.specs.StoreViews.{store_map, store_disk, store_fault, store_copy, store_table};
     ghost use Rattle.kv_store.specs.declared.fault.Fault.{Fault};
     ghost use Rattle.kv_store.specs.declared.fault.OpenFault.TheVariants.{Fault as DiskFault, Damaged};
 
@@ -93,6 +93,13 @@ impl<D: Disk> Store<D> {
         ensures short { array_vec_len result.now ≤ value_limit }
     {
         self.table.get(key)
+    }
+
+    /// The values of all keys, as `get` gives them.
+    pub fn table(&self) -> &Table
+        ensures { result.now ≡ store_table self.now }
+    {
+        &self.table
     }
 
     /// Replaces the value of a key by four device calls: the copy that is not chosen, a sync, the

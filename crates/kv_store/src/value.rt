@@ -1,4 +1,4 @@
-ghost use Rattle.std.specs.Prelude.{◌≡◌, ◌≤◌, ◌<◌, length, IfSome, IsSome, IsNone};
+ghost use Rattle.std.specs.Prelude.{◌≡◌, ◌≤◌, ◌<◌, ◌↔◌, length, IfSome, IsSome, IsNone};
 ghost use Rattle.arrayvec.specs.ArrayVec.{array_vec_len};
 ghost use Rattle.kv_store.specs.Image.{copy_bytes, key_count, length_byte, value_in, value_limit};
 
@@ -19,6 +19,22 @@ pub const KEY_SIZE: usize = 67;
 
 /// What a store keeps for a key: up to 32 bytes.
 pub type Value = ArrayVec<u8, 32>;
+
+/// An image of a disk, read key by key.
+pub struct Image;
+
+impl Image {
+    /// The value that an image has for a key. None where the length of the copy that its selector chooses
+    /// is too large.
+    pub fn value(image: &[u8; IMAGE], key: u8) -> Option<Value>
+        requires { key < key_count }
+        ensures found { IfSome result (λ value. value.items ≡ value_in image.now key) }
+        ensures short { IfSome result (λ value. array_vec_len value ≤ value_limit) }
+        ensures none { IsNone result ↔ (value_limit < length_byte image.now key) }
+    {
+        read_value(image, key as usize)
+    }
+}
 
 /// A value of these bytes.
 pub fn value_of(bytes: &[u8]) -> Value

@@ -9,6 +9,7 @@ pub mod Opening
 pub mod OpeningOnShelf
 pub mod Origins
 pub mod Puts
+pub mod Reading
 pub mod Restarting
 pub mod Rules
 pub mod Running

@@ -6,6 +6,7 @@ pub mod DurableViews
 pub mod Making
 pub mod MayFollow
 pub mod Opening
+pub mod Reading
 pub mod Rules
 pub mod KeyDisk
 pub mod StateViews

@@ -1,6 +1,6 @@
 -- What a member keeps through stops, and the puts that change it (the persistent state of the Raft paper,
 -- the commit index, and how each entry came into this log).
-use Rattle.std.specs.Prelude.{ℕ, zero, suc, ◌+◌, ◌==◌, ◌⊎◌, List, [], ◌∷◌, ◌++◌, Option, Some, None, take, slice_index_or, slice_set, unwrap_or, if◌then◌else◌}
+use Rattle.std.specs.Prelude.{ℕ, zero, suc, ◌+◌, ◌==◌, ◌⊎◌, List, [], ◌∷◌, ◌++◌, Option, Some, None, map, take, slice_index_or, slice_set, unwrap_or, if◌then◌else◌}
 use Rattle.can_frame.specs.declared.entry.Entry.{Entry}
 
 -- how an entry came into the log of this member: 0 from a leader, or stored before origins were, 1 by the
@@ -23,6 +23,10 @@ pub record Stored : Type 0 where
 abbrev pub origin_at : Stored → ℕ → ℕ
 origin_at state zero = 0
 origin_at state (suc i) = unwrap_or (slice_index_or state.origins i None) 0
+
+-- origins as numbers
+abbrev pub told_origins : List (Option ℕ) → List ℕ
+told_origins origins = map (λ origin. unwrap_or origin 0) origins
 
 -- an entry as it is stored, with its origin
 pub record Kept : Type 0 where

@@ -246,7 +246,7 @@ impl<D: Disk> Durable<D> {
             Ok(store) => store,
             Err(refused) => return Err(refused),
         };
-        match State::read(&store) {
+        match State::read(store.table()) {
             Ok(state) => Ok(Durable { store, state }),
             Err(key) => Err(OpenRefused {
                 disk: store.into_disk(),

@@ -19,6 +19,8 @@ ghost use Rattle.kv_store.specs.declared.fault.Fault.{Fault};
 ghost use Rattle.raft_log.specs.Allowed.{AreAllowed};
 ghost use Rattle.raft_log.specs.Calls.{FaultIsSticky, WritesInOrder};
 ghost use Rattle.raft_log.specs.declared.durable.Durable.{Durable};
+ghost use Rattle.raft_log.specs.declared.stored.Stored.{Stored as Reading};
+ghost use Rattle.raft_log.specs.Reading.{IsReadFrom};
 ghost use Rattle.raft_log.specs.DurableViews.{durable_copies, durable_disk, durable_fault, durable_state};
 ghost use Rattle.raft_log.specs.MayFollow.{IsKept, IsStorable};
 ghost use Rattle.raft_log.specs.Rules.{AlwaysStandsForState, IsDamagedAt, StandsForState};
@@ -33,6 +35,14 @@ pub fn an_image_stands_for_one_state()
     ensures damaged { (image : List ℕ) (a b : ℕ) → IsDamagedAt image a → IsDamagedAt image b →
         a ≡ b }
     ensures either { (image : List ℕ) (state : Stored) (key : ℕ) → StandsForState image state →
+        IsDamagedAt image key → ⊥ }
+{}
+
+/// Of an image one thing is read.
+pub fn an_image_is_read_one_way()
+    ensures same { (image : List ℕ) (a b : Reading) → IsReadFrom image a → IsReadFrom image b →
+        a ≡ b }
+    ensures either { (image : List ℕ) (read : Reading) (key : ℕ) → IsReadFrom image read →
         IsDamagedAt image key → ⊥ }
 {}
 

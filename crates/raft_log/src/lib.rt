@@ -7,6 +7,8 @@
 //! (`specs/Stored.antt`): a stop at any moment of the call leaves the state after some of the first of
 //! them. So a term is stored before its vote, and an entry before last counts it.
 //!
+//! [`Stored::read`] reads the state of an image alone, by the same rules; nothing is opened and nothing put.
+//!
 //! Opening brings a store of an older version to version 2, in which each entry has its origin. Its puts are
 //! puts like any other, and change nothing that is read of the state. Where it is cut off, the next opening
 //! makes the puts that are left (`specs/Opening.antt`, [`laws::an_opening_goes_on`]).
@@ -26,7 +28,9 @@ mod keys;
 pub mod laws;
 pub mod origin;
 mod state;
+mod stored;
 mod values;
 
 pub use durable::Durable;
 pub use follow::may_follow;
+pub use stored::Stored;

@@ -1,7 +1,7 @@
 ghost use Rattle.std.specs.Prelude.{◌≡◌, ◌≤◌, ◌<◌, ◌^◌, IfOk, IfErr, IfSome, IsNone, length};
 ghost use Rattle.arrayvec.specs.ArrayVec.{array_vec_len};
 ghost use Rattle.can_frame.specs.Log.{log_limit};
-ghost use Rattle.kv_store.specs.StoreViews.{store_map};
+ghost use Rattle.kv_store.specs.TableViews.{table_map};
 ghost use Rattle.raft_log.specs.MayFollow.{MayFollow};
 ghost use Rattle.raft_log.specs.Rules.{IsEntryValue, IsFirstBroken, Stores, entry_of};
 
@@ -14,8 +14,7 @@ use crate::values::{
 };
 use arrayvec::ArrayVec;
 use can_frame::Entry;
-use disk_model::Disk;
-use kv_store::Store;
+use kv_store::Table;
 
 /// How many entries a log has at most.
 const PLACES: u8 = 127;
@@ -43,30 +42,30 @@ impl State {
     ghost use Rattle.raft_log.specs.StateViews.{stored_of};
     ghost use Rattle.raft_log.specs.Stored.{after_put};
 
-    /// The state that a store has. The error is the first key whose rule does not hold.
-    pub fn read<D: Disk>(store: &Store<D>) -> Result<State, u8>
-        ensures state { IfOk result (λ state. Stores (store_map store.now) (stored_of state)) }
-        ensures broken { IfErr result (λ key. IsFirstBroken (store_map store.now) key) }
+    /// The state that the values of a store are. The error is the first key whose rule does not hold.
+    pub fn read(table: &Table) -> Result<State, u8>
+        ensures state { IfOk result (λ state. Stores (table_map table.now) (stored_of state)) }
+        ensures broken { IfErr result (λ key. IsFirstBroken (table_map table.now) key) }
     {
-        let Some(version) = read_version(store.get(VERSION)) else {
+        let Some(version) = read_version(table.get(VERSION)) else {
             return Err(VERSION);
         };
-        let Some(term) = read_term(store.get(TERM)) else {
+        let Some(term) = read_term(table.get(TERM)) else {
             return Err(TERM);
         };
-        let Some(vote) = read_byte(store.get(VOTE), 125) else {
+        let Some(vote) = read_byte(table.get(VOTE), 125) else {
             return Err(VOTE);
         };
-        let Some(last) = read_byte(store.get(LAST), PLACES) else {
+        let Some(last) = read_byte(table.get(LAST), PLACES) else {
             return Err(LAST);
         };
-        let Some(commit) = read_byte(store.get(COMMIT), last) else {
+        let Some(commit) = read_byte(table.get(COMMIT), last) else {
             return Err(COMMIT);
         };
         let mut log = ArrayVec::new();
         let mut origins = ArrayVec::new();
         for place in 0..last {
-            let value = store.get(FIRST_ENTRY + place);
+            let value = table.get(FIRST_ENTRY + place);
             let Some(entry) = read_next(&log, term, value, version) else {
                 return Err(FIRST_ENTRY + place);
             };

@@ -1,5 +1,5 @@
 use Rattle.std.proofs.Common.{rules, ◌≡◌, ℕ, ◌+◌, List, length, slice_index, refl, sym, ap, subst, ◌∙◌, arith}
-use Rattle.kv_store.specs.StoreViews.{store_map}
+use Rattle.kv_store.specs.TableViews.{table_map}
 use Rattle.raft_log.specs.MayFollow.{MayFollow}
 use Rattle.raft_log.specs.Rules.{IsEntryValue, entries_of, entry_of, last_of, number_of, origin_of, origins_of, version_of}
 use Rattle.raft_log.proofs.Rules.{all_rules, first_more, first_none, one_more}
@@ -7,17 +7,17 @@ use Rattle.raft_log.proofs.States.{stores_read}
 use Rattle.raft_log.proofs.state.State.read.Goals as goal
 
 pub loop-place-init : goal.loop-place-init
-loop-place-init g c = record {
-  entries = c.new-log.ensures ∙ sym (first_none entry_of (store_map c.args.store.now));
-  origins = c.new-origins.ensures ∙ sym (first_none origin_of (store_map c.args.store.now));
+loop-place-init c = record {
+  entries = c.new-log.ensures ∙ sym (first_none entry_of (table_map c.args.table.now));
+  origins = c.new-origins.ensures ∙ sym (first_none origin_of (table_map c.args.table.now));
   count = ap length c.new-log.ensures;
   count_origins = ap length c.new-origins.ensures;
   rules = search rules;
 }
 
 pub loop-place-preserved : goal.loop-place-preserved
-loop-place-preserved g c =
-    let map = store_map c.args.store.now in
+loop-place-preserved c =
+    let map = table_map c.args.table.now in
     let place = c.loop-place.place in
     let bytes : c.deref-in-loop-place-2.result.now ≡ map (5 + place) = c.deref-in-loop-place-2.ensures.0 ∙ c.get-value.ensures.value in
     let bytes_again : c.deref-in-loop-place-3.result.now ≡ map (5 + place) = c.deref-in-loop-place-3.ensures.0 ∙ c.get-value.ensures.value in
@@ -40,8 +40,8 @@ loop-place-preserved g c =
     }
 
 pub returns-clause-state : goal.returns-clause-state
-returns-clause-state g c =
-    let map = store_map c.args.store.now in
+returns-clause-state c =
+    let map = table_map c.args.table.now in
     let place = c.loop-place.place in
     let first : List ℕ → ℕ = λ (value : List ℕ). slice_index value 0 in
     let last : c.in-Some-read_byte-2.last ≡ last_of map = c.in-Some-read_byte-2.ensures.found.0 ∙ ap first (c.deref-4.ensures.0 ∙ c.get-4.ensures.value) in
