@@ -1,0 +1,5 @@
+pub mod Comparing
+pub mod Disks
+pub mod Ending
+pub mod Listing
+pub mod Once

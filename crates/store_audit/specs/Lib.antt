@@ -1,0 +1,5 @@
+pub mod Audits
+pub mod Reads
+pub mod Report
+pub mod Stores
+pub mod Verdict

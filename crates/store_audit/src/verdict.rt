@@ -1,0 +1,35 @@
+ghost use Rattle.std.specs.Prelude.{◌≤◌, length};
+ghost use Rattle.store_audit.specs.Stores.{AreCommitted};
+ghost use Rattle.store_audit.specs.Verdict.{IsVerdict};
+
+use crate::compare::{difference, longest};
+use raft_log::Stored;
+
+/// What a comparison of stores comes to.
+#[derive(Clone, Copy, Debug, PartialEq, Eq)]
+pub enum Verdict {
+    /// No two of them have committed different entries at one place; so many entries are committed by the
+    /// one that has committed the most.
+    Agree(u8),
+
+    /// This is the first place at which two have committed different entries; the two are given by their
+    /// indices.
+    Differ(u8, usize, usize),
+}
+
+/// Compares what 1 to 5 stores have committed.
+pub fn audit(stores: &[Stored]) -> Verdict
+    requires some { 1 ≤ length stores.now }
+    requires five { length stores.now ≤ 5 }
+    requires commits { AreCommitted stores.now }
+    ensures { IsVerdict stores.now result }
+{
+    let most = stores[longest(stores)].commit;
+    for earlier in 0..most {
+        let place = earlier + 1;
+        if let Some((first, second)) = difference(stores, place) {
+            return Verdict::Differ(place, first, second);
+        }
+    }
+    Verdict::Agree(most)
+}
