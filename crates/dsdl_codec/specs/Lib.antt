@@ -7,6 +7,7 @@ pub mod Fields
 pub mod HardwareVersion
 pub mod NodeInfo
 pub mod NodeStatus
+pub mod Numbers
 pub mod SoftwareVersion
 pub mod Verdict
 pub mod VoteAnswer

@@ -1,6 +1,7 @@
 ghost use Rattle.std.specs.Prelude.{◌≡◌, ◌<◌, ◌+◌, Some, IfSome, IsNone};
 ghost use Rattle.arrayvec.specs.ArrayVec.{array_vec_len};
 
+use crate::numbers::{Numbers, append_counted};
 use crate::payload::{Payload, append};
 use arrayvec::ArrayVec;
 
@@ -21,6 +22,7 @@ pub struct Allocation {
 
 impl Allocation {
     ghost use Rattle.dsdl_codec.specs.Allocation.{SpellsAllocation, allocation_bytes, allocation_of};
+    ghost use Rattle.dsdl_codec.specs.Numbers.{allocation_numbers};
 
     /// The value of a payload; `None` where it has no byte, or more than 17.
     pub fn read(payload: &[u8]) -> Option<Allocation>
@@ -50,5 +52,16 @@ impl Allocation {
         payload.push(self.node * 2 + if self.first_part { 1 } else { 0 });
         append(&mut payload, &self.uid);
         payload
+    }
+
+    /// The numbers of the value.
+    pub fn numbers(&self) -> Numbers
+        ensures { result.items ≡ allocation_numbers self.now }
+    {
+        let mut numbers = Numbers::new();
+        numbers.push(u64::from(self.node));
+        numbers.push(u64::from(self.first_part));
+        append_counted(&mut numbers, &self.uid);
+        numbers
     }
 }

@@ -1,6 +1,7 @@
 ghost use Rattle.std.specs.Prelude.{◌≡◌, Some, IfSome, IsNone};
 ghost use Rattle.arrayvec.specs.ArrayVec.{array_vec_len};
 
+use crate::numbers::{self, Numbers};
 use crate::payload::Payload;
 use crate::verdict;
 
@@ -17,6 +18,7 @@ pub struct AppendAnswer {
 
 impl AppendAnswer {
     ghost use Rattle.dsdl_codec.specs.AppendAnswer.{SpellsAppendAnswer, append_answer_bytes, append_answer_of};
+    ghost use Rattle.dsdl_codec.specs.Numbers.{append_answer_numbers};
 
     /// The value of a payload; `None` where it has not 5 bytes.
     pub fn read(payload: &[u8]) -> Option<AppendAnswer>
@@ -38,5 +40,12 @@ impl AppendAnswer {
         ensures length { array_vec_len result ≡ 5 }
     {
         verdict::write(self.term, self.success)
+    }
+
+    /// The numbers of the value.
+    pub fn numbers(&self) -> Numbers
+        ensures { result.items ≡ append_answer_numbers self.now }
+    {
+        numbers::of_verdict(self.term, self.success)
     }
 }

@@ -2,6 +2,7 @@ ghost use Rattle.std.specs.Prelude.{◌≡◌, ◌<◌, Some, IfSome, IsNone, Ma
 ghost use Rattle.arrayvec.specs.ArrayVec.{array_vec_len};
 
 use crate::entry::{append_entry, read_optional_entry};
+use crate::numbers::{Numbers, append_optional_entry};
 use crate::payload::{Payload, append};
 use can_frame::Entry;
 
@@ -27,6 +28,7 @@ pub struct AppendRequest {
 
 impl AppendRequest {
     ghost use Rattle.dsdl_codec.specs.AppendRequest.{SpellsAppendRequest, append_request_bytes, append_request_of};
+    ghost use Rattle.dsdl_codec.specs.Numbers.{append_request_numbers};
 
     /// The value of a payload; `None` where it has neither 10 bytes nor 31.
     pub fn read(payload: &[u8]) -> Option<AppendRequest>
@@ -67,5 +69,18 @@ impl AppendRequest {
             append_entry(&mut payload, entry);
         }
         payload
+    }
+
+    /// The numbers of the value.
+    pub fn numbers(&self) -> Numbers
+        ensures { result.items ≡ append_request_numbers self.now }
+    {
+        let mut numbers = Numbers::new();
+        numbers.push(u64::from(self.term));
+        numbers.push(u64::from(self.prev_term));
+        numbers.push(u64::from(self.prev_index));
+        numbers.push(u64::from(self.commit));
+        append_optional_entry(&mut numbers, &self.entry);
+        numbers
     }
 }

@@ -1,6 +1,7 @@
 ghost use Rattle.std.specs.Prelude.{◌≡◌, ◌+◌, Some, IfSome, IsNone};
 ghost use Rattle.arrayvec.specs.ArrayVec.{array_vec_len};
 
+use crate::numbers::{Numbers, append_counted};
 use crate::payload::{Payload, append};
 use arrayvec::ArrayVec;
 
@@ -17,6 +18,7 @@ pub struct Discovery {
 
 impl Discovery {
     ghost use Rattle.dsdl_codec.specs.Discovery.{SpellsDiscovery, discovery_bytes, discovery_of};
+    ghost use Rattle.dsdl_codec.specs.Numbers.{discovery_numbers};
 
     /// The value of a payload; `None` where it has no byte, or more than 6.
     pub fn read(payload: &[u8]) -> Option<Discovery>
@@ -44,5 +46,15 @@ impl Discovery {
         payload.push(self.size);
         append(&mut payload, &self.known);
         payload
+    }
+
+    /// The numbers of the value.
+    pub fn numbers(&self) -> Numbers
+        ensures { result.items ≡ discovery_numbers self.now }
+    {
+        let mut numbers = Numbers::new();
+        numbers.push(u64::from(self.size));
+        append_counted(&mut numbers, &self.known);
+        numbers
     }
 }

@@ -10,6 +10,9 @@
 //! gives the bytes of a value whose small fields are within their bits. So who reads what another
 //! wrote has the same value, by the clauses of the two alone.
 //!
+//! `numbers` lists a value's fields in order, a flag as 0 or 1 and each list of variable length behind its
+//! count (`specs/Numbers.antt`).
+//!
 //! The types are those of the UAVCAN v0 specification, `uavcan.protocol.*`; a request of GetNodeInfo
 //! is the empty payload, and needs no type.
 #![tactic(auto)]
@@ -23,6 +26,7 @@ mod hardware_version;
 pub mod laws;
 mod node_info;
 mod node_status;
+mod numbers;
 mod payload;
 mod software_version;
 mod verdict;
@@ -35,6 +39,7 @@ pub use append_request::AppendRequest;
 pub use discovery::Discovery;
 pub use node_info::NodeInfo;
 pub use node_status::NodeStatus;
+pub use numbers::Numbers;
 pub use payload::Payload;
 pub use vote_answer::VoteAnswer;
 pub use vote_request::VoteRequest;

@@ -3,6 +3,7 @@ ghost use Rattle.arrayvec.specs.ArrayVec.{array_vec_len};
 
 use crate::hardware_version::HardwareVersion;
 use crate::node_status::NodeStatus;
+use crate::numbers::{Numbers, append_bytes, append_counted};
 use crate::payload::{Payload, append, split};
 use crate::software_version::SoftwareVersion;
 use arrayvec::ArrayVec;
@@ -40,6 +41,7 @@ pub struct NodeInfo {
 
 impl NodeInfo {
     ghost use Rattle.dsdl_codec.specs.NodeInfo.{SpellsNodeInfo, node_info_bytes, node_info_of};
+    ghost use Rattle.dsdl_codec.specs.Numbers.{node_info_numbers};
 
     /// The value of a payload; `None` where it has fewer than 41 bytes, or fewer than its certificate
     /// counts, or more than 80 behind that.
@@ -88,5 +90,20 @@ impl NodeInfo {
         append(&mut payload, &self.certificate);
         append(&mut payload, &self.name);
         payload
+    }
+
+    /// The numbers of the value.
+    pub fn numbers(&self) -> Numbers
+        ensures { result.items ≡ node_info_numbers self.now }
+    {
+        let mut numbers = self.status.numbers();
+        append_bytes(&mut numbers, &[self.sw_major, self.sw_minor, self.sw_flags]);
+        numbers.push(u64::from(self.sw_commit));
+        numbers.push(self.sw_crc);
+        append_bytes(&mut numbers, &[self.hw_major, self.hw_minor]);
+        append_bytes(&mut numbers, &self.uid);
+        append_counted(&mut numbers, &self.certificate);
+        append_counted(&mut numbers, &self.name);
+        numbers
     }
 }

@@ -1,6 +1,7 @@
 ghost use Rattle.std.specs.Prelude.{◌≡◌, ◌<◌, Some, IfSome, IsNone};
 ghost use Rattle.arrayvec.specs.ArrayVec.{array_vec_len};
 
+use crate::numbers::Numbers;
 use crate::payload::{Payload, append};
 
 /// What each node tells of itself once a second (`uavcan.protocol.NodeStatus`).
@@ -24,6 +25,7 @@ pub struct NodeStatus {
 
 impl NodeStatus {
     ghost use Rattle.dsdl_codec.specs.NodeStatus.{SpellsNodeStatus, node_status_bytes, node_status_of};
+    ghost use Rattle.dsdl_codec.specs.Numbers.{node_status_numbers};
 
     /// The value of a payload; `None` where it has not 7 bytes.
     pub fn read(payload: &[u8]) -> Option<NodeStatus>
@@ -67,5 +69,18 @@ impl NodeStatus {
         payload.push(self.health * 64 + self.mode * 8 + self.sub_mode);
         append(&mut payload, &self.vendor.to_le_bytes());
         payload
+    }
+
+    /// The numbers of the value.
+    pub fn numbers(&self) -> Numbers
+        ensures { result.items ≡ node_status_numbers self.now }
+    {
+        let mut numbers = Numbers::new();
+        numbers.push(u64::from(self.uptime));
+        numbers.push(u64::from(self.health));
+        numbers.push(u64::from(self.mode));
+        numbers.push(u64::from(self.sub_mode));
+        numbers.push(u64::from(self.vendor));
+        numbers
     }
 }

@@ -1,6 +1,7 @@
 ghost use Rattle.std.specs.Prelude.{◌≡◌, Some, IfSome, IsNone};
 ghost use Rattle.arrayvec.specs.ArrayVec.{array_vec_len};
 
+use crate::numbers::{self, Numbers};
 use crate::payload::Payload;
 use crate::verdict;
 
@@ -17,6 +18,7 @@ pub struct VoteAnswer {
 
 impl VoteAnswer {
     ghost use Rattle.dsdl_codec.specs.VoteAnswer.{SpellsVoteAnswer, vote_answer_bytes, vote_answer_of};
+    ghost use Rattle.dsdl_codec.specs.Numbers.{vote_answer_numbers};
 
     /// The value of a payload; `None` where it has not 5 bytes.
     pub fn read(payload: &[u8]) -> Option<VoteAnswer>
@@ -38,5 +40,12 @@ impl VoteAnswer {
         ensures length { array_vec_len result ≡ 5 }
     {
         verdict::write(self.term, self.granted)
+    }
+
+    /// The numbers of the value.
+    pub fn numbers(&self) -> Numbers
+        ensures { result.items ≡ vote_answer_numbers self.now }
+    {
+        numbers::of_verdict(self.term, self.granted)
     }
 }

@@ -1,6 +1,7 @@
 ghost use Rattle.std.specs.Prelude.{◌≡◌, Some, IfSome, IsNone};
 ghost use Rattle.arrayvec.specs.ArrayVec.{array_vec_len};
 
+use crate::numbers::Numbers;
 use crate::payload::{Payload, append};
 
 /// A candidate asks for a vote
@@ -19,6 +20,7 @@ pub struct VoteRequest {
 
 impl VoteRequest {
     ghost use Rattle.dsdl_codec.specs.VoteRequest.{SpellsVoteRequest, vote_request_bytes, vote_request_of};
+    ghost use Rattle.dsdl_codec.specs.Numbers.{vote_request_numbers};
 
     /// The value of a payload; `None` where it has not 9 bytes.
     pub fn read(payload: &[u8]) -> Option<VoteRequest>
@@ -50,5 +52,16 @@ impl VoteRequest {
         append(&mut payload, &self.last_term.to_le_bytes());
         payload.push(self.last_index);
         payload
+    }
+
+    /// The numbers of the value.
+    pub fn numbers(&self) -> Numbers
+        ensures { result.items ≡ vote_request_numbers self.now }
+    {
+        let mut numbers = Numbers::new();
+        numbers.push(u64::from(self.term));
+        numbers.push(u64::from(self.last_term));
+        numbers.push(u64::from(self.last_index));
+        numbers
     }
 }
