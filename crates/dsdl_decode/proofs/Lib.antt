@@ -1,0 +1,5 @@
+pub mod Fronts
+pub mod Progress
+pub mod OneReport
+pub mod Written
+pub mod Told
