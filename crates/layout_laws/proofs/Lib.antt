@@ -1,0 +1,12 @@
+pub mod Codecs
+pub mod Elements
+pub mod Entries
+pub mod Least
+pub mod Lines
+pub mod NodeInfos
+pub mod NodeStatuses
+pub mod Pieces
+pub mod Profile
+pub mod Tails
+pub mod Votes
+pub mod Words
