@@ -1,0 +1,13 @@
+use Rattle.std.proofs.Common.{rules, tests, ap, ◌∙◌, ◌==◌, not, length, unwrap_or}
+use Rattle.std.proofs.lemmas.Iterator.{YieldsList-from_slice}
+use Rattle.std.proofs.lemmas.Iterator.Search.{position_from_yields_List}
+use Rattle.std.proofs.lemmas.List.Sums.{prefix_len-le-length}
+use Rattle.can_logs.proofs.Splits.{place_or_end, not_not}
+use Rattle.can_logs.proofs.word.spaces.Goals as goal
+
+pub returns-clause-count : goal.returns-clause-count
+returns-clause-count c =
+    let found = position_from_yields_List (λ byte. not (byte == 32)) _ _ _ c.position.ensures.ran (YieldsList-from_slice c.args.text.now cc) (λ x b q k. search (rules, tests)) in
+    c.unwrap_or.ensures ∙ ap (λ place. unwrap_or place (length c.args.text.now)) found
+    ∙ place_or_end _ _ (prefix_len-le-length _ c.args.text.now)
+    ∙ not_not c.args.text.now

@@ -1,0 +1,3 @@
+pub mod Candump
+pub mod Slcan
+pub mod Words
