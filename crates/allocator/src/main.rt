@@ -2,15 +2,17 @@
 //!
 //! The source is standard input, the sink is standard output, the clock is the system's, and the exit
 //! code is that of the status. For the words of `node` each member has its link over UDP, and its disk
-//! in the file `alloc-<id>.store`; where one of these cannot be opened the exit code is 12. A standard
-//! stream that is closed stays so for `run`: its descriptor never becomes that of a link or a disk. A
-//! word that is not UTF-8 is none that the program reads.
+//! in the file `alloc-<id>.store`; those of `audit` have the disks alone, in files that are there, and only
+//! read them. Where one of these cannot be opened the exit code is 12. A standard stream that is closed
+//! stays so for `run`: its descriptor never becomes that of a link or a disk. A word that is not UTF-8 is
+//! none that the program reads.
 #![tactic(auto)]
 
 use allocator_app::{Plan, Status, plan, run};
 use disk_model::FileDisk;
 use node_outside::{PacedClock, TimelyLink};
 use outside::{StdSink, StdSource};
+use std::alloc::{AllocError, Global};
 use std::cell::Cell;
 use std::env;
 use std::fs::File;
@@ -42,15 +44,8 @@ fn main(rt: HostRuntime) -> ExitCode {
     let idle = Cell::new(0);
     let mut links = Vec::new(rt.alloc());
     let mut disks = Vec::new(rt.alloc());
-    if let Some(
-        Plan::Node {
-            size: _,
-            base,
-            turns: _,
-            ids,
-        },
-    ) = plan(&words)
-    {
+    let asked = plan(&words);
+    if let Some(Plan::Node { .. } | Plan::Audit { .. }) = &asked {
         // An opened file gets the lowest free descriptor. These files take those of the standard streams
         // that are closed, and keep them to the end. They are only read, so a report for a closed output
         // still fails.
@@ -62,21 +57,39 @@ fn main(rt: HostRuntime) -> ExitCode {
                 return ExitCode::from(Status::Memory.code());
             }
         }
-        for id in ids.as_slice() {
-            let Ok(link) = UdpLink::open(&rt, base, *id) else {
-                return ExitCode::from(NOT_OPENED);
-            };
-            let Ok(path) = format!(in rt.alloc(); "alloc-{}.store", *id) else {
-                return ExitCode::from(Status::Memory.code());
-            };
-            let Ok(disk) = FileDisk::open(&rt, path.as_str()) else {
-                return ExitCode::from(NOT_OPENED);
-            };
-            let link = TimelyLink::new(link, &rt, &idle);
-            if links.push(link).is_err() || disks.push(Some(disk)).is_err() {
-                return ExitCode::from(Status::Memory.code());
+    }
+    match &asked {
+        Some(Plan::Node { base, ids, .. }) => {
+            for id in ids.as_slice() {
+                let Ok(link) = UdpLink::open(&rt, *base, *id) else {
+                    return ExitCode::from(NOT_OPENED);
+                };
+                let Ok(path) = store_of(rt.alloc(), *id) else {
+                    return ExitCode::from(Status::Memory.code());
+                };
+                let Ok(disk) = FileDisk::open(&rt, path.as_str()) else {
+                    return ExitCode::from(NOT_OPENED);
+                };
+                let link = TimelyLink::new(link, &rt, &idle);
+                if links.push(link).is_err() || disks.push(Some(disk)).is_err() {
+                    return ExitCode::from(Status::Memory.code());
+                }
             }
         }
+        Some(Plan::Audit { ids }) => {
+            for id in ids.as_slice() {
+                let Ok(path) = store_of(rt.alloc(), *id) else {
+                    return ExitCode::from(Status::Memory.code());
+                };
+                let Ok(disk) = FileDisk::open_old(&rt, path.as_str()) else {
+                    return ExitCode::from(NOT_OPENED);
+                };
+                if disks.push(Some(disk)).is_err() {
+                    return ExitCode::from(Status::Memory.code());
+                }
+            }
+        }
+        _ => {}
     }
     let mut source = StdSource::new(rt.stdin());
     let mut sink = StdSink::new(rt.stdout());
@@ -91,4 +104,9 @@ fn main(rt: HostRuntime) -> ExitCode {
         &mut clock,
     );
     ExitCode::from(status.code())
+}
+
+/// The file in which this member has its store.
+fn store_of(alloc: Global, id: u8) -> Result<String, AllocError> {
+    format!(in alloc; "alloc-{}.store", id)
 }

@@ -1,9 +1,10 @@
-pub mod Bytes
 pub mod Coming
 pub mod Ending
 pub mod Entries
 pub mod Lines
 pub mod Logs
+pub mod Needs
+pub mod OnePlan
 pub mod OneReport
 pub mod Reading
 pub mod Rest

@@ -14,7 +14,7 @@ use Rattle.allocator_app.specs.InPart.IsWrittenInPart.{InRows, AtTheEnd}
 use Rattle.app_base.specs.Output.{WritesFront}
 use Rattle.allocator_app.specs.Report.{IsBadRow, IsBeyond, IsRefused, IsReport, Says, bad_row_line, limit_line, unlawful_line}
 use Rattle.app_base.specs.declared.status.Status.{Status}
-use Rattle.app_base.specs.declared.status.Status.TheVariants.{Done, Usage, BadRow, Unlawful as IsUnlawful, ReadFault, WriteFault, Memory, Limit, LinkFault, DiskFault, Damaged}
+use Rattle.app_base.specs.declared.status.Status.TheVariants.{Done, Usage, BadRow, Unlawful as IsUnlawful, ReadFault, WriteFault, Memory, Limit, LinkFault, DiskFault, Damaged, Differ, NoPart, NoValue}
 use Rattle.app_base.proofs.Written.{front-of_more}
 
 -- ---- rows are taken up to where none can be
@@ -76,6 +76,9 @@ module _ (one_row : (a b : Row) (line : List ℕ) → Reads a line → Reads b l
   stuck-at_end end rest last (LinkFault id) says row behind begins low takes = absurd says
   stuck-at_end end rest last (DiskFault id) says row behind begins low takes = absurd says
   stuck-at_end end rest last (Damaged id key) says row behind begins low takes = absurd says
+  stuck-at_end end rest last (Differ index a b) says row behind begins low takes = absurd says
+  stuck-at_end end rest last NoPart says row behind begins low takes = absurd says
+  stuck-at_end end rest last NoValue says row behind begins low takes = absurd says
 
   -- ---- a schedule ends in one way
 
@@ -131,6 +134,9 @@ module _ (one_row : (a b : Row) (line : List ℕ) → Reads a line → Reads b l
   one_end end rest last other status (LinkFault id) p q = absurd q
   one_end end rest last other status (DiskFault id) p q = absurd q
   one_end end rest last other status (Damaged id key) p q = absurd q
+  one_end end rest last other status (Differ index a b) p q = absurd q
+  one_end end rest last other status NoPart p q = absurd q
+  one_end end rest last other status NoValue p q = absurd q
   one_end end rest last other Usage ending p q = absurd p
   one_end end rest last other ReadFault ending p q = absurd p
   one_end end rest last other WriteFault ending p q = absurd p
@@ -138,6 +144,9 @@ module _ (one_row : (a b : Row) (line : List ℕ) → Reads a line → Reads b l
   one_end end rest last other (LinkFault id) ending p q = absurd p
   one_end end rest last other (DiskFault id) ending p q = absurd p
   one_end end rest last other (Damaged id key) ending p q = absurd p
+  one_end end rest last other (Differ index a b) ending p q = absurd p
+  one_end end rest last other NoPart ending p q = absurd p
+  one_end end rest last other NoValue ending p q = absurd p
 
   -- where none can be taken, none more is
   none_more : (w : Cluster) (rows : List Row) (bytes rest : List ℕ) → IsStuck limit w bytes → ReadsRows rows bytes rest → Lawful w rows →

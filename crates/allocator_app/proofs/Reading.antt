@@ -6,8 +6,8 @@ use Rattle.std.proofs.KnownBytes.{Appends-trans}
 use Rattle.replay_text.specs.Lines.{after_line}
 use Rattle.allocator_app.specs.InPart.{HasRead, IsReadInPart, IsWrittenInPart, ReadsAhead}
 use Rattle.allocator_app.specs.InPart.IsWrittenInPart.{InRows, AtTheEnd}
-use Rattle.allocator_app.specs.Input.{ReadsMore}
-use Rattle.allocator_app.specs.NoFurther.{ReadsNoFurther}
+use Rattle.app_base.specs.Input.{ReadsMore}
+use Rattle.app_base.specs.NoFurther.{ReadsNoFurther}
 use Rattle.app_base.specs.Output.{Grows, WritesFront}
 use Rattle.bus_spec.specs.Cluster.{Cluster}
 use Rattle.bus_spec.specs.Promise.{GivesOnce}

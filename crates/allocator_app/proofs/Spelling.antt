@@ -1,12 +1,15 @@
 -- Words that are numbers.
-use Rattle.std.proofs.Common.{◌≡◌, ◌≤◌, ◌<◌, ℕ, zero, suc, ◌-◌, inl, inr, Bool, false, List, [], ◌∷◌, ◌++◌, length, take, drop, nat_eq, refl, sym, ap, ◌∙◌, arith, map, decimal}
+use Rattle.std.proofs.Common.{◌≡◌, ◌≤◌, ◌<◌, ℕ, zero, suc, ◌-◌, codes, inl, inr, Bool, false, List, [], ◌∷◌, ◌++◌, length, take, drop, nat_eq, refl, sym, ap, ◌∙◌, arith, map, decimal}
 use Rattle.std.specs.Prelude.{not, slice_index, slice_index_or}
 use Rattle.std.specs.Cmp.Lexicographic.{pointwise, same_text}
 use Rattle.std.proofs.Math.Seq.{take-length}
-use Rattle.std.proofs.lemmas.Bool.{not-false}
+use Rattle.std.proofs.lemmas.Bool.{not-false, true≢false}
 use Rattle.std.proofs.lemmas.Fmt.{decimal_injective}
+use Rattle.arrayvec.specs.ArrayVec.{ArrayVec}
 use Rattle.raft_model.specs.Lists.{In}
+use Rattle.replay_text.specs.Words.{IsHex}
 use Rattle.bus_spec.specs.Cluster.{AreMembers}
+use Rattle.allocator_app.specs.Words.{SpellsPayload}
 
 -- a word at its place spells the number at this place
 pub named_at : {A : Type 0} (f : A → List ℕ) (words : List A) (ids : List ℕ) (i : ℕ) (none : A) → i < length words → map f words ≡ map decimal ids →
@@ -45,6 +48,13 @@ is_word word text differs same is = same_text word text (sym (not-false (pointwi
 all_but : {A : Type 0} (f : A → List ℕ) (xs : List A) (n : ℕ) → n ≡ length xs → map f xs ≡ map f (take n xs)
 all_but f xs n e = ap (map f) (sym (ap (λ k. take k xs) e ∙ take-length xs))
 
+-- the first, and the others
+pub from_one : {A : Type 0} (f : A → List ℕ) (xs : List A) (a : A) → 1 ≤ length xs → a ≡ slice_index_or xs 0 a →
+    map f xs ≡ f a ∷ map f (take (length xs - 1) (drop 1 xs))
+from_one f [] a long p = absurd (omega (arith, long))
+from_one f (x ∷ xs) a long p =
+    ap (λ w. w ∷ map f xs) (ap f (sym p)) ∙ ap (λ l. f a ∷ l) (all_but f xs (length (x ∷ xs) - 1) (omega arith))
+
 -- the first two, and the others
 pub from_two : {A : Type 0} (f : A → List ℕ) (xs : List A) (a b : A) → 2 ≤ length xs → a ≡ slice_index_or xs 0 a → b ≡ slice_index_or xs 1 b →
     map f xs ≡ f a ∷ f b ∷ map f (take (length xs - 2) (drop 2 xs))
@@ -53,6 +63,17 @@ from_two f (x ∷ []) a b long p q = absurd (omega (arith, long))
 from_two f (x ∷ y ∷ xs) a b long p q =
     let rest = all_but f xs (length (x ∷ y ∷ xs) - 2) (omega arith) in
     ap (λ w. w ∷ f y ∷ map f xs) (ap f (sym p)) ∙ ap (λ w. f a ∷ w ∷ map f xs) (ap f (sym q)) ∙ ap (λ l. f a ∷ f b ∷ l) rest
+
+-- the first three, and the others
+pub from_three : {A : Type 0} (f : A → List ℕ) (xs : List A) (a b c : A) → 3 ≤ length xs → a ≡ slice_index_or xs 0 a → b ≡ slice_index_or xs 1 b →
+    c ≡ slice_index_or xs 2 c → map f xs ≡ f a ∷ f b ∷ f c ∷ map f (take (length xs - 3) (drop 3 xs))
+from_three f [] a b c long p q r = absurd (omega (arith, long))
+from_three f (x ∷ []) a b c long p q r = absurd (omega (arith, long))
+from_three f (x ∷ y ∷ []) a b c long p q r = absurd (omega (arith, long))
+from_three f (x ∷ y ∷ z ∷ xs) a b c long p q r =
+    let rest = all_but f xs (length (x ∷ y ∷ z ∷ xs) - 3) (omega arith) in
+    ap (λ w. w ∷ f y ∷ f z ∷ map f xs) (ap f (sym p)) ∙ ap (λ w. f a ∷ w ∷ f z ∷ map f xs) (ap f (sym q))
+    ∙ ap (λ w. f a ∷ f b ∷ w ∷ map f xs) (ap f (sym r)) ∙ ap (λ l. f a ∷ f b ∷ f c ∷ l) rest
 
 -- the first four, and the others
 pub from_four : {A : Type 0} (f : A → List ℕ) (xs : List A) (a b c d : A) → 4 ≤ length xs → a ≡ slice_index_or xs 0 a → b ≡ slice_index_or xs 1 b →
@@ -90,3 +111,16 @@ bytes_more [] x p q zero low = q
 bytes_more [] x p q (suc i) low = absurd (omega (arith, low))
 bytes_more (y ∷ xs) x p q zero low = p 0 (omega arith)
 bytes_more (y ∷ xs) x p q (suc i) low = bytes_more xs x (λ k high. p (suc k) (omega (arith, high))) q i (omega (arith, low))
+
+-- ---- the word of a payload
+
+pub no_dash : (word dash : List ℕ) (equal : Bool) → equal ≡ false → equal ≡ pointwise nat_eq word dash → dash ≡ codes "-" → word ≡ codes "-" → ⊥
+no_dash word dash equal differs same is e =
+    let seen : false ≡ pointwise nat_eq (codes "-") (codes "-") =
+    sym differs ∙ same ∙ ap (pointwise nat_eq word) is ∙ ap (λ w. pointwise nat_eq w (codes "-")) e in
+    true≢false (sym seen)
+
+pub no_payload : (word payload : List ℕ) → (word ≡ codes "-" → ⊥) → ((bytes : ArrayVec ℕ) → length bytes.items ≤ 376 → IsHex bytes.items word → ⊥) →
+    length payload ≤ 376 → SpellsPayload payload word → ⊥
+no_payload word [] other none short spelled = other spelled
+no_payload word (byte ∷ bytes) other none short spelled = none (record { items = byte ∷ bytes }) short spelled

@@ -3,7 +3,7 @@ use Rattle.std.specs.Prelude.{◌≡◌, ◌≤◌, ◌<◌, ◌⊎◌, ℕ, Lis
 use Rattle.std.specs.Io.KnownBytes.{Appends}
 use Rattle.replay_text.specs.Lines.{after_line}
 use Rattle.app_base.specs.Output.{WritesFront}
-use Rattle.allocator_app.specs.NoFurther.{ReadsNoFurther}
+use Rattle.app_base.specs.NoFurther.{ReadsNoFurther}
 use Rattle.allocator_app.specs.Report.{ReadsUpTo, ReadsKeepingPromise, IsReport}
 use Rattle.bus_spec.specs.Cluster.{Cluster}
 use Rattle.app_base.specs.declared.status.Status.{Status}

@@ -1,8 +1,8 @@
 pub mod Faults
+pub mod Followed
 pub mod InPart
 pub mod Input
 pub mod Logs
-pub mod NoFurther
 pub mod Nodes
 pub mod Promise
 pub mod Reaching

@@ -8,7 +8,7 @@ use Rattle.bus_spec.specs.Promise.{KeepsItsWord}
 use Rattle.bus_spec.specs.Report.{end_lines, row_lines}
 use Rattle.bus_spec.specs.declared.unlawful.Unlawful.{Unlawful}
 use Rattle.app_base.specs.declared.status.Status.{Status}
-use Rattle.app_base.specs.declared.status.Status.TheVariants.{Done, Usage, BadRow, Unlawful as IsUnlawful, Limit, LinkFault, DiskFault, Damaged}
+use Rattle.app_base.specs.declared.status.Status.TheVariants.{Done, Usage, BadRow, Unlawful as IsUnlawful, Limit, LinkFault, DiskFault, Damaged, Differ, NoPart, NoValue}
 
 -- lawful rows were taken from the front of the bytes, up to a world and the rest of the bytes, and these lines tell
 -- of them
@@ -81,6 +81,9 @@ IsOfSchedule Usage = ⊥
 IsOfSchedule (LinkFault id) = ⊥
 IsOfSchedule (DiskFault id) = ⊥
 IsOfSchedule (Damaged id key) = ⊥
+IsOfSchedule (Differ index a b) = ⊥
+IsOfSchedule NoPart = ⊥
+IsOfSchedule NoValue = ⊥
 IsOfSchedule _ = Unit {0}
 
 -- the status of a run that no fault ended, and that had words to begin with

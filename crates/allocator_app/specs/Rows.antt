@@ -7,10 +7,8 @@ use Rattle.bus_spec.specs.Cluster.{Cluster, cluster}
 use Rattle.bus_spec.specs.Lawful.{number_of}
 use Rattle.bus_spec.specs.Promise.{KeepsItsWord}
 use Rattle.bus_spec.specs.Report.{all_logs, end_line}
-use Rattle.allocator_app.specs.declared.plans.Plan.{Plan}
-use Rattle.allocator_app.specs.declared.plans.Plan.TheVariants.{Replay, Node, Soak}
 use Rattle.allocator_app.specs.InPart.{IsReadInPart, IsWrittenInPart, ReadsAhead}
-use Rattle.allocator_app.specs.NoFurther.{ReadsNoFurther}
+use Rattle.app_base.specs.NoFurther.{ReadsNoFurther}
 use Rattle.app_base.specs.Output.{WritesFront}
 use Rattle.allocator_app.specs.Report.{ReadsKeepingPromise, IsBadRow, IsBeyond, IsOfSchedule, IsRefused, IsReport, bad_row_line, limit_line, unlawful_line}
 use Rattle.allocator_app.specs.declared.rows.Rows.{Rows}
@@ -18,7 +16,7 @@ use Rattle.allocator_app.specs.declared.rows.Rows.TheVariants.{Taken, NoRow, Ref
 use Rattle.allocator_app.specs.declared.rows.Fault.{Fault}
 use Rattle.allocator_app.specs.declared.rows.Fault.TheVariants.{Source, Sink}
 use Rattle.app_base.specs.declared.status.Status.{Status}
-use Rattle.app_base.specs.declared.status.Status.TheVariants.{Done, Usage, BadRow, Unlawful, ReadFault, WriteFault, Memory, Limit, LinkFault, DiskFault, Damaged}
+use Rattle.app_base.specs.declared.status.Status.TheVariants.{Done, BadRow, Unlawful, ReadFault, WriteFault, Memory, Limit}
 
 -- where the rows that wait end: all were taken but the beginning of a line; or the next one is not taken, whatever
 -- comes behind
@@ -137,10 +135,7 @@ Ends ReadFault limit first bytes left sink_before sink_now = IsReadInPart limit 
 Ends WriteFault limit first bytes left sink_before sink_now =
     IsWrittenInPart limit first bytes left sink_before sink_now
 Ends Memory limit first bytes left sink_before sink_now = Unit {0}
-Ends Usage limit first bytes left sink_before sink_now = ⊥
-Ends (LinkFault id) limit first bytes left sink_before sink_now = ⊥
-Ends (DiskFault id) limit first bytes left sink_before sink_now = ⊥
-Ends (Damaged id key) limit first bytes left sink_before sink_now = ⊥
+Ends _ limit first bytes left sink_before sink_now = ⊥
 
 -- a run over a schedule of these members
 pub record Replays (limit : ℕ) (nodes : List ℕ) (left_old left sink_before sink_now : Option (List ℕ)) (status : Status)
@@ -148,11 +143,3 @@ pub record Replays (limit : ℕ) (nodes : List ℕ) (left_old left sink_before s
   pub kinds : IsOfSchedule status
   pub ends : (bytes : List ℕ) → left_old ≡ Some bytes →
       Ends status limit (cluster nodes) bytes left sink_before sink_now
-
--- a plan to replay was followed so
-abbrev pub IsReplayedBy : Plan → Option (List ℕ) → Option (List ℕ) → Option (List ℕ) → Option (List ℕ)
-    → Status → Type 0
-IsReplayedBy (Replay rows ids) left_old left sink_before sink_now status =
-    Replays rows ids.items left_old left sink_before sink_now status
-IsReplayedBy (Node size base turns ids) left_old left sink_before sink_now status = Unit {0}
-IsReplayedBy (Soak seed rounds size) left_old left sink_before sink_now status = Unit {0}

@@ -6,8 +6,6 @@ use Rattle.app_base.specs.Output.{WritesFront}
 use Rattle.app_base.specs.declared.status.Status.{Status}
 use Rattle.app_base.specs.declared.status.Status.TheVariants.{Done, Memory, WriteFault}
 use Rattle.app_soak.specs.Counts.{IsEnd, soak_report}
-use Rattle.allocator_app.specs.declared.plans.Plan.{Plan}
-use Rattle.allocator_app.specs.declared.plans.Plan.TheVariants.{Replay, Node, Soak}
 
 -- its lines were written, or a front of them, where the sink failed. The two numbers and the two lists behind them are
 -- the faults that the sink has counted, and what it has been written, before and now
@@ -17,10 +15,3 @@ pub record Soaks (seed rounds size : ℕ) (faults_old faults : ℕ) (before now 
   pub report : status ≡ Done → Appends before now (soak_report seed rounds size)
   pub in_part : status ≡ WriteFault → WritesFront before now (soak_report seed rounds size)
   pub finishes : (Rose faults_old faults → ⊥) → (status ≡ Done) ⊎ (status ≡ Memory)
-
--- a plan to soak was followed so
-abbrev pub IsSoakedBy : Plan → ℕ → ℕ → Option (List ℕ) → Option (List ℕ) → Status → Type 0
-IsSoakedBy (Replay rows ids) faults_old faults before now status = Unit {0}
-IsSoakedBy (Node size base turns ids) faults_old faults before now status = Unit {0}
-IsSoakedBy (Soak seed rounds size) faults_old faults before now status =
-    Soaks seed rounds size faults_old faults before now status

@@ -1,8 +1,10 @@
 -- The words of the program.
-use Rattle.std.specs.Prelude.{◌≡◌, ◌≤◌, ◌<◌, ◌^◌, ℕ, List, [], ◌∷◌, codes, decimal, length, map, EachIndex, slice_index_or, Option, None, IsNone, IsSome}
+use Rattle.std.specs.Prelude.{◌≡◌, ◌≤◌, ◌<◌, ◌⊎◌, ◌^◌, ℕ, Bool, true, false, IsTrue, List, [], ◌∷◌, codes, decimal, length, map, EachIndex, slice_index_or, Option, None, IsNone, IsSome}
+use Rattle.dsdl_text.specs.Words.{is_name}
+use Rattle.replay_text.specs.Words.{IsHex}
 use Rattle.bus_spec.specs.Cluster.{AreMembers}
 use Rattle.allocator_app.specs.declared.plans.Plan.{Plan}
-use Rattle.allocator_app.specs.declared.plans.Plan.TheVariants.{Replay, Node, Soak}
+use Rattle.allocator_app.specs.declared.plans.Plan.TheVariants.{Replay, Node, Soak, Audit, Watch, Convert, Decode}
 
 -- the words `replay <rows> <id>..`: how many rows the schedule may have, and the members of the cluster
 pub record IsReplay (rows : ℕ) (ids : List ℕ) (words : List (List ℕ)) : Type 0 where
@@ -30,17 +32,70 @@ pub record IsSoak (seed rounds size : ℕ) (words : List (List ℕ)) : Type 0 wh
   pub size_least : 1 ≤ size
   pub size_most : size ≤ 5
 
+-- the words `audit <id>..`: whose stores are compared
+pub record IsAudit (ids : List ℕ) (words : List (List ℕ)) : Type 0 where
+  pub spelled : words ≡ codes "audit" ∷ map decimal ids
+  pub members : AreMembers ids
+
+-- the word of a log's form
+abbrev pub form_word : Bool → List ℕ
+form_word true = codes "candump"
+form_word false = codes "slcan"
+
+-- none, or 1 to 5 different node IDs
+abbrev pub AreFew : List ℕ → Type 0
+AreFew ids = (ids ≡ []) ⊎ AreMembers ids
+
+-- the words `watch <format> <lines> <id>..`: the form of the log, how many lines it may have, and to which nodes
+-- transfers are listed too
+pub record IsWatch (candump : Bool) (lines : ℕ) (ids : List ℕ) (words : List (List ℕ)) : Type 0 where
+  pub spelled : words ≡ codes "watch" ∷ form_word candump ∷ decimal lines ∷ map decimal ids
+  pub lines_least : 1 ≤ lines
+  pub lines_most : lines ≤ 1000000
+  pub nodes : AreFew ids
+
+-- the words `convert <format> <format> <lines>`: the form of the log, that which it is brought into, and how many lines
+-- it may have
+pub record IsConvert (from_candump to_candump : Bool) (lines : ℕ) (words : List (List ℕ)) : Type 0 where
+  pub spelled : words ≡ codes "convert" ∷ form_word from_candump ∷ form_word to_candump ∷ decimal lines ∷ []
+  pub lines_least : 1 ≤ lines
+  pub lines_most : lines ≤ 1000000
+
+-- a payload is spelled by two hexadecimal digits of either case for each of its bytes, and an empty one by `-`
+abbrev pub SpellsPayload : List ℕ → List ℕ → Type 0
+SpellsPayload [] word = word ≡ codes "-"
+SpellsPayload (byte ∷ bytes) word = IsHex (byte ∷ bytes) word
+
+-- the words `decode <name> <part> <hex>`: the type and its part, and the payload
+pub record IsDecode (name : List ℕ) (part : ℕ) (payload : List ℕ) (words : List (List ℕ)) : Type 0 where
+  pub hex : List ℕ
+  pub spelled : words ≡ codes "decode" ∷ name ∷ decimal part ∷ hex ∷ []
+  pub named : IsTrue (is_name name)
+  pub part_least : 1 ≤ part
+  pub part_most : part ≤ 2
+  pub digits : SpellsPayload payload hex
+  pub short : length payload ≤ 376
+
 -- the plan is what the words ask for
 abbrev pub IsPlan : Plan → List (List ℕ) → Type 0
 IsPlan (Replay rows ids) words = IsReplay rows ids.items words
 IsPlan (Node size base turns ids) words = IsNode size base turns ids.items words
 IsPlan (Soak seed rounds size) words = IsSoak seed rounds size words
+IsPlan (Audit ids) words = IsAudit ids.items words
+IsPlan (Watch candump lines ids) words = IsWatch candump lines ids.items words
+IsPlan (Convert from_candump to_candump lines) words = IsConvert from_candump to_candump lines words
+IsPlan (Decode name part payload) words = IsDecode name.items part payload.items words
 
 -- a plan that some words ask for
 abbrev pub IsSound : Plan → Type 0
 IsSound (Replay rows ids) = (rows ≤ 1000000) × AreMembers ids.items
 IsSound (Node size base turns ids) = (1 ≤ size) × (size ≤ 5) × (turns ≤ 1000000000) × AreMembers ids.items
 IsSound (Soak seed rounds size) = (rounds ≤ 20000) × (1 ≤ size) × (size ≤ 5)
+IsSound (Audit ids) = AreMembers ids.items
+IsSound (Watch candump lines ids) = (1 ≤ lines) × (lines ≤ 1000000) × AreFew ids.items
+IsSound (Convert from_candump to_candump lines) = (1 ≤ lines) × (lines ≤ 1000000)
+IsSound (Decode name part payload) =
+    IsTrue (is_name name.items) × (1 ≤ part) × (part ≤ 2) × (length payload.items ≤ 376)
 
 -- none of them is there
 abbrev pub AreAbsent : {D : Type 0} → List (Option D) → Type 0
@@ -61,25 +116,42 @@ pub record AreGiven {L D : Type 0} (ids : List ℕ) (links : List L) (disks : Li
   pub disks_count : length disks ≡ length ids
   pub present : ArePresent disks
 
--- a plan to replay a schedule, or to run nodes
-abbrev pub AsksForRows : Plan → Type 0
-AsksForRows (Replay rows ids) = Unit {0}
-AsksForRows (Node size base turns ids) = ⊥
-AsksForRows (Soak seed rounds size) = ⊥
-
-abbrev pub AsksForNodes : Plan → Type 0
-AsksForNodes (Replay rows ids) = ⊥
-AsksForNodes (Node size base turns ids) = Unit {0}
-AsksForNodes (Soak seed rounds size) = ⊥
+-- no link, and a disk for each of these nodes
+pub record AreStored {L D : Type 0} (ids : List ℕ) (links : List L) (disks : List (Option D)) : Type 0 where
+  pub no_links : links ≡ []
+  pub disks_count : length disks ≡ length ids
+  pub present : ArePresent disks
 
 -- the objects that a plan needs
 abbrev pub HasObjects : {L D : Type 0} → Plan → List L → List (Option D) → Type 0
-HasObjects (Replay rows ids) links disks = AreNone links disks
 HasObjects (Node size base turns ids) links disks = AreGiven ids.items links disks
-HasObjects (Soak seed rounds size) links disks = AreNone links disks
+HasObjects (Audit ids) links disks = AreStored ids.items links disks
+HasObjects _ links disks = AreNone links disks
 
 -- the words are those of a plan, and its objects are handed in
 pub record IsAsked {L D : Type 0} (words : List (List ℕ)) (links : List L) (disks : List (Option D)) : Type 0 where
   pub plan : Plan
   pub is : IsPlan plan words
   pub objects : HasObjects plan links disks
+
+-- a plan that reads the source; one that works on links and with the clock; and one that works on disks
+abbrev pub Reads : Plan → Type 0
+Reads (Node size base turns ids) = ⊥
+Reads (Soak seed rounds size) = ⊥
+Reads (Audit ids) = ⊥
+Reads _ = Unit {0}
+
+abbrev pub UsesLinks : Plan → Type 0
+UsesLinks (Node size base turns ids) = Unit {0}
+UsesLinks _ = ⊥
+
+abbrev pub UsesDisks : Plan → Type 0
+UsesDisks (Node size base turns ids) = Unit {0}
+UsesDisks (Audit ids) = Unit {0}
+UsesDisks _ = ⊥
+
+-- the words are those of a plan of this kind
+pub record Asks (Kind : Plan → Type 0) (words : List (List ℕ)) : Type 0 where
+  pub plan : Plan
+  pub is : IsPlan plan words
+  pub kind : Kind plan

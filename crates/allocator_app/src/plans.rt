@@ -26,4 +26,34 @@ pub enum Plan {
         rounds: u64,
         size: u8,
     },
+
+    /// To compare the stores of these nodes, 1 to 5 of 1 to 125 each.
+    Audit {
+        ids: ArrayVec<u8, 5>,
+    },
+
+    /// To list the transfers of a log of at most so many lines, 1 to 1,000,000: those that everyone receives,
+    /// and those to these nodes, up to 5 of 1 to 125. The log has the form of candump, or else that of an
+    /// adapter that speaks SLCAN.
+    Watch {
+        candump: bool,
+        lines: u64,
+        ids: ArrayVec<u8, 5>,
+    },
+
+    /// To write a log of at most so many lines, 1 to 1,000,000, in the form of candump or else in that of
+    /// SLCAN; which of them it has is told in the same way.
+    Convert {
+        from_candump: bool,
+        to_candump: bool,
+        lines: u64,
+    },
+
+    /// To take a payload apart under the part with this number, 1 or 2, of the type with this name, by a text
+    /// that describes it.
+    Decode {
+        name: ArrayVec<u8, 40>,
+        part: u8,
+        payload: ArrayVec<u8, 376>,
+    },
 }

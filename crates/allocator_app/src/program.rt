@@ -1,20 +1,23 @@
-ghost use Rattle.std.specs.Prelude.{◌≡◌, ◌≤◌, ◌↔◌, ◌⊎◌, ℕ, List, [], Some, length, map, string_bytes, IsTrue};
-ghost use Rattle.arrayvec.specs.ArrayVec.{ArrayVec};
-ghost use Rattle.app_node.specs.Nodes.{RunsNodes};
+ghost use Rattle.std.specs.Prelude.{◌≡◌, ◌≤◌, ◌↔◌, ◌⊎◌, ℕ, Bool, List, [], Some, length, map, string_bytes, IsTrue};
+ghost use Rattle.dsdl_decode.specs.Ends.{Decodes};
+ghost use Rattle.log_modes.specs.Converted.{Converts};
+ghost use Rattle.log_modes.specs.Watched.{Watches};
 ghost use Rattle.outside.specs.Faults.{Rose};
 ghost use Rattle.replay_text.specs.declared.row.Row.{Row};
 ghost use Rattle.replay_text.specs.Lines.{ReadsRows};
 ghost use Rattle.app_soak.specs.Rounds.{members, soaked};
+ghost use Rattle.store_audit.specs.Audits.{Audits};
 ghost use Rattle.bus_spec.specs.Cluster.{cluster};
 ghost use Rattle.bus_spec.specs.Lawful.{Lawful};
 ghost use Rattle.allocator_app.specs.Faults.{NamesFault};
+ghost use Rattle.allocator_app.specs.Followed.{IsFollowed};
 ghost use Rattle.allocator_app.specs.Nodes.{RunsInTraces};
 ghost use Rattle.allocator_app.specs.Promise.{KeepsPromise};
 ghost use Rattle.allocator_app.specs.Report.{IsBegun, IsReport, IsToTheEnd};
-ghost use Rattle.allocator_app.specs.Rows.{IsReplayedBy, IsTold, Replays};
-ghost use Rattle.allocator_app.specs.Soaking.{IsSoakedBy, Soaks};
-ghost use Rattle.allocator_app.specs.Words.{AreAbsent, AreGiven, AreNone, ArePresent, AsksForNodes, AsksForRows, HasObjects};
-ghost use Rattle.allocator_app.specs.Words.{IsAsked, IsNode, IsReplay, IsSoak, IsSound};
+ghost use Rattle.allocator_app.specs.Rows.{IsTold, Replays};
+ghost use Rattle.allocator_app.specs.Soaking.{Soaks};
+ghost use Rattle.allocator_app.specs.Words.{AreAbsent, AreGiven, AreNone, ArePresent, AreStored, Asks, HasObjects, Reads, UsesDisks, UsesLinks};
+ghost use Rattle.allocator_app.specs.Words.{IsAsked, IsAudit, IsConvert, IsDecode, IsNode, IsReplay, IsSoak, IsSound, IsWatch};
 
 use crate::plans::Plan;
 use crate::replay::replay;
@@ -27,9 +30,12 @@ use app_soak::soak;
 use bus_agreement::allocatees::the_allocatees;
 use bus_agreement::headline::{rows_are_safe, the_headline};
 use disk_model::Disk;
+use dsdl_decode::decode;
+use log_modes::{convert, watch};
 use outside::{Clock, Link, Sink, Source};
 use replay_text::laws::a_line_has_one_row;
 use std::alloc::Global;
+use store_audit::audit_stores;
 
 /// Does what the words ask for.
 ///
@@ -61,8 +67,18 @@ use std::alloc::Global;
 /// every trace of a cluster of processes in which the run stands, what it sent and stored is what the world
 /// of the trace's rows says (`Traces` and `Stands` of `app_node_laws`).
 ///
-/// For the others neither links nor disks are handed in; with other words or objects the status is `Usage`.
-/// With `Usage` and `Memory` nothing is touched.
+/// `audit <id>..` compares the stores of these members, a disk for each, and changes none of them: the lines of
+/// what they agree on, or `Differ` with the line that names two that differ (`Audits` of `store_audit`).
+///
+/// `watch <format> <lines> <id>..` lists the transfers of a log that comes from the source (`Watches` of
+/// `log_modes`), and `convert <format> <format> <lines>` writes the log in the other form or the same
+/// (`Converts`). `decode <name> <part> <hex>` writes the numbers of a payload under the part of a type that the
+/// text of the source describes (`Decodes` of `dsdl_decode`); it is `NoPart` where the text has no such part, and
+/// `NoValue` where the payload has no reading. These four take no memory, and come to the end that their input
+/// has unless something fails.
+///
+/// Links are handed in for `node` alone, and disks for `node` and `audit`; with other words or objects the status
+/// is `Usage`. With `Usage` and `Memory` nothing is touched.
 ///
 /// The promise holds along the rows of a report, of a soak and of such a trace (`specs/Promise.antt`). At
 /// every moment what each allocator has committed is a beginning of one list, which only grows and never
@@ -89,8 +105,10 @@ pub fn run<S: Source, K: Sink, L: Link, D: Disk, C: Clock>(
         (disks.new ≡ disks.old) × (clock.new ≡ clock.old) }
     ensures objects { AreNone links.old disks.old → (links.new ≡ links.old) ×
         (disks.new ≡ disks.old) × (clock.new ≡ clock.old) }
-    ensures unread { ((limit : ℕ) (nodes : List ℕ) →
-        IsReplay limit nodes (map string_bytes words.now) → ⊥) → source.new ≡ source.old }
+    // Links and clock are those of nodes; the source is that of schedules, logs and texts.
+    ensures idle { (Asks UsesLinks (map string_bytes words.now) → ⊥) →
+        (links.new ≡ links.old) × (clock.new ≡ clock.old) }
+    ensures unread { (Asks Reads (map string_bytes words.now) → ⊥) → source.new ≡ source.old }
     ensures source_kept { NamesFault (result ≡ Status.ReadFault)
         (S.faults source.old) (S.faults source.new) }
     ensures sink_kept { NamesFault (result ≡ Status.WriteFault)
@@ -133,6 +151,27 @@ pub fn run<S: Source, K: Sink, L: Link, D: Disk, C: Clock>(
         (result ≡ Status.Usage) ⊎ RunsInTraces L.coming L.sent L.faults D.Disk size turns ids
         links.old links.new disks.old disks.new (C.readings clock.old) (C.readings clock.new)
         (K.faults sink.old) (K.faults sink.new) (K.written sink.old) (K.written sink.new) result }
+    // Stores that are compared: what is written, and that they stay as they are.
+    ensures audit { (ids : List ℕ) → IsAudit ids (map string_bytes words.now) →
+        (result ≡ Status.Usage) ⊎ Audits D.Disk ids disks.old disks.new
+        (K.written sink.old) (K.written sink.new) result }
+    // A log: what is listed of it, and what it is brought into.
+    ensures watch { (candump : Bool) (lines : ℕ) (ids : List ℕ) →
+        IsWatch candump lines ids (map string_bytes words.now) →
+        (result ≡ Status.Usage) ⊎ Watches candump lines ids (S.left source.old) (S.left source.new)
+        (S.faults source.old) (S.faults source.new) (K.faults sink.old) (K.faults sink.new)
+        (K.written sink.old) (K.written sink.new) result }
+    ensures convert { (from_candump to_candump : Bool) (lines : ℕ) →
+        IsConvert from_candump to_candump lines (map string_bytes words.now) →
+        (result ≡ Status.Usage) ⊎ Converts from_candump to_candump lines
+        (S.left source.old) (S.left source.new) (S.faults source.old) (S.faults source.new)
+        (K.faults sink.old) (K.faults sink.new) (K.written sink.old) (K.written sink.new) result }
+    // A text: what it makes of a payload.
+    ensures decode { (name : List ℕ) (part : ℕ) (payload : List ℕ) →
+        IsDecode name part payload (map string_bytes words.now) →
+        (result ≡ Status.Usage) ⊎ Decodes name part payload (S.left source.old) (S.left source.new)
+        (S.faults source.old) (S.faults source.new) (K.faults sink.old) (K.faults sink.new)
+        (K.written sink.old) (K.written sink.new) result }
 {
     // The laws behind the clauses `complete`, `headline`, `soak` and `nodes`.
     a_line_has_one_row();
@@ -156,8 +195,13 @@ fn has_objects<L: Link, D: Disk>(plan: &Plan, links: &[L], disks: &[Option<D>]) 
     ensures { IsTrue result ↔ HasObjects plan.now links.now disks.now }
 {
     match plan {
-        Plan::Replay { .. } | Plan::Soak { .. } => are_none(links, disks),
         Plan::Node { ids, .. } => are_given(ids, links, disks),
+        Plan::Audit { ids } => are_stored(ids, links, disks),
+        Plan::Replay { .. }
+        | Plan::Soak { .. }
+        | Plan::Watch { .. }
+        | Plan::Convert { .. }
+        | Plan::Decode { .. } => are_none(links, disks),
     }
 }
 
@@ -181,6 +225,13 @@ fn are_given<L: Link, D: Disk>(ids: &[u8], links: &[L], disks: &[Option<D>]) -> 
     links.len() == ids.len() && disks.len() == ids.len() && are_present(disks)
 }
 
+/// Whether no link is handed in, and a disk for each of these nodes.
+fn are_stored<L: Link, D: Disk>(ids: &[u8], links: &[L], disks: &[Option<D>]) -> bool
+    ensures { IsTrue result ↔ AreStored ids.now links.now disks.now }
+{
+    links.is_empty() && disks.len() == ids.len() && are_present(disks)
+}
+
 fn are_present<D: Disk>(disks: &[Option<D>]) -> bool
     ensures { IsTrue result ↔ ArePresent disks.now }
 {
@@ -198,18 +249,13 @@ fn follow<S: Source, K: Sink, L: Link, D: Disk, C: Clock>(
 ) -> Status
     requires sound { IsSound plan }
     requires objects { HasObjects plan links.old disks.old }
-    ensures replays { IsReplayedBy plan (S.left source.old) (S.left source.new)
-        (K.written sink.old) (K.written sink.new) result }
-    ensures soaks { IsSoakedBy plan (K.faults sink.old) (K.faults sink.new)
-        (K.written sink.old) (K.written sink.new) result }
-    ensures nodes { (size base turns : ℕ) (ids : ArrayVec ℕ) →
-        plan ≡ Plan.Node size base turns ids → RunsNodes L.coming L.sent L.faults D.Disk size turns
-        ids.items links.old links.new disks.old disks.new (C.readings clock.old)
-        (C.readings clock.new) (K.faults sink.old) (K.faults sink.new) (K.written sink.old)
-        (K.written sink.new) result }
-    ensures unread { AsksForRows plan ⊎ (source.new ≡ source.old) }
-    ensures objects { AsksForNodes plan ⊎ ((links.new ≡ links.old) × (disks.new ≡ disks.old) ×
-        (clock.new ≡ clock.old)) }
+    ensures followed { IsFollowed L.coming L.sent L.faults D.Disk links.old links.new
+        disks.old disks.new (C.readings clock.old) (C.readings clock.new)
+        (S.left source.old) (S.left source.new) (S.faults source.old) (S.faults source.new)
+        (K.faults sink.old) (K.faults sink.new) (K.written sink.old) (K.written sink.new) result plan }
+    ensures unread { Reads plan ⊎ (source.new ≡ source.old) }
+    ensures idle { UsesLinks plan ⊎ ((links.new ≡ links.old) × (clock.new ≡ clock.old)) }
+    ensures disks { UsesDisks plan ⊎ (disks.new ≡ disks.old) }
     ensures untouched { result ≡ Status.Memory →
         (source.new ≡ source.old) × (sink.new ≡ sink.old) × (links.new ≡ links.old) ×
         (disks.new ≡ disks.old) × (clock.new ≡ clock.old) }
@@ -228,5 +274,21 @@ fn follow<S: Source, K: Sink, L: Link, D: Disk, C: Clock>(
             ..
         } => node(alloc, size, turns, &ids, sink, links, disks, clock),
         Plan::Soak { seed, rounds, size } => soak(alloc, seed, rounds, size, sink),
+        Plan::Audit { ids } => audit_stores(&ids, disks, sink),
+        Plan::Watch {
+            candump,
+            lines,
+            ids,
+        } => watch(candump, lines, &ids, source, sink),
+        Plan::Convert {
+            from_candump,
+            to_candump,
+            lines,
+        } => convert(from_candump, to_candump, lines, source, sink),
+        Plan::Decode {
+            name,
+            part,
+            payload,
+        } => decode(&name, part, &payload, source, sink),
     }
 }

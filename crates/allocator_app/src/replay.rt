@@ -11,12 +11,12 @@ ghost use Rattle.allocator_app.specs.Reaching.{HasRoom, Reaches};
 ghost use Rattle.allocator_app.specs.Report.{IsOfSchedule};
 ghost use Rattle.allocator_app.specs.Rows.{BreaksOff, Ends, IsCausedBy, IsInPart, ReadsRows, TakesRows, Waits};
 
-use crate::input::{Input, Next};
+use crate::input::{Next, next_row};
 use crate::report::end_report;
 use crate::rows::{Fault, Rows};
 use alloc_server::accept_rows;
 use allocatee::allocatee_rows;
-use app_base::{Output, Status};
+use app_base::{Input, Output, Status};
 use bus_world::World;
 use bus_world::laws::logs_give_once;
 use can_frame::Kind;
@@ -198,7 +198,7 @@ fn take_rows<
         if taken(world) == limit {
             return Ok(Rows::Full);
         }
-        let row = match input.next_row() {
+        let row = match next_row(input) {
             Next::Row(row) => row,
             Next::NoRow => return Ok(Rows::NoRow),
             Next::Incomplete => return Ok(Rows::Taken),

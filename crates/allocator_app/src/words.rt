@@ -1,31 +1,42 @@
-ghost use Rattle.std.specs.Prelude.{◌≡◌, ◌≤◌, ◌<◌, ℕ, List, map, string_bytes, decimal, length, slice_index, EachIndex, IfSome, IsNone};
+ghost use Rattle.std.specs.Prelude.{◌≡◌, ◌≤◌, ◌<◌, ◌⊎◌, [], ℕ, Bool, List, map, string_bytes, decimal, length, slice_index, EachIndex, IfSome, IsNone, IsTrue};
+ghost use Rattle.dsdl_text.specs.Words as text_words;
 ghost use Rattle.raft_model.specs.Lists.{In};
 ghost use Rattle.bus_spec.specs.Cluster.{AreMembers};
-ghost use Rattle.allocator_app.specs.Words.{IsNode, IsPlan, IsReplay, IsSoak};
+ghost use Rattle.allocator_app.specs.Words.{AreFew, IsAudit, IsConvert, IsDecode, IsNode, IsPlan, IsReplay, IsSoak, IsWatch, SpellsPayload, form_word};
 
 use crate::plans::Plan;
 use arrayvec::ArrayVec;
 use bus_spec::are_members;
-use replay_text::read_number;
+use dsdl_text::is_name;
+use replay_text::{read_bytes, read_number};
 
 /// The plan of the words, without the program's name; `None` where they are none of
-/// `replay <rows> <id>..`, `node <size> <base> <turns> <id>..` and `soak <seed> <rounds> <size>`.
+/// `replay <rows> <id>..`, `node <size> <base> <turns> <id>..`, `soak <seed> <rounds> <size>`,
+/// `audit <id>..`, `watch <format> <lines> <id>..`, `convert <format> <format> <lines>` and
+/// `decode <name> <part> <hex>`.
 pub fn plan(words: &[String]) -> Option<Plan>
     ensures some { IfSome result (λ plan. IsPlan plan (map string_bytes words.now)) }
-    ensures replay { IsNone result → (rows : ℕ) (ids : List ℕ) →
-        IsReplay rows ids (map string_bytes words.now) → ⊥ }
-    ensures node { IsNone result → (size base turns : ℕ) (ids : List ℕ) →
-        IsNode size base turns ids (map string_bytes words.now) → ⊥ }
-    ensures soak { IsNone result → (seed rounds size : ℕ) →
-        IsSoak seed rounds size (map string_bytes words.now) → ⊥ }
+    ensures none { IsNone result → (plan : Plan) → IsPlan plan (map string_bytes words.now) → ⊥ }
 {
-    match replay_plan(words) {
-        Some(plan) => Some(plan),
-        None => match node_plan(words) {
-            Some(plan) => Some(plan),
-            None => soak_plan(words),
-        },
+    if let Some(plan) = replay_plan(words) {
+        return Some(plan);
     }
+    if let Some(plan) = node_plan(words) {
+        return Some(plan);
+    }
+    if let Some(plan) = soak_plan(words) {
+        return Some(plan);
+    }
+    if let Some(plan) = audit_plan(words) {
+        return Some(plan);
+    }
+    if let Some(plan) = watch_plan(words) {
+        return Some(plan);
+    }
+    if let Some(plan) = convert_plan(words) {
+        return Some(plan);
+    }
+    decode_plan(words)
 }
 
 fn replay_plan(words: &[String]) -> Option<Plan>
@@ -85,6 +96,141 @@ fn soak_plan(words: &[String]) -> Option<Plan>
     let rounds = read_number(rounds.as_bytes(), 20_000)?;
     let size = number_within(size.as_bytes(), 1, 5)? as u8;
     Some(Plan::Soak { seed, rounds, size })
+}
+
+fn audit_plan(words: &[String]) -> Option<Plan>
+    ensures some { IfSome result (λ plan. IsPlan plan (map string_bytes words.now)) }
+    ensures none { IsNone result → (ids : List ℕ) →
+        IsAudit ids (map string_bytes words.now) → ⊥ }
+{
+    let [mode, ids @ ..] = words else {
+        return None;
+    };
+    if mode.as_str() != "audit" {
+        return None;
+    }
+    let ids = read_members(ids)?;
+    Some(Plan::Audit { ids })
+}
+
+fn watch_plan(words: &[String]) -> Option<Plan>
+    ensures some { IfSome result (λ plan. IsPlan plan (map string_bytes words.now)) }
+    ensures none { IsNone result → (candump : Bool) (lines : ℕ) (ids : List ℕ) →
+        IsWatch candump lines ids (map string_bytes words.now) → ⊥ }
+{
+    let [mode, format, lines, ids @ ..] = words else {
+        return None;
+    };
+    if mode.as_str() != "watch" {
+        return None;
+    }
+    let candump = read_form(format.as_str())?;
+    let lines = number_within(lines.as_bytes(), 1, 1_000_000)?;
+    let ids = read_few(ids)?;
+    Some(Plan::Watch {
+        candump,
+        lines,
+        ids,
+    })
+}
+
+fn convert_plan(words: &[String]) -> Option<Plan>
+    ensures some { IfSome result (λ plan. IsPlan plan (map string_bytes words.now)) }
+    ensures none { IsNone result → (from_candump to_candump : Bool) (lines : ℕ) →
+        IsConvert from_candump to_candump lines (map string_bytes words.now) → ⊥ }
+{
+    let [mode, from, to, lines] = words else {
+        return None;
+    };
+    if mode.as_str() != "convert" {
+        return None;
+    }
+    let from_candump = read_form(from.as_str())?;
+    let to_candump = read_form(to.as_str())?;
+    let lines = number_within(lines.as_bytes(), 1, 1_000_000)?;
+    Some(Plan::Convert {
+        from_candump,
+        to_candump,
+        lines,
+    })
+}
+
+fn decode_plan(words: &[String]) -> Option<Plan>
+    ensures some { IfSome result (λ plan. IsPlan plan (map string_bytes words.now)) }
+    ensures none { IsNone result → (name : List ℕ) (part : ℕ) (payload : List ℕ) →
+        IsDecode name part payload (map string_bytes words.now) → ⊥ }
+{
+    let [mode, name, part, digits] = words else {
+        return None;
+    };
+    if mode.as_str() != "decode" {
+        return None;
+    }
+    let name = read_name(name.as_bytes())?;
+    let part = number_within(part.as_bytes(), 1, 2)? as u8;
+    let payload = read_payload(digits.as_bytes())?;
+    Some(Plan::Decode {
+        name,
+        part,
+        payload,
+    })
+}
+
+/// Whether a word is that of candump's form; `None` where it is that of no form.
+fn read_form(word: &str) -> Option<bool>
+    ensures some { IfSome result (λ candump. word.now ≡ form_word candump) }
+    ensures none { IsNone result → (candump : Bool) → word.now ≡ form_word candump → ⊥ }
+{
+    if word == "candump" {
+        return Some(true);
+    }
+    if word == "slcan" {
+        return Some(false);
+    }
+    None
+}
+
+/// The name of a type.
+fn read_name(word: &[u8]) -> Option<ArrayVec<u8, 40>>
+    ensures some { IfSome result (λ name. (name.items ≡ word.now) × IsTrue (text_words.is_name word.now)) }
+    ensures none { IsNone result → IsTrue (text_words.is_name word.now) → ⊥ }
+{
+    if !is_name(word) {
+        return None;
+    }
+    let mut name = ArrayVec::new();
+    name.try_extend_from_slice(word).ok()?;
+    Some(name)
+}
+
+/// The bytes of a payload that a word spells.
+fn read_payload(word: &[u8]) -> Option<ArrayVec<u8, 376>>
+    ensures some { IfSome result (λ payload. (length payload.items ≤ 376) ×
+        SpellsPayload payload.items word.now) }
+    ensures none { IsNone result → (payload : List ℕ) → length payload ≤ 376 →
+        SpellsPayload payload word.now → ⊥ }
+{
+    if word == b"-".as_slice() {
+        return Some(ArrayVec::new());
+    }
+    let payload = read_bytes::<376>(word)?;
+    if payload.is_empty() {
+        return None;
+    }
+    Some(payload)
+}
+
+/// None, or the members of a cluster that the words spell.
+fn read_few(words: &[String]) -> Option<ArrayVec<u8, 5>>
+    ensures some { IfSome result (λ ids. map string_bytes words.now ≡ map decimal ids.items) }
+    ensures few { IfSome result (λ ids. AreFew ids.items) }
+    ensures none { IsNone result → (ids : List ℕ) → AreFew ids →
+        map string_bytes words.now ≡ map decimal ids → ⊥ }
+{
+    if words.is_empty() {
+        return Some(ArrayVec::new());
+    }
+    read_members(words)
 }
 
 /// The members of a cluster that the words spell.

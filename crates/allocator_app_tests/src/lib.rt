@@ -7,17 +7,23 @@
 #![tactic(auto)]
 
 #[cfg(test)]
+mod audits;
+#[cfg(test)]
 mod bytes;
 #[cfg(test)]
 mod device_calls;
 #[cfg(test)]
 mod faults;
 #[cfg(test)]
+mod logs;
+#[cfg(test)]
 mod lost_frame;
 #[cfg(test)]
 mod nodes;
 #[cfg(test)]
 mod ordinary_path;
+#[cfg(test)]
+mod payloads;
 #[cfg(test)]
 mod refusals;
 #[cfg(test)]

@@ -153,7 +153,7 @@ fn a_line_that_is_no_row_ends_the_report(rt: HostRuntime) -> Result<(), Fail> {
 
 #[test]
 fn other_words_do_nothing(rt: HostRuntime) -> Result<(), Fail> {
-    const CASES: [&str; 15] = [
+    const CASES: [&str; 27] = [
         "replay 0 1",
         "replay 1000001 1",
         "replay 10 1 1",
@@ -169,6 +169,18 @@ fn other_words_do_nothing(rt: HostRuntime) -> Result<(), Fail> {
         "soak 1 1 6",
         "soak 18446744073709551616 1 1",
         "soak 1 1",
+        "audit",
+        "audit 1 1",
+        "audit 126",
+        "watch can 10",
+        "watch slcan 0",
+        "watch slcan 10 1 1",
+        "convert candump slcan",
+        "convert candump slcan 1000001",
+        "decode Entry 3 -",
+        "decode 1Entry 1 -",
+        "decode Entry 1 0",
+        "decode Entry 1 xx",
     ];
     for words in CASES {
         let mut source = MemorySource::new(b"open 1 0 0\n", Some(1));
@@ -182,11 +194,11 @@ fn other_words_do_nothing(rt: HostRuntime) -> Result<(), Fail> {
     Ok(())
 }
 
-/// The words of a schedule and of a soak ask for neither links nor disks, those of a node for one of each; a
-/// place without a disk is none.
+/// The words of a node ask for a link and a disk, those of an audit for a disk, and all others for neither; a place
+/// without a disk is none.
 #[test]
 fn objects_that_are_not_asked_for_are_refused(rt: HostRuntime) -> Result<(), Fail> {
-    const CASES: [(&str, usize, bool, Status); 7] = [
+    const CASES: [(&str, usize, bool, Status); 12] = [
         ("replay 10 1", 0, false, Status::Done),
         ("replay 10 1", 1, false, Status::Usage),
         ("replay 10 1", 0, true, Status::Usage),
@@ -194,6 +206,11 @@ fn objects_that_are_not_asked_for_are_refused(rt: HostRuntime) -> Result<(), Fai
         ("soak 1 0 3", 0, true, Status::Usage),
         ("node 1 5000 3 1", 2, true, Status::Usage),
         ("node 1 5000 3 1", 1, false, Status::Usage),
+        ("audit 1", 0, true, Status::Done),
+        ("audit 1", 0, false, Status::Usage),
+        ("audit 1", 1, true, Status::Usage),
+        ("watch slcan 1", 0, true, Status::Usage),
+        ("decode Entry 1 -", 1, false, Status::Usage),
     ];
     for (words, links, has_disk, status) in CASES {
         let mut two = [MemoryLink::new(&[], None), MemoryLink::new(&[], None)];

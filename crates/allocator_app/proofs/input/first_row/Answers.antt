@@ -1,18 +1,26 @@
 use Rattle.std.proofs.Common.{◌≡◌, Some, refl, sym, subst}
 use Rattle.replay_text.specs.Schedule.{Reads}
-use Rattle.allocator_app.proofs.Lines.{no_row_found, row_found}
+use Rattle.allocator_app.proofs.Lines.{after_line-none, no_row_found, no_row_so_long, row_found}
 use Rattle.allocator_app.proofs.input.first_row.Goals as goal
 
-pub returns-in-Some-read_row-clause-found : goal.returns-in-Some-read_row-clause-found
-returns-in-Some-read_row-clause-found c =
-    let row = c.in-Some-read_row.row in
+pub returns-in-Some-clause-found : goal.returns-in-Some-clause-found
+returns-in-Some-clause-found c =
+    let row = c.in-Some.row in
     let front = c.split_at.ensures.front in
-    row_found row c.args.bytes.now c.in-Some.size c.in-Some.ensures.found (subst (Reads row) front c.in-Some-read_row.ensures.found)
-    (λ other reads. let e : Some row ≡ Some other = c.in-Some-read_row.ensures.only other (subst (Reads other) (sym front) reads) in cc)
+    row_found row c.args.bytes.now c.in-Line.size c.in-Line.ensures.0 (subst (Reads row) front c.in-Some.ensures.found)
+    (λ other reads. let e : Some row ≡ Some other = c.in-Some.ensures.only other (subst (Reads other) (sym front) reads) in cc)
 
 pub returns-in-None-clause-found : goal.returns-in-None-clause-found
 returns-in-None-clause-found c = (
   refl,
-  no_row_found c.args.bytes.now c.in-Some.size c.in-Some.ensures.found
+  no_row_found c.args.bytes.now c.in-Line.size c.in-Line.ensures.0
       (λ row reads. c.in-None.ensures.none refl row (subst (Reads row) (sym c.split_at.ensures.front) reads)),
 )
+
+pub returns-in-TooLong-clause-found : goal.returns-in-TooLong-clause-found
+returns-in-TooLong-clause-found c =
+    (refl, no_row_so_long c.lines_of_rows_are_short.ensures.short c.args.bytes.now c.in-TooLong.ensures)
+
+pub returns-in-Incomplete-clause-found : goal.returns-in-Incomplete-clause-found
+returns-in-Incomplete-clause-found c =
+    (refl, c.in-Incomplete.ensures.1, after_line-none c.args.bytes.now c.in-Incomplete.ensures.0)

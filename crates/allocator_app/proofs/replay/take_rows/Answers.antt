@@ -9,10 +9,10 @@ use Rattle.app_base.proofs.Written.{front-on, grows-refl, grows-trans, on_err}
 use Rattle.allocator_app.proofs.replay.take_rows.Goals as goal
 
 pub row-requires-clause-filled : goal.row-requires-clause-filled
-row-requires-clause-filled g c = read_usable c.in-Row.row c.rows.input c.next_row.new.self c.in-Row.ensures.found
+row-requires-clause-filled g c = read_usable c.in-Row.row c.rows.input c.next_row.new.input c.in-Row.ensures.found
 
 pub row-requires-clause-preferred : goal.row-requires-clause-preferred
-row-requires-clause-preferred g c = read_below c.in-Row.row c.rows.input c.next_row.new.self c.in-Row.ensures.found
+row-requires-clause-preferred g c = read_below c.in-Row.row c.rows.input c.next_row.new.input c.in-Row.ensures.found
 
 pub rows-init : goal.rows-init
 rows-init g c = record {
@@ -121,8 +121,8 @@ returns-in_err-line-clause-cut g c =
       now,
       record {
         lines = far.2.0 ++ c.deref.result.now;
-        rest = c.next_row.new.self;
-        goes = goes-more first far.0 c.in-Row.row c.in-Ok.told c.args.input.now c.rows.input c.next_row.new.self far.2.0 c.deref.result.now _
+        rest = c.next_row.new.input;
+        goes = goes-more first far.0 c.in-Row.row c.in-Ok.told c.args.input.now c.rows.input c.next_row.new.input far.2.0 c.deref.result.now _
             far.2.1 c.in-Row.ensures.found told.0 told.1 (c.logs_give_once.ensures c.rows.world far.0 far.1) (c.in-Ok.ensures.kept far.0 far.1) (c.logs_give_once.ensures c.row.new.self (next far.0 c.in-Row.row) now) (c.taken-in-rows.ensures ∙ c.in-Ok.ensures.taken ∙ ap (λ n. n + 1) rows) line;
         shorter = omega (arith, so_far.shorter, c.in-Row.ensures.found.shorter);
         written = front-on (written c.args.sink.now) (written c.rows.sink) (written c.line.new.sink) c.args.output.now c.rows.output far.2.0 c.deref.result.now

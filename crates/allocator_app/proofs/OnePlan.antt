@@ -1,0 +1,257 @@
+-- The plan of some words: there is one.
+use Rattle.std.proofs.Common.{◌≡◌, ◌≤◌, ◌<◌, ◌^◌, ℕ, Bool, true, false, codes, inl, inr, List, [], ◌∷◌, refl, sym, ◌∙◌, ap, subst, arith, decimal, map}
+use Rattle.std.specs.Prelude.{◌==◌, if◌then◌else◌}
+use Rattle.std.proofs.lemmas.Fmt.{decimal_injective}
+use Rattle.arrayvec.specs.ArrayVec.{ArrayVec}
+use Rattle.raft_model.specs.Lists.{In}
+use Rattle.replay_text.specs.Words.{IsHex}
+use Rattle.bus_spec.specs.Cluster.{AreMembers}
+use Rattle.allocator_app.specs.Words.{AreFew, IsAudit, IsConvert, IsDecode, IsNode, IsPlan, IsReplay, IsSoak, IsSound, IsWatch, SpellsPayload, form_word}
+use Rattle.allocator_app.specs.declared.plans.Plan.{Plan}
+use Rattle.allocator_app.specs.declared.plans.Plan.TheVariants.{Replay, Node, Soak, Audit, Watch, Convert, Decode}
+
+pub sound : (plan : Plan) (words : List (List ℕ)) → IsPlan plan words → IsSound plan
+sound (Replay rows ids) words h = (h.rows_most, h.members)
+sound (Node size base turns ids) words h = let some = h.members.some in let few = h.few in (omega (arith, some, few), h.size_most, h.turns_most, h.members)
+sound (Soak seed rounds size) words h = (h.rounds_most, h.size_least, h.size_most)
+sound (Audit ids) words h = h.members
+sound (Watch candump lines ids) words h = (h.lines_least, h.lines_most, h.nodes)
+sound (Convert from_candump to_candump lines) words h = (h.lines_least, h.lines_most)
+sound (Decode name part payload) words h = (h.named, h.part_least, h.part_most, h.short)
+
+-- words that have no plan by any mode have none
+pub unplanned : (words : List (List ℕ)) → ((rows : ℕ) (ids : List ℕ) → IsReplay rows ids words → ⊥)
+    → ((size base turns : ℕ) (ids : List ℕ) → IsNode size base turns ids words → ⊥) → ((seed rounds size : ℕ) → IsSoak seed rounds size words → ⊥)
+    → ((ids : List ℕ) → IsAudit ids words → ⊥) → ((candump : Bool) (lines : ℕ) (ids : List ℕ) → IsWatch candump lines ids words → ⊥)
+    → ((from_candump to_candump : Bool) (lines : ℕ) → IsConvert from_candump to_candump lines words → ⊥)
+    → ((name : List ℕ) (part : ℕ) (payload : List ℕ) → IsDecode name part payload words → ⊥) → (plan : Plan) → IsPlan plan words → ⊥
+unplanned words no_replay no_node no_soak no_audit no_watch no_convert no_decode (Replay rows ids) is = no_replay rows ids.items is
+unplanned words no_replay no_node no_soak no_audit no_watch no_convert no_decode (Node size base turns ids) is = no_node size base turns ids.items is
+unplanned words no_replay no_node no_soak no_audit no_watch no_convert no_decode (Soak seed rounds size) is = no_soak seed rounds size is
+unplanned words no_replay no_node no_soak no_audit no_watch no_convert no_decode (Audit ids) is = no_audit ids.items is
+unplanned words no_replay no_node no_soak no_audit no_watch no_convert no_decode (Watch candump lines ids) is = no_watch candump lines ids.items is
+unplanned words no_replay no_node no_soak no_audit no_watch no_convert no_decode (Convert from_candump to_candump lines) is = no_convert from_candump to_candump lines is
+unplanned words no_replay no_node no_soak no_audit no_watch no_convert no_decode (Decode name part payload) is = no_decode name.items part payload.items is
+
+-- ---- the mode, as the first letter of the words tells it
+
+data Mode : Type 0 where
+  replaying : Mode
+  running : Mode
+  soaking : Mode
+  auditing : Mode
+  watching : Mode
+  converting : Mode
+  decoding : Mode
+
+abbrev mode : Plan → Mode
+mode (Replay rows ids) = replaying
+mode (Node size base turns ids) = running
+mode (Soak seed rounds size) = soaking
+mode (Audit ids) = auditing
+mode (Watch candump lines ids) = watching
+mode (Convert from_candump to_candump lines) = converting
+mode (Decode name part payload) = decoding
+
+abbrev mode_of_letter : ℕ → Mode
+mode_of_letter letter =
+    if letter == 114 then replaying
+    else if letter == 110 then running
+    else if letter == 115 then soaking
+    else if letter == 97 then auditing
+    else if letter == 119 then watching
+    else if letter == 99 then converting
+    else decoding
+
+abbrev mode_of : List (List ℕ) → Mode
+mode_of [] = decoding
+mode_of ([] ∷ words) = decoding
+mode_of ((letter ∷ word) ∷ words) = mode_of_letter letter
+
+mode_is : (plan : Plan) (words : List (List ℕ)) → IsPlan plan words → mode_of words ≡ mode plan
+mode_is (Replay rows ids) words h = ap mode_of h.spelled
+mode_is (Node size base turns ids) words h = ap mode_of h.spelled
+mode_is (Soak seed rounds size) words h = ap mode_of h.spelled
+mode_is (Audit ids) words h = ap mode_of h.spelled
+mode_is (Watch candump lines ids) words h = ap mode_of h.spelled
+mode_is (Convert from_candump to_candump lines) words h = ap mode_of h.spelled
+mode_is (Decode name part payload) words h = ap mode_of h.spelled
+
+-- a plan of this mode
+abbrev IsOf : Mode → Plan → Type 0
+IsOf replaying plan = (rows : ℕ) × (ids : ArrayVec ℕ) × (plan ≡ Replay rows ids)
+IsOf running plan = (size base turns : ℕ) × (ids : ArrayVec ℕ) × (plan ≡ Node size base turns ids)
+IsOf soaking plan = (seed rounds size : ℕ) × (plan ≡ Soak seed rounds size)
+IsOf auditing plan = (ids : ArrayVec ℕ) × (plan ≡ Audit ids)
+IsOf watching plan = (candump : Bool) × (lines : ℕ) × (ids : ArrayVec ℕ) × (plan ≡ Watch candump lines ids)
+IsOf converting plan = (from_candump to_candump : Bool) × (lines : ℕ) × (plan ≡ Convert from_candump to_candump lines)
+IsOf decoding plan = (name : ArrayVec ℕ) × (part : ℕ) × (payload : ArrayVec ℕ) × (plan ≡ Decode name part payload)
+
+is_of : (plan : Plan) → IsOf (mode plan) plan
+is_of (Replay rows ids) = (rows, ids, refl)
+is_of (Node size base turns ids) = (size, base, turns, ids, refl)
+is_of (Soak seed rounds size) = (seed, rounds, size, refl)
+is_of (Audit ids) = (ids, refl)
+is_of (Watch candump lines ids) = (candump, lines, ids, refl)
+is_of (Convert from_candump to_candump lines) = (from_candump, to_candump, lines, refl)
+is_of (Decode name part payload) = (name, part, payload, refl)
+
+-- both plans of some words are of one mode
+of_mode : (plan other : Plan) (words : List (List ℕ)) → IsPlan plan words → IsPlan other words → IsOf (mode other) plan
+of_mode plan other words p q = subst (λ m. IsOf m plan) (sym (mode_is plan words p) ∙ mode_is other words q) (is_of plan)
+
+-- ---- and its parameters
+
+abbrev kept : List ℕ → ArrayVec ℕ
+kept list = record { items = list }
+
+same_number : (a b : ℕ) → a < 2 ^ 64 → b < 2 ^ 64 → decimal a ≡ decimal b → a ≡ b
+same_number a b low high e = decimal_injective a b low high e
+
+one_number : (a b : ℕ) → a ≤ 1000000000 → b ≤ 1000000000 → decimal a ≡ decimal b → a ≡ b
+one_number a b a_most b_most e = decimal_injective a b (omega arith) (omega arith) e
+
+one_list : (xs ys : List ℕ) → ((n : ℕ) → In n xs → n ≤ 125) → ((n : ℕ) → In n ys → n ≤ 125) → map decimal xs ≡ map decimal ys → xs ≡ ys
+one_list [] [] p q e = refl
+one_list [] (y ∷ ys) p q e = cc
+one_list (x ∷ xs) [] p q e = cc
+one_list (x ∷ xs) (y ∷ ys) p q e =
+    let x_most = p x (inl refl) in
+    let y_most = q y (inl refl) in
+    let first : x ≡ y = one_number x y (omega (arith, x_most)) (omega (arith, y_most)) cc in
+    let rest : xs ≡ ys = one_list xs ys (λ n in_xs. p n (inr in_xs)) (λ n in_ys. q n (inr in_ys)) cc in
+    ap (λ a. a ∷ xs) first ∙ ap (λ l. y ∷ l) rest
+
+same_members : (xs ys : List ℕ) → AreMembers xs → AreMembers ys → map decimal xs ≡ map decimal ys → xs ≡ ys
+same_members xs ys p q e = one_list xs ys (λ n here. (p.nodes n here).1) (λ n here. (q.nodes n here).1) e
+
+nodes_of_few : (ids : List ℕ) → AreFew ids → (n : ℕ) → In n ids → n ≤ 125
+nodes_of_few ids few n here = elim few [
+  | inl none ↦ absurd (subst (In n) none here)
+  | inr members ↦ (members.nodes n here).1
+]
+
+same_few : (xs ys : List ℕ) → AreFew xs → AreFew ys → map decimal xs ≡ map decimal ys → xs ≡ ys
+same_few xs ys p q e = one_list xs ys (nodes_of_few xs p) (nodes_of_few ys q) e
+
+same_form : (a b : Bool) → form_word a ≡ form_word b → a ≡ b
+same_form true true e = refl
+same_form true false e = cc
+same_form false true e = cc
+same_form false false e = refl
+
+-- (`-` is no hexadecimal digit)
+no_digits : (byte : ℕ) (bytes : List ℕ) → IsHex (byte ∷ bytes) (codes "-") → ⊥
+no_digits byte bytes e = cc
+
+same_payload : (xs ys word : List ℕ) → SpellsPayload xs word → SpellsPayload ys word → xs ≡ ys
+same_payload [] [] word p q = refl
+same_payload [] (y ∷ ys) word p q = absurd (no_digits y ys (subst (IsHex (y ∷ ys)) p q))
+same_payload (x ∷ xs) [] word p q = absurd (no_digits x xs (subst (IsHex (x ∷ xs)) q p))
+same_payload (x ∷ xs) (y ∷ ys) word p q = let same = sym p ∙ q in cc
+
+second : {a b x y : List ℕ} {l m : List (List ℕ)} → a ∷ b ∷ l ≡ x ∷ y ∷ m → b ≡ y
+second e = cc
+
+third : {a b c x y z : List ℕ} {l m : List (List ℕ)} → a ∷ b ∷ c ∷ l ≡ x ∷ y ∷ z ∷ m → c ≡ z
+third e = cc
+
+fourth : {a b c d x y z w : List ℕ} {l m : List (List ℕ)} → a ∷ b ∷ c ∷ d ∷ l ≡ x ∷ y ∷ z ∷ w ∷ m → d ≡ w
+fourth e = cc
+
+after_one : {a x : List ℕ} {l m : List (List ℕ)} → a ∷ l ≡ x ∷ m → l ≡ m
+after_one e = cc
+
+after_two : {a b x y : List ℕ} {l m : List (List ℕ)} → a ∷ b ∷ l ≡ x ∷ y ∷ m → l ≡ m
+after_two e = cc
+
+after_three : {a b c x y z : List ℕ} {l m : List (List ℕ)} → a ∷ b ∷ c ∷ l ≡ x ∷ y ∷ z ∷ m → l ≡ m
+after_three e = cc
+
+pub after_four : {a b c d x y z w : List ℕ} {l m : List (List ℕ)} → a ∷ b ∷ c ∷ d ∷ l ≡ x ∷ y ∷ z ∷ w ∷ m → l ≡ m
+after_four e = cc
+
+-- ---- the plan of the words of each mode
+
+module _ (plan : Plan) (words : List (List ℕ)) (planned : IsPlan plan words) where
+  -- as the plan is
+  by : (other : Plan) → plan ≡ other → IsPlan other words
+  by other is = subst (λ p. IsPlan p words) is planned
+
+  pub only_replay : (rows : ℕ) (ids : List ℕ) → IsReplay rows ids words → plan ≡ Replay rows (kept ids)
+  only_replay rows ids asks =
+      let own = of_mode plan (Replay rows (kept ids)) words planned asks in
+      let is = by (Replay own.0 own.1) own.2 in
+      let same = sym is.spelled ∙ asks.spelled in
+      let a = is.rows_most in let b = asks.rows_most in
+      own.2 ∙ ap (λ n. Replay n own.1) (one_number own.0 rows (omega (arith, a)) (omega (arith, b)) (second same))
+      ∙ ap (λ l. Replay rows (kept l)) (same_members own.1.items ids is.members asks.members (after_two same))
+
+  pub only_node : (size base turns : ℕ) (ids : List ℕ) → IsNode size base turns ids words → plan ≡ Node size base turns (kept ids)
+  only_node size base turns ids asks =
+      let own = of_mode plan (Node size base turns (kept ids)) words planned asks in
+      let is = by (Node own.0 own.1 own.2 own.3) own.4 in
+      let same = sym is.spelled ∙ asks.spelled in
+      let a = is.size_most in let b = asks.size_most in let c = is.base_most in let d = asks.base_most in
+      own.4 ∙ ap (λ n. Node n own.1 own.2 own.3) (one_number own.0 size (omega (arith, a)) (omega (arith, b)) (second same))
+      ∙ ap (λ n. Node size n own.2 own.3) (one_number own.1 base (omega (arith, c)) (omega (arith, d)) (third same))
+      ∙ ap (λ n. Node size base n own.3) (one_number own.2 turns is.turns_most asks.turns_most (fourth same))
+      ∙ ap (λ l. Node size base turns (kept l)) (same_members own.3.items ids is.members asks.members (after_four same))
+
+  pub only_soak : (seed rounds size : ℕ) → IsSoak seed rounds size words → plan ≡ Soak seed rounds size
+  only_soak seed rounds size asks =
+      let own = of_mode plan (Soak seed rounds size) words planned asks in
+      let is = by (Soak own.0 own.1 own.2) own.3 in
+      let same = sym is.spelled ∙ asks.spelled in
+      let a = is.rounds_most in let b = asks.rounds_most in let c = is.size_most in let d = asks.size_most in
+      own.3 ∙ ap (λ n. Soak n own.1 own.2) (same_number own.0 seed is.seed_most asks.seed_most (second same))
+      ∙ ap (λ n. Soak seed n own.2) (one_number own.1 rounds (omega (arith, a)) (omega (arith, b)) (third same))
+      ∙ ap (λ n. Soak seed rounds n) (one_number own.2 size (omega (arith, c)) (omega (arith, d)) (fourth same))
+
+  pub only_audit : (ids : List ℕ) → IsAudit ids words → plan ≡ Audit (kept ids)
+  only_audit ids asks =
+      let own = of_mode plan (Audit (kept ids)) words planned asks in
+      let is = by (Audit own.0) own.1 in
+      own.1 ∙ ap (λ l. Audit (kept l)) (same_members own.0.items ids is.members asks.members (after_one (sym is.spelled ∙ asks.spelled)))
+
+  pub only_watch : (candump : Bool) (lines : ℕ) (ids : List ℕ) → IsWatch candump lines ids words → plan ≡ Watch candump lines (kept ids)
+  only_watch candump lines ids asks =
+      let own = of_mode plan (Watch candump lines (kept ids)) words planned asks in
+      let is = by (Watch own.0 own.1 own.2) own.3 in
+      let same = sym is.spelled ∙ asks.spelled in
+      let a = is.lines_most in let b = asks.lines_most in
+      own.3 ∙ ap (λ f. Watch f own.1 own.2) (same_form own.0 candump (second same))
+      ∙ ap (λ n. Watch candump n own.2) (one_number own.1 lines (omega (arith, a)) (omega (arith, b)) (third same))
+      ∙ ap (λ l. Watch candump lines (kept l)) (same_few own.2.items ids is.nodes asks.nodes (after_three same))
+
+  pub only_convert : (from_candump to_candump : Bool) (lines : ℕ) → IsConvert from_candump to_candump lines words
+      → plan ≡ Convert from_candump to_candump lines
+  only_convert from_candump to_candump lines asks =
+      let own = of_mode plan (Convert from_candump to_candump lines) words planned asks in
+      let is = by (Convert own.0 own.1 own.2) own.3 in
+      let same = sym is.spelled ∙ asks.spelled in
+      let a = is.lines_most in let b = asks.lines_most in
+      own.3 ∙ ap (λ f. Convert f own.1 own.2) (same_form own.0 from_candump (second same))
+      ∙ ap (λ f. Convert from_candump f own.2) (same_form own.1 to_candump (third same))
+      ∙ ap (λ n. Convert from_candump to_candump n) (one_number own.2 lines (omega (arith, a)) (omega (arith, b)) (fourth same))
+
+  pub only_decode : (name : List ℕ) (part : ℕ) (payload : List ℕ) → IsDecode name part payload words → plan ≡ Decode (kept name) part (kept payload)
+  only_decode name part payload asks =
+      let own = of_mode plan (Decode (kept name) part (kept payload)) words planned asks in
+      let is = by (Decode own.0 own.1 own.2) own.3 in
+      let same = sym is.spelled ∙ asks.spelled in
+      let a = is.part_most in let b = asks.part_most in
+      own.3 ∙ ap (λ l. Decode (kept l) own.1 own.2) (second same)
+      ∙ ap (λ n. Decode (kept name) n own.2) (one_number own.1 part (omega (arith, a)) (omega (arith, b)) (third same))
+      ∙ ap (λ l. Decode (kept name) part (kept l))
+      (same_payload own.2.items payload asks.hex (subst (SpellsPayload own.2.items) (fourth same) is.digits) asks.digits)
+
+  -- words have one plan
+  pub only : (other : Plan) → IsPlan other words → plan ≡ other
+  only (Replay rows ids) asks = only_replay rows ids.items asks
+  only (Node size base turns ids) asks = only_node size base turns ids.items asks
+  only (Soak seed rounds size) asks = only_soak seed rounds size asks
+  only (Audit ids) asks = only_audit ids.items asks
+  only (Watch candump lines ids) asks = only_watch candump lines ids.items asks
+  only (Convert from_candump to_candump lines) asks = only_convert from_candump to_candump lines asks
+  only (Decode name part payload) asks = only_decode name.items part payload.items asks

@@ -1,0 +1,34 @@
+-- What a plan that was followed leaves and writes, a record a mode.
+use Rattle.std.specs.Prelude.{ℕ, List, Option}
+use Rattle.disk_model.specs.declared.disk.Disk.{Ghosts}
+use Rattle.outside.specs.declared.received.RawFrame.{RawFrame}
+use Rattle.outside.specs.declared.received.Received.{Received}
+use Rattle.dsdl_decode.specs.Ends.{Decodes}
+use Rattle.log_modes.specs.Converted.{Converts}
+use Rattle.log_modes.specs.Watched.{Watches}
+use Rattle.app_node.specs.Nodes.{RunsNodes}
+use Rattle.app_base.specs.declared.status.Status.{Status}
+use Rattle.store_audit.specs.Audits.{Audits}
+use Rattle.allocator_app.specs.declared.plans.Plan.{Plan}
+use Rattle.allocator_app.specs.declared.plans.Plan.TheVariants.{Replay, Node, Soak, Audit, Watch, Convert, Decode}
+use Rattle.allocator_app.specs.Rows.{Replays}
+use Rattle.allocator_app.specs.Soaking.{Soaks}
+
+-- The objects of the outside before and now: links, disks, what the clock reads, what is left in the source and the
+-- faults that it has counted, those that the sink has counted and what it has been written.
+module _ {L D : Type 0} (coming : L → Option (List Received)) (sent : L → Option (List RawFrame))
+    (link_faults : L → ℕ) (disk : Ghosts D) (links_old links : List L) (disks_old disks : List (Option D))
+    (readings_old readings left_old left : Option (List ℕ)) (source_old source sink_old sink : ℕ)
+    (before now : Option (List ℕ)) (status : Status) where
+  abbrev pub IsFollowed : Plan → Type 0
+  IsFollowed (Replay rows ids) = Replays rows ids.items left_old left before now status
+  IsFollowed (Node size base turns ids) = RunsNodes coming sent link_faults disk size turns ids.items links_old links
+      disks_old disks readings_old readings sink_old sink before now status
+  IsFollowed (Soak seed rounds size) = Soaks seed rounds size sink_old sink before now status
+  IsFollowed (Audit ids) = Audits disk ids.items disks_old disks before now status
+  IsFollowed (Watch candump lines ids) =
+      Watches candump lines ids.items left_old left source_old source sink_old sink before now status
+  IsFollowed (Convert from_candump to_candump lines) =
+      Converts from_candump to_candump lines left_old left source_old source sink_old sink before now status
+  IsFollowed (Decode name part payload) =
+      Decodes name.items part payload.items left_old left source_old source sink_old sink before now status
