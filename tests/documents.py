@@ -16,10 +16,10 @@ LINK = re.compile(r"\[[^\]\n]*\]\(([^)\s]+)\)")
 
 # Words in back-ticks that stand in no source here: of the toolchain, of the standard, and those that stand for any.
 ELSEWHERE = set("""
-    rattle kit logic uavcan protocol dynamic_node_id GetNodeInfo NAME caldrouz_VERSION_amd64
+    rattle kit logic uavcan protocol dynamic_node_id GetNodeInfo NAME caldrouz_VERSION_amd64 Name uintB voidB _9
 """.split())
 # Commands of the system and of the toolchain: what follows one is not looked at.
-COMMANDS = set("rt apt-get candump ip journalctl ss systemctl".split())
+COMMANDS = set("rt apt-get candump ip journalctl sha256sum ss systemctl".split())
 IMAGES = (".png", ".jpg", ".svg")
 
 
@@ -139,6 +139,15 @@ def crates_without_a_row():
             yield f"no row for the crate {crate} of crates.txt"
 
 
+def text_of_profile():
+    """The example has the very text that the laws speak of."""
+    source = ROOT / "crates/dsdl_text/src/profile.rt"
+    if not source.is_file():
+        yield f"no file {source.relative_to(ROOT)}"
+    elif re.search(r'b"([^"]*)"', text_of(source)).group(1) != text_of(ROOT / "examples/decode/text"):
+        yield f"it is not the text of {source.relative_to(ROOT)}"
+
+
 def stale_page():
     run = subprocess.run([sys.executable, str(ROOT / "docs/make_headline"), "--check"], capture_output=True, text=True)
     if run.returncode != 0:
@@ -151,6 +160,7 @@ def main():
         ("docs/HEADLINE.md", stale_page()),
         ("docs/ARCHITECTURE.md", crates_without_a_row()),
         ("docs/CALLS.md", calls.faults(ROOT)),
+        ("examples/decode/text", text_of_profile()),
     ]
     for path in documents():
         name = str(path.relative_to(ROOT))

@@ -1,8 +1,11 @@
-"""The tests of tools/view and tools/follow. They are started by tests/tools."""
+"""The tests of tools/view and tools/follow, and of logs that others wrote or read. They are started by tests/tools."""
 import glob
+import importlib.util
 import json
 import os
+import random
 import re
+import shutil
 import subprocess
 import sys
 import tempfile
@@ -319,6 +322,132 @@ def test_refusals_of_follow():
         == 4
     )
     assert run_tool("follow", "--help")[2] == 0
+
+
+# --- logs and tools that others wrote: can-utils (its programs), python-can (`can`)
+
+
+def converted(lines, before, after):
+    """What the program makes of a log, and its exit code."""
+    done = subprocess.run([PROGRAM, "convert", before, after, "1000000"], input=lines.encode(), capture_output=True)
+    return done.stdout.decode(), done.returncode
+
+
+def data_frames(log):
+    """Moment, name, identifier and bytes of each line of a log as `convert` writes it."""
+    written = re.compile(r"\((\d{10}\.\d{6})\) (\S+) ([0-9A-F]{8})#([0-9A-F]+)")
+    lines = [written.fullmatch(line) for line in log.splitlines()]
+    return [(line[1], line[2], int(line[3], 16), bytes.fromhex(line[4])) for line in lines]
+
+
+def has(*programs, module=None):
+    """Whether these are installed; a test of one that is not is passed over, and says so."""
+    missing = [name for name in programs if not shutil.which(name)]
+    if module and not importlib.util.find_spec(module):
+        missing.append(f"the module {module}")
+    if missing:
+        print(f"tests/tools: passed over, without {' and '.join(missing)}", file=sys.stderr)
+    return not missing
+
+
+def written_by(words, log):
+    """What a program wrote that was given this log."""
+    return subprocess.run(words, input=log, capture_output=True, text=True, check=True).stdout
+
+
+def test_a_log_of_candump_is_taken_as_it_is():
+    """candump wrote this log; each of its lines is one of data, and is written as candump wrote it."""
+    log = read(EXAMPLES, "a_real_bus", "log")
+    assert converted(log, "candump", "candump") == (log, 0)
+
+
+def test_the_way_to_slcan_and_back_keeps_the_frames():
+    log = read(EXAMPLES, "a_real_bus", "log")
+    there, status = converted(log, "candump", "slcan")
+    back, and_status = converted(there, "slcan", "candump")
+    assert (status, and_status) == (0, 0)
+    frames = data_frames(back)
+    assert [frame[2:] for frame in frames] == [frame[2:] for frame in data_frames(log)]
+    assert {frame[:2] for frame in frames} == {("0000000000.000000", "slcan0")}
+
+
+def test_can_utils_read_what_is_written():
+    if not has("log2long", "log2asc"):
+        return
+    log, _ = converted(read(EXAMPLES, "a_log", "log"), "candump", "candump")
+    frames = data_frames(log)
+    line_of_log2long = re.compile(r"\((\S+)\) +(\S+) +([0-9A-F]+) +\[\d\] +((?:[0-9A-F]{2} ?)+)")
+    shown = [line_of_log2long.match(line) for line in written_by(["log2long"], log).splitlines()]
+    assert [(one[1], one[2], int(one[3], 16), bytes.fromhex(one[4])) for one in shown] == frames
+    asc = written_by(["log2asc", frames[0][1]], log)
+    shown = [line.split() for line in asc.splitlines() if line.startswith(" ")]
+    frames_shown = [(int(one[2].rstrip("x"), 16), bytes.fromhex("".join(one[6:]))) for one in shown]
+    assert frames_shown == [frame[2:] for frame in frames]
+
+
+def test_a_log_of_asc2log_is_read():
+    """It writes a direction behind each line."""
+    if not has("log2asc", "asc2log"):
+        return
+    log = read(EXAMPLES, "a_log", "log")
+    again = written_by(["asc2log"], written_by(["log2asc", "vx4"], log))
+    assert again.splitlines()[0].endswith(" R")
+    taken, status = converted(again, "candump", "candump")
+    plain, _ = converted(log, "candump", "candump")
+    assert status == 0
+    assert [frame[2:] for frame in data_frames(taken)] == [frame[2:] for frame in data_frames(plain)]
+
+
+def test_python_can_reads_what_is_written():
+    if not has(module="can"):
+        return
+    import can
+
+    log, _ = converted(read(EXAMPLES, "a_log", "log"), "candump", "candump")
+    with tempfile.TemporaryDirectory() as folder:
+        path = os.path.join(folder, "bus.log")
+        with open(path, "w", encoding="ascii") as file:
+            file.write(log)
+        messages = list(can.CanutilsLogReader(path))
+    assert all(one.is_extended_id and not one.is_remote_frame and not one.is_fd for one in messages)
+    read_there = [(f"{one.timestamp:017.6f}", one.channel, one.arbitration_id, bytes(one.data)) for one in messages]
+    assert read_there == data_frames(log)
+
+
+def test_a_log_of_python_can_is_read():
+    """Messages of all kinds: each line is read, and those with 29 bits and 1 to 8 bytes of data are kept."""
+    if not has(module="can"):
+        return
+    import can
+
+    draw = random.Random(1)
+    kept = []
+    with tempfile.TemporaryDirectory() as folder:
+        path = os.path.join(folder, "bus.log")
+        writer = can.CanutilsLogWriter(path)
+        for at in range(300):
+            extended, remote, fd, error = (draw.random() < share for share in (0.6, 0.1, 0.1, 0.05))
+            identifier = draw.getrandbits(29 if extended else 11)
+            data = draw.randbytes(draw.randrange(9))
+            moment = 1_600_000_000 + at / 64
+            message = can.Message(
+                timestamp=moment,
+                arbitration_id=identifier,
+                is_extended_id=extended,
+                is_remote_frame=remote and not fd,
+                is_fd=fd,
+                is_error_frame=error,
+                channel=draw.choice(["can0", "vcan1", 3, None]),
+                data=None if remote and not fd else data,
+            )
+            writer.on_message_received(message)
+            if extended and data and not (remote or fd or error):
+                kept.append((f"{moment:017.6f}", identifier, data))
+        writer.stop()
+        log = read(path)
+    taken, status = converted(log, "candump", "candump")
+    assert status == 0, taken.splitlines()[-1]
+    assert [(frame[0], *frame[2:]) for frame in data_frames(taken)] == kept
 
 
 def main():
