@@ -2,6 +2,7 @@
 import subprocess
 
 AT_ONCE = 100  # rows that are written before their lines are read: they fit into a pipe
+NOT_PROVED = 20  # what ./allocator ends with that has no proved program, and was asked for a node
 
 
 class Refused(Exception):
@@ -13,15 +14,20 @@ class Broken(Exception):
 
 
 def prepare(program):
-    """Runs the program once over no row: ./allocator builds itself at its first use, and tells how far it is."""
+    """Sees that the program runs, and answers row by row: an unproved answer of ./allocator takes all rows first."""
     try:
-        status = subprocess.run(
-            [program, "replay", "1", "1"], stdin=subprocess.DEVNULL, stdout=subprocess.DEVNULL
-        ).returncode
+        # (words of which no program takes a turn)
+        if ended_with([program, "node", "1", "0", "0", "1"], subprocess.DEVNULL) == NOT_PROVED:
+            raise Broken(f"no proved program is built, and only that answers row by row: {program} build")
+        status = ended_with([program, "replay", "1", "1"])
     except OSError as error:
         raise Broken(f"{program}: {error.strerror}") from None
     if status:
         raise Broken(f"{program} replay 1 1 ends with status {status}")
+
+
+def ended_with(words, errors=None):
+    return subprocess.run(words, stdin=subprocess.DEVNULL, stdout=subprocess.DEVNULL, stderr=errors).returncode
 
 
 class Partner:
