@@ -8,10 +8,9 @@ use Rattle.can_frame.specs.Log.{blank}
 use Rattle.raft_core.specs.Calls.{owed}
 use Rattle.raft_core.specs.Times.{given_at, given_call}
 use Rattle.raft_model.specs.Duty as duty
-use Rattle.raft_model.specs.Duty.{next_entry}
+use Rattle.raft_model.specs.Moves.{next_entry, Move}
 use Rattle.raft_model.specs.Messages.{Message, Request}
 use Rattle.raft_model.specs.Messages.Message.{Requests}
-use Rattle.raft_model.specs.Moves.{Move}
 use Rattle.raft_model.specs.Moves.Leading.{append_request, vote_request}
 use Rattle.raft_model.specs.Moves.Move.{CallForVote, CallToAppend, TellNothing, TellPair}
 use Rattle.alloc_step.specs.Transfers.{has_room, id_of}

@@ -12,11 +12,11 @@ use Rattle.raft_core.specs.Handled.{moves_of_expire}
 use Rattle.raft_core.specs.Times.{Given, Times, given_at, has_waited, overdue, times_after_all}
 use Rattle.raft_model.specs.Decisions.{commit_index}
 use Rattle.raft_model.specs.Duty as duty
-use Rattle.raft_model.specs.Duty.{CommitDuty, TellDuty, TickDuty, next_entry}
+use Rattle.raft_model.specs.Duty.{CommitDuty, TellDuty, TickDuty}
+use Rattle.raft_model.specs.Moves.{next_entry, Move}
 use Rattle.raft_model.specs.Handlers.{offers_of_all, plain_after_all}
 use Rattle.raft_model.specs.Members.{IsAll}
 use Rattle.raft_model.specs.Messages.{Request}
-use Rattle.raft_model.specs.Moves.{Move}
 use Rattle.raft_model.specs.Moves.Elections.{is_leader, term_limit}
 use Rattle.raft_model.specs.Moves.Leading.{append_request, vote_request}
 use Rattle.raft_model.specs.Moves.Move.{CallForVote, CallToAppend}

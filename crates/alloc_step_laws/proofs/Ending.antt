@@ -6,12 +6,11 @@ use Rattle.can_frame.specs.declared.step.What.{What}
 use Rattle.can_frame.specs.declared.step.What.TheVariants.{Alloc, VoteQ, AppQ}
 use Rattle.can_frame.specs.Log.{blank}
 use Rattle.raft_core.specs.Calls.{owed}
-use Rattle.raft_model.specs.Duty.{next_entry}
+use Rattle.raft_model.specs.Moves.{next_entry, Move}
 use Rattle.raft_model.specs.Lists.{In}
 use Rattle.raft_model.specs.Members.{HasNoneTwice}
 use Rattle.raft_model.specs.Messages.{Message, Request}
 use Rattle.raft_model.specs.Messages.Message.{Requests}
-use Rattle.raft_model.specs.Moves.{Move}
 use Rattle.raft_model.specs.Moves.Leading.{append_request, vote_request}
 use Rattle.raft_model.specs.Moves.Move.{CallForVote, CallToAppend, TellPair}
 use Rattle.alloc_step.specs.Ending.{append_call_bytes, calls_all, calls_by, calls_owed, calls_peer, has_to_tell, tell_phase, tells_next, vote_call_bytes}

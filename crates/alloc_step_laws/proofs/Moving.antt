@@ -33,13 +33,12 @@ use Rattle.raft_core.specs.Times.{Given, Sending, Times, awaits, given_at, given
 use Rattle.raft_model.specs.Fit.{IsFit}
 use Rattle.raft_model.specs.Decisions.{commit_index, grants, judges}
 use Rattle.raft_model.specs.Duty as duty
-use Rattle.raft_model.specs.Duty.{next_entry}
+use Rattle.raft_model.specs.Moves.{next_entry, IsEnabled, Move, offers}
 use Rattle.raft_model.specs.Handlers.{calls_of_all, plain_after_all}
 use Rattle.raft_model.specs.Lists.{In}
 use Rattle.raft_model.specs.Members.{HasNoneTwice, IsAll}
 use Rattle.raft_model.specs.Messages.{Message, Request}
 use Rattle.raft_model.specs.Messages.Message.{Answers, Pairs, Requests}
-use Rattle.raft_model.specs.Moves.{IsEnabled, Move, offers}
 use Rattle.raft_model.specs.Moves.Appending.{Verdict, is_accepted}
 use Rattle.raft_model.specs.Moves.Elections.{is_leader, term_limit, with_term}
 use Rattle.raft_model.specs.Moves.Leading.{MayCall, answer_to, append_request, vote_request}

@@ -30,11 +30,10 @@ use Rattle.raft_core.specs.Calls.{owed}
 use Rattle.raft_core.specs.Handled as handled
 use Rattle.raft_core.specs.Times.{given_at, given_tick, has_waited, is_awaited, overdue}
 use Rattle.raft_model.specs.Decisions.{grants, judges}
-use Rattle.raft_model.specs.Duty.{next_entry}
+use Rattle.raft_model.specs.Moves.{next_entry, Move}
 use Rattle.raft_model.specs.Lists.{In}
 use Rattle.raft_model.specs.Messages.{Answer, Request}
 use Rattle.raft_model.specs.Messages.Message.{Answers, Requests}
-use Rattle.raft_model.specs.Moves.{Move}
 use Rattle.raft_model.specs.Moves.Appending.{Verdict, is_accepted}
 use Rattle.raft_model.specs.Moves.Elections.{is_leader, with_term}
 use Rattle.raft_model.specs.Moves.Leading.{answer_to, append_request, vote_request}

@@ -3,7 +3,8 @@ use Rattle.std.specs.Prelude.{◌≡◌, ◌≢◌, ◌<◌, ℕ, ◌++◌, Bool
 use Rattle.can_frame.specs.declared.step.What.TheVariants.{Alloc}
 use Rattle.can_frame.specs.Zeros.{zeros}
 use Rattle.raft_model.specs.Duty as duty
-use Rattle.raft_model.specs.Duty.{TellDuty, next_entry}
+use Rattle.raft_model.specs.Duty.{TellDuty}
+use Rattle.raft_model.specs.Moves.{next_entry}
 use Rattle.raft_model.specs.Handlers.{offers_of_all}
 use Rattle.raft_model.specs.Server.Role.{Leader}
 use Rattle.alloc_step.specs.Ending.{commit_phase, tell_phase}

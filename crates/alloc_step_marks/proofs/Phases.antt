@@ -16,10 +16,10 @@ use Rattle.raft_core.specs.Taken.{proposal}
 use Rattle.raft_core.specs.Times.{given_at, given_call, given_proposal, given_tick, has_waited, overdue, Times}
 use Rattle.raft_model.specs.Decisions.{commit_index}
 use Rattle.raft_model.specs.Duty as duty
-use Rattle.raft_model.specs.Duty.{commit_moves, next_entry, tick_phase}
+use Rattle.raft_model.specs.Duty.{commit_moves, tick_phase}
+use Rattle.raft_model.specs.Moves.{next_entry, Move}
 use Rattle.raft_model.specs.Messages.{Message, Request}
 use Rattle.raft_model.specs.Messages.Message.{Requests}
-use Rattle.raft_model.specs.Moves.{Move}
 use Rattle.raft_model.specs.Moves.Elections.{is_leader}
 use Rattle.raft_model.specs.Moves.Leading.{append_request, vote_request}
 use Rattle.raft_model.specs.Moves.Move.{AnswerAgain, CallForVote, CallToAppend, CommitTo, GiveUp, ProposeEntry, TakeAppendAnswer, TakeAppendRequest, TakeVoteAnswer, TakeVoteRequest, TellNothing, TellPair, TimeOut}

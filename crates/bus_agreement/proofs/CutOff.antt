@@ -32,15 +32,14 @@ use Rattle.bus_agreement.specs.Cuts.{IsOneStop}
 use Rattle.bus_agreement.specs.Events.{MayHappen}
 use Rattle.bus_agreement.specs.Said.{IsRunWritable, IsStoreWritable}
 use Rattle.bus_agreement.specs.Shows.{Shows, ShowsLife, ShowsUp}
+use Rattle.bus_agreement.specs.LawsBelow.{FrameLaws, CodecLaws}
+use Rattle.bus_agreement.specs.StepLaws.{StepLaws, MoreLaws}
 use Rattle.bus_agreement.proofs.Ending.{one_stop}
-use Rattle.bus_agreement.proofs.Finished.{MoreLaws, of_machine, proposes_well, puts_vote}
+use Rattle.bus_agreement.proofs.Finished.{of_machine, proposes_well, puts_vote}
 use Rattle.bus_agreement.proofs.Kept.{with_one}
-use Rattle.bus_agreement.proofs.LawsBelow.{FrameLaws}
 use Rattle.bus_agreement.proofs.Ranging.{ArePutsWritable, after_all, all_puts_fit, front}
 use Rattle.bus_agreement.proofs.Starting.{restarted_down}
 use Rattle.bus_agreement.proofs.StillWritable.{stores_with}
-use Rattle.bus_agreement.proofs.Stepping.{StepLaws}
-use Rattle.bus_agreement.proofs.Taking.{CodecLaws}
 
 pub record CutLaws : Type 0 where
   pub counted : (puts : List StoredPut) (calls : Calls) → are_put puts calls ≡ false → done_on puts calls < length puts

@@ -4,7 +4,7 @@ use Rattle.std.specs.Prelude.{get_or}
 use Rattle.std.proofs.lemmas.Bool.Decides.{eqb_tells}
 use Rattle.std.proofs.lemmas.List.{ext_get_or}
 use Rattle.can_frame.specs.Cutting.{Piece, frames_before_last, frames_of, payload_of}
-use Rattle.bus_agreement.proofs.LawsBelow.{FrameLaws}
+use Rattle.bus_agreement.specs.LawsBelow.{FrameLaws}
 use Rattle.bus_agreement.proofs.Lists.{never}
 use Rattle.bus_agreement.proofs.Pieces.{no_piece}
 

@@ -24,8 +24,8 @@ use Rattle.alloc_step.specs.Transfers.{SentTransfer, ident_of}
 use Rattle.bus_spec.specs.Cluster.{is_member}
 use Rattle.bus_spec.specs.Lawful.{is_forged, is_forged_by}
 use Rattle.bus_agreement.specs.Frames.{AreHeard, AreTransfers, CameFrom, IsOnBus, WasMade}
+use Rattle.bus_agreement.specs.LawsBelow.{FrameLaws}
 use Rattle.bus_agreement.proofs.Idents.{AreSame, IsWanted, keys, wanted_is}
-use Rattle.bus_agreement.proofs.LawsBelow.{FrameLaws}
 use Rattle.bus_agreement.proofs.Lists.{in_append, never, of_each, tell}
 use Rattle.bus_agreement.proofs.Whole.{IsFrom, final_id, from_bus, payload_is}
 

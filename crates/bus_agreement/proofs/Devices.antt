@@ -32,10 +32,10 @@ use Rattle.bus_spec.specs.Lawful.{absent, cause, is_forged, is_forged_by, judged
 use Rattle.bus_agreement.specs.Asking.{IsAsking, IsGiven}
 use Rattle.bus_agreement.specs.Frames.{AreHeard, AreTransfers, CameFrom, IsForeign, IsOnBus, WasMade}
 use Rattle.bus_agreement.specs.Shows.{Shows}
+use Rattle.bus_agreement.specs.LawsBelow.{FrameLaws}
 use Rattle.bus_agreement.proofs.Delivering.{was_made}
 use Rattle.bus_agreement.proofs.Idents.{IsWanted, one_what, wanted_is}
 use Rattle.bus_agreement.proofs.Kept.{asking_more, heard_more}
-use Rattle.bus_agreement.proofs.LawsBelow.{FrameLaws}
 use Rattle.bus_agreement.proofs.Lists.{in_append, never, of_each}
 use Rattle.bus_agreement.proofs.OneRow.{is_fine, stands}
 use Rattle.bus_agreement.proofs.Whole.{forged_allocation}

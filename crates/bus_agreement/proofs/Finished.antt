@@ -42,48 +42,17 @@ use Rattle.bus_spec.specs.Members.MemberStatus.{Up}
 use Rattle.bus_spec.specs.Refinement.{made_of}
 use Rattle.bus_agreement.specs.Said.{AreWritable, IsRunWritable, IsStoreWritable, ProposesWell}
 use Rattle.bus_agreement.specs.Shows.{HoldsOfMade, IsAtWork, IsInRun, Shows, ShowsUp}
+use Rattle.bus_agreement.specs.LawsBelow.{FrameLaws, CodecLaws}
+use Rattle.bus_agreement.specs.StepLaws.{StepLaws, MoreLaws}
 use Rattle.bus_agreement.proofs.Hearing.{takes_from}
 use Rattle.bus_agreement.proofs.Lists.{equal, in_at, in_taken, none_twice}
 use Rattle.bus_agreement.proofs.Kept.{asking_more, bus_more, with_one}
-use Rattle.bus_agreement.proofs.LawsBelow.{FrameLaws}
 use Rattle.bus_agreement.proofs.Making.{each_made, posted_when, still_made}
 use Rattle.bus_agreement.proofs.Ranging.{IsMessageWritable, Moved, moved_fits, of_nodes}
 use Rattle.bus_agreement.proofs.Starting.{firm_after}
 use Rattle.bus_agreement.proofs.StillWritable.{stores_with}
 use Rattle.bus_agreement.specs.Events.{MayHappen, TellsMembers}
-use Rattle.bus_agreement.proofs.Stepping.{StepLaws, among_after, answered_after, called_after, heard_after, queue_after, said_after, transfers_after}
-use Rattle.bus_agreement.proofs.Taking.{CodecLaws}
-
--- ---- what is known besides
-
-pub record MoreLaws : Type 0 where
-  pub moves : (t : AllocatorState) (number : ℕ) (event : Event) (members : List ℕ) (bag : List Message) → MayStep t number event members bag
-      → (site : LocalState) → Begins t site → IsOfTheMachine members t.me number bag site (step t number event).step_state
-  pub keeps : (t : AllocatorState) (number : ℕ) (event : Event) (members : List ℕ) (bag : List Message) → MayStep t number event members bag
-      → KeepsOrder (step t number event).step_state.timed
-  pub sound : (t : AllocatorState) (number : ℕ) (event : Event) → IsSound t → IsOnTheBus event → IsSound (step t number event).step_state.timed
-  pub ranges : (t : AllocatorState) (number : ℕ) (event : Event) → IsSound t → IsOnTheBus event
-      → (offer : Offer) → In offer (step t number event).step_state.offers → IsInRange offer
-  pub size : (t : AllocatorState) (number : ℕ) (event : Event) → (step t number event).step_state.timed.size ≡ t.size
-  pub up : (t : AllocatorState) (number : ℕ) (event : Event) → (step t number event).step_state.timed.plain.memory.up ≡ t.plain.memory.up
-  pub named : (t : AllocatorState) (number : ℕ) (event : Event) (node : ℕ) → In node (members_of (step t number event).step_state.timed)
-      → In node (members_of t) ⊎ IsNamed t number event node
-  pub uids : (t : AllocatorState) (number : ℕ) (event : Event) → HasUids t.watch → HasUids (step t number event).step_state.timed.watch
-  pub records : (t : AllocatorState) (number : ℕ) (event : Event) → HasUids t.watch → RecordsUids (step t number event).step_state
-  pub tells : (t : AllocatorState) (number : ℕ) (event : Event) → TellsMembers t (step t number event).step_state.offers
-  pub given : (t : AllocatorState) (number : ℕ) (event : Event) → t.plain.store.commit ≤ length t.plain.store.log
-      → (offer : Offer) (given : Given) → In offer (step t number event).step_state.offers → Gives offer.what offer.payload given
-      → IsGivenIn (committed (step t number event).step_state.timed.plain.store) given
-  pub list : (start : Start) (events : List discovery.Event) → IsStart start → IsMemberList start.me start.size (discovery.members start events)
-  pub done : (key_disk : KeyDisk Stored) (puts : List StoredPut) → are_put puts key_disk.calls ≡ true → ((puts_on puts key_disk).store ≡ after_puts puts key_disk.store)
-  pub votes : (members : List ℕ) (member number : ℕ) (server : RaftServer) (moves : List Move) → 1 ≤ member → AreOfNodes moves
-      → VoteForNodes (puts_of_all members member number server moves)
-  pub same : (puts : List PutWithOrigin) (state : Stored) → VoteForNodes (puts_alone puts)
-      → store_of (after_puts (stored_puts puts state) state) ≡ put_all (store_of state) (puts_alone puts)
-  pub plain : (members : List ℕ) (member number : ℕ) (moves : List Move) (site : LocalState)
-      → (all_moved members member number site moves).plain ≡ plain_after_all members member number site.plain moves
-  pub store : (members : List ℕ) (member number : ℕ) (moves : List Move) (server : RaftServer)
-      → (plain_after_all members member number server moves).store ≡ put_all server.store (puts_of_all members member number server moves)
+use Rattle.bus_agreement.proofs.Stepping.{among_after, answered_after, called_after, heard_after, queue_after, said_after, transfers_after}
 
 -- ---- a step that may come
 

@@ -27,11 +27,11 @@ use Rattle.alloc_step.specs.Transfers.{SentTransfer}
 use Rattle.bus_spec.specs.Lawful.{is_forged}
 use Rattle.bus_agreement.specs.Frames.{AreHeard, AreTransfers, CameFrom, IsOnBus, WasMade}
 use Rattle.bus_agreement.specs.Said.{AreAnswered, AreCalled, AreSaid, AreWritable}
+use Rattle.bus_agreement.specs.LawsBelow.{FrameLaws, CodecLaws}
 use Rattle.bus_agreement.proofs.Delivering.{was_made}
 use Rattle.bus_agreement.proofs.Idents.{IsWanted, service_is, wanted_is}
-use Rattle.bus_agreement.proofs.LawsBelow.{FrameLaws}
 use Rattle.bus_agreement.proofs.Lists.{never}
-use Rattle.bus_agreement.proofs.Taking.{CodecLaws, IsFresh, append_said, awaited_by, is_append, is_vote, requests_from, vote_said}
+use Rattle.bus_agreement.proofs.Taking.{IsFresh, append_said, awaited_by, is_append, is_vote, requests_from, vote_said}
 use Rattle.bus_agreement.proofs.Waiting.{waited}
 use Rattle.bus_agreement.proofs.Whole.{members_own}
 

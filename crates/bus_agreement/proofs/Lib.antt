@@ -1,5 +1,4 @@
 pub mod Lists
-pub mod LawsBelow
 pub mod Idents
 pub mod Pieces
 pub mod Cuttings

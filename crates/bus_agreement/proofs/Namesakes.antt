@@ -5,8 +5,8 @@ use Rattle.can_frame.specs.Cutting.{Piece, frames_before_last, frames_of as piec
 use Rattle.raft_model.specs.Lists.{In}
 use Rattle.alloc_step.specs.Transfers.{SentTransfer, signature_of}
 use Rattle.bus_agreement.specs.Frames.{AreTransfers}
+use Rattle.bus_agreement.specs.LawsBelow.{FrameLaws}
 use Rattle.bus_agreement.proofs.Cuttings.{same_payload}
-use Rattle.bus_agreement.proofs.LawsBelow.{FrameLaws}
 use Rattle.bus_agreement.proofs.Pieces.{no_piece, piece_id, theirs}
 
 -- the piece stands at this place in the cutting of a transfer that was made, in the step of x, of its kind and to its destination

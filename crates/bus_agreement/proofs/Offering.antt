@@ -24,8 +24,8 @@ use Rattle.bus_spec.specs.Members.{MemberStatus}
 use Rattle.bus_agreement.specs.Frames.{AreTransfers, IsOnBus, IsPiece}
 use Rattle.bus_agreement.specs.Mirrors.{BusIsMade, IsMadeBy, OffersAreMade}
 use Rattle.bus_agreement.specs.Shows.{HoldsOfMade, Shows, ShowsLife, ShowsUp}
+use Rattle.bus_agreement.specs.LawsBelow.{FrameLaws}
 use Rattle.bus_agreement.proofs.Idents.{ident_ok, one_what}
-use Rattle.bus_agreement.proofs.LawsBelow.{FrameLaws}
 use Rattle.bus_agreement.proofs.Lists.{in_at, in_back, in_front}
 use Rattle.bus_agreement.proofs.Namesakes as namesakes
 use Rattle.bus_agreement.proofs.Namesakes.{IsOfNamesake}

@@ -21,10 +21,10 @@ use Rattle.bus_spec.specs.Members.{MemberStatus}
 use Rattle.bus_agreement.specs.Frames.{WasMade}
 use Rattle.bus_agreement.specs.Safe.{IsDeliveredTo, IsOneTransfer}
 use Rattle.bus_agreement.specs.Shows.{Shows, ShowsLife, ShowsUp}
+use Rattle.bus_agreement.specs.LawsBelow.{FrameLaws}
 use Rattle.bus_agreement.proofs.Delivering.{was_made}
 use Rattle.bus_agreement.proofs.Hearing.{IsFine, judged_fine, judges_fine}
 use Rattle.bus_agreement.proofs.Idents.{one_what, service_is, wanted_is}
-use Rattle.bus_agreement.proofs.LawsBelow.{FrameLaws}
 use Rattle.bus_agreement.proofs.OneRow.{is_fine, stands}
 use Rattle.bus_agreement.proofs.Quiet.{is_one, past_first}
 

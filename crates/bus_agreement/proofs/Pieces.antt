@@ -11,7 +11,7 @@ use Rattle.transfer_tx.specs.Queue.{Queued}
 use Rattle.alloc_step.specs.Transfers.{SentTransfer, frames_of, ident_of, outgoing, signature_of}
 use Rattle.bus_spec.specs.Cluster.{no_frame}
 use Rattle.bus_agreement.specs.Frames.{IsPiece}
-use Rattle.bus_agreement.proofs.LawsBelow.{FrameLaws}
+use Rattle.bus_agreement.specs.LawsBelow.{FrameLaws}
 use Rattle.bus_agreement.proofs.Lists.{both, equal}
 
 abbrev pub no_piece : Piece

@@ -36,8 +36,8 @@ use Rattle.bus_agreement.specs.Asking.{IsAsking}
 use Rattle.bus_agreement.specs.Frames.{IsForeign, IsOnBus, IsPiece}
 use Rattle.bus_agreement.specs.Said.{IsCalled, carrier}
 use Rattle.bus_agreement.specs.Shows.{IsAtWork, IsInRun, Shows, ShowsLife, ShowsUp}
+use Rattle.bus_agreement.specs.LawsBelow.{FrameLaws}
 use Rattle.bus_agreement.proofs.Kept.{IsIn, asking_more, heard_more, life_more, with_one}
-use Rattle.bus_agreement.proofs.LawsBelow.{FrameLaws}
 use Rattle.bus_agreement.proofs.Pieces.{IsPieceOf, piece_of}
 use Rattle.bus_agreement.proofs.Lists.{in_append, in_front, never, tell}
 

@@ -43,32 +43,16 @@ use Rattle.bus_agreement.specs.Frames.{AreHeard, AreTransfers, CameFrom, IsOnBus
 use Rattle.bus_agreement.specs.Said.{AreAnswered, AreCalled, AreSaid, IsAnswered, IsCalled, carrier}
 use Rattle.bus_agreement.specs.Events.{MayHappen}
 use Rattle.bus_agreement.specs.Shows.{HoldsOfMade, IsAtWork}
+use Rattle.bus_agreement.specs.LawsBelow.{FrameLaws, CodecLaws}
+use Rattle.bus_agreement.specs.StepLaws.{StepLaws}
 use Rattle.bus_agreement.proofs.Hearing.{listed_in, made_by_member, service_dest, wants}
 use Rattle.bus_agreement.proofs.Idents.{IsWanted, discovery_number, one_what}
 use Rattle.bus_agreement.proofs.Kept.{piece_more}
-use Rattle.bus_agreement.proofs.LawsBelow.{FrameLaws}
 use Rattle.bus_agreement.proofs.Lists.{in_append, in_at}
 use Rattle.bus_agreement.proofs.Making.{each_made, frame_put, made_by, newly_made, newly_posted, says_it, still_made, still_posted, transfers_more}
 use Rattle.bus_agreement.proofs.Pieces.{marked_frame}
-use Rattle.bus_agreement.proofs.Taking.{CodecLaws, append_says, is_append_request, is_vote_request, vote_says}
+use Rattle.bus_agreement.proofs.Taking.{append_says, is_append_request, is_vote_request, vote_says}
 use Rattle.bus_agreement.proofs.Whole.{members_own}
-
--- ---- what is known of each step
-
-pub record StepLaws : Type 0 where
-  pub one : (t : AllocatorState) (number : ℕ) (event : Event) → OneByName (step t number event).step_state.offers
-  pub me : (t : AllocatorState) (number : ℕ) (event : Event) → (step t number event).step_state.timed.me ≡ t.me
-  pub says : (t : AllocatorState) (number : ℕ) (event : Event) (offer : Offer) → In offer (step t number event).step_state.offers
-      → IsSaid number t.me offer.what offer.to offer.re offer.payload offer.says
-  pub responses : (t : AllocatorState) (number : ℕ) (event : Event) → ResponsesAnswer t number event
-  pub called : (t : AllocatorState) (number : ℕ) (event : Event) → CallsAreMade number t (step t number event).step_state
-  pub queue : (t : AllocatorState) (number : ℕ) (event : Event)
-      → (step t number event).step_state.timed.queue ≡ t.queue ++ all_frames_put number t.me (step t number event).step_state.offers
-  pub heard : (t : AllocatorState) (number : ℕ) (arrival : Arrival)
-      → (step t number (Rx arrival)).step_state.timed.sessions ≡ next (setting_for t.me) t.sessions (record arrival { moment = max t.now arrival.moment })
-  pub ticked : (t : AllocatorState) (number now word : ℕ) → (step t number (Tick now word)).step_state.timed.sessions ≡ t.sessions
-  pub kept : (setting : Setting) (before arrivals : List Arrival) (sessions : List Session) → All (CameWithKey setting before) sessions
-      → All (CameWithKey setting (before ++ arrivals)) (rx_run.run setting sessions arrivals)
 
 pub one_arrival : (a b : Arrival) → Rx a ≡ Rx b → a ≡ b
 one_arrival a b e = cc (e)

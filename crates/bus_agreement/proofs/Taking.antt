@@ -29,16 +29,9 @@ use Rattle.alloc_step.specs.AllocatorState.{AllocatorState}
 use Rattle.alloc_step.specs.Transfers.{SentTransfer, kind_of, message_by, number_of}
 use Rattle.bus_agreement.specs.Frames.{AreTransfers, IsTransferOf}
 use Rattle.bus_agreement.specs.Said.{AreAnswered, AreCalled, AreSaid, AreWritable, IsAnswered, IsCalled, IsProper, IsWritable, carrier}
+use Rattle.bus_agreement.specs.LawsBelow.{CodecLaws}
 use Rattle.bus_agreement.proofs.Lists.{both, never}
 use Rattle.bus_agreement.proofs.Waiting.{Waits}
-
--- ---- bytes are read as what they say
-
-pub record CodecLaws : Type 0 where
-  pub vote_requests : (request : VoteRequest) → IsVoteRequest request → vote_request_of (vote_request_bytes request) ≡ Some request
-  pub append_requests : (request : AppendRequest) → IsAppendRequest request → append_request_of (append_request_bytes request 0) ≡ Some request
-  pub vote_answers : (answer : VoteAnswer) → answer.term < 2 ^ 32 → vote_answer_of (vote_answer_bytes answer 0) ≡ Some answer
-  pub append_answers : (answer : AppendAnswer) → answer.term < 2 ^ 32 → append_answer_of (append_answer_bytes answer 0) ≡ Some answer
 
 vote_is : (x y : VoteRequest) → Some x ≡ Some y → x ≡ y
 vote_is x y e = cc (e)

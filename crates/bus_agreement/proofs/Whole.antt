@@ -21,8 +21,8 @@ use Rattle.alloc_step.specs.Transfers.{SentTransfer, ident_of, kind_of, number_o
 use Rattle.bus_spec.specs.Cluster.{is_member}
 use Rattle.bus_spec.specs.Lawful.{is_forged, is_forged_by}
 use Rattle.bus_agreement.specs.Frames.{AreTransfers, CameFrom, IsOnBus, IsPiece}
+use Rattle.bus_agreement.specs.LawsBelow.{FrameLaws}
 use Rattle.bus_agreement.proofs.Idents.{IsWanted, dest_of, ident_ok, one_what, to_for}
-use Rattle.bus_agreement.proofs.LawsBelow.{FrameLaws}
 use Rattle.bus_agreement.proofs.Lists.{in_at, is_any, never}
 use Rattle.bus_agreement.proofs.Namesakes as namesakes
 use Rattle.bus_agreement.proofs.Namesakes.{IsOfNamesake}

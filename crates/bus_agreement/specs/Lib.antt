@@ -10,3 +10,5 @@ pub mod Duty
 pub mod Events
 pub mod Cuts
 pub mod Continues
+pub mod LawsBelow
+pub mod StepLaws

@@ -17,15 +17,10 @@ ghost use Rattle.bus_spec.specs.Choices.{Fits, FitsRow};
 ghost use Rattle.bus_spec.specs.Refinement.{events, made, made_in, row_events};
 ghost use Rattle.alloc_step.specs.Transfers.{SentTransfer};
 
+use crate::below::what_is_said_of_frames;
 use crate::rows::{a_row_is_shown, steps_are_dutiful, the_beginning_is_shown};
 use crate::transfers::what_a_row_delivers_is_one_transfer;
-use can_frame::laws::{
-    frames_give_the_payload, frames_in_order, frames_read_as_their_pieces, identifiers_both_ways,
-    lengths_of_cuttings,
-};
 use raft_model::laws::{law_commit, law_duty, law_every_run};
-use transfer_rx::laws::{a_frame_comes_to_the_session_of_its_key, deliveries_are_whole_transfers};
-use transfer_tx::laws::frames_by_place;
 
 /// A list of rows grows by one at its end: the world, which rows are lawful, the events that the rows show,
 /// the choices that fit, and what was made. The members stay.
@@ -55,14 +50,7 @@ pub fn offers_are_pairs()
     ensures bus { (choice : ℕ → Bool) (made : List SentTransfer) (w : Cluster) (run : World) →
         AreMembers w.ids → Shows choice made w run → BusIsMade made w run }
 {
-    a_frame_comes_to_the_session_of_its_key();
-    deliveries_are_whole_transfers();
-    frames_by_place();
-    frames_give_the_payload();
-    frames_in_order();
-    frames_read_as_their_pieces();
-    identifiers_both_ways();
-    lengths_of_cuttings();
+    what_is_said_of_frames();
 }
 
 /// The headline follows of two worlds, now and later, that mirror a run of the message machine and its

@@ -41,6 +41,7 @@
 #![tactic(auto)]
 
 pub mod allocatees;
+pub mod below;
 pub mod headline;
 pub mod rows;
 pub mod transfers;

@@ -30,33 +30,18 @@ ghost use Rattle.bus_spec.specs.Members.MemberStatus.{Down, Failed, Up};
 ghost use Rattle.bus_spec.specs.Choices.{FitsRow};
 ghost use Rattle.bus_spec.specs.Refinement.{cut_events, made_in, made_of, row_events};
 
-use alloc_step_laws::bus::{a_step_leaves_the_server_up, queue_of_a_step, sessions_of_a_step};
-use alloc_step_laws::laws::{
-    calls_of_a_step, duty_of_a_step, members_of_a_step, moves_of_a_step, pairs_of_a_step,
-    proposals_of_a_step, responses_answer_what_was_delivered, steps_stay_in_range,
-    transfers_of_a_step_are_apart, what_transfers_say,
+use crate::below::{
+    what_a_step_keeps, what_is_said_of_a_step, what_is_said_of_frames, what_is_said_of_messages,
 };
+use alloc_step_laws::laws::{duty_of_a_step, moves_of_a_step, steps_stay_in_range};
 use allocatee::laws::{
     a_node_id_is_given_for_good, its_frames_are_anonymous, sessions_of_a_step as sessions_at,
     what_is_fine_is_not_torn,
 };
-use can_frame::laws::{
-    frames_give_the_payload, frames_in_order, frames_read_as_their_pieces, identifiers_both_ways,
-    lengths_of_cuttings,
-};
-use cluster_discovery::laws::members_are_a_list;
-use dsdl_codec::laws::{
-    append_answers_both_ways, append_requests_both_ways, vote_answers_both_ways,
-    vote_requests_both_ways,
-};
 use raft_core::laws::{an_opening_keeps_the_store, puts_are_stored};
 use raft_log::laws::the_disk_by_states;
-use raft_model::laws::{law_handlers, law_joined};
-use transfer_rx::laws::{
-    a_frame_comes_to_the_session_of_its_key, deliveries_are_whole_transfers,
-    frames_are_kept_under_their_key,
-};
-use transfer_tx::laws::frames_by_place;
+use raft_model::laws::law_joined;
+use transfer_rx::laws::frames_are_kept_under_their_key;
 
 /// Rows that show no event leave the run: a frame from outside, a frame that a member sends, and a stop or a
 /// failure that is armed for a later call of a disk.
@@ -73,16 +58,9 @@ pub fn rows_without_events_are_shown()
     ensures failure_armed { (choice : ℕ → Bool) (made : List SentTransfer) (w : Cluster) (run : World) →
         Shows choice made w run → (n call : ℕ) → Shows choice made (next w (Fault n call)) run }
 {
-    a_frame_comes_to_the_session_of_its_key();
-    deliveries_are_whole_transfers();
-    frames_by_place();
-    frames_give_the_payload();
-    frames_in_order();
-    frames_read_as_their_pieces();
-    identifiers_both_ways();
-    lengths_of_cuttings();
     moves_of_a_step();
     steps_stay_in_range();
+    what_is_said_of_frames();
 }
 
 /// Rows of allocatees leave the run as it is. What an allocatee offers is anonymous, its sessions keep frames of
@@ -104,19 +82,12 @@ pub fn rows_of_allocatees_are_shown()
     ensures left { (choice : ℕ → Bool) (made : List SentTransfer) (w : Cluster) (run : World) →
         Shows choice made w run → (a : ℕ) → Shows choice made (next w (AEnd a)) run }
 {
-    a_frame_comes_to_the_session_of_its_key();
     a_node_id_is_given_for_good();
-    deliveries_are_whole_transfers();
     frames_are_kept_under_their_key();
-    frames_by_place();
-    frames_give_the_payload();
-    frames_in_order();
-    frames_read_as_their_pieces();
-    identifiers_both_ways();
     its_frames_are_anonymous();
-    lengths_of_cuttings();
     sessions_at();
     what_is_fine_is_not_torn();
+    what_is_said_of_frames();
 }
 
 /// The world without rows shows the beginning of a run.
@@ -174,35 +145,10 @@ pub fn finished_steps_are_shown()
         Shows choice (made_of number n step_state.offers made)
         (record (steps w n event) { rows = number }) (after run finished) }
 {
-    a_frame_comes_to_the_session_of_its_key();
-    a_step_leaves_the_server_up();
-    append_answers_both_ways();
-    append_requests_both_ways();
-    calls_of_a_step();
-    deliveries_are_whole_transfers();
-    frames_are_kept_under_their_key();
-    frames_by_place();
-    frames_give_the_payload();
-    frames_in_order();
-    frames_read_as_their_pieces();
-    identifiers_both_ways();
-    law_handlers();
-    lengths_of_cuttings();
-    members_are_a_list();
-    members_of_a_step();
-    moves_of_a_step();
-    pairs_of_a_step();
-    proposals_of_a_step();
-    puts_are_stored();
-    queue_of_a_step();
-    responses_answer_what_was_delivered();
-    sessions_of_a_step();
-    steps_stay_in_range();
-    the_disk_by_states();
-    transfers_of_a_step_are_apart();
-    vote_answers_both_ways();
-    vote_requests_both_ways();
-    what_transfers_say();
+    what_a_step_keeps();
+    what_is_said_of_a_step();
+    what_is_said_of_frames();
+    what_is_said_of_messages();
 }
 
 /// Each step of a member does its duty: a leader commits as far as the members of the cluster let it, and tells
@@ -215,36 +161,11 @@ pub fn steps_are_dutiful()
         MayHappen w.frames t event → IsOnTheBus event → WinDuty w.ids t.plain →
         DoesItsDuty w.ids t (w.rows + 1) event }
 {
-    a_frame_comes_to_the_session_of_its_key();
-    a_step_leaves_the_server_up();
-    append_answers_both_ways();
-    append_requests_both_ways();
-    calls_of_a_step();
-    deliveries_are_whole_transfers();
     duty_of_a_step();
-    frames_are_kept_under_their_key();
-    frames_by_place();
-    frames_give_the_payload();
-    frames_in_order();
-    frames_read_as_their_pieces();
-    identifiers_both_ways();
-    law_handlers();
-    lengths_of_cuttings();
-    members_are_a_list();
-    members_of_a_step();
-    moves_of_a_step();
-    pairs_of_a_step();
-    proposals_of_a_step();
-    puts_are_stored();
-    queue_of_a_step();
-    responses_answer_what_was_delivered();
-    sessions_of_a_step();
-    steps_stay_in_range();
-    the_disk_by_states();
-    transfers_of_a_step_are_apart();
-    vote_answers_both_ways();
-    vote_requests_both_ways();
-    what_transfers_say();
+    what_a_step_keeps();
+    what_is_said_of_a_step();
+    what_is_said_of_frames();
+    what_is_said_of_messages();
 }
 
 /// A step that its disk cuts off is one event of the run, which may come: a stop within the move in which the
@@ -262,36 +183,13 @@ pub fn cut_steps_are_shown()
         IsRunWritable w.ids (after run stop) ×
         Shows choice made (record (steps w n event) { rows = number }) (after run stop) }
 {
-    a_frame_comes_to_the_session_of_its_key();
-    a_step_leaves_the_server_up();
-    append_answers_both_ways();
-    append_requests_both_ways();
-    calls_of_a_step();
-    deliveries_are_whole_transfers();
-    frames_are_kept_under_their_key();
-    frames_by_place();
-    frames_give_the_payload();
-    frames_in_order();
-    frames_read_as_their_pieces();
-    identifiers_both_ways();
-    law_handlers();
     law_joined();
-    lengths_of_cuttings();
-    members_are_a_list();
-    members_of_a_step();
-    moves_of_a_step();
-    pairs_of_a_step();
-    proposals_of_a_step();
     puts_are_stored();
-    queue_of_a_step();
-    responses_answer_what_was_delivered();
-    sessions_of_a_step();
-    steps_stay_in_range();
     the_disk_by_states();
-    transfers_of_a_step_are_apart();
-    vote_answers_both_ways();
-    vote_requests_both_ways();
-    what_transfers_say();
+    what_a_step_keeps();
+    what_is_said_of_a_step();
+    what_is_said_of_frames();
+    what_is_said_of_messages();
 }
 
 /// Any row without a cause against it: its events, of which there is at most one, continue the run, lawfully,

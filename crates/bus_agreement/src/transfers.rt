@@ -21,16 +21,7 @@ ghost use Rattle.bus_agreement.specs.Shows.{HoldsOfMade, IsAtWork, Shows};
 ghost use Rattle.bus_spec.specs.Cluster.{AreMembers, Cluster};
 ghost use Rattle.bus_spec.specs.Lawful.{cause, is_forged};
 
-use can_frame::laws::{
-    frames_give_the_payload, frames_in_order, frames_read_as_their_pieces, identifiers_both_ways,
-    lengths_of_cuttings,
-};
-use dsdl_codec::laws::{
-    append_answers_both_ways, append_requests_both_ways, vote_answers_both_ways,
-    vote_requests_both_ways,
-};
-use transfer_rx::laws::{a_frame_comes_to_the_session_of_its_key, deliveries_are_whole_transfers};
-use transfer_tx::laws::frames_by_place;
+use crate::below::{what_is_said_of_frames, what_is_said_of_messages};
 
 /// What is delivered of a member's frames is the transfer that this member made: step, kind, destination,
 /// transfer ID and payload. The frames are those that stood on the bus; the delivery is whole, or has no step;
@@ -45,14 +36,7 @@ pub fn what_is_delivered_was_made()
         answer setting sessions arrival ≡ Gives d →
         (d.whole ≡ false → d.mark.step ≡ 0) → is_forged ids (Some d.ident) ≡ true → WasMade made d }
 {
-    a_frame_comes_to_the_session_of_its_key();
-    deliveries_are_whole_transfers();
-    frames_by_place();
-    frames_give_the_payload();
-    frames_in_order();
-    frames_read_as_their_pieces();
-    identifiers_both_ways();
-    lengths_of_cuttings();
+    what_is_said_of_frames();
 }
 
 /// What a lawful row delivers to a running member, with a member's source or of a data type that members alone
@@ -63,14 +47,7 @@ pub fn what_a_row_delivers_is_one_transfer()
         Shows choice made w run → (n k ms : ℕ) (d : Delivery) → cause w (RxRow n k ms) ≡ None →
         IsDeliveredTo w n k ms d → IsOneTransfer made run.bag n d }
 {
-    a_frame_comes_to_the_session_of_its_key();
-    deliveries_are_whole_transfers();
-    frames_by_place();
-    frames_give_the_payload();
-    frames_in_order();
-    frames_read_as_their_pieces();
-    identifiers_both_ways();
-    lengths_of_cuttings();
+    what_is_said_of_frames();
 }
 
 /// A frame that may be given to a member, since what it would deliver is not torn and answers no earlier
@@ -84,16 +61,6 @@ pub fn what_a_member_takes_was_said()
         IsAtWork made ids frames server.me server → CameFrom frames arrival →
         judges server arrival ≡ Fine → TakesFrom number bag server (Rx arrival) }
 {
-    a_frame_comes_to_the_session_of_its_key();
-    append_answers_both_ways();
-    append_requests_both_ways();
-    deliveries_are_whole_transfers();
-    frames_by_place();
-    frames_give_the_payload();
-    frames_in_order();
-    frames_read_as_their_pieces();
-    identifiers_both_ways();
-    lengths_of_cuttings();
-    vote_answers_both_ways();
-    vote_requests_both_ways();
+    what_is_said_of_frames();
+    what_is_said_of_messages();
 }

@@ -79,6 +79,12 @@ tick_of moment word = Event.Tick moment word
 abbrev pub receipt_of : Cluster → ℕ → ℕ → Event
 receipt_of w k moment = Event.Rx (arriving (frame_at w.frames k) moment)
 
+-- the step that a row is, if it is one of a member: whose, and at which event
+abbrev pub step_of : Cluster → Row → Option (ℕ × Event)
+step_of w (Tick n ms word) = Some (n, tick_of ms word)
+step_of w (Rx n k ms) = Some (n, receipt_of w k ms)
+step_of w row = None
+
 -- the member's next frame goes from its queue to the bus
 abbrev pub sends : Cluster → ℕ → Cluster
 sends w n = record (with_member w n (record (w.member n) { life = after_sending (w.member n).life }))

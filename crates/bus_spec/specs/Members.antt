@@ -2,7 +2,8 @@
 --
 -- The disk is the one by states (`raft_log`): what is stored, the copy that each selector chooses, the one selector
 -- that was written and not synced, and which of its calls fail.
-use Rattle.std.specs.Prelude.{ℕ, ◌+◌, ◌==◌, Bool, true, false, [], Option, None, take, if◌then◌else◌, List}
+use Rattle.std.specs.Prelude.{ℕ, ◌+◌, ◌==◌, Bool, true, false, [], Option, None, Some, take, if◌then◌else◌, List}
+use Rattle.std.specs.Option.{option_and_then}
 use Rattle.disk_model.specs.Memory.{nothing_set}
 use Rattle.kv_store.specs.KeyDisk.{KeyDisk, restarted_on}
 use Rattle.outside.specs.declared.pattern.Pattern.{Pattern}
@@ -40,6 +41,12 @@ abbrev pub is_running : MemberStatus → Bool
 is_running Down = false
 is_running (Up server) = true
 is_running (Failed failure) = true
+
+-- the allocator of a member that runs and has not failed
+abbrev pub server_of : MemberStatus → Option AllocatorState
+server_of Down = None
+server_of (Up server) = Some server
+server_of (Failed failure) = None
 
 -- what is stored after a failed step, where so many more of its puts are done as are for sure
 abbrev pub stored_after : Failure → ℕ → Store
@@ -117,9 +124,7 @@ stepped row event (Failed failure) x = x
 
 -- the frame that goes out next
 abbrev pub next_frame : MemberStatus → Option Queued
-next_frame Down = None
-next_frame (Up server) = next_out server.queue
-next_frame (Failed failure) = None
+next_frame life = option_and_then (λ server. next_out server.queue) (server_of life)
 
 abbrev pub after_sending : MemberStatus → MemberStatus
 after_sending Down = Down

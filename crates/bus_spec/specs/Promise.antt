@@ -1,6 +1,7 @@
 -- What a vehicle maker relies on of each allocator: its log gives no ID twice, and whatever pair it offers to the bus
 -- is one of its own committed log by then.
-use Rattle.std.specs.Prelude.{ℕ, ◌+◌, List, [], ◌∷◌, if◌then◌else◌}
+use Rattle.std.specs.Prelude.{ℕ, ◌+◌, List, [], ◌∷◌, if◌then◌else◌, IfSome}
+use Rattle.std.specs.Option.{option_map_or}
 use Rattle.can_frame.specs.declared.entry.Entry.{Entry}
 use Rattle.can_frame.specs.Log.{HasPair, IsInjective}
 use Rattle.kv_store.specs.KeyDisk.{KeyDisk}
@@ -9,13 +10,12 @@ use Rattle.raft_log.specs.Stored.{Stored}
 use Rattle.raft_model.specs.Lists.{In}
 use Rattle.raft_model.specs.Server.{committed}
 use Rattle.replay_text.specs.declared.row.Row.{Row}
-use Rattle.replay_text.specs.declared.row.Row.TheVariants.{Open, Tick, Rx, Send, Ext, Crash, Fault, AOpen, ATick, ARx, ASend, AEnd}
 use Rattle.alloc_step.specs.Delivered.{StepResult}
 use Rattle.alloc_step.specs.StepState.{pairs}
 use Rattle.alloc_step.specs.Step.{Event, step}
 use Rattle.alloc_step.specs.Transfers.{Given}
-use Rattle.bus_spec.specs.Cluster.{Cluster, next, receipt_of, tick_of}
-use Rattle.bus_spec.specs.Members.{MemberStatus, Member, puts_of}
+use Rattle.bus_spec.specs.Cluster.{Cluster, next, step_of}
+use Rattle.bus_spec.specs.Members.{MemberStatus, Member, puts_of, server_of}
 use Rattle.bus_spec.specs.Members.MemberStatus.{Down, Up, Failed}
 
 -- ---- the pairs that a row offers: those of the Allocations that a finished step puts into its queue, read from
@@ -32,31 +32,16 @@ step_given row event (Failed failure) x = []
 
 -- the committed log of a member that runs
 abbrev pub committed_by : MemberStatus → List Entry
-committed_by Down = []
-committed_by (Up server) = committed server.plain.store
-committed_by (Failed failure) = []
+committed_by life = option_map_or (λ server. committed server.plain.store) (server_of life) []
 
 abbrev pub AreOwn : List Given → MemberStatus → Type 0
 AreOwn givens life = (given : Given) → In given givens → HasPair (committed_by life) given.0 given.1
 
 -- whatever pair a lawful row offers, it is committed when the row is done
 abbrev pub OffersItsOwn : Cluster → Row → Type 0
-OffersItsOwn w (Tick n ms word) =
-    AreOwn (step_given (w.rows + 1) (tick_of ms word) (w.member n).life (w.member n))
-    ((next w (Tick n ms word)).member n).life
-OffersItsOwn w (Rx n k ms) =
-    AreOwn (step_given (w.rows + 1) (receipt_of w k ms) (w.member n).life (w.member n))
-    ((next w (Rx n k ms)).member n).life
-OffersItsOwn w (Open n ms word) = Unit {0}
-OffersItsOwn w (Send n) = Unit {0}
-OffersItsOwn w (Ext frame) = Unit {0}
-OffersItsOwn w (Crash n calls pattern) = Unit {0}
-OffersItsOwn w (Fault n call) = Unit {0}
-OffersItsOwn w (AOpen a uid pref ms word) = Unit {0}
-OffersItsOwn w (ATick a ms word) = Unit {0}
-OffersItsOwn w (ARx a k ms word) = Unit {0}
-OffersItsOwn w (ASend a) = Unit {0}
-OffersItsOwn w (AEnd a) = Unit {0}
+OffersItsOwn w row = IfSome (step_of w row) (λ taken.
+    AreOwn (step_given (w.rows + 1) taken.1 (w.member taken.0).life (w.member taken.0))
+    ((next w row).member taken.0).life)
 
 -- ---- each log
 

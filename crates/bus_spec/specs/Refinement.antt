@@ -14,7 +14,7 @@ use Rattle.raft_model.specs.Runs.{Event as RunEvent}
 use Rattle.raft_model.specs.Runs.Event.{Opens, Steps, Stops, StopsWithin}
 use Rattle.raft_model.specs.Server.{RaftServer}
 use Rattle.replay_text.specs.declared.row.Row.{Row}
-use Rattle.replay_text.specs.declared.row.Row.TheVariants.{Open, Tick, Rx, Send, Ext, Crash, Fault, AOpen, ATick, ARx, ASend, AEnd}
+use Rattle.replay_text.specs.declared.row.Row.TheVariants.{Open, Tick, Rx, Crash}
 use Rattle.alloc_step.specs.StepState.{StepState, messages}
 use Rattle.alloc_step.specs.Step.{Event, step}
 use Rattle.alloc_step.specs.AllocatorState.{AllocatorState}
@@ -78,15 +78,8 @@ row_events choice w (Tick n ms word) =
     step_events choice w.ids n (w.rows + 1) (tick_of ms word) (w.member n).life (w.member n)
 row_events choice w (Rx n k ms) =
     step_events choice w.ids n (w.rows + 1) (receipt_of w k ms) (w.member n).life (w.member n)
-row_events choice w (Send n) = []
-row_events choice w (Ext frame) = []
 row_events choice w (Crash n calls pattern) = if calls == 0 then stop_events n (w.rows + 1) (w.member n).life else []
-row_events choice w (Fault n call) = []
-row_events choice w (AOpen a uid pref ms word) = []
-row_events choice w (ATick a ms word) = []
-row_events choice w (ARx a k ms word) = []
-row_events choice w (ASend a) = []
-row_events choice w (AEnd a) = []
+row_events choice w row = []
 
 abbrev pub events : (ℕ → Bool) → Cluster → List Row → List RunEvent
 events choice w [] = []

@@ -1,5 +1,6 @@
 -- What each row tells, and the report of a list of rows.
 use Rattle.std.specs.Prelude.{ℕ, zero, suc, ◌+◌, ◌==◌, nat_lt, List, [], ◌∷◌, ◌++◌, length, codes, decimal, if◌then◌else◌, Option, Some, None}
+use Rattle.std.specs.Option.{option_and_then, option_map, option_map_or}
 use Rattle.hex.specs.Hex.{encode_lower}
 use Rattle.can_frame.specs.declared.entry.Entry.{Entry}
 use Rattle.kv_store.specs.KeyDisk.{KeyDisk}
@@ -18,7 +19,7 @@ use Rattle.alloc_step.specs.Step.{Event, step}
 use Rattle.alloc_step.specs.AllocatorState.{AllocatorState, entry_of as timed_entry, view_of}
 use Rattle.bus_spec.specs.Allocatees.{next_from}
 use Rattle.bus_spec.specs.Cluster.{Cluster, cluster, is_member, next, receipt_at, receipt_of, tick_of, world_of}
-use Rattle.bus_spec.specs.Members.{MemberStatus, Member, next_frame, puts_of}
+use Rattle.bus_spec.specs.Members.{MemberStatus, Member, next_frame, puts_of, server_of}
 use Rattle.bus_spec.specs.Members.MemberStatus.{Down, Up, Failed}
 use Rattle.bus_spec.specs.Telling.{Telling, telling_line}
 use Rattle.bus_spec.specs.Telling.Telling.{HasOpened, HasStepped, HasFailed, HasStopped, IsArmed, HasSent, IsOutside, HasCome, HasAsked, HasPut, HasLeft}
@@ -92,9 +93,7 @@ told w (AEnd a) = HasLeft a
 
 -- of a member that runs and has not failed
 abbrev pub life_view : MemberStatus → Option View
-life_view Down = None
-life_view (Up server) = Some (view_of server)
-life_view (Failed failure) = None
+life_view life = option_map view_of (server_of life)
 
 abbrev pub view_at : Cluster → ℕ → Option View
 view_at w n = if is_member w.ids n then life_view (w.member n).life else None
@@ -104,9 +103,7 @@ abbrev pub entry_in : AllocatorState → ℕ → Option Entry
 entry_in server place = if nat_lt (length server.plain.store.log) place then None else Some (timed_entry server place)
 
 abbrev pub life_entry : MemberStatus → ℕ → Option Entry
-life_entry Down place = None
-life_entry (Up server) place = entry_in server place
-life_entry (Failed failure) place = None
+life_entry life place = option_and_then (λ server. entry_in server place) (server_of life)
 
 abbrev pub entry_of : Cluster → ℕ → ℕ → Option Entry
 entry_of w n place = if is_member w.ids n then life_entry (w.member n).life place else None
@@ -133,9 +130,7 @@ log_lines_of n store =
     codes "log " ++ decimal n ++ codes " " ++ decimal store.commit ++ codes "\n" ++ entry_lines 1 (committed store)
 
 abbrev pub life_lines : ℕ → MemberStatus → List ℕ
-life_lines n Down = []
-life_lines n (Up server) = log_lines_of n server.plain.store
-life_lines n (Failed failure) = []
+life_lines n life = option_map_or (λ server. log_lines_of n server.plain.store) (server_of life) []
 
 abbrev pub member_lines : Cluster → ℕ → List ℕ
 member_lines w n = if is_member w.ids n then life_lines n (w.member n).life else []

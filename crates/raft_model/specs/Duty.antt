@@ -1,14 +1,13 @@
 -- What a server owes that finishes its step: the phases of a step as moves, and what they leave.
-use Rattle.std.specs.Prelude.{◌≡◌, ◌≢◌, ℕ, ◌+◌, ◌<◌, ◌≤◌, ◌&&◌, Bool, true, false, not, List, [], ◌∷◌, ◌⊎◌, get_or, if◌then◌else◌, Option, Some, None, nat_lt}
+use Rattle.std.specs.Prelude.{◌≡◌, ◌≢◌, ℕ, ◌+◌, ◌<◌, ◌≤◌, ◌&&◌, Bool, true, false, not, List, [], ◌∷◌, ◌⊎◌, if◌then◌else◌, Option, Some, None, nat_lt}
 use Rattle.std.specs.Str.{bytes_eq}
 use Rattle.can_frame.specs.declared.entry.Entry.{Entry}
-use Rattle.can_frame.specs.Log.{blank}
 use Rattle.can_frame.specs.Zeros.{zeros}
 use Rattle.raft_model.specs.Messages.{Message}
 use Rattle.raft_model.specs.Messages.Message.{Pairs}
 use Rattle.raft_model.specs.Server.{RaftServer}
 use Rattle.raft_model.specs.Server.Role.{Follower, Candidate}
-use Rattle.raft_model.specs.Moves.{Move, CanCommit, has_quorum, is_leader, term_limit, pair_at}
+use Rattle.raft_model.specs.Moves.{Move, CanCommit, has_quorum, is_leader, next_entry, term_limit, pair_at}
 use Rattle.raft_model.specs.Moves.Move.{TimeOut, CommitTo, TellPair, TellNothing}
 use Rattle.raft_model.specs.Decisions.{commit_index}
 
@@ -27,9 +26,6 @@ commit_phase members member server =
     if is_leader server.memory.role then commit_moves (commit_index members member server) else []
 
 -- a Leader whose told is below commit tells the next place, if there is room for its frames and anything to tell
-abbrev pub next_entry : RaftServer → Entry
-next_entry server = get_or server.store.log server.memory.told (blank 0)
-
 abbrev pub tell_moves : Bool → Entry → List Move
 tell_moves room entry = if bytes_eq entry.uid zeros then TellNothing ∷ [] else (if room then TellPair ∷ [] else [])
 

@@ -1,4 +1,4 @@
--- The moves of a server, row by row: when a move may come, its puts in order, its effect on memory and history, and
+-- The moves of a server, row by row: when a move is enabled, its puts in order, its effect on memory and history, and
 -- the messages that it offers. What a row says is defined in `Elections`, `Appending` and `Leading`, below this module.
 -- `member` is the node ID of the server, `step` the number of its step, `server` what it has before the move.
 pub mod Elections
@@ -34,91 +34,91 @@ pub data Move : Type 0 where
   AnswerAgain : (place : ℕ) → Move
   GiveUp : (peer : ℕ) → Move
 
--- when a move may come to a server that is up
-abbrev pub IsEnabled : List ℕ → ℕ → List Message → List ℕ → RaftServer → Move → Type 0
-IsEnabled members member bag called server TimeOut = (server.memory.role ≢ Leader) × (server.store.term < term_limit)
-IsEnabled members member bag called server (TakeVoteRequest request granted) = In (Requests request) bag
-    × (request.to ≡ member)
-    × (request.append ≡ false) × IsGranted (with_term server.store request.term) request granted
-IsEnabled members member bag called server (TakeVoteAnswer answer) = In (Answers answer) bag
-    × (answer.request.from ≡ member)
-    × (answer.request.append ≡ false) × (server.memory.pending answer.from ≡ Some answer.request)
-IsEnabled members member bag called server (TakeAppendRequest request verdict) = In (Requests request) bag
-    × (request.to ≡ member)
-    × (request.append ≡ true) × IsJudged server request verdict
-IsEnabled members member bag called server (TakeAppendAnswer answer) = In (Answers answer) bag
-    × (answer.request.from ≡ member)
-    × (answer.request.append ≡ true) × (server.memory.pending answer.from ≡ Some answer.request)
-IsEnabled members member bag called server (ProposeEntry entry) = MayPropose server entry
-IsEnabled members member bag called server (CommitTo index) = (server.memory.role ≡ Leader)
-    × IsCommitIndex members member server index
-IsEnabled members member bag called server TellPair =
-    (server.memory.role ≡ Leader) × (server.memory.told < server.store.commit)
-    × ((get_or server.store.log server.memory.told (blank 0)).uid ≢ zeros)
-IsEnabled members member bag called server TellNothing = (server.memory.role ≡ Leader)
-    × (server.memory.told < server.store.commit)
-    × ((get_or server.store.log server.memory.told (blank 0)).uid ≡ zeros)
-IsEnabled members member bag called server (CallForVote peer) = (server.memory.role ≡ Candidate)
-    × MayCall members member called server peer
-IsEnabled members member bag called server (CallToAppend peer previous with_entry) = (server.memory.role ≡ Leader)
-    × (previous ≤ length server.store.log) × MayCall members member called server peer
-IsEnabled members member bag called server (AnswerAgain place) = (place < server.store.commit)
-    × ((get_or server.store.log place (blank 0)).uid ≢ zeros)
-IsEnabled members member bag called server (GiveUp peer) = Unit {0}
+-- the entry that a leader tells next
+abbrev pub next_entry : RaftServer → Entry
+next_entry server = get_or server.store.log server.memory.told (blank 0)
 
--- its puts, in order; the other moves have none
-abbrev pub puts : List ℕ → ℕ → RaftServer → Move → List Put
-puts members member server TimeOut = stand_puts member server.store
-    ++ (if has_quorum members (own_vote member)
-    then win_puts (put_all server.store (stand_puts member server.store)) else [])
-puts members member server (TakeVoteRequest request granted) = term_puts server.store request.term
-    ++ grant_puts (with_term server.store request.term) request granted
-puts members member server (TakeVoteAnswer answer) =
-    if nat_lt server.store.term answer.term then term_puts server.store answer.term
-    else (if counts server answer then counting_puts members server answer else [])
-puts members member server (TakeAppendRequest request verdict) = term_puts server.store request.term
-    ++ append_puts (with_term server.store request.term) request verdict
-puts members member server (TakeAppendAnswer answer) = term_puts server.store answer.term
-puts members member server (ProposeEntry entry) = PutEntry entry ∷ PutLonger entry ∷ []
-puts members member server (CommitTo index) = PutCommit index ∷ []
-puts members member server move = []
+module _ (members : List ℕ) (member : ℕ) (bag : List Message) (called : List ℕ) (server : RaftServer) where
+  -- when a move is enabled at a server that is up
+  abbrev pub IsEnabled : Move → Type 0
+  IsEnabled TimeOut = (server.memory.role ≢ Leader) × (server.store.term < term_limit)
+  IsEnabled (TakeVoteRequest request granted) = In (Requests request) bag × (request.to ≡ member)
+      × (request.append ≡ false) × IsGranted (with_term server.store request.term) request granted
+  IsEnabled (TakeVoteAnswer answer) = In (Answers answer) bag × (answer.request.from ≡ member)
+      × (answer.request.append ≡ false) × (server.memory.pending answer.from ≡ Some answer.request)
+  IsEnabled (TakeAppendRequest request verdict) = In (Requests request) bag × (request.to ≡ member)
+      × (request.append ≡ true) × IsJudged server request verdict
+  IsEnabled (TakeAppendAnswer answer) = In (Answers answer) bag × (answer.request.from ≡ member)
+      × (answer.request.append ≡ true) × (server.memory.pending answer.from ≡ Some answer.request)
+  IsEnabled (ProposeEntry entry) = MayPropose server entry
+  IsEnabled (CommitTo index) = (server.memory.role ≡ Leader) × IsCommitIndex members member server index
+  IsEnabled TellPair = (server.memory.role ≡ Leader) × (server.memory.told < server.store.commit)
+      × ((next_entry server).uid ≢ zeros)
+  IsEnabled TellNothing = (server.memory.role ≡ Leader) × (server.memory.told < server.store.commit)
+      × ((next_entry server).uid ≡ zeros)
+  IsEnabled (CallForVote peer) = (server.memory.role ≡ Candidate) × MayCall members member called server peer
+  IsEnabled (CallToAppend peer previous with_entry) = (server.memory.role ≡ Leader)
+      × (previous ≤ length server.store.log) × MayCall members member called server peer
+  IsEnabled (AnswerAgain place) = (place < server.store.commit)
+      × ((get_or server.store.log place (blank 0)).uid ≢ zeros)
+  IsEnabled (GiveUp peer) = Unit {0}
 
--- memory after it; the other moves leave it
-abbrev pub memory_after : List ℕ → ℕ → ℕ → RaftServer → Move → Memory
-memory_after members member step server TimeOut =
-    if has_quorum members (own_vote member) then win_memory server.store (stand_memory member server.memory)
-    else stand_memory member server.memory
-memory_after members member step server (TakeVoteRequest request granted) = term_memory server request.term
-memory_after members member step server (TakeVoteAnswer answer) =
-    if nat_lt server.store.term answer.term then stepped_down server.memory answer.from
-    else (if counts server answer then counting_memory members server answer else ended server.memory answer.from)
-memory_after members member step server (TakeAppendRequest request verdict) = append_memory server request verdict
-memory_after members member step server (TakeAppendAnswer answer) =
-    if nat_lt server.store.term answer.term then stepped_down server.memory answer.from
-    else (if acknowledges server answer then matched_memory server.memory answer else ended server.memory answer.from)
-memory_after members member step server TellPair = record server.memory { told = server.memory.told + 1 }
-memory_after members member step server TellNothing = record server.memory { told = server.memory.told + 1 }
-memory_after members member step server (CallForVote peer) =
-    calling server.memory peer (vote_request member step server.store peer)
-memory_after members member step server (CallToAppend peer previous with_entry) =
-    calling server.memory peer (append_request member step server.store peer previous with_entry)
-memory_after members member step server (GiveUp peer) = ended server.memory peer
-memory_after members member step server move = server.memory
+module _ (members : List ℕ) (member : ℕ) (server : RaftServer) where
+  -- the puts of a move, in order; the other moves have none
+  abbrev pub puts : Move → List Put
+  puts TimeOut = stand_puts member server.store
+      ++ (if has_quorum members (own_vote member)
+      then win_puts (put_all server.store (stand_puts member server.store)) else [])
+  puts (TakeVoteRequest request granted) = term_puts server.store request.term
+      ++ grant_puts (with_term server.store request.term) request granted
+  puts (TakeVoteAnswer answer) =
+      if nat_lt server.store.term answer.term then term_puts server.store answer.term
+      else (if counts server answer then counting_puts members server answer else [])
+  puts (TakeAppendRequest request verdict) = term_puts server.store request.term
+      ++ append_puts (with_term server.store request.term) request verdict
+  puts (TakeAppendAnswer answer) = term_puts server.store answer.term
+  puts (ProposeEntry entry) = PutEntry entry ∷ PutLonger entry ∷ []
+  puts (CommitTo index) = PutCommit index ∷ []
+  puts move = []
 
--- the messages that it offers
-abbrev pub offers : ℕ → ℕ → RaftServer → Move → List Message
-offers member step server (TakeVoteRequest request granted) =
-    Answers (answer_to member step (with_term server.store request.term) request granted) ∷ []
-offers member step server (TakeAppendRequest request verdict) =
-    Answers (answer_to member step (with_term server.store request.term) request (is_accepted verdict)) ∷ []
-offers member step server TellPair = Pairs (pair_at member step server.store server.memory.told) ∷ []
-offers member step server (CallForVote peer) = Requests (vote_request member step server.store peer) ∷ []
-offers member step server (CallToAppend peer previous with_entry) =
-    Requests (append_request member step server.store peer previous with_entry) ∷ []
-offers member step server (AnswerAgain place) = Pairs (pair_at member step server.store place) ∷ []
-offers member step server move = []
+module _ (members : List ℕ) (member step : ℕ) (server : RaftServer) where
+  -- memory after a move; the other moves leave it
+  abbrev pub memory_after : Move → Memory
+  memory_after TimeOut =
+      if has_quorum members (own_vote member) then win_memory server.store (stand_memory member server.memory)
+      else stand_memory member server.memory
+  memory_after (TakeVoteRequest request granted) = term_memory server request.term
+  memory_after (TakeVoteAnswer answer) =
+      if nat_lt server.store.term answer.term then stepped_down server.memory answer.from
+      else (if counts server answer then counting_memory members server answer else ended server.memory answer.from)
+  memory_after (TakeAppendRequest request verdict) = append_memory server request verdict
+  memory_after (TakeAppendAnswer answer) =
+      if nat_lt server.store.term answer.term then stepped_down server.memory answer.from
+      else (if acknowledges server answer then matched_memory server.memory answer else ended server.memory answer.from)
+  memory_after TellPair = record server.memory { told = server.memory.told + 1 }
+  memory_after TellNothing = record server.memory { told = server.memory.told + 1 }
+  memory_after (CallForVote peer) =
+      calling server.memory peer (vote_request member step server.store peer)
+  memory_after (CallToAppend peer previous with_entry) =
+      calling server.memory peer (append_request member step server.store peer previous with_entry)
+  memory_after (GiveUp peer) = ended server.memory peer
+  memory_after move = server.memory
 
--- the peers that it calls
+module _ (member step : ℕ) (server : RaftServer) where
+  -- the messages that a move offers
+  abbrev pub offers : Move → List Message
+  offers (TakeVoteRequest request granted) =
+      Answers (answer_to member step (with_term server.store request.term) request granted) ∷ []
+  offers (TakeAppendRequest request verdict) =
+      Answers (answer_to member step (with_term server.store request.term) request (is_accepted verdict)) ∷ []
+  offers TellPair = Pairs (pair_at member step server.store server.memory.told) ∷ []
+  offers (CallForVote peer) = Requests (vote_request member step server.store peer) ∷ []
+  offers (CallToAppend peer previous with_entry) =
+      Requests (append_request member step server.store peer previous with_entry) ∷ []
+  offers (AnswerAgain place) = Pairs (pair_at member step server.store place) ∷ []
+  offers move = []
+
+-- the peers that a move calls
 abbrev pub calls : Move → List ℕ
 calls (CallForVote peer) = peer ∷ []
 calls (CallToAppend peer previous with_entry) = peer ∷ []
@@ -142,15 +142,16 @@ puts_history member move store [] history = history
 puts_history member move store (first ∷ rest) history = puts_history member move (put store first) rest
     (put_history member move store first history)
 
--- what the model remembers besides when the move is done: a win without a blank, and a vote granted again
-abbrev pub move_history : List ℕ → ℕ → RaftServer → Move → History → History
-move_history members member server TimeOut history =
-    if has_quorum members (own_vote member)
-    then win_history member (put_all server.store (stand_puts member server.store)) history
-    else history
-move_history members member server (TakeVoteRequest request granted) history =
-    grant_history member (with_term server.store request.term) request granted history
-move_history members member server (TakeVoteAnswer answer) history =
-    if nat_lt server.store.term answer.term then history
-    else (if counts server answer then counting_history members member server answer history else history)
-move_history members member server move history = history
+module _ (members : List ℕ) (member : ℕ) (server : RaftServer) where
+  -- what the model remembers besides when the move is done: a win without a blank, and a vote granted again
+  abbrev pub move_history : Move → History → History
+  move_history TimeOut history =
+      if has_quorum members (own_vote member)
+      then win_history member (put_all server.store (stand_puts member server.store)) history
+      else history
+  move_history (TakeVoteRequest request granted) history =
+      grant_history member (with_term server.store request.term) request granted history
+  move_history (TakeVoteAnswer answer) history =
+      if nat_lt server.store.term answer.term then history
+      else (if counts server answer then counting_history members member server answer history else history)
+  move_history move history = history

@@ -1,22 +1,9 @@
 use Rattle.bus_agreement.proofs.Devices.{DeviceLaws, came_shown, left_shown, put_shown, received_shown, ticked_shown}
-use Rattle.bus_agreement.proofs.LawsBelow.{FrameLaws}
 use Rattle.bus_agreement.proofs.rows.rows_of_allocatees_are_shown.Goals as goal
 
 pub returns : goal.returns
 returns c =
-    let frame_laws : FrameLaws = record {
-      ident_read = c.identifiers_both_ways.ensures.read_again;
-      piece_read = c.frames_read_as_their_pieces.ensures;
-      cut_count = c.lengths_of_cuttings.ensures.count;
-      count = c.frames_in_order.ensures.count;
-      before_last = c.frames_in_order.ensures.before_last;
-      last = c.frames_in_order.ensures.last;
-      payload = c.frames_give_the_payload.ensures.payload;
-      queued_count = c.frames_by_place.ensures.count;
-      queued_frame = c.frames_by_place.ensures.frame;
-      delivered = c.deliveries_are_whole_transfers.ensures;
-      comes = c.a_frame_comes_to_the_session_of_its_key.ensures;
-    } in
+    let frame_laws = c.what_is_said_of_frames.ensures in
     let laws : DeviceLaws = record {
       given = c.a_node_id_is_given_for_good.ensures.given;
       uid = c.a_node_id_is_given_for_good.ensures.uid;

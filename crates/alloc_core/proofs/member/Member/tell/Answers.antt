@@ -6,7 +6,7 @@ use Rattle.raft_core.specs.RaftViews.{raft_told}
 use Rattle.raft_core.specs.Stands as raft
 use Rattle.raft_core.specs.Times.{given_at, times_after_all}
 use Rattle.raft_log.specs.DurableViews.{durable_state}
-use Rattle.raft_model.specs.Duty.{next_entry}
+use Rattle.raft_model.specs.Moves.{next_entry}
 use Rattle.raft_model.specs.Handlers.{plain_after_all}
 use Rattle.raft_model.specs.Moves.Move.{TellNothing, TellPair}
 use Rattle.alloc_step.specs.Ending.{has_to_tell}

@@ -1,17 +1,25 @@
--- The laws of the crates below that the proofs here stand on, as their contracts say them.
-use Rattle.std.proofs.Common.{◌≡◌, ℕ, suc, ◌*◌, ◌<◌, true, false, List, length, take, drop}
+-- What the crates of frames and codecs say, as their contracts have it: the proofs here stand on these two records.
+use Rattle.std.proofs.Common.{◌≡◌, ℕ, suc, ◌*◌, ◌<◌, ◌^◌, true, false, List, length, take, drop}
 use Rattle.std.specs.Prelude.{Some, Ok, get_or, slice_index_or}
-use Rattle.can_frame.specs.declared.identifier.Ident.{Ident}
-use Rattle.can_frame.specs.declared.tail.Tail.{Tail}
 use Rattle.can_frame.specs.Cutting.{Piece, bytes_cut, frame_bytes, frame_count, frames_before_last, frames_of, payload_of, piece_from, tail_at}
 use Rattle.can_frame.specs.Identifier.{IsIdentifier, identifier_number, identifier_of}
-use Rattle.transfer_rx.specs.declared.key.Key.{Key}
+use Rattle.can_frame.specs.declared.identifier.Ident.{Ident}
+use Rattle.can_frame.specs.declared.tail.Tail.{Tail}
+use Rattle.dsdl_codec.specs.AppendAnswer.{append_answer_bytes, append_answer_of}
+use Rattle.dsdl_codec.specs.AppendRequest.{IsAppendRequest, append_request_bytes, append_request_of}
+use Rattle.dsdl_codec.specs.VoteAnswer.{vote_answer_bytes, vote_answer_of}
+use Rattle.dsdl_codec.specs.VoteRequest.{IsVoteRequest, vote_request_bytes, vote_request_of}
+use Rattle.dsdl_codec.specs.declared.append_answer.AppendAnswer.{AppendAnswer}
+use Rattle.dsdl_codec.specs.declared.append_request.AppendRequest.{AppendRequest}
+use Rattle.dsdl_codec.specs.declared.vote_answer.VoteAnswer.{VoteAnswer}
+use Rattle.dsdl_codec.specs.declared.vote_request.VoteRequest.{VoteRequest}
 use Rattle.transfer_rx.specs.Origin.{IsIdleOrOf}
 use Rattle.transfer_rx.specs.Reassembly.{Arrival, Delivery, Gives, Setting, answer}
 use Rattle.transfer_rx.specs.Sessions.{Session, session_for}
 use Rattle.transfer_rx.specs.Sound.{IsDelivered}
-use Rattle.transfer_tx.specs.declared.outgoing.Outgoing.{Outgoing}
+use Rattle.transfer_rx.specs.declared.key.Key.{Key}
 use Rattle.transfer_tx.specs.Queue.{Queued, queued_frames}
+use Rattle.transfer_tx.specs.declared.outgoing.Outgoing.{Outgoing}
 
 -- frames, and how they are taken together
 pub record FrameLaws : Type 0 where
@@ -36,3 +44,10 @@ pub record FrameLaws : Type 0 where
       → IsDelivered setting sessions arrival delivery
   pub comes : (most now : ℕ) (key : Key) (tail : Tail) (sessions : List Session) (session : Session)
       → session_for most key tail now sessions ≡ Ok session → IsIdleOrOf key sessions session
+
+-- bytes are read as what they say
+pub record CodecLaws : Type 0 where
+  pub vote_requests : (request : VoteRequest) → IsVoteRequest request → vote_request_of (vote_request_bytes request) ≡ Some request
+  pub append_requests : (request : AppendRequest) → IsAppendRequest request → append_request_of (append_request_bytes request 0) ≡ Some request
+  pub vote_answers : (answer : VoteAnswer) → answer.term < 2 ^ 32 → vote_answer_of (vote_answer_bytes answer 0) ≡ Some answer
+  pub append_answers : (answer : AppendAnswer) → answer.term < 2 ^ 32 → append_answer_of (append_answer_bytes answer 0) ≡ Some answer
