@@ -4,5 +4,6 @@ pub mod Types
 pub mod BytesOfBits
 pub mod Readings
 pub mod Sizes
+pub mod Alike
 pub mod Taking
 pub mod OneLine

@@ -145,7 +145,7 @@ last_joined : (first : List Layout) (bits : List Bool) → read_last (joined fir
 last_joined [] bits = refl
 last_joined (layout ∷ layouts) bits = refl
 
-last_one : (types : List DataType) (kind : Kind) (bits : List Bool) → read_last (kind_layout types kind) bits ≡ reads (kind_layout types kind) bits
+pub last_one : (types : List DataType) (kind : Kind) (bits : List Bool) → read_last (kind_layout types kind) bits ≡ reads (kind_layout types kind) bits
 last_one types (Number width) bits = refl
 last_one types (Earlier place) bits = go (slice_get types place) where
   go : (found : Option DataType) → read_last (first_layout found) bits ≡ reads (first_layout found) bits

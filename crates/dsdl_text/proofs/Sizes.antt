@@ -14,7 +14,7 @@ use Rattle.std.proofs.Math.Nat.{mul_comm}
 use Rattle.dsdl_text.proofs.Readings.{then}
 use Rattle.dsdl_text.proofs.Types.{length-types_of, types_of_push}
 
-both : (a b : Bool) → (a && b) ≡ true → (a ≡ true) × (b ≡ true)
+pub both : (a b : Bool) → (a && b) ≡ true → (a ≡ true) × (b ≡ true)
 both true b e = (refl, e)
 both false b e = absurd (cc)
 
@@ -41,7 +41,7 @@ both_are f g h k front back bits = ap (λ o. then o g) (front bits) ∙ go (h bi
   go None = refl
   go (Some x) = ap (with_front x.0) (back x.1)
 
-void_none : (bits : List Bool) → read_void 0 bits ≡ Some ([], bits)
+pub void_none : (bits : List Bool) → read_void 0 bits ≡ Some ([], bits)
 void_none bits = rw (le-leb 0 (length bits) (omega arith)) refl
 
 void_times : (count width : ℕ) (read : List Bool → Reading) → ((bits : List Bool) → read bits ≡ read_void width bits)
@@ -54,7 +54,7 @@ void_times (suc count) width read is bits =
     ∙ ap (λ n. read_void n bits) more
 
 -- a layout without numbers is bits of no meaning
-blank : (layout : Layout) → has_no_number layout ≡ true → (bits : List Bool) → reads layout bits ≡ read_void (least_bits layout) bits
+pub blank : (layout : Layout) → has_no_number layout ≡ true → (bits : List Bool) → reads layout bits ≡ read_void (least_bits layout) bits
 blank nothing is bits = sym (void_none bits)
 blank (void width) is bits = refl
 blank (number width) is bits = absurd (cc)

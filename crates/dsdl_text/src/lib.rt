@@ -11,6 +11,7 @@
 #![tactic(auto)]
 
 mod bits;
+mod compact;
 mod decode;
 mod fault;
 pub mod laws;

@@ -2,7 +2,7 @@ ghost use Rattle.std.specs.Prelude.{◌≡◌, ◌≤◌, ◌<◌, List, length,
 ghost use Rattle.dsdl_text.specs.Layout.{DataType, Layout, exactly, joined, pair};
 ghost use Rattle.dsdl_text.specs.Numbers as numbers;
 ghost use Rattle.dsdl_text.specs.Sections.{field_layout, kind_layout, part_layout, types_of};
-ghost use Rattle.dsdl_text.specs.Sizes.{size_of, sizes_in};
+ghost use Rattle.dsdl_text.specs.Sizes.{size_of, sizes_in, takes_bits};
 
 use crate::line::Shape;
 use crate::section::{Field, Kind, Section};
@@ -34,6 +34,13 @@ impl Size {
         ensures counted { IsTrue result → self.bits < 4096 }
     {
         self.blank && self.bits < MOST_BITS
+    }
+
+    /// Whether there is anything in such a value, a bit or a number.
+    pub fn takes_bits(self) -> bool
+        ensures { result ≡ takes_bits self }
+    {
+        !(self.blank && self.bits == 0)
     }
 
     /// The size of so many values.
@@ -84,7 +91,8 @@ fn size_of_fields(sizes: &[Size], fields: &[Field]) -> Size
     }
 }
 
-fn size_of_field(sizes: &[Size], field: Field) -> Size
+/// The size of the values of a field, by those of the types in front.
+pub fn size_of_field(sizes: &[Size], field: Field) -> Size
     ensures { (types : List DataType) → sizes.now ≡ sizes_in types → result ≡ size_of (field_layout types field) }
 {
     match field {

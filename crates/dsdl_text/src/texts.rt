@@ -3,11 +3,13 @@ ghost use Rattle.std.specs.Option.{option_map, option_to_list};
 ghost use Rattle.dsdl_text.specs.Layout.{Layout};
 ghost use Rattle.dsdl_text.specs.Numbers as numbers;
 ghost use Rattle.dsdl_text.specs.Sections.{count_of, latest_of, part_at, part_layout, part_named, types_of};
+ghost use Rattle.dsdl_text.specs.Sizes.{sizes_in};
 
 use crate::bits::bits_of;
+use crate::compact::compact_types;
 use crate::decode::read_part;
 use crate::section::{Numbers, Part, Section, place_of};
-use crate::size::sizes_of;
+use crate::size::{Size, sizes_of};
 use arrayvec::ArrayVec;
 
 /// The types of a text.
@@ -46,11 +48,11 @@ impl Texts {
 
     /// The numbers of a payload under the part that stands there; `None` where it has no reading.
     ///
-    /// It ends soon, whatever the text. The size of each type is found once. A type without a number is
-    /// passed over at once, also an array of it, or the reading breaks off in it, where it is longer than
-    /// any payload. Any other type that was read gave a number; so of the types that stand at one depth
-    /// inside one another at most 400 are read, and one in which the reading breaks off. That is 401 types
-    /// at each of 16 depths, of 32 fields each, besides the payload's bits.
+    /// It ends soon, whatever the text. The size of each type is found once, and the fields that take no bits
+    /// are left out of it once; so each value inside a field of the part takes one bit of the payload at least.
+    /// Bits of no meaning are passed over at once, also an array of them. With the numbers and the counts they
+    /// are at most 3,008 values, as many as a payload has bits. Any other value has a number in it, or the
+    /// reading breaks off in it: these are at most 401 at each of 16 depths, as there is room for 400 numbers.
     pub fn decode(&self, at: usize, payload: &[u8]) -> Option<Numbers>
         requires at { IsSome (part_at (data_types self.now) at) }
         requires size { length payload.now ≤ 376 }
@@ -104,8 +106,19 @@ fn numbers_under(earlier: &[Section], part: &Part, payload: &[u8]) -> Option<Num
         ≡ numbers.numbers_of (part_layout (types_of earlier.now) part.now.items) payload.now }
 {
     let sizes = sizes_of(earlier);
+    let types = compact_types(earlier, &sizes);
+    numbers_by(&types, &sizes, part, payload)
+}
+
+/// The numbers of a payload under a part, by its types and their sizes.
+fn numbers_by(types: &[Section], sizes: &[Size], part: &Part, payload: &[u8]) -> Option<Numbers>
+    requires sizes { sizes.now ≡ sizes_in (types_of types.now) }
+    requires size { length payload.now ≤ 376 }
+    ensures { option_map (λ found. found.items) result
+        ≡ numbers.numbers_of (part_layout (types_of types.now) part.now.items) payload.now }
+{
     let bits = bits_of(payload);
     let mut numbers = ArrayVec::new();
-    let rest = read_part(earlier, &sizes, part, &bits, &mut numbers)?;
+    let rest = read_part(types, sizes, part, &bits, &mut numbers)?;
     if rest.len() < 8 { Some(numbers) } else { None }
 }

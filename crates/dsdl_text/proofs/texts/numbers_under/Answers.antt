@@ -1,18 +1,21 @@
+use Rattle.std.proofs.Common.{ap, sym, ◌∙◌}
+use Rattle.dsdl_text.specs.Numbers.{numbers_of}
 use Rattle.dsdl_text.specs.Sections.{part_layout, types_of}
-use Rattle.dsdl_text.proofs.Readings.{payload_long, payload_none, payload_some}
+use Rattle.dsdl_text.specs.Sizes.{sizes_in}
+use Rattle.dsdl_text.proofs.Alike.{compact_numbers, compact_sizes}
 use Rattle.dsdl_text.proofs.texts.numbers_under.Goals as goal
 
-pub returns-in_err-rest : goal.returns-in_err-rest
-returns-in_err-rest c =
-    let none = rw (c.new-numbers.ensures, c.deref-2.ensures.0, c.deref-3.ensures.0, c.bits_of-bits.ensures) at c.in_err-rest.ensures in
-    rw c.from_residual.ensures (payload_none (part_layout (types_of c.args.earlier.now) c.args.part.now.items) c.args.payload.now none)
+pub numbers_by-requires-clause-sizes : goal.numbers_by-requires-clause-sizes
+numbers_by-requires-clause-sizes c =
+    c.deref-3.ensures.0
+    ∙ c.sizes_of-sizes.ensures
+    ∙ compact_sizes c.args.earlier.now c.compact_types-types.result.items c.compact_types-types.ensures
+    ∙ sym (ap (λ types. sizes_in (types_of types)) c.deref-2.ensures.0)
 
-pub returns-then-rest-lt8 : goal.returns-then-rest-lt8
-returns-then-rest-lt8 c =
-    let some = rw (c.new-numbers.ensures, c.deref-2.ensures.0, c.deref-3.ensures.0, c.bits_of-bits.ensures) at c.in_ok-rest.ensures in
-    payload_some (part_layout (types_of c.args.earlier.now) c.args.part.now.items) c.args.payload.now c.read_part.new.numbers.items c.in_ok-rest.rest.now some c.if-rest-lt8.true
-
-pub returns-else-rest-lt8 : goal.returns-else-rest-lt8
-returns-else-rest-lt8 c =
-    let some = rw (c.new-numbers.ensures, c.deref-2.ensures.0, c.deref-3.ensures.0, c.bits_of-bits.ensures) at c.in_ok-rest.ensures in
-    payload_long (part_layout (types_of c.args.earlier.now) c.args.part.now.items) c.args.payload.now c.read_part.new.numbers.items c.in_ok-rest.rest.now some c.if-rest-lt8.false
+pub returns : goal.returns
+returns c =
+    let part = c.args.part.now.items in
+    let payload = c.args.payload.now in
+    c.numbers_by.ensures
+    ∙ ap (λ types. numbers_of (part_layout (types_of types) part) payload) c.deref-2.ensures.0
+    ∙ compact_numbers c.args.earlier.now c.compact_types-types.result.items c.compact_types-types.ensures part payload
