@@ -51,8 +51,9 @@ impl Texts {
     /// It ends soon, whatever the text. The size of each type is found once, and the fields that take no bits
     /// are left out of it once; so each value inside a field of the part takes one bit of the payload at least.
     /// Bits of no meaning are passed over at once, also an array of them. With the numbers and the counts they
-    /// are at most 3,008 values, as many as a payload has bits. Any other value has a number in it, or the
-    /// reading breaks off in it: these are at most 401 at each of 16 depths, as there is room for 400 numbers.
+    /// are at most 3,008 values, as many as a payload has bits. Any other value or array has a number in it, or
+    /// the reading breaks off in it: there are at most 401 of each at each of 16 depths, since there is room for
+    /// 400 numbers.
     pub fn decode(&self, at: usize, payload: &[u8]) -> Option<Numbers>
         requires at { IsSome (part_at (data_types self.now) at) }
         requires size { length payload.now ≤ 376 }
