@@ -1,9 +1,8 @@
 -- A text has one report.
-use Rattle.std.proofs.Common.{◌≡◌, ◌≤◌, ◌<◌, ℕ, ◌+◌, List, [], ◌∷◌, ◌++◌, length, Some, None, refl, sym, ap, ◌∙◌, subst, arith, unwrap_or}
+use Rattle.std.proofs.Common.{◌≡◌, ◌≤◌, ◌<◌, ℕ, ◌+◌, List, [], ◌∷◌, length, Some, None, refl, sym, ap, ◌∙◌, subst, arith, unwrap_or}
 use Rattle.arrayvec.specs.ArrayVec.{ArrayVec as Items}
 use Rattle.replay_text.specs.Lines.{after_line, first_line}
 use Rattle.dsdl_text.specs.declared.line.Line.{Line}
-use Rattle.dsdl_text.specs.Layout.{Layout}
 use Rattle.dsdl_text.specs.Lines.{Reads}
 use Rattle.dsdl_text.specs.Numbers.{numbers_of}
 use Rattle.dsdl_text.specs.Sections.{part_named}

@@ -16,7 +16,7 @@ use Rattle.dsdl_decode.specs.declared.ending.Ending.TheVariants.{Whole, Bad, Bey
 use Rattle.dsdl_decode.specs.declared.lines.Lines.{Lines}
 use Rattle.dsdl_decode.specs.Ends.{IsReadInPart}
 use Rattle.dsdl_decode.specs.Lines.{Comes, IsBadLine, IsBeyond, ReadsLines}
-use Rattle.dsdl_decode.specs.Taking.{HasTaken, ReadsText, TakesLine, TakesSome, WaitsOn, text_in}
+use Rattle.dsdl_decode.specs.Taking.{HasTaken, ReadsText, TakesLine, TakesSome, text_in}
 use Rattle.dsdl_decode.proofs.Fronts.{begins_at}
 
 -- ---- lines one behind the other

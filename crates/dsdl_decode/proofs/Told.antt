@@ -1,5 +1,5 @@
 -- How a run ends, by what the text came to and what is answered.
-use Rattle.std.proofs.Common.{◌≡◌, ℕ, List, [], Some, None, refl, sym, ap, ◌∙◌, subst}
+use Rattle.std.proofs.Common.{◌≡◌, ℕ, List, [], Some, None, refl}
 use Rattle.std.specs.declared.option.Option.{Option}
 use Rattle.std.specs.Prelude.{IsSome}
 use Rattle.std.specs.Io.KnownBytes.{Appends}
@@ -31,16 +31,18 @@ is_of_decode NoValue = tt
 is_of_decode (BadLine row) = tt
 is_of_decode Beyond = tt
 
-ends_told : (name : List ℕ) (part : ℕ) (payload bytes : List ℕ) (left before now : Option (List ℕ)) (answer : Answer)
-    → IsTold name part payload bytes left before now (status_of answer) → Ends (status_of answer) name part payload bytes left before now
+ends_told : (name : List ℕ) (part : ℕ) (payload bytes : List ℕ) (left before now : Option (List ℕ))
+    → (answer : Answer) → IsTold name part payload bytes left before now (status_of answer)
+    → Ends (status_of answer) name part payload bytes left before now
 ends_told name part payload bytes left before now (Value numbers) told = told
 ends_told name part payload bytes left before now NoPart told = told
 ends_told name part payload bytes left before now NoValue told = told
 ends_told name part payload bytes left before now (BadLine row) told = told
 ends_told name part payload bytes left before now Beyond told = told
 
-is_report : (name : List ℕ) (part : ℕ) (payload bytes : List ℕ) (left : Option (List ℕ)) (end : Ending) (answer : Answer)
-    → ReadsText bytes left end → AnswersAll name part payload end answer → IsReport name part payload bytes (report_of answer) (status_of answer)
+is_report : (name : List ℕ) (part : ℕ) (payload bytes : List ℕ) (left : Option (List ℕ))
+    → (end : Ending) (answer : Answer) → ReadsText bytes left end → AnswersAll name part payload end answer
+    → IsReport name part payload bytes (report_of answer) (status_of answer)
 is_report name part payload bytes left end answer read answers = record {
   now = read.now;
   count = read.count;
@@ -53,8 +55,9 @@ is_report name part payload bytes left end answer read answers = record {
   ends = refl;
 }
 
-is_told : (name : List ℕ) (part : ℕ) (payload bytes : List ℕ) (left before now : Option (List ℕ)) (end : Ending) (answer : Answer)
-    → ReadsText bytes left end → AnswersAll name part payload end answer → Appends before now (report_of answer)
+is_told : (name : List ℕ) (part : ℕ) (payload bytes : List ℕ) (left before now : Option (List ℕ))
+    → (end : Ending) (answer : Answer) → ReadsText bytes left end → AnswersAll name part payload end answer
+    → Appends before now (report_of answer)
     → IsTold name part payload bytes left before now (status_of answer)
 unfolding is_report
 is_told name part payload bytes left before now end answer read answers wrote = record {
@@ -64,8 +67,9 @@ is_told name part payload bytes left before now end answer read answers wrote = 
   written = wrote;
 }
 
-is_in_part : (name : List ℕ) (part : ℕ) (payload bytes : List ℕ) (left before now : Option (List ℕ)) (end : Ending) (answer : Answer)
-    → ReadsText bytes left end → AnswersAll name part payload end answer → WritesFront before now (report_of answer)
+is_in_part : (name : List ℕ) (part : ℕ) (payload bytes : List ℕ) (left before now : Option (List ℕ))
+    → (end : Ending) (answer : Answer) → ReadsText bytes left end → AnswersAll name part payload end answer
+    → WritesFront before now (report_of answer)
     → IsWrittenInPart name part payload bytes left before now
 unfolding is_report
 is_in_part name part payload bytes left before now end answer read answers front = record {
@@ -76,9 +80,10 @@ is_in_part name part payload bytes left before now end answer read answers front
   front = front;
 }
 
-module _ (one : ALineHasOneValue) (name : List ℕ) (part : ℕ) (payload : List ℕ) (left_old left : Option (List ℕ))
-    (read_old read wrote_old wrote : ℕ) (before now : Option (List ℕ)) where
-  pub decodes_told : (end : Ending) (answer : Answer) → ((bytes : List ℕ) → left_old ≡ Some bytes → ReadsText bytes left end)
+module _ (one : ALineHasOneValue) (name : List ℕ) (part : ℕ) (payload : List ℕ)
+    (left_old left : Option (List ℕ)) (read_old read wrote_old wrote : ℕ) (before now : Option (List ℕ)) where
+  pub decodes_told : (end : Ending) (answer : Answer)
+      → ((bytes : List ℕ) → left_old ≡ Some bytes → ReadsText bytes left end)
       → AnswersAll name part payload end answer → Appends before now (report_of answer)
       → Decodes name part payload left_old left read_old read wrote_old wrote before now (status_of answer)
   decodes_told end answer reads answers wrote_all = record {
@@ -90,16 +95,19 @@ module _ (one : ALineHasOneValue) (name : List ℕ) (part : ℕ) (payload : List
         (is_report name part payload bytes left end answer (reads bytes known) answers) is).1;
   }
 
-  pub decodes_in_part : (end : Ending) (answer : Answer) → ((bytes : List ℕ) → left_old ≡ Some bytes → ReadsText bytes left end)
+  pub decodes_in_part : (end : Ending) (answer : Answer)
+      → ((bytes : List ℕ) → left_old ≡ Some bytes → ReadsText bytes left end)
       → AnswersAll name part payload end answer → WritesFront before now (report_of answer) → Rose wrote_old wrote
       → Decodes name part payload left_old left read_old read wrote_old wrote before now WriteFault
   decodes_in_part end answer reads answers front rose = record {
     kinds = tt;
-    ends = λ bytes known. is_in_part name part payload bytes left before now end answer (reads bytes known) answers front;
+    ends = λ bytes known.
+        is_in_part name part payload bytes left before now end answer (reads bytes known) answers front;
     finishes = λ bytes report ending known is quiet still. absurd (still rose);
   }
 
-  pub decodes_unread : ((bytes : List ℕ) → left_old ≡ Some bytes → IsReadInPart bytes left) → Appends before now [] → Rose read_old read
+  pub decodes_unread : ((bytes : List ℕ) → left_old ≡ Some bytes → IsReadInPart bytes left)
+      → Appends before now [] → Rose read_old read
       → Decodes name part payload left_old left read_old read wrote_old wrote before now ReadFault
   decodes_unread cut silent rose = record {
     kinds = tt;

@@ -20,8 +20,8 @@ pub record ReadsNoFurther (rest : List ℕ) (left : Option (List ℕ)) : Type 0 
   pub left_is : left ≡ Some unread
 
 -- the whole report was written, and the source was read no further
-pub record IsTold (name : List ℕ) (part : ℕ) (payload bytes : List ℕ) (left before now : Option (List ℕ)) (status : Status)
-    : Type 0 where
+pub record IsTold (name : List ℕ) (part : ℕ) (payload bytes : List ℕ) (left before now : Option (List ℕ))
+    (status : Status) : Type 0 where
   pub report : List ℕ
   pub is : IsReport name part payload bytes report status
   pub no_further : ReadsNoFurther is.rest left
@@ -42,8 +42,8 @@ pub record IsReadInPart (bytes : List ℕ) (left : Option (List ℕ)) : Type 0 w
   pub within : count ≤ 1000
 
 -- the sink failed: it has a front of the report
-pub record IsWrittenInPart (name : List ℕ) (part : ℕ) (payload bytes : List ℕ) (left before now : Option (List ℕ))
-    : Type 0 where
+pub record IsWrittenInPart (name : List ℕ) (part : ℕ) (payload bytes : List ℕ)
+    (left before now : Option (List ℕ)) : Type 0 where
   pub report : List ℕ
   pub status : Status
   pub is : IsReport name part payload bytes report status
@@ -79,14 +79,13 @@ IsOfDecode (Damaged id key) = ⊥
 IsOfDecode (Differ first second index) = ⊥
 IsOfDecode _ = Unit {0}
 
--- a run that decodes the payload under that part of a text. The numbers are the faults that the source and the sink have
--- counted; the lists are what the source has left and what the sink has been written: each before and now
+-- a run that decodes the payload under that part of a text. The numbers are the faults that the source and the sink
+-- have counted; the lists are what the source has left and what the sink has been written: each before and now
 pub record Decodes (name : List ℕ) (part : ℕ) (payload : List ℕ) (left_old left : Option (List ℕ))
     (read_old read wrote_old wrote : ℕ) (before now : Option (List ℕ)) (status : Status) : Type 0 where
   pub kinds : IsOfDecode status
   pub ends : (bytes : List ℕ) → left_old ≡ Some bytes → Ends status name part payload bytes left before now
   -- a text has one report, and unless something fails the run comes to it
-  pub finishes : (bytes report : List ℕ) (ending : Status) → left_old ≡ Some bytes →
-      IsReport name part payload bytes report ending → (Rose read_old read → ⊥) → (Rose wrote_old wrote →
-      ⊥) →
-      status ≡ ending
+  pub finishes : (bytes report : List ℕ) (ending : Status) → left_old ≡ Some bytes
+      → IsReport name part payload bytes report ending → (Rose read_old read → ⊥)
+      → (Rose wrote_old wrote → ⊥) → status ≡ ending

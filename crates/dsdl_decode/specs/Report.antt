@@ -11,8 +11,8 @@ use Rattle.dsdl_decode.specs.declared.answer.Answer.TheVariants.{Value, NoPart, 
 use Rattle.dsdl_decode.specs.Lines.{Comes, IsBadLine, IsBeyond}
 
 -- the text is read to its end, has that part, and the payload has these numbers under it, or no reading
-pub record IsRead (name : List ℕ) (part : ℕ) (payload : List ℕ) (now : Text) (rest : List ℕ) (numbers : Option (List ℕ))
-    : Type 0 where
+pub record IsRead (name : List ℕ) (part : ℕ) (payload : List ℕ) (now : Text) (rest : List ℕ)
+    (numbers : Option (List ℕ)) : Type 0 where
   pub ended : rest ≡ []
   pub fields : List Layout
   pub found : part_named (types_in now) name part ≡ Some fields

@@ -1,4 +1,4 @@
-use Rattle.std.proofs.Common.{◌++◌, length, sym, ap, ◌∙◌, subst}
+use Rattle.std.proofs.Common.{◌++◌, length, ◌∙◌, subst}
 use Rattle.std.specs.Prelude.{OnErr}
 use Rattle.app_base.specs.Output.{WritesFront}
 use Rattle.app_base.proofs.Written.{front-of_more, last-then, on_err}
