@@ -1,3 +1,4 @@
+pub mod Runs
 pub mod Turns
 pub mod Uncounted
 pub mod Unmarked

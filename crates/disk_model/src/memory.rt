@@ -30,8 +30,10 @@ pub struct MemoryDisk {
 }
 
 impl MemoryDisk {
-    ghost use Rattle.disk_model.specs.Contents.{IsSettled};
+    ghost use Rattle.disk_model.specs.Contents.{IsSettled, MayLeave};
+    ghost use Rattle.disk_model.specs.Device.{IsSynced};
     ghost use Rattle.disk_model.specs.Memory.{memory_contents, memory_calls, nothing_set, Restarts};
+    ghost use Rattle.disk_model.specs.Restart.{restarted_byte};
 
     /// A disk that holds `image`, all of it stable, with nothing set to fail.
     pub fn new(image: &[u8; IMAGE]) -> MemoryDisk
@@ -81,18 +83,37 @@ impl MemoryDisk {
         requires { IsUsable pattern }
         ensures { Restarts pattern self.old self.new }
     {
+        self.remake(&pattern);
+        self.settle();
+        self.calls = Calls::nothing_set(self.calls.faults);
+    }
+
+    /// Remakes the bytes that were written since the last sync that succeeded, as a stop leaves them.
+    fn remake(&mut self, pattern: &Pattern)
+        requires { IsUsable pattern.now }
+        ensures bytes { (i : ℕ) → i < image_size → slice_index (memory_contents self.new).seen i ≡
+            restarted_byte pattern.now (memory_contents self.old) i }
+        ensures image { MayLeave (memory_contents self.old) (memory_contents self.new).seen }
+        ensures calls { memory_calls self.new ≡ memory_calls self.old }
+    {
         match pattern {
-            Pattern::Old => self.seen.copy_from_slice(&self.stable),
-            Pattern::New => self.stable.copy_from_slice(&self.seen),
+            Pattern::Old => copy_range(&mut self.seen, &self.stable, self.low, self.high),
+            Pattern::New => {}
             Pattern::Bytes(bytes) => {
-                repeat_over(&mut self.seen, &self.touched, &bytes);
-                self.stable.copy_from_slice(&self.seen);
+                repeat_over(&mut self.seen, &self.touched, bytes, self.low, self.high);
             }
         }
+    }
+
+    /// Makes what reads give stable.
+    fn settle(&mut self)
+        ensures synced { IsSynced (memory_contents self.old) (memory_contents self.new) }
+        ensures calls { memory_calls self.new ≡ memory_calls self.old }
+    {
+        copy_range(&mut self.stable, &self.seen, self.low, self.high);
         unmark(&mut self.touched, self.low, self.high);
         self.low = IMAGE;
         self.high = 0;
-        self.calls = Calls::nothing_set(self.calls.faults);
     }
 }
 
@@ -142,10 +163,7 @@ impl Disk for MemoryDisk {
         if !self.calls.count() {
             return Err(Failed);
         }
-        copy_range(&mut self.stable, &self.seen, self.low, self.high);
-        unmark(&mut self.touched, self.low, self.high);
-        self.low = IMAGE;
-        self.high = 0;
+        self.settle();
         Ok(())
     }
 

@@ -64,19 +64,22 @@ pub fn copy_range(to: &mut [u8], from: &[u8], low: usize, high: usize)
     }
 }
 
-/// Repeats `pattern` from the first byte of each run of marked bytes.
+/// Repeats `pattern` from the first byte of each run of marked bytes. None is marked outside the range.
 #[tactic(auto, unfolding(crate::specs::Restart::run_start))]
-pub fn repeat_over(image: &mut [u8], marks: &[bool], pattern: &[u8])
+pub fn repeat_over(image: &mut [u8], marks: &[bool], pattern: &[u8], low: usize, high: usize)
     requires size { length marks.now ≡ length image.old }
+    requires fits { high ≤ length image.old }
     requires some { 0 < length pattern.now }
+    requires below { (i : ℕ) → i < low → slice_index_or marks.now i false ≡ false }
+    requires above { (i : ℕ) → high ≤ i → slice_index_or marks.now i false ≡ false }
     ensures marked { (i : ℕ) → i < length image.old → slice_index_or marks.now i false ≡ true →
         slice_index image.new i
         ≡ repeated pattern.now (run_start (λ k. slice_index_or marks.now k false) i) i }
     ensures others { (i : ℕ) → slice_index_or marks.now i false ≡ false →
         slice_index image.new i ≡ slice_index image.old i }
 {
-    let mut start = 0;
-    for i in 0..marks.len() {
+    let mut start = low;
+    for i in low..high {
         if marks[i] {
             image[i] = pattern[(i - start) % pattern.len()];
         } else {
