@@ -7,12 +7,12 @@ ghost use Rattle.kv_store.specs.Table.{Holds};
 ghost use Rattle.kv_store.specs.TableViews.{table_map, table_copy};
 ghost use Rattle.outside.specs.Faults.{Rose};
 
-use crate::fault::{Fault, OpenFault, OpenRefused};
-use crate::load::load;
+use crate::fault::{Fault, OpenRefused};
+use crate::laws::a_store_is_durable;
 use crate::replace::replace;
 use crate::table::Table;
 use crate::value::Value;
-use disk_model::{Disk, IMAGE, MemoryDisk};
+use disk_model::{Disk, MemoryDisk};
 use outside::Failed;
 
 /// A map of 132 keys on a disk.
@@ -64,24 +64,25 @@ impl<D: Disk> Store<D> {
         ensures later { IfOk result (λ store. D.faults disk ≤ D.faults (store_disk store)) }
         ensures refused_later { IfErr result (λ refused. D.faults disk ≤ D.faults refused.disk) }
     {
-        let mut image = [0; IMAGE];
-        if load(&mut disk, &mut image).is_err() {
-            let count = disk.faults();
-            return Err(OpenRefused {
-                disk,
-                why: OpenFault::Fault(Fault { count }),
-            });
+        a_store_is_durable::<D>();
+        match Table::load(&mut disk) {
+            Ok(table) => Ok(Store::new(disk, table)),
+            Err(why) => Err(OpenRefused { disk, why }),
         }
-        match Table::read(&image) {
-            Ok(table) => Ok(Store {
-                disk,
-                table,
-                failed: None,
-            }),
-            Err(key) => Err(OpenRefused {
-                disk,
-                why: OpenFault::Damaged(key),
-            }),
+    }
+
+    /// A store on a disk that holds this table.
+    pub fn new(disk: D, table: Table) -> Store<D>
+        requires { D.tells disk ≡ true →
+            Holds (D.contents disk) (table_map table) (table_copy table) }
+        ensures disk { store_disk result ≡ disk }
+        ensures table { store_table result ≡ table }
+        ensures works { store_fault result ≡ None }
+    {
+        Store {
+            disk,
+            table,
+            failed: None,
         }
     }
 
