@@ -19,7 +19,8 @@ use crate::state::State;
 use crate::values::NEWEST;
 use can_frame::Entry;
 use disk_model::{Disk, MemoryDisk};
-use kv_store::{Fault, OpenFault, OpenRefused, Store};
+use kv_store::laws::a_store_is_durable;
+use kv_store::{Fault, OpenFault, OpenRefused, Store, Table};
 
 /// The stored state of a member, on a disk.
 #[derive(Drop)]
@@ -210,7 +211,7 @@ impl<D: Disk> Durable<D> {
     }
 
     /// The state that the disk stands for, found by a sync and one read.
-    fn read(disk: D) -> Result<Durable<D>, OpenRefused<D>>
+    fn read(mut disk: D) -> Result<Durable<D>, OpenRefused<D>>
         // The state is that of what reads give, and of whatever a stop may leave from now on.
         ensures state { IfOk result (λ durable. D.tells disk ≡ true →
             StandsForState (D.contents disk).seen (durable_state durable)) }
@@ -242,14 +243,18 @@ impl<D: Disk> Durable<D> {
         ensures later { IfOk result (λ durable. D.faults disk ≤ D.faults (durable_disk durable)) }
         ensures refused_later { IfErr result (λ refused. D.faults disk ≤ D.faults refused.disk) }
     {
-        let store = match Store::open(disk) {
-            Ok(store) => store,
-            Err(refused) => return Err(refused),
+        a_store_is_durable::<D>();
+        let table = match Table::load(&mut disk) {
+            Ok(table) => table,
+            Err(why) => return Err(OpenRefused { disk, why }),
         };
-        match State::read(store.table()) {
-            Ok(state) => Ok(Durable { store, state }),
+        match State::read(&table) {
+            Ok(state) => Ok(Durable {
+                store: Store::new(disk, table),
+                state,
+            }),
             Err(key) => Err(OpenRefused {
-                disk: store.into_disk(),
+                disk,
                 why: OpenFault::Damaged(key),
             }),
         }
