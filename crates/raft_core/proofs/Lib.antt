@@ -16,7 +16,7 @@ pub mod VoteAnswer
 pub mod Answering
 pub mod Calling
 pub mod Expiring
-pub mod Idle
+pub mod CallTimes
 pub mod TellNext
 pub mod SomeServer
 pub mod Peers

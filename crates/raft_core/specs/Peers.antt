@@ -1,5 +1,5 @@
 -- What becomes of what is kept of a peer.
-use Rattle.std.specs.Prelude.{◌≡◌, ◌<◌, ℕ, ◌+◌, ◌-◌, Bool, List, is_some, length, slice_index_or, true, false, Option, Some, None, max, nat_le, ◌==◌, if◌then◌else◌}
+use Rattle.std.specs.Prelude.{◌≡◌, ◌<◌, ◌≤◌, ℕ, ◌+◌, ◌-◌, Bool, List, length, slice_index_or, true, false, Option, Some, None, max, nat_le, ◌==◌, if◌then◌else◌}
 use Rattle.raft_core.specs.declared.peer.Asked.{Asked}
 use Rattle.raft_core.specs.declared.peer.Peer.{Peer}
 use Rattle.raft_core.specs.declared.peer.Waiting.{Waiting}
@@ -31,7 +31,7 @@ abbrev pub asked_under : ℕ → Option Waiting → Option Asked
 asked_under id None = None
 asked_under id (Some call) = if call.id == id then Some call.asked else None
 
--- no call to any of them waits
-abbrev pub WaitsForNone : List Peer → Type 0
-WaitsForNone peers = (node : ℕ) (none : Peer) →
-    node < length peers → is_some (slice_index_or peers node none).call ≡ false
+-- no call to any of them that waits was made before this moment
+abbrev pub WaitSince : ℕ → List Peer → Type 0
+WaitSince moment peers = (node : ℕ) (none : Peer) (call : Waiting) →
+    node < length peers → (slice_index_or peers node none).call ≡ Some call → moment ≤ call.sent

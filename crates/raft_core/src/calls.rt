@@ -9,7 +9,7 @@ ghost use Rattle.raft_model.specs.Messages.{Request, items, reach};
 ghost use Rattle.raft_model.specs.Moves.{Move};
 ghost use Rattle.raft_model.specs.Moves.Elections.{ended};
 ghost use Rattle.raft_model.specs.Server.{RaftServer};
-ghost use Rattle.raft_core.specs.Peers.{WaitsForNone};
+ghost use Rattle.raft_core.specs.Peers.{WaitSince};
 ghost use Rattle.raft_core.specs.Times as clock;
 ghost use Rattle.raft_core.specs.Times.{Sending, Times, given_at, given_call, is_awaited, overdue, times_after_all};
 ghost use Rattle.can_frame.specs.declared.step.Role.TheVariants.{Leader};
@@ -66,13 +66,13 @@ impl Raft {
         ensures me { raft_me self.new ≡ raft_me self.old }
         ensures size { raft_size self.new ≡ raft_size self.old }
     {
-        if !self.calling {
+        if now.saturating_sub(self.calls_since) < 1000 {
             return;
         }
         for peer in &mut self.peers {
             peer.expire(now);
         }
-        self.calling = !wait_for_none(&self.peers);
+        self.calls_since = first_call(&self.peers);
     }
 
     /// The call that is owed to a peer. A candidate asks each peer for its vote until it answers. A leader
@@ -124,7 +124,7 @@ impl Raft {
         ensures size { raft_size self.new ≡ raft_size self.old }
     {
         a_durable_state_is_kept::<D>();
-        self.calling = true;
+        self.calls_since = self.calls_since.min(now);
         let kept = &mut self.peers[peer as usize];
         let asked = match what {
             Call::Vote(_) => Asked::Vote,
@@ -213,11 +213,15 @@ impl Raft {
     }
 }
 
-/// Whether no call waits.
-fn wait_for_none(peers: &[Peer; 128]) -> bool
-    ensures { result ≡ true → WaitsForNone peers.now }
+/// When the first of the calls that wait was made; the last moment there is where none waits.
+fn first_call(peers: &[Peer; 128]) -> u64
+    ensures { WaitSince result peers.now }
 {
-    peers.iter().all(|peer| peer.call.is_none())
+    let mut first = u64::MAX;
+    for peer in peers {
+        first = peer.since(first);
+    }
+    first
 }
 
 fn vote_request<D: Disk>(d: &Durable<D>) -> VoteRequest

@@ -1,4 +1,4 @@
-ghost use Rattle.std.specs.Prelude.{◌≡◌, ◌≤◌, ◌+◌, ◌-◌, true, false, None};
+ghost use Rattle.std.specs.Prelude.{◌≡◌, ◌≤◌, ◌+◌, ◌-◌, true, false, Some, None};
 ghost use Rattle.raft_core.specs.Times as clock;
 
 /// What a call asks a peer for.
@@ -48,6 +48,7 @@ pub(crate) struct Peer {
 }
 
 impl Peer {
+    ghost use Rattle.raft_core.specs.declared.peer.Waiting.{Waiting};
     ghost use Rattle.raft_core.specs.Peers.{asked_under, expired, fresh, moved_on, voter};
 
     /// A peer of which nothing is known: it is sent the entry at this place first.
@@ -82,6 +83,17 @@ impl Peer {
             if now.saturating_sub(call.sent) >= 1000 {
                 self.call = None;
             }
+        }
+    }
+
+    /// The earlier of a moment and that of the call, where one waits.
+    pub fn since(&self, moment: u64) -> u64
+        ensures moment { result ≤ moment }
+        ensures call { (call : Waiting) → self.now.call ≡ Some call → result ≤ call.sent }
+    {
+        match self.call {
+            Some(call) => moment.min(call.sent),
+            None => moment,
         }
     }
 

@@ -7,7 +7,7 @@ ghost use Rattle.raft_log.specs.Stored.{Stored};
 ghost use Rattle.raft_model.specs.Lists.{how_many};
 ghost use Rattle.raft_model.specs.Moves.Elections.{term_memory, term_puts, with_term};
 ghost use Rattle.raft_model.specs.Server.{RaftServer, quorum, opened};
-ghost use Rattle.raft_core.specs.Peers.{WaitsForNone};
+ghost use Rattle.raft_core.specs.Peers.{WaitSince};
 
 use crate::laws::puts_in_turn;
 use crate::peer::Peer;
@@ -43,15 +43,15 @@ pub struct Raft {
     /// By node ID.
     pub(crate) peers: [Peer; 128],
 
-    /// Whether a call may wait. Where it is false, none does.
-    pub(crate) calling: bool,
+    /// No call that waits was made before this moment.
+    pub(crate) calls_since: u64,
 
     ghost least: { 1 ≤ me },
     ghost most: { me ≤ 125 },
     ghost five: { size ≤ 5 },
     ghost short: { array_vec_len members ≤ 5 },
     ghost table: { length peers ≡ 128 },
-    ghost idle: { calling ≡ false → WaitsForNone peers },
+    ghost young: { WaitSince calls_since peers },
     ghost numbered: { (i : ℕ) → i < length members.items → slice_index_or members.items i 0 < 128 },
     ghost complete: { role ≢ Follower → array_vec_len members ≡ size },
 }
@@ -99,7 +99,7 @@ impl Raft {
             word,
             members: ArrayVec::new(),
             peers: [Peer::new(1); 128],
-            calling: false,
+            calls_since: u64::MAX,
         }
     }
 

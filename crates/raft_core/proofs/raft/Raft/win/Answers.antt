@@ -1,10 +1,9 @@
 use Rattle.std.proofs.Common.{rules, ◌≡◌, ◌+◌, [], length, replicate, refl, ap}
-use Rattle.std.specs.Prelude.{is_some}
 use Rattle.raft_log.specs.DurableViews.{durable_state}
 use Rattle.raft_core.specs.Peers.{fresh}
 use Rattle.raft_core.proofs.Puts.{each_ok, got}
 use Rattle.raft_core.proofs.Winning.{won_fits, won_stands, won_store}
-use Rattle.raft_core.proofs.Idle.{same_idle}
+use Rattle.raft_core.proofs.CallTimes.{same_since}
 use Rattle.raft_core.proofs.raft.Raft.win.Goals as goal
 
 pub returns-clause-stands : goal.returns-clause-stands
@@ -21,5 +20,5 @@ returns-clause-fits g c = each_ok c.add_blank.result _ (λ value is.
     won_fits c.args.self.now _ [] (durable_state c.args.d.now) (durable_state c.add_blank.new.d) refl (ap (replicate 128) fresh_peers) told c.requires.fits c.requires.role refl
     (got c.add_blank.result value _ is c.add_blank.ensures.vote) (got c.add_blank.result value _ is c.add_blank.ensures.commit) (got c.add_blank.result value _ is c.add_blank.ensures.log))
 
-pub invariant_of-self-clause-idle : goal.invariant_of-self-clause-idle
-invariant_of-self-clause-idle g c = λ _. same_idle 128 c.new-self.result (ap (λ peer. is_some peer.call) c.new-self.ensures)
+pub invariant_of-self-clause-young : goal.invariant_of-self-clause-young
+invariant_of-self-clause-young g c = same_since _ 128 c.new-self.result (ap (λ peer. peer.call) c.new-self.ensures)
