@@ -1,4 +1,4 @@
-ghost use Rattle.std.specs.Prelude.{◌≡◌, ◌≤◌, ◌<◌, ◌∷◌, [], ℕ, true, None, is_ok, OnOk, IfOk, IfErr, length};
+ghost use Rattle.std.specs.Prelude.{◌≡◌, ◌≢◌, ◌≤◌, ◌<◌, ◌∷◌, [], ℕ, true, None, is_ok, OnOk, IfOk, IfErr, length};
 ghost use Rattle.std.specs.Result.{result_err};
 ghost use Rattle.can_frame.specs.Log.{entry_at, log_limit};
 ghost use Rattle.disk_model.specs.Contents.{AddsNoImage};
@@ -70,7 +70,15 @@ impl<D: Disk> Durable<D> {
         ensures later { IfOk result (λ durable. D.faults disk ≤ D.faults (durable_disk durable)) }
         ensures refused_later { IfErr result (λ refused. D.faults disk ≤ D.faults refused.disk) }
     {
-        let mut durable = Durable::read(disk)?;
+        a_state_is_durable::<D>();
+        let durable = match Durable::read(disk) {
+            Ok(durable) => durable,
+            Err(refused) => return Err(refused),
+        };
+        if durable.state.version == NEWEST {
+            return Ok(durable);
+        }
+        let mut durable = durable;
         match durable.migrate() {
             Ok(()) => Ok(durable),
             Err(fault) => Err(OpenRefused {
@@ -260,18 +268,15 @@ impl<D: Disk> Durable<D> {
         }
     }
 
-    /// Brings the store to the newest version: each entry gets its origin first.
+    /// Brings an older store to the newest version: each entry gets its origin first.
     fn migrate(&mut self) -> Result<(), Fault>
+        requires older { (durable_state self.old).version ≢ 2 }
         requires works { durable_fault self.old ≡ None }
         ensures puts { WritesInOrder (opening_puts (durable_state self.old)) self.old self.new
             (is_ok result) }
         ensures fault { FaultIsSticky self.old self.new (result_err result) }
         ensures version { OnOk result ((durable_state self.new).version ≡ 2) }
     {
-        a_state_is_durable::<D>();
-        if self.state.version == NEWEST {
-            return Ok(());
-        }
         self.put_origins()?;
         self.make(Change::Version)
     }
