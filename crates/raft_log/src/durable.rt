@@ -256,16 +256,17 @@ impl<D: Disk> Durable<D> {
             Ok(table) => table,
             Err(why) => return Err(OpenRefused { disk, why }),
         };
-        match State::read(&table) {
-            Ok(state) => Ok(Durable {
-                store: Store::new(disk, table),
-                state,
-            }),
-            Err(key) => Err(OpenRefused {
-                disk,
-                why: OpenFault::Damaged(key),
-            }),
-        }
+        let state = match State::read(&table) {
+            Ok(state) => state,
+            Err(key) => {
+                let why = OpenFault::Damaged(key);
+                return Err(OpenRefused { disk, why });
+            }
+        };
+        Ok(Durable {
+            store: Store::new(disk, table),
+            state,
+        })
     }
 
     /// Brings an older store to the newest version: each entry gets its origin first.

@@ -16,11 +16,11 @@ returns-in-Err-read-clause-damaged g c = λ key is told.
 pub invariant_of-result : goal.invariant_of-result
 invariant_of-result g c = record { stored = subst (λ t. Stores (table_map t) (stored_of c.in-Ok-read.state)) (sym c.new.ensures.table) c.in-Ok-read.ensures.state; storable = (c.in-Ok-read.ensures.state).storable }
 
-pub returns-in-Ok-read-clause-state : goal.returns-in-Ok-read-clause-state
-returns-in-Ok-read-clause-state g c = λ told. image_stands _ _ _ (c.in-Ok.ensures.map told) c.in-Ok-read.ensures.state
+pub returns-clause-state : goal.returns-clause-state
+returns-clause-state g c = λ told. image_stands _ _ _ (c.in-Ok.ensures.map told) c.in-Ok-read.ensures.state
 
-pub returns-in-Ok-read-clause-durable : goal.returns-in-Ok-read-clause-durable
-returns-in-Ok-read-clause-durable g c = λ told image left.
+pub returns-clause-durable : goal.returns-clause-durable
+returns-clause-durable g c = λ told image left.
     let told' = ap g.D.Disk.tells c.new.ensures.disk ∙ c.load.ensures.tells ∙ told in
     image_stands image _ _ (c.a_store_is_durable.ensures c.new.result c.new.ensures.works told' image left)
     (subst (λ t. Stores (table_map t) (stored_of c.in-Ok-read.state)) (sym c.new.ensures.table) c.in-Ok-read.ensures.state)
