@@ -1,13 +1,12 @@
-ghost use Rattle.std.specs.Prelude.{◌≡◌, ◌<◌, ◌≤◌, ◌∷◌, ◌^◌, [], ℕ, List, decimal, length, Some, IfSome, IsNone, ◌==◌};
+ghost use Rattle.std.specs.Prelude.{◌≡◌, ◌<◌, ◌≤◌, ◌∷◌, ◌^◌, ◌↔◌, [], ℕ, List, decimal, length, slice_index, Some, IfSome, IsNone, IsTrue, ◌==◌};
 ghost use Rattle.std.specs.List.{position_or_len};
+ghost use Rattle.std.specs.Str.Parse.{IsNumeral, digits_value};
 ghost use Rattle.arrayvec.specs.ArrayVec.{ArrayVec as Items};
 ghost use Rattle.replay_text.specs.Schedule.{IsUid};
 ghost use Rattle.replay_text.specs.Words.{IsHex, identifier_bytes, words};
 
 use arrayvec::ArrayVec;
 use can_frame::Uid;
-use itoa::Buffer;
-use std::str;
 
 /// The number that a word spells in decimal, without sign and without leading zeros, where it is at most
 /// `most`.
@@ -16,27 +15,14 @@ pub fn read_number(word: &[u8], most: u64) -> Option<u64>
     ensures none { IsNone result → (n : ℕ) → n ≤ most → word.now ≡ decimal n → ⊥ }
     ensures only { (n : ℕ) → n ≤ most → word.now ≡ decimal n → result ≡ Some n }
 {
-    match str::from_utf8(word) {
-        Ok(text) => number_in(text, most),
-        Err(_) => None,
-    }
-}
-
-fn number_in(text: &str, most: u64) -> Option<u64>
-    ensures found { IfSome result (λ n. (n ≤ most) × (text.now ≡ decimal n)) }
-    ensures only { (n : ℕ) → n ≤ most → text.now ≡ decimal n → result ≡ Some n }
-{
-    let Ok(n) = text.parse::<u64>() else {
+    if has_leading_zero(word) {
         return None;
-    };
+    }
+    let n = value_of_digits(word)?;
     if n > most {
         return None;
     }
-    if Buffer::new().format(n) == text {
-        Some(n)
-    } else {
-        None
-    }
+    Some(n)
 }
 
 /// The same for a number of 8 bits.
@@ -55,6 +41,31 @@ pub fn read_u32(word: &[u8], most: u32) -> Option<u32>
 {
     let n = read_number(word, u64::from(most))?;
     Some(n as u32)
+}
+
+fn has_leading_zero(word: &[u8]) -> bool
+    ensures { IsTrue result ↔ ((1 < length word.now) × (slice_index word.now 0 ≡ 48)) }
+{
+    word.len() > 1 && word[0] == b'0'
+}
+
+/// The number that the digits of a word write; `None` where another byte is in it, where it is empty, and
+/// from 2^64 on.
+fn value_of_digits(word: &[u8]) -> Option<u64>
+    ensures found { IfSome result (λ n. IsNumeral 10 word.now × (n ≡ digits_value 10 word.now)) }
+    ensures none { IsNone result → IsNumeral 10 word.now → digits_value 10 word.now < 2 ^ 64 → ⊥ }
+{
+    if word.is_empty() {
+        return None;
+    }
+    let mut n = 0u64;
+    for byte in word {
+        if !byte.is_ascii_digit() {
+            return None;
+        }
+        n = n.checked_mul(10)?.checked_add(u64::from(*byte - b'0'))?;
+    }
+    Some(n)
 }
 
 /// The bytes that a word of hexadecimal digits spells, where they are at most `N`.
