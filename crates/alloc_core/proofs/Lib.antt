@@ -15,6 +15,7 @@ pub mod Recorded
 pub mod Recording
 pub mod Sending
 pub mod Sights
+pub mod Strangers
 pub mod Tables
 pub mod Taking
 pub mod Telling

@@ -1,3 +1,4 @@
 pub mod Calling
 pub mod Puts
 pub mod Stands
+pub mod Strangers

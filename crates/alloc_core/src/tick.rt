@@ -12,6 +12,7 @@ ghost use Rattle.raft_core.specs.StoredPuts.{CallFaultIsSticky};
 ghost use Rattle.alloc_step.specs.declared.offered.Offered.{Offered};
 ghost use Rattle.alloc_step.specs.Tick.{asks, candidate, discovery_phase, election_phase, is_candidate, new_uid, proposes, query_phase, record_phase, records_as, reserves, status_phase, ticks};
 ghost use Rattle.alloc_step.specs.AllocatorState.{AllocatorState, is_known};
+ghost use Rattle.alloc_core.specs.Strangers.{is_stranger};
 
 use crate::member::Member;
 use crate::puts::puts_go_on;
@@ -42,9 +43,7 @@ impl<D: Disk> Member<D> {
         self.tell_members(offered);
         self.tell_status(offered);
         self.elect(word)?;
-        self.record_node()?;
-        self.ask_node(offered);
-        Ok(())
+        self.identify_nodes(offered)
     }
 
     /// The member's own Discovery, where it is due. One that finds no room counts as sent.
@@ -102,6 +101,52 @@ impl<D: Disk> Member<D> {
             self.latest,
             word,
         )
+    }
+
+    /// A leader records a node of the bus that is not known, and asks one for its unique ID. Mostly all
+    /// are known, and then neither is looked for.
+    fn identify_nodes(&mut self, offered: &mut Offered) -> Result<(), Fault>
+        requires ready { IsReady self.old }
+        requires room { array_vec_len offered.old.sent < 12 }
+        ensures goes { GoesUpTo self.old self.new offered.old offered.new
+            (λ g. query_phase offered.old.step (record_phase offered.old.step g)) (result_err result) }
+        ensures ready { OnOk result (IsReady self.new) }
+        ensures lists { ListsUpTo 1 0 offered.old offered.new }
+        ensures faults { CallFaultIsSticky self.old.durable self.new.durable (result_err result) }
+    {
+        phases_add_puts();
+        puts_go_on::<D>();
+        if !self.leads() {
+            return Ok(());
+        }
+        if !self.sees_strangers() {
+            return Ok(());
+        }
+        self.record_node()?;
+        self.ask_node(offered);
+        Ok(())
+    }
+
+    /// Whether a device is online that is not known.
+    fn sees_strangers(&self) -> bool
+        ensures none { result ≡ false → (t : AllocatorState) → StandsFor self.now t →
+            (node : ℕ) → 1 ≤ node → node < 126 → is_stranger t node ≡ false }
+    {
+        let known = self.known();
+        for node in 1..126 {
+            if self.is_stranger(&known, node) {
+                return true;
+            }
+        }
+        false
+    }
+
+    fn is_stranger(&self, known: &[bool; 128], node: u8) -> bool
+        requires { node < 128 }
+        ensures { (t : AllocatorState) → StandsFor self.now t →
+            slice_index_or known.now node true ≡ is_known t node → result ≡ is_stranger t node }
+    {
+        self.watch.online(node, self.latest) && !known[usize::from(node)]
     }
 
     /// A leader with room records the least node of the bus that is not known, once it has told its
