@@ -297,7 +297,8 @@ impl<F: Fn(Kind, u16) -> Option<u64> + Copy> Member<F> {
     }
 
     /// A member that runs stops. Its disk keeps what the pattern says of the bytes that were not
-    /// synced.
+    /// synced. It is not inlined: no step is to pay for the place of a whole server on the stack.
+    #[inline(never)]
     fn stop_now(&mut self)
         ensures stopped { (key_disk : KeyDisk Stored) → IsRunningOn self.old.place key_disk →
             IsDownOn self.new.place (restarted_on self.old.pattern key_disk) }
