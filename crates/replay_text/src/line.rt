@@ -40,14 +40,18 @@ impl Line {
         self.bytes.try_extend_from_slice(text).unwrap();
     }
 
-    /// Appends a number in decimal.
+    /// Appends a number in decimal. Most have one digit.
     pub fn number(&mut self, n: u64)
         requires { length self.old + 20 ≤ 400 }
         ensures text { self.new ≡ self.old ++ decimal n }
         ensures len { length self.new ≤ length self.old + 20 }
         ensures short { n < 1000 → length self.new ≤ length self.old + 3 }
     {
-        self.text(Buffer::new().format(n).as_bytes());
+        if n < 10 {
+            self.text(&[b'0' + n as u8]);
+        } else {
+            self.text(Buffer::new().format(n).as_bytes());
+        }
     }
 
     /// Appends a space and a number in decimal.
