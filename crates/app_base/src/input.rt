@@ -103,7 +103,9 @@ pub fn front_line(bytes: &[u8], end: u8, longest: usize) -> Front
     }
 }
 
-/// Where the first byte stands that ends a line.
+/// Where the first byte stands that ends a line. It is not inlined: in a large caller its loop over the
+/// bytes takes twice the instructions.
+#[inline(never)]
 fn line_end(bytes: &[u8], end: u8) -> Option<usize>
     ensures found { IfSome result (IsLineEnd end bytes.now) }
     ensures none { IsNone result → HasNoLineEnd end bytes.now }

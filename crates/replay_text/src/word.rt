@@ -116,6 +116,9 @@ pub fn split_word(text: &[u8]) -> Option<(&[u8], &[u8])>
     Some((&text[..end], &text[end + 1..]))
 }
 
+/// Where the first space stands, or the end. It is not inlined: in a large caller its loop over the bytes
+/// takes twice the instructions.
+#[inline(never)]
 fn space_or_end(text: &[u8]) -> usize
     ensures place { result ≡ position_or_len (λ byte. byte == 32) text.now }
     ensures within { result ≤ length text.now }
