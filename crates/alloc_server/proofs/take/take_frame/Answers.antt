@@ -1,0 +1,44 @@
+use Rattle.std.proofs.Common.{ap, subst, sym, ◌∙◌, ℕ, List}
+use Rattle.alloc_step.specs.Accepted.{setting_for}
+use Rattle.alloc_step.specs.StepState.{StepState}
+use Rattle.alloc_step.specs.Step.{at_sessions, at_step, begins, step, takes_answer, with_answer}
+use Rattle.transfer_rx.specs.declared.accept.AcceptRow.{AcceptRow}
+use Rattle.transfer_rx.specs.Acceptance.{first_signature}
+use Rattle.transfer_rx.specs.Reassembly.{Answer, Arrival, Setting, answer, arrival_of, next}
+use Rattle.transfer_rx.specs.Sessions.{Session}
+use Rattle.transfer_rx.specs.Views as receiver
+use Rattle.alloc_core.specs.Stands.{SeesTo}
+use Rattle.alloc_server.proofs.take.take_frame.Goals as goal
+
+pub take-took-requires : goal.take-took-requires
+take-took-requires g c = (
+  c.requires.memory,
+  (
+    c.requires.callable,
+    λ kind number below signature gives. c.requires.answers kind number below signature gives ∙ ap (λ (rows : List AcceptRow). first_signature rows kind number) (sym c.requires.rows),
+  ),
+)
+
+pub returns-clause-comes : goal.returns-clause-comes
+unfolding step
+returns-clause-comes g c t h sess set =
+    let s = c.args.offered.now.step in
+    let g0 : StepState = begins s c.args.now t in
+    let arrival : Arrival = at_step g0.timed (arrival_of c.args.frame.now c.args.mark c.args.now) in
+    let sessions : List Session = next (setting_for t.me) t.sessions arrival in
+    let g1 : StepState = at_sessions sessions g0 in
+    let found : Answer = answer (setting_for t.me) t.sessions arrival in
+    let g2 : StepState = (with_answer s found g1).step_state in
+    let h1 = c.begin.ensures.step_state t h c.args.offered.now c.requires.fresh s sessions in
+    let said = c.take-took.ensures.answer t.sessions sess
+    ∙ ap (λ (setting : Setting). answer setting t.sessions (arrival_of c.args.frame.now c.args.mark c.begin.new.self.latest)) set
+    ∙ ap (λ (now : ℕ). answer (setting_for t.me) t.sessions (arrival_of c.args.frame.now c.args.mark now)) h1.stands.now in
+    let kept = subst (λ (now : ℕ). receiver.HasSessions c.take-took.new.self (next (setting_for t.me) t.sessions (arrival_of c.args.frame.now c.args.mark now))) h1.stands.now
+    (subst (λ (setting : Setting). receiver.HasSessions c.take-took.new.self (next setting t.sessions (arrival_of c.args.frame.now c.args.mark c.begin.new.self.latest))) set
+    (c.take-took.ensures.sessions t.sessions sess)) in
+    record {
+      sees = subst (λ (a : Answer). SeesTo c.args.member.now.durable c.take_answer.new.self c.take_answer.new.offered (takes_answer s a g1) c.take_answer.result) said
+          (c.take_answer.ensures.sees c.args.member.now.durable g1 h1);
+      sessions = subst (λ (list : List Session). receiver.HasSessions c.take-took.new.self list) (sym ((c.phases_add_puts.ensures.ends s g2).sessions ∙ (c.phases_add_puts.ensures.answers s found g1).sessions)) kept;
+      me = (c.phases_add_puts.ensures.ends s g2).me ∙ (c.phases_add_puts.ensures.answers s found g1).me;
+    }
