@@ -37,6 +37,20 @@ impl<D: Disk, F: Fn(Kind, u16) -> Option<u64> + Copy> Server<D, F> {
         if self.failed() {
             return Judged::Fine;
         }
+        if !frame.tail().end {
+            return Judged::Fine;
+        }
+        self.judge_last(frame, mark, now)
+    }
+
+    /// Judges the last frame of a transfer. No other frame is to pay for the place of a transfer.
+    fn judge_last(&self, frame: &Frame, mark: Mark, now: u64) -> Judged
+        requires memory { ReceiverFitsInMemory F.row 160 128 }
+        requires callable { F.IsAlwaysCallable (accepts self.now) }
+        requires answers { AnswersByRows (F.post (accepts self.now)) accepted.rows }
+        ensures { (t : AllocatorState) → StandsFor self.now t →
+            result ≡ judges t (arrival_of frame.now mark now) }
+    {
         let now = self.member.latest.max(now);
         let Some(transfer) = self.receiver.peek(frame, mark, now) else {
             return Judged::Fine;

@@ -53,7 +53,8 @@ pub fn take<D: Disk, F: Fn(Kind, u16) -> Option<u64> + Copy>(
     }
 }
 
-/// It is not inlined: a step that reads the clock is not to pay for the place of a transfer.
+/// The frame goes to the receiver, and what it led to to the member. It is not inlined: a step that reads the
+/// clock is not to pay for the place of a transfer.
 #[inline(never)]
 fn take_frame<D: Disk, F: Fn(Kind, u16) -> Option<u64> + Copy>(
     member: &mut Member<D>,

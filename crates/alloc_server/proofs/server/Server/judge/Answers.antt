@@ -1,38 +1,16 @@
-use Rattle.std.proofs.Common.{ℕ, List, Option, sym, ap, ◌∙◌}
-use Rattle.std.specs.Prelude.{◌&&◌, Bool, max, nat_eq, not, option_map, if◌then◌else◌}
-use Rattle.can_frame.specs.declared.step.Judged.TheVariants.{Fine, Stale, Torn}
-use Rattle.alloc_step.specs.Judging.{is_stale}
-use Rattle.transfer_rx.specs.declared.accept.AcceptRow.{AcceptRow}
-use Rattle.transfer_rx.specs.declared.transfer.Transfer.{Transfer}
-use Rattle.transfer_rx.specs.Acceptance.{first_signature}
-use Rattle.transfer_rx.specs.Reassembly.{Arrival, Delivery, arrival_of}
-use Rattle.transfer_rx.specs.Told.{delivery_of}
-use Rattle.alloc_server.proofs.Verdicts.{foretold, judges_none, judges_some}
+use Rattle.std.proofs.Common.{ap, sym, ◌∙◌}
+use Rattle.std.specs.Prelude.{max}
+use Rattle.std.proofs.lemmas.Bool.{not-true}
+use Rattle.can_frame.specs.declared.tail.Tail.{Tail}
+use Rattle.alloc_step.specs.Accepted.{setting_for}
+use Rattle.transfer_rx.specs.Reassembly.{Arrival, arrival_of}
+use Rattle.transfer_rx.proofs.OpenEnds.{gives_none}
+use Rattle.alloc_server.proofs.Verdicts.{judges_none}
 use Rattle.alloc_server.proofs.server.Server.judge.Goals as goal
 
-pub peek-requires : goal.peek-requires
-peek-requires g c = (
-  c.requires.memory,
-  (
-    c.requires.callable,
-    λ kind number below signature gives. c.requires.answers kind number below signature gives ∙ ap (λ (rows : List AcceptRow). first_signature rows kind number) (sym c.args.self.now.rows),
-  ),
-)
-
-pub returns-in_default-clause-judged : goal.returns-in_default-clause-judged
-returns-in_default-clause-judged g c t h =
+pub returns-then-not-tail-clause-judged : goal.returns-then-not-tail-clause-judged
+returns-then-not-tail-clause-judged g c t h =
     let arrival : Arrival = arrival_of c.args.frame.now c.args.mark c.args.now in
-    let at = c.max-now.ensures ∙ ap (λ (n : ℕ). max n c.args.now) h.member.now in
-    let none = foretold _ _ t.sessions c.args.frame.now c.args.mark _ _ _ h.setting at (c.peek.ensures.answer t.sessions h.sessions) in
-    sym (judges_none t arrival (none ∙ ap (λ (r : Option Transfer). option_map delivery_of r) c.in_default.is))
-
-pub returns-clause-judged : goal.returns-clause-judged
-returns-clause-judged g c t h =
-    let arrival : Arrival = arrival_of c.args.frame.now c.args.mark c.args.now in
-    let at = c.max-now.ensures ∙ ap (λ (n : ℕ). max n c.args.now) h.member.now in
-    let some = foretold _ _ t.sessions c.args.frame.now c.args.mark _ _ _ h.setting at (c.peek.ensures.answer t.sessions h.sessions) in
-    let d : Delivery = delivery_of c.in-Some.transfer in
-    let stale = c.is_stale.ensures t h ∙ ap (λ (n : ℕ). is_stale t d n) at in
-    c.verdict.ensures
-    ∙ ap (λ (b : Bool). if not d.whole && not (nat_eq c.args.mark.step 0) then Torn else (if b then Stale else Fine)) stale
-    ∙ sym (judges_some t arrival d (some ∙ ap (λ (r : Option Transfer). option_map delivery_of r) c.in-Some.is))
+    let open_end = not-true c.tail.result.end c.if-not-tail.true in
+    sym (judges_none t arrival (gives_none (setting_for t.me) t.sessions (record arrival { moment = max t.now arrival.moment })
+    (sym (ap (λ (tail : Tail). tail.end) c.tail.ensures.tail) ∙ open_end)))
