@@ -7,8 +7,6 @@ ghost use Rattle.alloc_server.specs.Server.{ComesTo, event_of};
 ghost use Rattle.raft_core.specs.StoredPuts.{CallFaultIsSticky};
 ghost use Rattle.alloc_step.specs.Accepted as accepted;
 ghost use Rattle.alloc_step.specs.Step as steps;
-ghost use Rattle.alloc_step.specs.Step.{Rx};
-ghost use Rattle.transfer_rx.specs.Reassembly.{arrival_of};
 ghost use Rattle.alloc_step.specs.AllocatorState.{AllocatorState};
 ghost use Rattle.transfer_rx.specs.Acceptance.{AnswersByRows};
 ghost use Rattle.transfer_rx.specs.Memory.{ReceiverFitsInMemory};
@@ -17,7 +15,7 @@ ghost use Rattle.transfer_rx.specs.Views.{HasSessions, accept_of, setting_of};
 use alloc_core::Member;
 use alloc_step::laws::phases_add_puts;
 use alloc_step::{Event, Offered};
-use can_frame::{Frame, Kind, Mark, Seen};
+use can_frame::{Kind, Seen};
 use disk_model::Disk;
 use kv_store::Fault;
 use transfer_rx::Receiver;
@@ -48,39 +46,9 @@ pub fn take<D: Disk, F: Fn(Kind, u16) -> Option<u64> + Copy>(
     match event {
         Event::Tick { now, word } => member.take_tick(now, word, offered),
         Event::Rx { frame, mark, now } => {
-            take_frame(member, receiver, &frame, mark, now, offered)
+            member.begin(now);
+            let took = receiver.take(&frame, mark, member.latest);
+            member.take_answer(&took, offered)
         }
     }
-}
-
-/// The frame goes to the receiver, and what it led to to the member. It is not inlined: a step that reads the
-/// clock is not to pay for the place of a transfer.
-#[inline(never)]
-fn take_frame<D: Disk, F: Fn(Kind, u16) -> Option<u64> + Copy>(
-    member: &mut Member<D>,
-    receiver: &mut Receiver<F, 160, 128>,
-    frame: &Frame,
-    mark: Mark,
-    now: u64,
-    offered: &mut Offered,
-) -> Result<Seen, Fault>
-    requires memory { ReceiverFitsInMemory F.row 160 128 }
-    requires callable { F.IsAlwaysCallable (accept_of receiver.old) }
-    requires answers { AnswersByRows (F.post (accept_of receiver.old)) accepted.rows }
-    requires rows { (setting_of receiver.old).rows ≡ accepted.rows }
-    requires ready { IsReady member.old }
-    requires fresh { IsFresh offered.old }
-    ensures comes { (t : AllocatorState) → IsMember member.old t → HasSessions receiver.old t.sessions →
-        setting_of receiver.old ≡ accepted.setting_for t.me →
-        ComesTo member.old.durable t member.new receiver.new offered.new
-        (steps.step t offered.old.step (Rx (arrival_of frame.now mark now))) result }
-    ensures ready { OnOk result (IsReady member.new) }
-    ensures faults { CallFaultIsSticky member.old.durable member.new.durable (result_err result) }
-    ensures accept { accept_of receiver.new ≡ accept_of receiver.old }
-    ensures setting { setting_of receiver.new ≡ setting_of receiver.old }
-{
-    phases_add_puts();
-    member.begin(now);
-    let took = receiver.take(frame, mark, member.latest);
-    member.take_answer(&took, offered)
 }

@@ -1,12 +1,26 @@
-use Rattle.std.proofs.Common.{subst, sym, ◌∙◌, List}
+use Rattle.std.proofs.Common.{ap, subst, sym, ◌∙◌, ℕ, List}
 use Rattle.alloc_step.specs.declared.event.Event.{Event}
+use Rattle.alloc_step.specs.Accepted.{setting_for}
 use Rattle.alloc_step.specs.StepState.{StepState}
-use Rattle.alloc_step.specs.Step.{begins, step}
+use Rattle.alloc_step.specs.Step.{at_sessions, at_step, begins, step, takes_answer, with_answer}
 use Rattle.alloc_step.specs.Tick.{ticks}
+use Rattle.transfer_rx.specs.declared.accept.AcceptRow.{AcceptRow}
+use Rattle.transfer_rx.specs.Acceptance.{first_signature}
+use Rattle.transfer_rx.specs.Reassembly.{Answer, Arrival, Setting, answer, arrival_of, next}
 use Rattle.transfer_rx.specs.Sessions.{Session}
 use Rattle.transfer_rx.specs.Views as receiver
+use Rattle.alloc_core.specs.Stands.{SeesTo}
 use Rattle.alloc_server.specs.Server.{ComesTo, event_of}
 use Rattle.alloc_server.proofs.take.take.Goals as goal
+
+pub take-took-requires : goal.take-took-requires
+take-took-requires g c = (
+  c.requires.memory,
+  (
+    c.requires.callable,
+    λ kind number below signature gives. c.requires.answers kind number below signature gives ∙ ap (λ (rows : List AcceptRow). first_signature rows kind number) (sym c.requires.rows),
+  ),
+)
 
 pub returns-in-Tick-clause-comes : goal.returns-in-Tick-clause-comes
 unfolding step
@@ -21,7 +35,25 @@ returns-in-Tick-clause-comes g c t h sess set =
     })
 
 pub returns-in-Rx-clause-comes : goal.returns-in-Rx-clause-comes
+unfolding step
 returns-in-Rx-clause-comes g c t h sess set =
     let s = c.args.offered.now.step in
-    subst (λ (e : Event). ComesTo c.args.member.now.durable t c.take_frame.new.member c.take_frame.new.receiver c.take_frame.new.offered (step t s (event_of e)) c.take_frame.result) (sym c.in-Rx.is)
-    (c.take_frame.ensures.comes t h sess set)
+    let g0 : StepState = begins s c.in-Rx.now t in
+    let arrival : Arrival = at_step g0.timed (arrival_of c.in-Rx.frame c.in-Rx.mark c.in-Rx.now) in
+    let sessions : List Session = next (setting_for t.me) t.sessions arrival in
+    let g1 : StepState = at_sessions sessions g0 in
+    let found : Answer = answer (setting_for t.me) t.sessions arrival in
+    let g2 : StepState = (with_answer s found g1).step_state in
+    let h1 = c.begin.ensures.step_state t h c.args.offered.now c.requires.fresh s sessions in
+    let said = c.take-took.ensures.answer t.sessions sess
+    ∙ ap (λ (setting : Setting). answer setting t.sessions (arrival_of c.in-Rx.frame c.in-Rx.mark c.begin.new.self.latest)) set
+    ∙ ap (λ (now : ℕ). answer (setting_for t.me) t.sessions (arrival_of c.in-Rx.frame c.in-Rx.mark now)) h1.stands.now in
+    let kept = subst (λ (now : ℕ). receiver.HasSessions c.take-took.new.self (next (setting_for t.me) t.sessions (arrival_of c.in-Rx.frame c.in-Rx.mark now))) h1.stands.now
+    (subst (λ (setting : Setting). receiver.HasSessions c.take-took.new.self (next setting t.sessions (arrival_of c.in-Rx.frame c.in-Rx.mark c.begin.new.self.latest))) set
+    (c.take-took.ensures.sessions t.sessions sess)) in
+    subst (λ (e : Event). ComesTo c.args.member.now.durable t c.take_answer.new.self c.take-took.new.self c.take_answer.new.offered (step t s (event_of e)) c.take_answer.result) (sym c.in-Rx.is) (record {
+      sees = subst (λ (a : Answer). SeesTo c.args.member.now.durable c.take_answer.new.self c.take_answer.new.offered (takes_answer s a g1) c.take_answer.result) said
+          (c.take_answer.ensures.sees c.args.member.now.durable g1 h1);
+      sessions = subst (λ (list : List Session). receiver.HasSessions c.take-took.new.self list) (sym ((c.phases_add_puts.ensures.ends s g2).sessions ∙ (c.phases_add_puts.ensures.answers s found g1).sessions)) kept;
+      me = (c.phases_add_puts.ensures.ends s g2).me ∙ (c.phases_add_puts.ensures.answers s found g1).me;
+    })
