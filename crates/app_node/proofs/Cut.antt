@@ -8,9 +8,9 @@ use Rattle.outside.specs.declared.received.RawFrame.{RawFrame}
 use Rattle.outside.specs.declared.received.Received.{Received}
 use Rattle.raft_log.specs.DurableViews.{durable_state}
 use Rattle.alloc_server.specs.Server.{LeavesSome, StandsFor, durable_of}
-use Rattle.app_node.specs.Cut.{IsCutAt}
+use Rattle.app_node.specs.Cut.{PutsAt, StandsAt}
 use Rattle.app_node.specs.Ends.{fault_id}
-use Rattle.app_node.specs.CutRun.{HoldsStoreInPart}
+use Rattle.app_node.specs.CutRun.{HoldsStoreInPart, IsCutAt}
 use Rattle.app_node.specs.Puts.{IsCutIn}
 use Rattle.app_node.specs.Stands.{Stand, runner_disk}
 use Rattle.app_node.specs.Taking.{HasCause}
@@ -31,7 +31,8 @@ module _ {D F : Type 0} {disk : Ghosts D} {L : Type 0} (runners : List (Runner D
       sent link ≡ sent (slice_index_or links place some_link) →
       disk.tells (runner_disk runner) ≡ disk.tells (runner_disk (slice_index_or runners place some)) →
       IsCutIn (next_reading before.readings) (turning_at place before) (coming link) (LeavesSome (slice_index_or runners place some).server runner.server) →
-      IsCutAt coming sent (slice_set runners place runner) (slice_set links place link) now before place
+      IsCutAt coming sent (slice_set links place link) now (length (slice_set runners place runner)) (StandsAt (slice_set runners place runner))
+      (PutsAt (slice_set runners place runner)) before place
   cut_at now read unsent tells cut = record {
     readings_are = read;
     coming_is = λ i l low other.
@@ -44,22 +45,21 @@ module _ {D F : Type 0} {disk : Ghosts D} {L : Type 0} (runners : List (Runner D
               (unsent ∙ (stand.each place some some_link here).sent_is ∙ ap (λ k. Some (before.running k).sent) (sym h.1))
           | inr h ↦ subst (λ x. sent x ≡ Some (before.running i).sent) (set_elsewhere links place i link l h.1) (stand.each i some l within).sent_is
         ];
-    others = λ i r low other.
+    stored_is = λ i low other r.
         let within : i < length runners = (let size = length-set runners place runner in omega (arith, size, low)) in
         subst (λ (x : Runner D F disk). StandsFor x.server (before.running i).timed) (set_elsewhere runners place i runner r other) (stand.each i r some_link within).server;
-    own = λ l r. subst (λ (x : Runner D F disk). disk.tells (runner_disk x) ≡ true →
-        IsCutIn (next_reading before.readings) (turning_at place before) (coming (slice_index_or (slice_set links place link) place l))
-        (HoldsStoreInPart disk (runner_disk x) (before.running place).timed.plain.store))
-        (set_here runners place place runner r refl here) (λ told.
-        cut_as (LeavesSome (slice_index_or runners place some).server runner.server) (HoldsStoreInPart disk (runner_disk runner) (before.running place).timed.plain.store)
-        (λ puts leaves. record {
+    own_is = λ l.
+        let store = (before.running place).timed.plain.store in
+        cut_as (LeavesSome (slice_index_or runners place some).server runner.server) (PutsAt (slice_set runners place runner) place store)
+        (λ puts leaves r. subst (λ (x : Runner D F disk). disk.tells (runner_disk x) ≡ true → HoldsStoreInPart disk (runner_disk x) store puts)
+        (set_here runners place place runner r refl here) (λ told. record {
           tells = told;
           state = durable_state (durable_of (slice_index_or runners place some).server);
           store_is = sym (stand.each place some some_link here).server.member.raft.store;
           stands = leaves (sym tells ∙ told);
-        }) (next_reading before.readings) (turning_at place before) (coming (slice_index_or (slice_set links place link) place l))
+        })) (next_reading before.readings) (turning_at place before) (coming (slice_index_or (slice_set links place link) place l))
         (subst (λ x. IsCutIn (next_reading before.readings) (turning_at place before) (coming x) (LeavesSome (slice_index_or runners place some).server runner.server))
-        (set_here links place place link l refl there) cut));
+        (set_here links place place link l refl there) cut);
   }
 
 pub at_node : (fault : Fault) (id : ℕ) → ((node : ℕ) → fault ≡ Link node → node ≡ id) → ((node : ℕ) → fault ≡ Disk node → node ≡ id) →

@@ -1,6 +1,7 @@
 -- A run that was cut off: from the allocators to what is left of links and disks.
 use Rattle.std.proofs.Common.{◌≡◌, ℕ, ◌<◌, List, length, take, true, refl, sym, ap, ◌∙◌, subst, inl, inr, arith}
-use Rattle.std.specs.Prelude.{Option, Some, None, IsNone, IsSome, slice_index, slice_index_or}
+use Rattle.std.specs.Prelude.{Option, Some, None, IsNone, slice_index, slice_index_or}
+use Rattle.can_frame.specs.Log.{IsPrefix}
 use Rattle.disk_model.specs.declared.disk.Disk.{Ghosts}
 use Rattle.outside.specs.Readings.{next_reading}
 use Rattle.outside.specs.declared.received.RawFrame.{RawFrame}
@@ -10,22 +11,21 @@ use Rattle.raft_log.specs.declared.durable.Durable.{Durable}
 use Rattle.raft_log.specs.DurableViews.{durable_disk, durable_fault, durable_state}
 use Rattle.raft_log.specs.Opening.{FailsToOpen, IsReadAs}
 use Rattle.raft_log.specs.Rules.{AlwaysStandsForState, StandsForState}
-use Rattle.raft_log.specs.Stored.{AfterSome, Stored, after_puts, opening_puts}
+use Rattle.raft_log.specs.Stored.{Stored, after_puts, opening_puts}
 use Rattle.alloc_server.specs.Server.{durable_of, fault_of}
-use Rattle.app_node.specs.Cut.{IsCut, IsCutOpening, IsCutTurning}
-use Rattle.app_node.specs.CutRun.{HoldsOpeningInPart, HoldsStoreInPart, IsCutInOpening, IsCutInTurns, IsCutRun, IsLeft, IsLeftDamaged, IsLeftUnopened, KeepsImages, KeepsOrOpens}
+use Rattle.app_node.specs.Cut.{IsCut, IsCutOpening, IsCutTurning, PutsAt}
+use Rattle.app_node.specs.CutRun.{AreCutTurns, HoldsAt, HoldsPartAt, HoldsStoreInPart, IsCutAtOpening, KeepsOrOpens}
 use Rattle.app_node.specs.Ends.{fault_id}
 use Rattle.app_node.specs.Opening.{Given, opened}
-use Rattle.app_node.specs.Puts.{IsCutIn}
 use Rattle.app_node.specs.Run.{AreStopped}
 use Rattle.app_node.specs.Stands.{AreOpened}
 use Rattle.app_node.specs.Taking.{HasCause}
-use Rattle.app_node.specs.Turns.{Together, all_turns, first_turns, turning_at}
-use Rattle.app_node.specs.WholeRun.{HoldsStore, Tell, TellsState}
+use Rattle.app_node.specs.Turns.{all_turns, first_turns, turning_at}
+use Rattle.app_node.specs.WholeRun.{HoldsStore, Tell, TellsState, after_turns}
 use Rattle.app_node.specs.declared.fault.Fault.{Fault}
-use Rattle.app_node.specs.declared.fault.Fault.TheVariants.{Link, Disk, Damaged}
 use Rattle.app_node.specs.declared.runner.Runner.{Runner}
-use Rattle.app_node.proofs.Ending.{an_item, some_same, some_value}
+use Rattle.app_node.proofs.Ending.{an_item, some_same}
+use Rattle.app_node.proofs.Parts.{cut_as}
 use Rattle.app_node.proofs.Sent.{all_begin, cut_begins}
 use Rattle.app_node.proofs.WholeRun.{holds_store, opened_store}
 
@@ -33,24 +33,8 @@ none_is : {A : Type 0} (o : Option A) → IsNone o → o ≡ None
 none_is None is = refl
 none_is (Some x) is = absurd (cc (is))
 
--- a disk that was refused
-module _ {D : Type 0} (disk : Ghosts D) (one_state : (image : List ℕ) (a b : Stored) → StandsForState image a → StandsForState image b → a ≡ b)
-    (before after : D) (id : ℕ) (state : Stored) (same : disk.tells after ≡ disk.tells before) (held : TellsState disk before state) where
-  after_failed : FailsToOpen disk before after → HoldsOpeningInPart disk before after state
-  after_failed (inl unread) = record { tells = same ∙ held.tells; stands = inl (unread.images held.tells) }
-  after_failed (inr part) =
-      let found = one_state (disk.contents before).seen part.found state (part.finds.state held.tells) held.stands in
-      record {
-        tells = same ∙ held.tells;
-        stands = inr (λ image may. subst (λ s. AfterSome (StandsForState image) (opening_puts s) s) found (part.images held.tells image may));
-      }
-
-  after_refused : (fault : Fault) → HasCause disk before after id fault → HoldsOpeningInPart disk before after state
-  after_refused (Link node) why = absurd why
-  after_refused (Disk node) why = after_failed why.2
-  after_refused (Damaged node key) why = record { tells = same ∙ held.tells; stands = inl (why.2 held.tells) }
-
-unopened : {D : Type 0} {disk : Ghosts D} (before after : D) → disk.tells before ≡ true → FailsToOpen disk before after → KeepsOrOpens disk before after
+-- a disk of which a call failed at its opening
+pub unopened : {D : Type 0} {disk : Ghosts D} (before after : D) → disk.tells before ≡ true → FailsToOpen disk before after → KeepsOrOpens disk before after
 unopened before after told (inl unread) = inl (unread.images told)
 unopened before after told (inr part) = inr (part.found, part.finds.state told, part.images told)
 
@@ -76,112 +60,68 @@ module _ {D F : Type 0} {disk : Ghosts D}
         store_is = opened_store one_state reads_same before (durable_of runner.server) state (one.opens before was) held;
       })
 
-  -- and of one that was refused, what its cause says
-  module _ {L : Type 0} (coming : L → Option (List Received)) (sent : L → Option (List RawFrame)) (links_old links : List L) (readings_old readings : Option (List ℕ))
-      (fault : Fault) (cut : IsCutOpening coming sent ids runners links_old links disks_old disks readings_old readings fault) where
-    left_so : (Holds : D → D → Type 0) → ((before after : D) → disk.tells before ≡ true → HasCause disk before after (slice_index ids (length runners)) fault → Holds before after) →
-        IsLeft disk ids disks_old last readings_old readings (fault_id fault) Holds
-    left_so Holds by_cause = record {
+  module _ {L : Type 0} (coming : L → Option (List Received)) (sent : L → Option (List RawFrame)) (size turns : ℕ) (links_old links : List L)
+      (readings_old readings : Option (List ℕ)) (fault : Fault) where
+    -- of the one that was refused, what its cause says
+    pub at_opening : (Holds : D → D → Type 0) → ((before after : D) → disk.tells before ≡ true → HasCause disk before after (slice_index ids (length runners)) fault → Holds before after) →
+        IsCutOpening coming sent size turns ids runners links_old links disks_old disks readings_old readings fault →
+        IsCutAtOpening disk ids links_old links disks_old last readings_old readings Holds (fault_id fault)
+    at_opening Holds by_cause cut = record {
       place = length runners;
       within = cut.within;
       id_is = cut.id_is;
+      untouched = cut.untouched;
       readings_are = cut.readings_are;
-      left = λ before after was is told.
+      stored_is = opened_holds cut.opened;
+      own_is = λ before after was is told.
           let now = sym (stopped.others (length runners) (omega arith)) ∙ is in (
             cut.refused.tells before after was now ∙ told,
             by_cause before after told (cut.refused.cause before after was now),
           );
-      stored_is = opened_holds cut.opened;
       others = λ i high. stopped.others i (omega (arith, high)) ∙ cut.behind i high;
     }
 
-  pub left_damaged : {L : Type 0} (coming : L → Option (List Received)) (sent : L → Option (List RawFrame)) (links_old links : List L)
-      (readings_old readings : Option (List ℕ)) (id key : ℕ) →
-      IsCutOpening coming sent ids runners links_old links disks_old disks readings_old readings (Damaged id key) → IsLeftDamaged disk ids disks_old last readings_old readings id
-  left_damaged coming sent links_old links readings_old readings id key cut =
-      left_so coming sent links_old links readings_old readings (Damaged id key) cut (KeepsImages disk) (λ before after told why. why.2 told)
+    pub in_turns : (cut : IsCutTurning coming sent size turns ids runners links_old links disks_old disks readings_old readings fault) (given : Given) →
+        Tell coming sent disk links_old disks_old readings_old given →
+        AreCutTurns coming sent links readings (length ids) (HoldsAt disk last) (HoldsPartAt disk last) (λ place. slice_index ids place ≡ fault_id fault) turns (opened size ids given)
+    in_turns cut given tell =
+        let telling = cut.telling given tell in
+        let turning = cut.cut given tell in
+        let turn = turning.turn in
+        let place = turn.place in
+        let before = first_turns place (all_turns (length runners) turning.taken (opened size ids given)) in
+        let store = (before.running place).timed.plain.store in
+        let here = an_item runners place turn.within in
+        subst (λ n. AreCutTurns coming sent links readings n (HoldsAt disk last) (HoldsPartAt disk last) (λ k. slice_index ids k ≡ fault_id fault) turns (opened size ids given)) cut.all (record {
+          taken = turning.taken;
+          fewer = turning.fewer;
+          turn = record {
+            place = place;
+            within = turn.within;
+            named = sym (cut.ids_are place here turn.within) ∙ turn.named here;
+            cut = record {
+              readings_are = turn.cut.readings_are;
+              coming_is = turn.cut.coming_is;
+              sent_is = turn.cut.sent_is;
+              stored_is = λ i low other after is.
+                  let some = an_item runners i low in
+                  holds_store coming sent durable (slice_index_or runners i some) before i after (turn.cut.stored_is i low other some) (telling i some low)
+                  (some_same (sym (stopped.stopped i some low) ∙ is));
+              own_is = λ link. cut_as (PutsAt runners place store) (HoldsPartAt disk last place store)
+                  (λ puts part after is. subst (λ d. HoldsStoreInPart disk d store puts) (some_same (sym (stopped.stopped place here turn.within) ∙ is))
+                  (part here (telling place here turn.within))) (next_reading before.readings) (turning_at place before) (coming (slice_index_or links place link)) (turn.cut.own_is link);
+            };
+          };
+        })
 
-  pub left_unopened : {L : Type 0} (coming : L → Option (List Received)) (sent : L → Option (List RawFrame)) (links_old links : List L)
-      (readings_old readings : Option (List ℕ)) (id : ℕ) →
-      IsCutOpening coming sent ids runners links_old links disks_old disks readings_old readings (Disk id) → IsLeftUnopened disk ids disks_old last readings_old readings id
-  left_unopened coming sent links_old links readings_old readings id cut =
-      left_so coming sent links_old links readings_old readings (Disk id) cut (KeepsOrOpens disk) (λ before after told why. unopened before after told why.2)
-
-module _ {D F L : Type 0} {disk : Ghosts D} (coming : L → Option (List Received)) (sent : L → Option (List RawFrame))
-    (durable : (store : Durable D disk) → durable_fault store ≡ None → disk.tells (durable_disk store) ≡ true →
-    AlwaysStandsForState (disk.contents (durable_disk store)) (durable_state store))
-    (one_state : (image : List ℕ) (a b : Stored) → StandsForState image a → StandsForState image b → a ≡ b)
-    (reads_same : (state : Stored) (count : ℕ) → IsReadAs (after_puts (take count (opening_puts state)) state) state)
-    (size turns : ℕ) (ids : List ℕ) (runners : List (Runner D F disk)) (links_old links : List L) (disks_old disks last : List (Option D))
-    (readings now : Option (List ℕ)) (given : Given) (each : length links_old ≡ length ids) (there : (i : ℕ) → i < length ids → IsSome (slice_index_or disks_old i None))
-    (tell : Tell coming sent disk links_old disks_old readings given) (stopped : AreStopped runners disks last) where
-  in_opening : (fault : Fault) → IsCutOpening coming sent ids runners links_old links disks_old disks readings now fault →
-      IsCutInOpening coming sent disk links last now (length ids) links_old disks_old given (length runners)
-  in_opening fault cut =
-      let within = cut.within in record {
-        untouched = cut.untouched;
-        readings_are = cut.readings_are given.readings tell.readings_are;
-        stored_is = λ i after low is.
-            let taken = some_value (slice_index_or disks_old i None) (there i (omega (arith, within, low))) in
-            opened_holds durable one_state reads_same ids runners disks_old disks last stopped cut.opened i taken.0 after (given.stored i) low taken.1 is
-            (tell.stored_is i taken.0 taken.1);
-        part_is = λ before after was is.
-            let place = length runners in
-            let now = sym (stopped.others place (omega arith)) ∙ is in
-            after_refused disk one_state before after (slice_index ids place) (given.stored place) (cut.refused.tells before after was now)
-            (tell.stored_is place before was) fault (cut.refused.cause before after was now);
-        others = λ i high. stopped.others i (omega (arith, high)) ∙ cut.behind i high;
-      }
-
-  in_turns : (first : Together) (fault : Fault) (cut : IsCutTurning coming sent ids runners links_old links disks_old disks readings now first turns fault) →
-      IsCutInTurns coming sent disk links last now (length ids) first turns cut.cut.turn.place
-  in_turns first fault cut =
-      let turn = cut.cut.turn in
-      let all = cut.all in
-      let before = first_turns turn.place (all_turns (length runners) cut.cut.taken first) in
-      subst (λ n. IsCutInTurns coming sent disk links last now n first turns turn.place) all (record {
-        taken = cut.cut.taken;
-        fewer = cut.cut.fewer;
-        turn = record {
-          readings_are = turn.cut.readings_are;
-          coming_is = turn.cut.coming_is;
-          sent_is = turn.cut.sent_is;
-          stored_is = λ i after low other is.
-              let some = an_item runners i low in
-              holds_store coming sent durable (slice_index_or runners i some) before i after (turn.cut.others i some low other) (cut.telling i some low)
-              (some_same (sym (stopped.stopped i some low) ∙ is));
-          own_is = λ link after is.
-              let some = an_item runners turn.place turn.within in
-              subst (λ d. IsCutIn (next_reading before.readings) (turning_at turn.place before) (coming (slice_index_or links turn.place link))
-              (HoldsStoreInPart disk d (before.running turn.place).timed.plain.store))
-              (some_same (sym (stopped.stopped turn.place some turn.within) ∙ is)) (turn.cut.own link some (cut.telling turn.place some turn.within));
-        };
-      })
-
-  pub cut_run : (fault : Fault) (id : ℕ) → fault_id fault ≡ id →
-      IsCut coming sent ids runners links_old links disks_old disks readings now (opened size ids given) turns fault →
-      IsCutRun coming sent disk links_old links disks_old last now size turns ids given id
-  cut_run fault id of (inl cut) =
-      let opening = in_opening fault cut in record {
-        place = length runners;
-        within = cut.within;
-        id_is = cut.id_is ∙ of;
-        begins = λ i link low.
-            (given.sent i, ap (λ l. sent (slice_index_or l i link)) cut.untouched ∙ tell.sent_is i link (omega (arith, each, low)), all_begin (length ids) turns (opened size ids given) i);
-        cut = inl opening;
-      }
-  cut_run fault id of (inr cut) =
-      let turning = in_turns (opened size ids given) fault cut in
-      let turn = cut.cut.turn in
-      let all = cut.all in
-      let low = turn.within in
-      let within : turn.place < length ids = omega (arith, all, low) in
-      record {
-        place = turn.place;
-        within = within;
-        id_is = (let some = an_item runners turn.place low in sym (cut.ids_are turn.place some low) ∙ turn.id_is some ∙ of);
-        begins = λ i link inside.
-            let before = first_turns turn.place (all_turns (length ids) turning.taken (opened size ids given)) in
-            ((before.running i).sent, turning.turn.sent_is i link inside, cut_begins (length ids) turning.taken turns turn.place (opened size ids given) i within turning.fewer);
-        cut = inr turning;
-      }
+    -- what each link was sent by then
+    pub cut_begins_so : (given : Given) → Tell coming sent disk links_old disks_old readings_old given → length links_old ≡ length ids →
+        IsCut coming sent size turns ids runners links_old links disks_old disks readings_old readings fault → (i : ℕ) (link : L) → i < length ids →
+        (frames : List RawFrame) × (sent (slice_index_or links i link) ≡ Some frames) × IsPrefix frames ((after_turns size turns ids given).running i).sent
+    cut_begins_so given tell each (inl opening) i link low =
+        (given.sent i, ap (λ l. sent (slice_index_or l i link)) opening.untouched ∙ tell.sent_is i link (omega (arith, each, low)), all_begin (length ids) turns (opened size ids given) i)
+    cut_begins_so given tell each (inr turning) i link low =
+        let cut = in_turns turning given tell in
+        let turn = cut.turn in
+        let before = first_turns turn.place (all_turns (length ids) cut.taken (opened size ids given)) in
+        ((before.running i).sent, turn.cut.sent_is i link low, cut_begins (length ids) cut.taken turns turn.place (opened size ids given) i turn.within cut.fewer)

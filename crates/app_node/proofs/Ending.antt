@@ -5,12 +5,9 @@ use Rattle.std.specs.Prelude.{Option, Some, None, Result, Ok, Err, IfErr, IsSome
 use Rattle.disk_model.specs.declared.disk.Disk.{Ghosts}
 use Rattle.outside.specs.Faults.{Rose}
 use Rattle.std.specs.Io.KnownBytes.{Appends, append_known}
-use Rattle.app_base.specs.declared.status.Status.{Status}
-use Rattle.app_base.specs.declared.status.Status.TheVariants.{Done, Usage, BadRow, Unlawful, ReadFault, WriteFault, Memory, Limit, LinkFault, DiskFault, Damaged as DamagedStore, Differ, NoPart, NoValue}
-use Rattle.app_node.specs.Ends.{fault_status}
 use Rattle.app_node.specs.Run.{AreStopped, EndsRun}
 use Rattle.app_node.specs.Stands.{AreOpened, runner_disk}
-use Rattle.app_node.specs.Status.{IsEndStatus, IsStatus, IsWhole}
+use Rattle.app_node.specs.Status.{IsWhole}
 use Rattle.app_node.specs.Taking.{EndsTurn, WasRefused}
 use Rattle.app_node.specs.declared.fault.Fault.{Fault}
 use Rattle.app_node.specs.declared.fault.Fault.TheVariants.{Link, Disk, Damaged}
@@ -23,9 +20,6 @@ some_value (Some x) is = (x, refl)
 
 pub some_same : {A : Type 0} {x y : A} → Some x ≡ Some y → x ≡ y
 some_same e = cc (e)
-
-err_same : {T E : Type 0} {x y : E} → ◌≡◌ {A = Result T E} (Err x) (Err y) → x ≡ y
-err_same e = cc (e)
 
 -- an item of a list that has one at this place
 pub an_item : {A : Type 0} (xs : List A) (i : ℕ) → i < length xs → A
@@ -40,13 +34,13 @@ are_whole ids disks runners opened i before within was told =
 
 module _ {D F : Type 0} {disk : Ghosts D} {L : Type 0} (faults : L → ℕ) (ids : List ℕ) (disks_old disks_new : List (Option D)) (links_old links_new : List L)
     (runners : List (Runner D F disk)) where
-  pub refused_ends : (fault : Fault) → links_new ≡ links_old → AreOpened runners disks_old ids → IsSome (slice_index_or disks_old (length runners) None) →
+  pub refused_ends : (fault : Fault) → AreOpened runners disks_old ids → IsSome (slice_index_or disks_old (length runners) None) →
       WasRefused disk ids disks_old disks_new (length runners) fault → EndsRun faults ids disks_old disks_new links_old links_new runners fault
-  refused_ends (Link id) links opened was why =
+  refused_ends (Link id) opened was why =
       let old = some_value (slice_index_or disks_old (length runners) None) was in
       let new = some_value (slice_index_or disks_new (length runners) None) why.there in
       absurd (why.refused.cause old.0 new.0 old.1 new.1)
-  refused_ends (Disk id) links opened was why = λ last stopped.
+  refused_ends (Disk id) opened was why = λ last stopped.
       let old = some_value (slice_index_or disks_old (length runners) None) was in
       let new = some_value (slice_index_or disks_new (length runners) None) why.there in
       record {
@@ -55,7 +49,7 @@ module _ {D F : Type 0} {disk : Ghosts D} {L : Type 0} (faults : L → ℕ) (ids
         id_is = sym (why.refused.cause old.0 new.0 old.1 new.1).0;
         rose = λ before after is now. (why.refused.cause before after is (sym (stopped.others (length runners) (omega arith)) ∙ now)).1;
       }
-  refused_ends (Damaged id key) links opened was why =
+  refused_ends (Damaged id key) opened was why =
       let old = some_value (slice_index_or disks_old (length runners) None) was in
       let new = some_value (slice_index_or disks_new (length runners) None) why.there in (
         record {
@@ -65,7 +59,6 @@ module _ {D F : Type 0} {disk : Ghosts D} {L : Type 0} (faults : L → ℕ) (ids
           damaged = λ before is told. (why.refused.cause before new.0 is new.1).1 told;
           whole = are_whole ids disks_old runners opened;
         },
-        links,
         why.within,
       )
 
@@ -78,7 +71,7 @@ module _ {D F : Type 0} {disk : Ghosts D} {L : Type 0} (faults : L → ℕ) (ids
           place = place;
           within = omega (arith, all, within);
           id_is = sym (are place some within).id_is ∙ own some;
-          rose = rose.rose;
+          rose = rose;
         },
         count ∙ all,
       )
@@ -93,7 +86,7 @@ module _ {D F : Type 0} {disk : Ghosts D} {L : Type 0} (faults : L → ℕ) (ids
             let disk_then : runner_disk (slice_index_or runners place some) ≡ after = some_same (sym (stopped.stopped place some now) ∙ then) in
             subst (λ d. Rose (disk.faults before) (disk.faults d)) disk_then
             (rose_before (disk.faults before) (disk.faults (runner_disk (slice_index_or opened place some))) (disk.faults (runner_disk (slice_index_or runners place some)))
-            ((are place some within).later before is) (rose.rose some some));
+            ((are place some within).later before is) (rose some some));
       }
   turn_ends opened (Damaged id key) are all count why = absurd why
 
@@ -118,39 +111,7 @@ module _ {D F : Type 0} {disk : Ghosts D} (runners : List (Runner D F disk)) (ol
         subst (λ (o : Option D). IsSome o) (sym (stopped.stopped i (an_item runners i low) low)) refl
   ]
 
--- ---- by the status
-
-pub by_status : (status : Status) → IsEndStatus status → IsStatus status
-by_status Done is = is
-by_status Usage is = is
-by_status (BadRow row) is = is
-by_status (Unlawful row number) is = is
-by_status ReadFault is = is
-by_status WriteFault is = is
-by_status Memory is = absurd is
-by_status (Limit row) is = is
-by_status (LinkFault id) is = is
-by_status (DiskFault id) is = is
-by_status (DamagedStore id key) is = is
-by_status (Differ index a b) is = is
-by_status NoPart is = is
-by_status NoValue is = is
-
-pub link_status : (fault : Fault) (id : ℕ) → fault_status fault ≡ LinkFault id → fault ≡ Link id
-link_status (Link node) id is = cc (is)
-link_status (Disk node) id is = absurd (cc (is))
-link_status (Damaged node key) id is = absurd (cc (is))
-
-pub disk_status : (fault : Fault) (id : ℕ) → fault_status fault ≡ DiskFault id → fault ≡ Disk id
-disk_status (Link node) id is = absurd (cc (is))
-disk_status (Disk node) id is = cc (is)
-disk_status (Damaged node key) id is = absurd (cc (is))
-
 -- nothing had waited
 pub from_nothing : (a b : Option (List ℕ)) (piece : List ℕ) → Appends (append_known a []) b piece → Appends a b piece
 from_nothing None b piece wrote = wrote
 from_nothing (Some x) b piece wrote = subst (λ l. Appends (Some l) b piece) (append-nil x) wrote
-
-pub at_err : {T E : Type 0} (P : E → Type 0) (result : Result T E) (error : E) → IfErr result P → result ≡ Err error → P error
-at_err P (Ok value) error holds is = absurd (cc (is))
-at_err P (Err other) error holds is = subst P (err_same is) holds

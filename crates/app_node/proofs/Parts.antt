@@ -55,7 +55,7 @@ module _ {D F : Type 0} {disk : Ghosts D} (old : Server D F disk) where
 -- ---- how far a turn came that was cut off
 
 module _ {D F : Type 0} {disk : Ghosts D} (old mid new : Server D F disk) (moment : ℕ) (t : Turning) (left : Option (List Received)) where
-  -- its first step was put, and the second one was made as far as it came
+  -- the first step was put, and the second one was made as far as it came
   pub turn_cut : (word : ℕ) → word ≡ word_at (moved t.running.draws) → HasPut old mid (step_puts (Tick moment word) t) → disk.tells (disk_of mid) ≡ disk.tells (disk_of old) →
       IsHeardIn moment (ticks moment t) left (LeavesSome mid new) → IsCutIn moment t left (LeavesSome old new)
   turn_cut word is put tells heard = elim heard [
@@ -67,7 +67,7 @@ module _ {D F : Type 0} {disk : Ghosts D} (old mid new : Server D F disk) (momen
     | inr h ↦ inr (h.0, turn_leaves old mid new moment word t is put tells h.1)
   ]
 
-  -- and then its disk was left alone, and its link gave no more
+  -- the disk was left alone from then on, and the link gave no more
   pub cut_still : (other : Option (List Received)) → other ≡ left → disk_of new ≡ disk_of mid → IsCutIn moment t left (LeavesSome old mid) → IsCutIn moment t other (LeavesSome old new)
   cut_still other same still cut = elim cut [
     | inl h ↦ inl (same ∙ h.0, leaves_of_disk old mid new (tick_puts moment t) still h.1)

@@ -8,7 +8,8 @@ use Rattle.kv_store.specs.Image.{open_calls}
 use Rattle.raft_log.specs.Opening.{opening_calls}
 use Rattle.app_base.specs.declared.status.Status.{Status}
 use Rattle.app_base.specs.declared.status.Status.TheVariants.{DiskFault, LinkFault}
-use Rattle.app_node.specs.Quiet.{CountNoOther, RunQuietly, StayQuiet}
+use Rattle.app_node.specs.Quiet.{RunQuietly, StayQuiet}
+use Rattle.app_node.specs.Status.{OfDisk, OfLink, OthersStay}
 use Rattle.app_node.specs.Run.{AreStopped}
 use Rattle.app_node.specs.Stands.{AreOpened, runner_disk}
 use Rattle.app_node.specs.Taking.{HasCause, KeepsNodes, WasRefused}
@@ -122,17 +123,17 @@ module _ {D L : Type 0} (disk : Ghosts D) (faults : L → ℕ)
     }
 
 module _ {D L : Type 0} (disk : Ghosts D) (faults : L → ℕ) (ids : List ℕ) (disks_old disks_new : List (Option D)) where
-  -- they were stopped, and the run has a status
+  -- the allocators were stopped, and the run has a status
   pub stopped_run : {F : Type 0} (runners : List (Runner D F disk)) (last : List (Option D)) (links_old links_new : List L) (result : Result ⊤ Fault) (status : Status) →
       ((id : ℕ) → result ≡ Err (Link id) → status ≡ LinkFault id) → ((id : ℕ) → result ≡ Err (Disk id) → status ≡ DiskFault id) →
       AreStopped runners disks_new last → RunQuietly faults ids disks_old disks_new links_old links_new runners result →
-      CountNoOther faults disk.faults ids links_old links_new disks_old last status
-  stopped_run runners last links_old links_new result status of_link of_disk stopped run = record {
-    links = λ i before after low other. run.links i before after low (λ e. other (of_link (slice_index ids i) e));
-    disks = λ i before after low other was is. elim (leb_tells (length runners) i) [
+      OthersStay (OfLink faults links_old links_new) ids (λ id. status ≡ LinkFault id) × OthersStay (OfDisk disk.faults disks_old last) ids (λ id. status ≡ DiskFault id)
+  stopped_run runners last links_old links_new result status of_link of_disk stopped run = (
+    λ i low other before after. run.links i before after low (λ e. other (of_link (slice_index ids i) e)),
+    λ i low other before after was is. elim (leb_tells (length runners) i) [
       | inl h ↦ run.others i before after h.1 low (λ e. other (of_disk (slice_index ids i) e)) was (sym (stopped.others i h.1) ∙ is)
       | inr h ↦ let within : i < length runners = omega (arith, let high = h.1 in high) in
           let some = an_item runners i within in
           ap disk.faults (sym (some_one (stopped.stopped i some within) is refl)) ∙ run.running i before some within (λ e. other (of_disk (slice_index ids i) e)) was
-    ];
-  }
+    ],
+  )

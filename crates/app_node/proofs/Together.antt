@@ -73,10 +73,8 @@ ends_later faults a b c k l m (Link id) nodes links each (place, within, own, ro
       place,
       first,
       λ runner. sym (nodes.each place runner runner first).id ∙ own runner,
-      record {
-        rose = λ before after. rose_before (faults (slice_index_or k place before)) (faults (slice_index_or l place before)) (faults (slice_index_or m place after))
-            (links.later place before before (omega (arith, each, first))) (rose.rose before after);
-      },
+      λ before after. rose_before (faults (slice_index_or k place before)) (faults (slice_index_or l place before)) (faults (slice_index_or m place after))
+          (links.later place before before (omega (arith, each, first))) (rose before after),
     )
 ends_later {disk = disk} faults a b c k l m (Disk id) nodes links each (place, within, own, rose) =
     let count = nodes.count in
@@ -84,10 +82,8 @@ ends_later {disk = disk} faults a b c k l m (Disk id) nodes links each (place, w
       place,
       first,
       λ runner. sym (nodes.each place runner runner first).id ∙ own runner,
-      record {
-        rose = λ before after. rose_before (disk.faults (runner_disk (slice_index_or a place before))) (disk.faults (runner_disk (slice_index_or b place before)))
-            (disk.faults (runner_disk (slice_index_or c place after))) (nodes.each place before before first).later (rose.rose before after);
-      },
+      λ before after. rose_before (disk.faults (runner_disk (slice_index_or a place before))) (disk.faults (runner_disk (slice_index_or b place before)))
+          (disk.faults (runner_disk (slice_index_or c place after))) (nodes.each place before before first).later (rose before after),
     )
 ends_later faults a b c k l m (Damaged id key) nodes links each why = why
 
@@ -117,22 +113,25 @@ module _ {D F : Type 0} {disk : Ghosts D} {L : Type 0} (runners : List (Runner D
     ]
 
   module _ (old : List (Runner D F disk)) (links_old : List L) (faults : L → ℕ) (nodes : KeepsNodes old runners) (kept : KeepsLinks faults links_old links) where
-    pub keeps_nodes : ((before : Runner D F disk) → KeepsNode (slice_index_or old place before) runner) → KeepsNodes old (slice_set runners place runner)
-    keeps_nodes this = record {
+    pub keeps_nodes : (some : Runner D F disk) → KeepsNode (slice_index_or runners place some) runner → KeepsNodes old (slice_set runners place runner)
+    keeps_nodes some turned = record {
       count = length-set runners place runner ∙ nodes.count;
       each = λ i before after within. elim (eqb_tells i place) [
         | inl h ↦ subst (λ r. KeepsNode (slice_index_or old i before) r) (set_here runners place i runner after h.1 here)
-            (subst (λ k. KeepsNode (slice_index_or old k before) runner) (sym h.1) (this before))
+            (subst (λ k. KeepsNode (slice_index_or old k before) runner) (sym h.1)
+            (then_node (slice_index_or old place before) (slice_index_or runners place some) runner
+            (nodes.each place before some (let same = nodes.count in omega (arith, same, here))) turned))
         | inr h ↦ subst (λ r. KeepsNode (slice_index_or old i before) r) (set_elsewhere runners place i runner after h.1) (nodes.each i before after within)
       ];
     }
 
-    pub keeps_links : ((before : L) → faults (slice_index_or links_old place before) ≤ faults link) → KeepsLinks faults links_old (slice_set links place link)
-    keeps_links this = record {
+    pub keeps_links : (some : L) → faults (slice_index_or links place some) ≤ faults link → KeepsLinks faults links_old (slice_set links place link)
+    keeps_links some turned = record {
       count = length-set links place link ∙ kept.count;
       later = λ i before after within. elim (eqb_tells i place) [
         | inl h ↦ subst (λ l. faults (slice_index_or links_old i before) ≤ faults l) (set_here links place i link after h.1 there)
-            (subst (λ k. faults (slice_index_or links_old k before) ≤ faults link) (sym h.1) (this before))
+            (subst (λ k. faults (slice_index_or links_old k before) ≤ faults link) (sym h.1)
+            (let same = kept.count in let earlier = kept.later place before some (omega (arith, same, there)) in omega (arith, earlier, turned)))
         | inr h ↦ subst (λ l. faults (slice_index_or links_old i before) ≤ faults l) (set_elsewhere links place i link after h.1) (kept.later i before after within)
       ];
     }
@@ -148,16 +147,14 @@ module _ {D F : Type 0} {disk : Ghosts D} {L : Type 0} (runners : List (Runner D
           place,
           within,
           λ before. own before ∙ sym why.0,
-          record { rose = λ before after. subst (λ l. Rose (faults (slice_index_or links_old place before)) (faults l)) (set_here links place place link after refl there) (why.1 before) },
+          λ before after. subst (λ l. Rose (faults (slice_index_or links_old place before)) (faults l)) (set_here links place place link after refl there) (why.1 before),
         )
     ends_turn (Disk node) id own within by_link by_disk none =
         let why = by_disk node refl in (
           place,
           within,
           λ before. own before ∙ sym why.0,
-          record {
-            rose = λ before after. subst (λ r. Rose (disk.faults (runner_disk (slice_index_or old place before))) (disk.faults (runner_disk r)))
-                (set_here runners place place runner after refl here) (why.1 before);
-          },
+          λ before after. subst (λ r. Rose (disk.faults (runner_disk (slice_index_or old place before))) (disk.faults (runner_disk r)))
+              (set_here runners place place runner after refl here) (why.1 before),
         )
     ends_turn (Damaged node key) id own within by_link by_disk none = none node key refl

@@ -50,7 +50,7 @@ module _ {D : Type 0} {disk : Ghosts D} (one_state : (image : List ℕ) (a b : S
       (runners : List (Runner D F disk)) (links : List L) (disks : List (Option D)) (readings : Option (List ℕ)) (given : Given)
       (are : AreOpened runners disks ids) (count : length runners ≡ length ids) (there : (i : ℕ) → i < length ids → IsSome (slice_index_or disks i None))
       (tell : Tell coming sent disk links disks readings given) where
-    -- they are those that are opened on what was handed in
+    -- the allocators are those that are opened on what was handed in
     pub all_opened : (after : Option (List ℕ)) (steps : LastSteps) → length links ≡ length ids → after ≡ Some (readings_after (length ids) given.readings) →
         AreOpenedAt size runners given.readings → Keeps steps [] → Stand coming sent runners links after steps (opened size ids given)
     all_opened after steps each read at none = record {
@@ -76,7 +76,7 @@ module _ {D : Type 0} {disk : Ghosts D} (one_state : (image : List ℕ) (a b : S
       lines = none;
     }
 
--- their disks tell, after turns too
+-- the disks of all tell, after turns too
 pub all_telling : {D F L : Type 0} {disk : Ghosts D} (coming : L → Option (List Received)) (sent : L → Option (List RawFrame)) (ids : List ℕ)
     (runners now : List (Runner D F disk)) (links : List L) (disks : List (Option D)) (readings : Option (List ℕ)) (given : Given) →
     AreOpened runners disks ids → length runners ≡ length ids → ((i : ℕ) → i < length ids → IsSome (slice_index_or disks i None)) →

@@ -1,10 +1,9 @@
 -- How a run ends before its last turn.
-use Rattle.std.specs.Prelude.{ℕ, List, Result, Ok, Err, ⊤}
+use Rattle.std.specs.Prelude.{ℕ, Result, Ok, Err, ⊤}
 use Rattle.kv_store.specs.declared.fault.OpenFault.{OpenFault}
 use Rattle.kv_store.specs.declared.fault.OpenFault.TheVariants.{Fault as DiskFailed, Damaged as DamagedAt}
 use Rattle.app_base.specs.declared.status.Status.{Status}
 use Rattle.app_base.specs.declared.status.Status.TheVariants.{Done, LinkFault, DiskFault, Damaged as IsDamaged}
-use Rattle.app_node.specs.Report.{damaged_line, disk_fault_line, link_fault_line}
 use Rattle.app_node.specs.declared.fault.Fault.{Fault}
 use Rattle.app_node.specs.declared.fault.Fault.TheVariants.{Link, Disk, Damaged}
 
@@ -22,11 +21,6 @@ fault_status (Damaged id key) = IsDamaged id key
 abbrev pub end_status : Result ⊤ Fault → Status
 end_status (Ok done) = Done
 end_status (Err fault) = fault_status fault
-
-abbrev pub fault_line : Fault → List ℕ
-fault_line (Link id) = link_fault_line id
-fault_line (Disk id) = disk_fault_line id
-fault_line (Damaged id key) = damaged_line id key
 
 -- why a run ends whose opening of a node was refused
 abbrev pub refusal_of : ℕ → OpenFault → Fault

@@ -1,5 +1,6 @@
 -- Frames as a link carries them, and as allocators take and send them.
-use Rattle.std.specs.Prelude.{ℕ, ◌-◌, ◌++◌, Bool, ◌&&◌, nat_le, nat_lt, length, take, replicate, Option, Some, None, if◌then◌else◌}
+use Rattle.std.specs.Prelude.{ℕ, ◌-◌, ◌++◌, Bool, ◌&&◌, nat_le, nat_lt, length, take, replicate}
+use Rattle.std.specs.Prelude.{Option, Some, None, if◌then◌else◌}
 use Rattle.outside.specs.declared.received.RawFrame.{RawFrame}
 use Rattle.outside.specs.declared.received.Received.{Received}
 use Rattle.outside.specs.declared.received.Received.TheVariants.{Frame, Junk, Nothing}

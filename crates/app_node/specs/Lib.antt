@@ -2,7 +2,6 @@ pub mod Cut
 pub mod CutRun
 pub mod Ends
 pub mod Frames
-pub mod InPart
 pub mod Kept
 pub mod Nodes
 pub mod Opening

@@ -34,7 +34,7 @@ opened_at size ids given place = let id = slice_index ids place in let state = m
   sent = given.sent place;
 }
 
--- these allocators of a cluster of a size, opened and before their first turn
+-- the allocators of these nodes, of a cluster of a size, opened and before their first turn
 abbrev pub opened : ℕ → List ℕ → Given → Together
 opened size ids given = record {
   running = opened_at size ids given;

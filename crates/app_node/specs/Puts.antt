@@ -24,18 +24,22 @@ taken_puts (Some event) t = step_puts event t
 abbrev pub heard_puts : ℕ → Turning → List PutWithOrigin
 heard_puts moment t = taken_puts (event_in moment (next_item t.running.coming)) t
 
--- both
+-- the two steps of a turn
 unfoldable pub turn_puts : ℕ → Turning → List PutWithOrigin
 turn_puts moment t = tick_puts moment t ++ heard_puts moment (ticks moment t)
 
 -- ---- a turn that was cut off, when these items are left of its link: what holds of the puts up to there
 
--- the next item was not taken, and nothing was put for it; or it was taken
-abbrev pub IsHeardIn : ℕ → Turning → Option (List Received) → (List PutWithOrigin → Type 0) → Type 0
-IsHeardIn moment t left Holds = ((left ≡ Some t.running.coming) × Holds [])
-    ⊎ ((left ≡ Some (items_behind t.running.coming)) × Holds (heard_puts moment t))
+-- the next item was not taken, and this holds of the few puts up to there; or it was taken, and this holds of all
+abbrev pub HoldsOfPuts : Turning → Option (List Received) → (few all : List PutWithOrigin) →
+    (List PutWithOrigin → Type 0) → Type 0
+HoldsOfPuts t left few all Holds = ((left ≡ Some t.running.coming) × Holds few)
+    ⊎ ((left ≡ Some (items_behind t.running.coming)) × Holds all)
 
--- the next item was not taken, and only the step at its clock has put; or it was taken
+-- in the step of the next item
+abbrev pub IsHeardIn : ℕ → Turning → Option (List Received) → (List PutWithOrigin → Type 0) → Type 0
+IsHeardIn moment t left Holds = HoldsOfPuts t left [] (heard_puts moment t) Holds
+
+-- in the turn: without that item only the step at its clock has put
 abbrev pub IsCutIn : ℕ → Turning → Option (List Received) → (List PutWithOrigin → Type 0) → Type 0
-IsCutIn moment t left Holds = ((left ≡ Some t.running.coming) × Holds (tick_puts moment t))
-    ⊎ ((left ≡ Some (items_behind t.running.coming)) × Holds (turn_puts moment t))
+IsCutIn moment t left Holds = HoldsOfPuts t left (tick_puts moment t) (turn_puts moment t) Holds

@@ -1,21 +1,11 @@
 -- Which counts of faults stay: all but the one of the link or the disk that failed.
-use Rattle.std.specs.Prelude.{◌≡◌, ℕ, ◌<◌, ◌≤◌, List, length, Option, Some, None, Result, Err, slice_index, slice_index_or, ⊤}
+use Rattle.std.specs.Prelude.{◌≡◌, ℕ, ◌<◌, ◌≤◌, List, length, Option, Some, None, Result, Err}
+use Rattle.std.specs.Prelude.{slice_index, slice_index_or, ⊤}
 use Rattle.disk_model.specs.declared.disk.Disk.{Ghosts}
-use Rattle.app_base.specs.declared.status.Status.{Status}
-use Rattle.app_base.specs.declared.status.Status.TheVariants.{DiskFault, LinkFault}
 use Rattle.app_node.specs.Stands.{runner_disk}
 use Rattle.app_node.specs.declared.fault.Fault.{Fault}
 use Rattle.app_node.specs.declared.fault.Fault.TheVariants.{Link, Disk}
 use Rattle.app_node.specs.declared.runner.Runner.{Runner}
-
--- the count of the link of a node stays, unless the status names it; and the count of its disk
-pub record CountNoOther {L D : Type 0} (link_faults : L → ℕ) (disk_faults : D → ℕ) (ids : List ℕ)
-    (links_old links_new : List L) (disks_old disks_new : List (Option D)) (status : Status) : Type 0 where
-  pub links : (i : ℕ) (before after : L) → i < length ids → (status ≡ LinkFault (slice_index ids i) → ⊥) →
-      link_faults (slice_index_or links_new i after) ≡ link_faults (slice_index_or links_old i before)
-  pub disks : (i : ℕ) (before after : D) → i < length ids → (status ≡ DiskFault (slice_index ids i) → ⊥) →
-      slice_index_or disks_old i None ≡ Some before → slice_index_or disks_new i None ≡ Some after →
-      disk_faults after ≡ disk_faults before
 
 module _ {D F : Type 0} {disk : Ghosts D} where
   module _ {L : Type 0} (faults : L → ℕ) where

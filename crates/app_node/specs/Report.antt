@@ -19,20 +19,9 @@ joined lines = flat_map (λ line. line) lines
 abbrev pub report : ℕ → List (List ℕ) → List ℕ
 report turns lines = joined (last_lines lines) ++ end_line turns
 
--- ---- the one line of a run that did not come to its end
-
-abbrev pub link_fault_line : ℕ → List ℕ
-link_fault_line id = codes "link fault " ++ decimal id ++ codes "\n"
-
-abbrev pub disk_fault_line : ℕ → List ℕ
-disk_fault_line id = codes "disk fault " ++ decimal id ++ codes "\n"
-
-abbrev pub damaged_line : ℕ → ℕ → List ℕ
-damaged_line id key = codes "damaged " ++ decimal id ++ codes " " ++ decimal key ++ codes "\n"
-
--- by its status
+-- the one line of a run that did not come to its end, by its status
 abbrev pub line_of : Status → List ℕ
-line_of (LinkFault id) = link_fault_line id
-line_of (DiskFault id) = disk_fault_line id
-line_of (Damaged id key) = damaged_line id key
+line_of (LinkFault id) = codes "link fault " ++ decimal id ++ codes "\n"
+line_of (DiskFault id) = codes "disk fault " ++ decimal id ++ codes "\n"
+line_of (Damaged id key) = codes "damaged " ++ decimal id ++ codes " " ++ decimal key ++ codes "\n"
 line_of _ = []

@@ -1,14 +1,15 @@
 -- A run up to the stop of its allocators.
-use Rattle.std.specs.Prelude.{◌≡◌, ℕ, ◌<◌, ◌≤◌, List, length, Option, Some, None, Result, IfErr, IsSome, slice_index_or, true, ⊤}
+use Rattle.std.specs.Prelude.{◌≡◌, ℕ, ◌<◌, ◌≤◌, List, length, Option, Some, None, Result}
+use Rattle.std.specs.Prelude.{IfErr, IsSome, slice_index_or, true, ⊤}
 use Rattle.disk_model.specs.declared.disk.Disk.{Ghosts}
 use Rattle.app_node.specs.Stands.{runner_disk}
-use Rattle.app_node.specs.Status.{DiskRose, IsDamagedDisk, IsWhole, LinkRose}
+use Rattle.app_node.specs.Status.{HasRisen, IsDamagedDisk, IsWhole, OfDisk, OfLink}
 use Rattle.app_node.specs.declared.fault.Fault.{Fault}
 use Rattle.app_node.specs.declared.fault.Fault.TheVariants.{Link, Disk, Damaged}
 use Rattle.app_node.specs.declared.runner.Runner.{Runner}
 
 module _ {D F : Type 0} {disk : Ghosts D} where
-  -- they were stopped, and each disk is at its place; the others stay
+  -- these allocators were stopped, and each disk is at its place; the others stay
   pub record AreStopped (runners : List (Runner D F disk)) (old new : List (Option D)) : Type 0 where
     pub stopped : (i : ℕ) (runner : Runner D F disk) → i < length runners →
         slice_index_or new i None ≡ Some (runner_disk (slice_index_or runners i runner))
@@ -20,16 +21,17 @@ module _ {D F : Type 0} {disk : Ghosts D} where
   AreTelling runners = (i : ℕ) (runner : Runner D F disk) → i < length runners
       → disk.tells (runner_disk (slice_index_or runners i runner)) ≡ true
 
-  -- why a run ended before its last turn; a link was touched once all were opened, and of the disks this is said as
-  -- they are once the allocators are stopped
+  -- why a run ended before its last turn: a link failed once all were opened; of the disks this is said when the
+  -- allocators are stopped
   abbrev pub EndsRun : {L : Type 0} → (L → ℕ) → List ℕ → List (Option D) → List (Option D) → List L →
       List L → List (Runner D F disk) → Fault → Type 0
   EndsRun faults ids disks_old disks_new links_old links_new runners (Link id) =
-      LinkRose faults ids links_old links_new id × (length runners ≡ length ids)
+      HasRisen (OfLink faults links_old links_new) ids id × (length runners ≡ length ids)
   EndsRun faults ids disks_old disks_new links_old links_new runners (Disk id) =
-      (last : List (Option D)) → AreStopped runners disks_new last → DiskRose disk.faults ids disks_old last id
+      (last : List (Option D)) → AreStopped runners disks_new last →
+      HasRisen (OfDisk disk.faults disks_old last) ids id
   EndsRun faults ids disks_old disks_new links_old links_new runners (Damaged id key) =
-      IsDamagedDisk disk ids disks_old id key × (links_new ≡ links_old) × (length runners < length ids)
+      IsDamagedDisk disk ids disks_old id key × (length runners < length ids)
 
   -- some were opened, on the disks at their places, which stood for a state, and the other disks are there
   pub record HasRun {L : Type 0} (faults : L → ℕ) (ids : List ℕ)

@@ -1,5 +1,6 @@
 -- What the allocators of the code stand for.
-use Rattle.std.specs.Prelude.{◌≡◌, ℕ, ◌<◌, ◌≤◌, List, length, Option, Some, None, IsNone, slice_index, slice_index_or}
+use Rattle.std.specs.Prelude.{◌≡◌, ℕ, ◌<◌, ◌≤◌, List, length, Option, Some, None, IsNone}
+use Rattle.std.specs.Prelude.{slice_index, slice_index_or}
 use Rattle.disk_model.specs.declared.disk.Disk.{Ghosts}
 use Rattle.outside.specs.declared.received.RawFrame.{RawFrame}
 use Rattle.outside.specs.declared.received.Received.{Received}
@@ -28,7 +29,7 @@ module _ {D F : Type 0} {disk : Ghosts D} where
   abbrev pub Works : Runner D F disk → Type 0
   Works runner = IsNone (fault_of runner.server)
 
-  -- its server stands for one in time
+  -- the server of an allocator stands for one in time
   abbrev pub IsStanding : Runner D F disk → Type 0
   IsStanding runner = (t : AllocatorState) × StandsFor runner.server t
 

@@ -1,21 +1,12 @@
 -- When the statuses of a run come.
-use Rattle.std.specs.Prelude.{◌≡◌, ℕ, ◌<◌, List, length, Option, Some, None, slice_index, slice_index_or, true}
+use Rattle.std.specs.Prelude.{◌≡◌, ℕ, ◌<◌, List, length, Option, Some, None, slice_index}
+use Rattle.std.specs.Prelude.{slice_index_or, true}
 use Rattle.disk_model.specs.declared.disk.Disk.{Ghosts}
 use Rattle.outside.specs.Faults.{Rose}
 use Rattle.raft_log.specs.Rules.{IsDamagedAt, StandsForState}
 use Rattle.raft_log.specs.Stored.{Stored}
 use Rattle.app_base.specs.declared.status.Status.{Status}
-use Rattle.app_base.specs.declared.status.Status.TheVariants.{Done, WriteFault, Memory, LinkFault, DiskFault, Damaged}
-
--- the status of a run of allocators
-abbrev pub IsStatus : Status → Type 0
-IsStatus Done = Unit {0}
-IsStatus WriteFault = Unit {0}
-IsStatus Memory = Unit {0}
-IsStatus (LinkFault id) = Unit {0}
-IsStatus (DiskFault id) = Unit {0}
-IsStatus (Damaged id key) = Unit {0}
-IsStatus _ = ⊥
+use Rattle.app_base.specs.declared.status.Status.TheVariants.{Done, Memory, Damaged}
 
 -- the status of a run in which nothing failed
 abbrev pub IsFaultless : Status → Type 0
@@ -24,39 +15,34 @@ IsFaultless (Damaged id key) = Unit {0}
 IsFaultless Memory = Unit {0}
 IsFaultless _ = ⊥
 
--- the status of a run that had its memory
-abbrev pub IsEndStatus : Status → Type 0
-IsEndStatus Memory = ⊥
-IsEndStatus status = IsStatus status
+-- this holds of the counts of faults, before and now, of the link at a place
+abbrev pub OfLink : {L : Type 0} → (L → ℕ) → List L → List L → ℕ → (ℕ → ℕ → Type 0) → Type 0
+OfLink {L = L} faults old new place Holds =
+    (before after : L) → Holds (faults (slice_index_or old place before)) (faults (slice_index_or new place after))
 
--- the status of a run that had its memory, and whose sink took what it writes
-abbrev pub IsToldStatus : Status → Type 0
-IsToldStatus WriteFault = ⊥
-IsToldStatus status = IsEndStatus status
+-- this holds of the counts of faults, before and now, of the disk at a place
+abbrev pub OfDisk : {D : Type 0} → (D → ℕ) → List (Option D) → List (Option D) → ℕ →
+    (ℕ → ℕ → Type 0) → Type 0
+OfDisk {D = D} faults old new place Holds = (before after : D) → slice_index_or old place None ≡ Some before →
+    slice_index_or new place None ≡ Some after → Holds (faults before) (faults after)
 
--- the count of faults of the link of this node rose
-pub record LinkRose {L : Type 0} (faults : L → ℕ) (ids : List ℕ) (old new : List L) (id : ℕ) : Type 0 where
-  pub place : ℕ
-  pub within : place < length ids
-  pub id_is : slice_index ids place ≡ id
-  pub rose : (before after : L) → Rose (faults (slice_index_or old place before))
-      (faults (slice_index_or new place after))
+-- `Of` is one of the two: it says what holds of the counts of what stands at a place.
+module _ (Of : ℕ → (ℕ → ℕ → Type 0) → Type 0) (ids : List ℕ) where
+  -- the count of this node rose
+  pub record HasRisen (id : ℕ) : Type 0 where
+    pub place : ℕ
+    pub within : place < length ids
+    pub id_is : slice_index ids place ≡ id
+    pub rose : Of place Rose
 
--- the count of faults of the disk of this node rose
-pub record DiskRose {D : Type 0} (faults : D → ℕ) (ids : List ℕ) (old new : List (Option D)) (id : ℕ)
-    : Type 0 where
-  pub place : ℕ
-  pub within : place < length ids
-  pub id_is : slice_index ids place ≡ id
-  pub rose : (before after : D) → slice_index_or old place None ≡ Some before →
-      slice_index_or new place None ≡ Some after → Rose (faults before) (faults after)
+  -- no count rose
+  abbrev pub NoneRose : Type 0
+  NoneRose = (id : ℕ) → HasRisen id → ⊥
 
--- no link, and no disk, counted a fault
-abbrev pub NoLinkRose : {L : Type 0} → (L → ℕ) → List ℕ → List L → List L → Type 0
-NoLinkRose faults ids old new = (id : ℕ) → LinkRose faults ids old new id → ⊥
-
-abbrev pub NoDiskRose : {D : Type 0} → (D → ℕ) → List ℕ → List (Option D) → List (Option D) → Type 0
-NoDiskRose faults ids old new = (id : ℕ) → DiskRose faults ids old new id → ⊥
+  -- each count stays but those of the nodes that are named
+  abbrev pub OthersStay : (ℕ → Type 0) → Type 0
+  OthersStay IsNamed =
+      (i : ℕ) → i < length ids → (IsNamed (slice_index ids i) → ⊥) → Of i (λ before now. now ≡ before)
 
 -- the first of the disks that were handed in, so many, tell what they hold
 abbrev pub DisksTell : {D : Type 0} → Ghosts D → List (Option D) → ℕ → Type 0

@@ -8,7 +8,7 @@ use Rattle.app_node.specs.declared.steps.LastSteps.{LastSteps}
 abbrev pub steps_made : LastSteps → ℕ
 steps_made steps = steps.made
 
--- these are the lines of all steps that were made, and the last of them are kept
+-- the lines of all steps that were made are these, and the last of them are kept
 pub record Keeps (steps : LastSteps) (lines : List (List ℕ)) : Type 0 where
   pub made : steps_made steps ≡ length lines
   pub last : map kept_line steps.ring.items ≡ last_lines lines

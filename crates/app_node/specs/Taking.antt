@@ -1,5 +1,6 @@
 -- What openings and turns come to, and why they end.
-use Rattle.std.specs.Prelude.{◌≡◌, ℕ, ◌<◌, ◌≤◌, List, length, Option, Some, None, IsSome, slice_index, slice_index_or, true}
+use Rattle.std.specs.Prelude.{◌≡◌, ℕ, ◌<◌, ◌≤◌, List, length, Option, Some, None, IsSome}
+use Rattle.std.specs.Prelude.{slice_index, slice_index_or, true}
 use Rattle.disk_model.specs.Contents.{AddsNoImage}
 use Rattle.disk_model.specs.Device.{Makes}
 use Rattle.disk_model.specs.declared.disk.Disk.{Ghosts}
@@ -8,6 +9,7 @@ use Rattle.outside.specs.Faults.{Rose}
 use Rattle.raft_log.specs.Opening.{FailsToOpen}
 use Rattle.raft_log.specs.Rules.{IsDamagedAt}
 use Rattle.app_node.specs.Stands.{Works, closure_of, runner_disk}
+use Rattle.app_node.specs.Status.{OfLink}
 use Rattle.app_node.specs.declared.fault.Fault.{Fault}
 use Rattle.app_node.specs.declared.fault.Fault.TheVariants.{Link, Disk, Damaged}
 use Rattle.app_node.specs.declared.runner.Runner.{Runner}
@@ -27,11 +29,6 @@ pub record IsRefused {D : Type 0} (disk : Ghosts D) (before after : Option D) (i
   pub tells : (old new : D) → before ≡ Some old → after ≡ Some new → disk.tells new ≡ disk.tells old
   pub cause : (old new : D) → before ≡ Some old → after ≡ Some new → HasCause disk old new id fault
 
--- the count of faults rose of the link at a place
-pub record LinkRoseAt {L : Type 0} (faults : L → ℕ) (old new : List L) (place : ℕ) : Type 0 where
-  pub rose : (before after : L) → Rose (faults (slice_index_or old place before))
-      (faults (slice_index_or new place after))
-
 module _ {D F : Type 0} {disk : Ghosts D} where
   abbrev pub AreWorking : List (Runner D F disk) → Type 0
   AreWorking runners =
@@ -49,11 +46,12 @@ module _ {D F : Type 0} {disk : Ghosts D} where
     pub each : (i : ℕ) (before after : Runner D F disk) → i < length old →
         KeepsNode (slice_index_or old i before) (slice_index_or new i after)
 
-  -- the count of faults rose of the disk of the allocator at a place
-  pub record DiskRoseAt (old new : List (Runner D F disk)) (place : ℕ) : Type 0 where
-    pub rose : (before after : Runner D F disk) →
-        Rose (disk.faults (runner_disk (slice_index_or old place before)))
-        (disk.faults (runner_disk (slice_index_or new place after)))
+  -- this holds of the counts of faults, before and now, of the disk of the allocator at a place
+  abbrev pub OfRunner : List (Runner D F disk) → List (Runner D F disk) → ℕ →
+      (ℕ → ℕ → Type 0) → Type 0
+  OfRunner old new place Holds = (before after : Runner D F disk) →
+      Holds (disk.faults (runner_disk (slice_index_or old place before)))
+      (disk.faults (runner_disk (slice_index_or new place after)))
 
   abbrev pub IsOf : List (Runner D F disk) → ℕ → ℕ → Type 0
   IsOf runners place id = (runner : Runner D F disk) → (slice_index_or runners place runner).id ≡ id
@@ -62,9 +60,9 @@ module _ {D F : Type 0} {disk : Ghosts D} where
   abbrev pub EndsTurn : {L : Type 0} → (L → ℕ) → List (Runner D F disk) → List (Runner D F disk) →
       List L → List L → Fault → Type 0
   EndsTurn faults old new links_old links_new (Link id) = (place : ℕ) × (place < length old)
-      × IsOf old place id × LinkRoseAt faults links_old links_new place
+      × IsOf old place id × OfLink faults links_old links_new place Rose
   EndsTurn faults old new links_old links_new (Disk id) = (place : ℕ) × (place < length old)
-      × IsOf old place id × DiskRoseAt old new place
+      × IsOf old place id × OfRunner old new place Rose
   EndsTurn faults old new links_old links_new (Damaged id key) = ⊥
 
 -- no link counts fewer faults

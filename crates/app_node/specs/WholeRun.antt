@@ -10,7 +10,7 @@ use Rattle.raft_model.specs.Server.{Store}
 use Rattle.app_node.specs.Opening.{Given, opened}
 use Rattle.app_node.specs.Turns.{Together, all_turns}
 
--- these allocators of a cluster of a size, after all their turns
+-- the allocators of these nodes, of a cluster of a size, after all their turns
 abbrev pub after_turns : ℕ → ℕ → List ℕ → Given → Together
 after_turns size turns ids given = all_turns (length ids) turns (opened size ids given)
 

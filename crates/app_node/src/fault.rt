@@ -1,5 +1,6 @@
 ghost use Rattle.std.specs.Prelude.{◌≡◌, ◌≤◌, length};
-ghost use Rattle.app_node.specs.Ends.{fault_line, fault_status};
+ghost use Rattle.app_node.specs.Ends.{fault_status};
+ghost use Rattle.app_node.specs.Report.{line_of};
 
 use app_base::{Status, number_line, numbers_line};
 use replay_text::Line;
@@ -32,7 +33,7 @@ impl Fault {
     /// The one line that is written.
     pub fn line(self) -> Line
         ensures short { length result ≤ 400 }
-        ensures text { result ≡ fault_line self }
+        ensures text { result ≡ line_of (fault_status self) }
     {
         match self {
             Fault::Link(id) => number_line(b"link fault ", u64::from(id)),

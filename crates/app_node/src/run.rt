@@ -1,5 +1,5 @@
 ghost use Rattle.std.specs.Prelude.{◌≡◌, ◌<◌, ◌≤◌, ◌⊎◌, ℕ, List, [], length, slice_index_or};
-ghost use Rattle.std.specs.Prelude.{None, Ok, Err, IfErr, IsSome, OnOk};
+ghost use Rattle.std.specs.Prelude.{IfErr, IsSome, OnOk};
 ghost use Rattle.std.specs.Io.KnownBytes.{Appends};
 ghost use Rattle.outside.specs.Faults.{Rose};
 ghost use Rattle.app_base.specs.Output.{WritesFront};
@@ -7,19 +7,17 @@ ghost use Rattle.alloc_step.specs.Accepted as accepted;
 ghost use Rattle.transfer_rx.specs.Acceptance.{AnswersByRows, first_signature};
 ghost use Rattle.transfer_rx.specs.Memory.{ReceiverFitsInMemory};
 ghost use Rattle.bus_spec.specs.Cluster.{AreMembers};
-ghost use Rattle.app_node.specs.Cut.{IsCut, IsCutOpening};
-ghost use Rattle.app_node.specs.Opening.{Given, opened};
-ghost use Rattle.app_node.specs.Ends.{end_status, fault_line};
+ghost use Rattle.app_node.specs.Cut.{IsCut};
+ghost use Rattle.app_node.specs.Opening.{Given};
+ghost use Rattle.app_node.specs.Ends.{end_status, fault_status};
 ghost use Rattle.app_node.specs.Nodes.{RunsNodes};
 ghost use Rattle.app_node.specs.Quiet.{RunQuietly};
-ghost use Rattle.app_node.specs.Report.{damaged_line, disk_fault_line, link_fault_line, report};
+ghost use Rattle.app_node.specs.Report.{line_of, report};
 ghost use Rattle.app_node.specs.Run.{AreTelling, HasRun};
 ghost use Rattle.app_node.specs.Runners.{accepts, runners_of};
 ghost use Rattle.app_node.specs.Stands.{Stand};
-ghost use Rattle.app_node.specs.Status.{IsEndStatus};
 ghost use Rattle.app_node.specs.Steps.{Keeps, steps_made};
 ghost use Rattle.app_node.specs.WholeRun.{Tell, after_turns};
-ghost use Rattle.app_node.specs.declared.fault.Fault.TheVariants.{Link as LinkFailed, Disk as DiskFailed, Damaged as IsDamaged};
 
 use crate::fault::Fault;
 use crate::runners::Runners;
@@ -132,13 +130,8 @@ fn run_all<F: Fn(Kind, u16) -> Option<u64> + Copy, L: Link, D: Disk, C: Clock>(
     ensures stands { OnOk result ((given : Given) → Tell L.coming L.sent D.Disk links.old disks.old
         (C.readings clock.old) given → Stand L.coming L.sent (runners_of runners.new) links.new
         (C.readings clock.new) steps.new (after_turns size turns ids.now given)) }
-    ensures cut { IfErr result (λ fault. (given : Given) → Tell L.coming L.sent D.Disk
-        links.old disks.old (C.readings clock.old) given → IsCut L.coming L.sent ids.now
-        (runners_of runners.new) links.old links.new disks.old disks.new (C.readings clock.old)
-        (C.readings clock.new) (opened size ids.now given) turns fault) }
-    ensures unopened { IfErr result (λ fault. (length (runners_of runners.new) ≡ length ids.now) ⊎
-        IsCutOpening L.coming L.sent ids.now (runners_of runners.new) links.old links.new
-        disks.old disks.new (C.readings clock.old) (C.readings clock.new) fault) }
+    ensures cut { IfErr result (IsCut L.coming L.sent size turns ids.now (runners_of runners.new)
+        links.old links.new disks.old disks.new (C.readings clock.old) (C.readings clock.new)) }
     ensures tells { OnOk result ((given : Given) → Tell L.coming L.sent D.Disk links.old disks.old
         (C.readings clock.old) given → AreTelling (runners_of runners.new)) }
     ensures quiet { RunQuietly L.faults ids.now disks.old disks.new links.old links.new
@@ -155,26 +148,20 @@ fn run_all<F: Fn(Kind, u16) -> Option<u64> + Copy, L: Link, D: Disk, C: Clock>(
 
 /// Writes what a run leaves, and gives its status.
 fn finish<K: Sink>(ended: Result<(), Fault>, turns: u64, steps: LastSteps, sink: &mut K) -> Status
-    ensures kinds { IsEndStatus result }
     ensures write_fault { result ≡ Status.WriteFault →
         Rose (K.faults sink.old) (K.faults sink.new) }
-    ensures link { (id : ℕ) → result ≡ Status.LinkFault id → (ended ≡ Err (LinkFailed id)) ×
-        Appends (K.written sink.old) (K.written sink.new) (link_fault_line id) }
-    ensures disk { (id : ℕ) → result ≡ Status.DiskFault id → (ended ≡ Err (DiskFailed id)) ×
-        Appends (K.written sink.old) (K.written sink.new) (disk_fault_line id) }
-    ensures damaged { (id key : ℕ) → result ≡ Status.Damaged id key →
-        (ended ≡ Err (IsDamaged id key)) ×
-        Appends (K.written sink.old) (K.written sink.new) (damaged_line id key) }
     ensures end { (result ≡ Status.WriteFault) ⊎ (result ≡ end_status ended) }
     ensures kept { (result ≡ Status.WriteFault) ⊎ (K.faults sink.new ≡ K.faults sink.old) }
-    ensures ended { result ≡ Status.Done → ended ≡ Ok tt }
-    ensures done { (lines : List (List ℕ)) → Keeps steps lines → result ≡ Status.Done →
-        (ended ≡ Ok tt) × Appends (K.written sink.old) (K.written sink.new) (report turns lines) }
+    ensures report { OnOk ended ((lines : List (List ℕ)) → Keeps steps lines →
+        (result ≡ Status.WriteFault) ⊎
+        Appends (K.written sink.old) (K.written sink.new) (report turns lines)) }
+    ensures line { IfErr ended (λ fault. (result ≡ Status.WriteFault) ⊎
+        Appends (K.written sink.old) (K.written sink.new) (line_of (fault_status fault))) }
     ensures report_in_part { result ≡ Status.WriteFault → OnOk ended ((lines : List (List ℕ)) →
         Keeps steps lines →
         WritesFront (K.written sink.old) (K.written sink.new) (report turns lines)) }
     ensures line_in_part { result ≡ Status.WriteFault → IfErr ended (λ fault.
-        WritesFront (K.written sink.old) (K.written sink.new) (fault_line fault)) }
+        WritesFront (K.written sink.old) (K.written sink.new) (line_of (fault_status fault))) }
 {
     match ended {
         Ok(()) => match steps.write(turns, sink) {

@@ -1,6 +1,7 @@
 //! One allocator that runs.
 
-ghost use Rattle.std.specs.Prelude.{◌≡◌, ◌<◌, ◌≤◌, ◌+◌, ℕ, List, Option, Some, None, IfOk, IfErr, OnOk, OnErr, IsErr, true};
+ghost use Rattle.std.specs.Prelude.{◌≡◌, ◌<◌, ◌≤◌, ◌+◌, ℕ, List, Option, Some, None};
+ghost use Rattle.std.specs.Prelude.{IfOk, IfErr, OnOk, OnErr, true};
 ghost use Rattle.disk_model.specs.Contents.{AddsNoImage};
 ghost use Rattle.disk_model.specs.Device.{Makes};
 ghost use Rattle.outside.specs.Faults.{Rose};
@@ -24,7 +25,8 @@ ghost use Rattle.bus_spec.specs.Telling.Telling.{HasStepped};
 ghost use Rattle.app_node.specs.Puts.{IsCutIn, IsHeardIn, step_puts};
 ghost use Rattle.app_node.specs.Turn.{Turning, hears, makes_step, sends, turn};
 ghost use Rattle.app_node.specs.declared.steps.LastSteps.{LastSteps};
-ghost use Rattle.app_node.specs.declared.fault.Fault.TheVariants.{Link as LinkFailed, Disk as DiskFailed, Damaged as IsDamaged};
+ghost use Rattle.app_node.specs.declared.fault.Fault.TheVariants.{Link as LinkFailed, Disk as DiskFailed};
+ghost use Rattle.app_node.specs.declared.fault.Fault.TheVariants.{Damaged as IsDamaged};
 
 use crate::fault::Fault;
 use crate::frames::{event_in, to_raw};

@@ -1,10 +1,8 @@
 //! The allocators that run, each on the disk that it was given.
 
-ghost use Rattle.std.specs.Prelude.{◌≡◌, suc, ◌<◌, ◌≤◌, ◌+◌, ◌*◌, ◌++◌, ◌∷◌, [], ℕ, List, Option, Some, None, IfSome, IfErr, IsSome, OnOk, OnErr, Err, length, slice_index, slice_index_or, slice_set, true, vec_capacity};
-ghost use Rattle.outside.specs.Faults.{Rose};
-ghost use Rattle.kv_store.specs.declared.fault.Fault.{Fault as StoreFault};
-ghost use Rattle.kv_store.specs.declared.fault.OpenFault.TheVariants.{Fault as DiskFault, Damaged};
-ghost use Rattle.raft_log.specs.Rules.{IsDamagedAt};
+ghost use Rattle.std.specs.Prelude.{◌≡◌, suc, ◌<◌, ◌≤◌, ◌+◌, ◌*◌, ◌++◌, ◌∷◌};
+ghost use Rattle.std.specs.Prelude.{[], ℕ, List, Option, Some, None, IfSome, IfErr, IsSome, OnOk, OnErr, Err};
+ghost use Rattle.std.specs.Prelude.{length, slice_index_or, slice_set, vec_capacity};
 ghost use Rattle.alloc_step.specs.Accepted as accepted;
 ghost use Rattle.transfer_rx.specs.Acceptance.{AnswersByRows};
 ghost use Rattle.transfer_rx.specs.Memory.{ReceiverFitsInMemory};
@@ -13,7 +11,6 @@ ghost use Rattle.app_node.specs.Ends.{refusal_of};
 ghost use Rattle.app_node.specs.Opening.{readings_after};
 ghost use Rattle.app_node.specs.Stands.{closure_of};
 ghost use Rattle.app_node.specs.Turns.{Together, all_turns};
-ghost use Rattle.app_node.specs.declared.fault.Fault.TheVariants.{Link as LinkFailed, Disk as DiskFailed, Damaged as IsDamaged};
 ghost use Rattle.app_node.specs.declared.runner.Runner.{Runner};
 
 use crate::fault::Fault;
@@ -43,8 +40,8 @@ pub(crate) struct Runners<D: Disk, F> {
 impl<D: Disk, F: Fn(Kind, u16) -> Option<u64> + Copy> Runners<D, F> {
     ghost use Rattle.app_node.specs.Quiet.{StayQuiet};
     ghost use Rattle.app_node.specs.Stands.{AreOpened, AreOpenedAt, AreStanding};
-    ghost use Rattle.app_node.specs.Stands.{IsOpened, IsOpenedAt, Stand, Works, runner_disk};
-    ghost use Rattle.app_node.specs.Cut.{AreCutTurns};
+    ghost use Rattle.app_node.specs.Stands.{IsOpened, IsOpenedAt, Stand};
+    ghost use Rattle.app_node.specs.Cut.{AreCutAfterTurns};
     ghost use Rattle.app_node.specs.Run.{AreStopped};
     ghost use Rattle.app_node.specs.Runners.{accepts, runners_of};
     ghost use Rattle.app_node.specs.Taking.{AreWorking, EndsTurn, IsRefused, KeepsLinks, KeepsNodes, WasRefused};
@@ -182,7 +179,7 @@ impl<D: Disk, F: Fn(Kind, u16) -> Option<u64> + Copy> Runners<D, F> {
             (all_turns (length (runners_of self.old)) turns all)) }
         ensures cut { IfErr result (λ fault. (all : Together) →
             Stand L.coming L.sent (runners_of self.old) links.old (C.readings clock.old)
-            steps.old all → AreCutTurns L.coming L.sent (runners_of self.new) links.new
+            steps.old all → AreCutAfterTurns L.coming L.sent (runners_of self.new) links.new
             (C.readings clock.new) turns all fault) }
         ensures nodes { KeepsNodes (runners_of self.old) (runners_of self.new) }
         ensures links { KeepsLinks L.faults links.old links.new }

@@ -1,7 +1,7 @@
 //! The last steps of all allocators, as the report tells them.
 
-ghost use Rattle.std.specs.Prelude.{◌≡◌, ◌<◌, ◌≤◌, ◌+◌, ◌++◌, [], ◌∷◌, suc, ℕ, List, length, map, IfSome, OnOk};
-ghost use Rattle.std.proofs.Props.{props};
+ghost use Rattle.std.specs.Prelude.{◌≡◌, ◌<◌, ◌≤◌, ◌+◌, ◌++◌, [], ◌∷◌, suc, ℕ};
+ghost use Rattle.std.specs.Prelude.{List, length, map, IfSome, OnOk};
 ghost use Rattle.outside.specs.Faults.{HasCause};
 ghost use Rattle.app_base.specs.Output.{Grows, Writes, WritesLast};
 ghost use Rattle.replay_text.specs.Report.{told_line};

@@ -23,7 +23,7 @@ use Rattle.raft_log.specs.Stored.{AfterSome, Stored}
 use Rattle.app_node.specs.WholeRun.{HoldsStore, LeavesAll, after_turns}
 use Rattle.app_node_laws.specs.Traces.{Came, Event, MayAllHappen, Silence, all_rows, rows_of}
 use Rattle.app_node_laws.specs.Mirrored.{AreCalm, Carries, IsMirrored, raw_by}
-use Rattle.app_node_laws.specs.Processes.{GoesOn, IsWaiting, Point, StandAt, place_of, running_at, together_at}
+use Rattle.app_node_laws.specs.Processes.{GoesOn, Point, StandAt, place_of, together_at}
 use Rattle.app_node_laws.specs.Processes as at_point
 use Rattle.app_node_laws.specs.Stands.{IsCutAsTold, IsFollowed, IsFoundKilled, IsRunIn, LeavesAsTold, MayBeKilled, world_after}
 use Rattle.app_node_laws.proofs.Final.{at_place, same_ids_of}
@@ -143,15 +143,15 @@ module _ (laws : FollowLaws) {L D : Type 0} (coming : L → Option (List Receive
       → let w = world_after ids before in IsCutAsTold coming sent disk links disks mine given w (world_after ids (before ++ during)) (all_rows during w) all place
   cut_as_told ids mine before during size taken place given links disks readings within is left = record {
     sent_is = λ i link low. left.sent_is i link low ∙ ap (λ (l : List RawFrame). some l) (follow i low).frames;
-    stored_is = λ i after low apart there. subst (HoldsStore disk after) (stored_now i low) (left.stored_is i after low apart there);
-    killed = λ link after image there leaves. elim (left.own_is link after there) [
-      | inl h ↦ inl (
+    stored_is = λ i after low apart there. subst (HoldsStore disk after) (stored_now i low) (left.stored_is i low apart after there);
+    killed = λ link after image there leaves. elim (left.own_is link) [
+      | inl h ↦ let part = h.1 after there in inl (
         h.0,
-        laws.killed v (in_silence t) moment Silence image h.1.state calm (record { server = mirrored.server; runs = mirrored.runs; same = mirrored.same }) (stored_as h.1)
-            (subst (λ (puts : List PutWithOrigin). AfterSome (StandsForState image) (stored_puts puts h.1.state) h.1.state) (sym (silent_puts moment t)) (h.1.stands image leaves))
+        laws.killed v (in_silence t) moment Silence image part.state calm (record { server = mirrored.server; runs = mirrored.runs; same = mirrored.same }) (stored_as part)
+            (subst (λ (puts : List PutWithOrigin). AfterSome (StandsForState image) (stored_puts puts part.state) part.state) (sym (silent_puts moment t)) (part.stands image leaves))
             tt (λ puts. (record { member = listed; runs = ap is_running mirrored.runs }, λ still. tt)),
       )
-      | inr h ↦ inr (h.0, λ came carries may. laws.killed v t moment came image h.1.state calm mirrored (stored_as h.1) (h.1.stands image leaves) carries may)
+      | inr h ↦ let part = h.1 after there in inr (h.0, λ came carries may. laws.killed v t moment came image part.state calm mirrored (stored_as part) (part.stands image leaves) carries may)
     ];
   }
     where

@@ -1,29 +1,17 @@
-use Rattle.std.proofs.Common.{[], ap, sym, ◌∙◌, subst}
-use Rattle.std.specs.Prelude.{Err}
+use Rattle.std.proofs.Common.{◌≡◌, ◌⊎◌, [], sym, ◌∙◌, subst, inr}
 use Rattle.std.specs.Io.KnownBytes.{Appends, append_known}
-use Rattle.app_node.specs.Ends.{fault_line}
-use Rattle.app_node.specs.Report.{disk_fault_line, link_fault_line}
-use Rattle.app_node.proofs.Ending.{disk_status, from_nothing, link_status}
+use Rattle.std.specs.Prelude.{IfErr, Result, ⊤}
+use Rattle.app_base.specs.declared.status.Status.TheVariants.{WriteFault}
+use Rattle.app_node.specs.Ends.{fault_status}
+use Rattle.app_node.specs.Report.{line_of}
+use Rattle.app_node.specs.declared.fault.Fault.{Fault}
+use Rattle.app_node.proofs.Ending.{from_nothing}
 use Rattle.app_node.proofs.run.finish.Goals as goal
 
-pub returns-in-Ok-last-clause-link : goal.returns-in-Ok-last-clause-link
-returns-in-Ok-last-clause-link g c = λ id is.
+pub returns-in-Ok-last-clause-line : goal.returns-in-Ok-last-clause-line
+returns-in-Ok-last-clause-line g c =
     let a = g.K.Sink.written c.args.sink.now in
     let b = g.K.Sink.written c.last.new.sink in
-    let fault = link_status c.in-Err.fault id (sym c.status.ensures ∙ is) in
-    let text = c.as_bytes.ensures.bytes ∙ c.line.ensures.text ∙ ap fault_line fault in (
-      c.in-Err.is ∙ ap Err fault,
-      from_nothing a b (link_fault_line id) (subst (λ l. Appends (append_known a []) b l) text
-          (subst (λ o. Appends (append_known a o) b c.as_bytes.result.now) c.new.ensures c.in-Ok-last.ensures.told.ok)),
-    )
-
-pub returns-in-Ok-last-clause-disk : goal.returns-in-Ok-last-clause-disk
-returns-in-Ok-last-clause-disk g c = λ id is.
-    let a = g.K.Sink.written c.args.sink.now in
-    let b = g.K.Sink.written c.last.new.sink in
-    let fault = disk_status c.in-Err.fault id (sym c.status.ensures ∙ is) in
-    let text = c.as_bytes.ensures.bytes ∙ c.line.ensures.text ∙ ap fault_line fault in (
-      c.in-Err.is ∙ ap Err fault,
-      from_nothing a b (disk_fault_line id) (subst (λ l. Appends (append_known a []) b l) text
-          (subst (λ o. Appends (append_known a o) b c.as_bytes.result.now) c.new.ensures c.in-Ok-last.ensures.told.ok)),
-    )
+    subst (λ (ended : Result ⊤ Fault). IfErr ended (λ fault. (c.status.result ≡ WriteFault) ⊎ Appends a b (line_of (fault_status fault)))) (sym c.in-Err.is)
+    (inr (from_nothing a b (line_of (fault_status c.in-Err.fault)) (subst (λ l. Appends (append_known a []) b l) (c.as_bytes.ensures.bytes ∙ c.line.ensures.text)
+    (subst (λ o. Appends (append_known a o) b c.as_bytes.result.now) c.new.ensures c.in-Ok-last.ensures.told.ok))))

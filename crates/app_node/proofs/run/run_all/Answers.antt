@@ -1,12 +1,10 @@
 use Rattle.std.proofs.Common.{◌<◌, length, refl, inl, inr, ◌∙◌, subst, arith}
 use Rattle.std.specs.Prelude.{None, slice_index_or}
-use Rattle.app_node.specs.Cut.{IsCutOpening}
 use Rattle.app_node.specs.Opening.{Given, opened as opened_of}
 use Rattle.app_node.specs.Runners.{runners_of}
 use Rattle.app_node.specs.Stands.{Stand}
 use Rattle.app_node.specs.Turns.{all_turns}
 use Rattle.app_node.specs.WholeRun.{Tell}
-use Rattle.app_node.specs.declared.fault.Fault.{Fault}
 use Rattle.app_node.proofs.Cut.{of_refused}
 use Rattle.app_node.proofs.Ending.{are_whole, if_err, past, refused_ends, some_value, turn_ends}
 use Rattle.app_node.proofs.Lists.{on_ok, on_ok_always}
@@ -22,30 +20,25 @@ returns-in-Err g c =
     let present = c.requires.present _ within in
     let old = some_value (slice_index_or c.args.disks.now (length (runners_of c.open_all.new.self)) None) present in
     let new = some_value (slice_index_or c.open_all.new.disks (length (runners_of c.open_all.new.self)) None) why.there in
-    let Cuts = λ (fault : Fault).
-    IsCutOpening g.L.Link.coming g.L.Link.sent c.args.ids.now (runners_of c.open_all.new.self) c.args.links.now c.args.links.now c.args.disks.now c.open_all.new.disks
-    (g.C.Clock.readings c.args.clock.now) (g.C.Clock.readings c.open_all.new.clock) fault in
-    let cut : Cuts c.in-Err.fault = record {
-      within = within;
-      id_is = of_refused g.D.Disk old.0 new.0 _ c.in-Err.fault (why.refused.cause old.0 new.0 old.1 new.1);
-      untouched = refl;
-      readings_are = opened.clock;
-      opened = opened.opened;
-      refused = why.refused;
-      behind = opened.behind;
-    } in
     record {
       run = record {
         count = opened.count;
         places = opened.places;
         behind = past _ _ _ why.there opened.behind c.requires.present;
         whole = are_whole c.args.ids.now c.args.disks.now _ opened.opened;
-        failed = refused_ends g.L.Link.faults c.args.ids.now c.args.disks.now c.open_all.new.disks c.args.links.now c.args.links.now _ c.in-Err.fault refl opened.opened present why;
+        failed = refused_ends g.L.Link.faults c.args.ids.now c.args.disks.now c.open_all.new.disks c.args.links.now c.args.links.now _ c.in-Err.fault opened.opened present why;
       };
       all = tt;
       stands = tt;
-      cut = λ given tell. inl cut;
-      unopened = inr cut;
+      cut = inl (record {
+        within = within;
+        id_is = of_refused g.D.Disk old.0 new.0 _ c.in-Err.fault (why.refused.cause old.0 new.0 old.1 new.1);
+        untouched = refl;
+        readings_are = opened.clock;
+        opened = opened.opened;
+        refused = why.refused;
+        behind = opened.behind;
+      });
       tells = tt;
       quiet = refused_run g.D.Disk g.L.Link.faults c.calls_that_succeed_count_no_fault.ensures c.args.ids.now c.args.disks.now c.open_all.new.disks _ opened.opened
           c.args.links.now c.in-Err.fault c.requires.links why opened.behind;
@@ -79,16 +72,15 @@ returns-in-Ok g c =
           let all = opened_of c.args.size c.args.ids.now given in
           subst (λ n. Stand g.L.Link.coming g.L.Link.sent (runners_of c.take_turns.new.self) c.take_turns.new.links (g.C.Clock.readings c.take_turns.new.clock) c.take_turns.new.steps
           (all_turns n c.args.turns all)) opened.all (goes all (stand given tell))) turned.turned;
-      cut = if_err c.take_turns.result (λ fault goes given tell. inr (record {
+      cut = if_err c.take_turns.result (λ fault goes. inr (record {
         all = count;
         ids_are = λ i r low.
             let same = turned.nodes.count in
             let first : i < length (runners_of c.open_all.new.self) = omega (arith, same, low) in
             (turned.nodes.each i r r first).id ∙ (opened.opened i r first).id_is;
-        telling = telling given tell;
-        cut = goes (opened_of c.args.size c.args.ids.now given) (stand given tell);
+        telling = telling;
+        cut = λ given tell. goes (opened_of c.args.size c.args.ids.now given) (stand given tell);
       })) turned.cut;
-      unopened = if_err c.take_turns.result (λ fault failed. inl count) turned.failed;
       tells = on_ok_always c.take_turns.result telling;
       quiet = turned_run g.D.Disk g.L.Link.faults c.calls_that_succeed_count_no_fault.ensures c.args.ids.now c.args.disks.now c.open_all.new.disks _ opened.opened _
           c.args.links.now c.take_turns.new.links c.take_turns.result opened.all turned.nodes.count (turned.quiet (λ i r low. (opened.opened i r low).standing));

@@ -54,7 +54,6 @@ loop-place-preserved g c =
     let runners = c.loop-place.runners in
     let links = c.loop-place.links in
     let faults = g.L.Link.faults in
-    let disk_faults = g.D.Disk.faults in
     let nodes = so_far.nodes in
     let kept = so_far.links in
     let node_count = nodes.count in
@@ -66,21 +65,12 @@ loop-place-preserved g c =
     let there : place < length links = omega (arith, first_link, link_count) in
     let some = c.index-runners-place.result in
     let some_link = c.index-links-place.result in
-    let old = slice_index_or runners place some in
-    let old_link = slice_index_or links place some_link in
     let runner = c.turn.new.self in
     let link = c.turn.new.link in
     record {
-      nodes = keeps_nodes runners links place runner link here there c.args.runners.now c.args.links.now faults nodes kept (λ before.
-          let was = nodes.each place before some first in record {
-            id = c.turn.ensures.id ∙ was.id;
-            later = let earlier = was.later in let now = c.turn.ensures.disk_later in omega (arith, earlier, now);
-            tells = c.turn.ensures.tells ∙ was.tells;
-            accepts = c.turn.ensures.accepts ∙ was.accepts;
-          });
-      links = keeps_links runners links place runner link here there c.args.runners.now c.args.links.now faults nodes kept (λ before.
-          let earlier = kept.later place before some_link first_link in
-          let now = c.turn.ensures.link_later in omega (arith, earlier, now));
+      nodes = keeps_nodes runners links place runner link here there c.args.runners.now c.args.links.now faults nodes kept some
+          (record { id = c.turn.ensures.id; later = c.turn.ensures.disk_later; tells = c.turn.ensures.tells; accepts = c.turn.ensures.accepts });
+      links = keeps_links runners links place runner link here there c.args.runners.now c.args.links.now faults nodes kept some_link c.turn.ensures.link_later;
       working = all_set (λ i r. Works r) runners place runner so_far.working c.in-Ok.ensures.works;
       standing = λ all. all_set (λ i r. IsStanding r) runners place runner (so_far.standing all) (c.in-Ok.ensures.standing (so_far.standing all place some here));
       quiet = λ all. let so_quiet = so_far.quiet all in
@@ -106,66 +96,6 @@ loop-place-preserved g c =
           });
     }
 
-pub returns-in-Err-clause-nodes : goal.returns-in-Err-clause-nodes
-returns-in-Err-clause-nodes g c =
-    let so_far = c.loop-place.invariant in
-    let place = c.loop-place.place in
-    let low = c.loop-place-test.true in
-    let runners = c.loop-place.runners in
-    let links = c.loop-place.links in
-    let faults = g.L.Link.faults in
-    let disk_faults = g.D.Disk.faults in
-    let nodes = so_far.nodes in
-    let kept = so_far.links in
-    let node_count = nodes.count in
-    let link_count = kept.count in
-    let each = c.requires.each in
-    let first : place < length c.args.runners.now = omega (arith, low, node_count) in
-    let first_link : place < length c.args.links.now = omega (arith, low, node_count, link_count, each) in
-    let here : place < length runners = omega (arith, first, node_count) in
-    let there : place < length links = omega (arith, first_link, link_count) in
-    let some = c.index-runners-place.result in
-    let some_link = c.index-links-place.result in
-    let old = slice_index_or runners place some in
-    let old_link = slice_index_or links place some_link in
-    let runner = c.turn.new.self in
-    let link = c.turn.new.link in
-    keeps_nodes runners links place runner link here there c.args.runners.now c.args.links.now faults nodes kept (λ before.
-    let was = nodes.each place before some first in record {
-      id = c.turn.ensures.id ∙ was.id;
-      later = let earlier = was.later in let now = c.turn.ensures.disk_later in omega (arith, earlier, now);
-      tells = c.turn.ensures.tells ∙ was.tells;
-      accepts = c.turn.ensures.accepts ∙ was.accepts;
-    })
-
-pub returns-in-Err-clause-links : goal.returns-in-Err-clause-links
-returns-in-Err-clause-links g c =
-    let so_far = c.loop-place.invariant in
-    let place = c.loop-place.place in
-    let low = c.loop-place-test.true in
-    let runners = c.loop-place.runners in
-    let links = c.loop-place.links in
-    let faults = g.L.Link.faults in
-    let disk_faults = g.D.Disk.faults in
-    let nodes = so_far.nodes in
-    let kept = so_far.links in
-    let node_count = nodes.count in
-    let link_count = kept.count in
-    let each = c.requires.each in
-    let first : place < length c.args.runners.now = omega (arith, low, node_count) in
-    let first_link : place < length c.args.links.now = omega (arith, low, node_count, link_count, each) in
-    let here : place < length runners = omega (arith, first, node_count) in
-    let there : place < length links = omega (arith, first_link, link_count) in
-    let some = c.index-runners-place.result in
-    let some_link = c.index-links-place.result in
-    let old = slice_index_or runners place some in
-    let old_link = slice_index_or links place some_link in
-    let runner = c.turn.new.self in
-    let link = c.turn.new.link in
-    keeps_links runners links place runner link here there c.args.runners.now c.args.links.now faults nodes kept (λ before.
-    let earlier = kept.later place before some_link first_link in
-    let now = c.turn.ensures.link_later in omega (arith, earlier, now))
-
 pub returns-clause-turned : goal.returns-clause-turned
 returns-clause-turned g c = λ all is.
     let so_far = c.loop-place.invariant in
@@ -176,8 +106,8 @@ returns-clause-turned g c = λ all is.
     subst (λ n. Stand g.L.Link.coming g.L.Link.sent c.loop-place.runners c.loop-place.links (g.C.Clock.readings c.loop-place.clock) c.loop-place.steps (first_turns n all)) all_of
     (so_far.turned all is)
 
-pub returns-in-Err-clause-failed : goal.returns-in-Err-clause-failed
-returns-in-Err-clause-failed g c =
+pub returns-in-Err : goal.returns-in-Err
+returns-in-Err g c =
     let so_far = c.loop-place.invariant in
     let place = c.loop-place.place in
     let low = c.loop-place-test.true in
@@ -185,6 +115,7 @@ returns-in-Err-clause-failed g c =
     let links = c.loop-place.links in
     let faults = g.L.Link.faults in
     let disk_faults = g.D.Disk.faults in
+    let readings = g.C.Clock.readings in
     let nodes = so_far.nodes in
     let kept = so_far.links in
     let node_count = nodes.count in
@@ -198,78 +129,50 @@ returns-in-Err-clause-failed g c =
     let some_link = c.index-links-place.result in
     let old = slice_index_or runners place some in
     let old_link = slice_index_or links place some_link in
-    let works = so_far.working place some here in
-    ends_turn runners links place c.turn.new.self c.turn.new.link here there c.args.runners.now c.args.links.now faults nodes kept c.in-Err.fault old.id
-    (λ before. sym (nodes.each place before some first).id) first
-    (λ node is. let why = c.in-Err.ensures.link_failed node (ap Err is) in (
-      why.0,
-      λ before.
-          rose_before (faults (slice_index_or c.args.links.now place before)) (faults old_link) (faults c.turn.new.link)
-          (kept.later place before some_link first_link) why.1,
-    ))
-    (λ node is. let why = c.in-Err.ensures.disk_failed node works (ap Err is) in (
-      why.0,
-      λ before.
-          rose_before (disk_faults (runner_disk (slice_index_or c.args.runners.now place before))) (disk_faults (runner_disk old)) (disk_faults (runner_disk c.turn.new.self))
-          (nodes.each place before some first).later why.1,
-    ))
-    (λ node key is. c.in-Err.ensures.sound node key (ap Err is))
-
-pub returns-in-Err-clause-cut : goal.returns-in-Err-clause-cut
-returns-in-Err-clause-cut g c = λ all is.
-    let so_far = c.loop-place.invariant in
-    let place = c.loop-place.place in
-    let low = c.loop-place-test.true in
-    let runners = c.loop-place.runners in
-    let links = c.loop-place.links in
-    let node_count = so_far.nodes.count in
-    let link_count = so_far.links.count in
-    let each = c.requires.each in
-    let first : place < length c.args.runners.now = omega (arith, low, node_count) in
-    let here : place < length runners = omega (arith, first, node_count) in
-    let there : place < length links = omega (arith, first, link_count, each) in
-    let some = c.index-runners-place.result in
-    let some_link = c.index-links-place.result in
     let runner = c.turn.new.self in
     let link = c.turn.new.link in
-    let far = so_far.turned all is in
-    let before = first_turns place all in
-    let read = reads c.now-now.result (g.C.Clock.readings c.loop-place.clock) (g.C.Clock.readings c.now-now.new.self) before.readings c.now-now.ensures far.readings_are in
-    let t = turning_at place before in
-    let cut = c.turn.ensures.cut t (record { running = far.each place some some_link here; lines = far.lines }) in
-    let size = length-set runners place runner in
+    let turn = c.turn.ensures in
+    let why = c.in-Err.ensures in
+    let works = so_far.working place some here in
     record {
-      place = place;
-      within = omega (arith, here, size);
-      id_is = λ r. sym (ap (λ (x : Runner g.row.D.Denot g.row.F.Denot g.D.Disk). x.id) (set_here runners place place runner r refl here)) ∙ c.turn.ensures.id
-          ∙ sym (at_node c.in-Err.fault (slice_index_or runners place some).id
-          (λ node e. (c.in-Err.ensures.link_failed node (ap Err e)).0)
-          (λ node e. (c.in-Err.ensures.disk_failed node (so_far.working place some here) (ap Err e)).0)
-          (λ node key e. c.in-Err.ensures.sound node key (ap Err e)));
-      cut = cut_at runners links place runner some link some_link here there g.L.Link.coming g.L.Link.sent (g.C.Clock.readings c.loop-place.clock) c.loop-place.steps before far
-          (g.C.Clock.readings c.now-now.new.self) read.1 c.in-Err.ensures.unsent c.turn.ensures.tells
-          (subst (λ m. IsCutIn m t (g.L.Link.coming c.turn.new.link) (LeavesSome (slice_index_or runners place some).server runner.server)) read.0 cut);
+      turned = tt;
+      cut = λ all is.
+          let far = so_far.turned all is in
+          let before = first_turns place all in
+          let t = turning_at place before in
+          let read = reads c.now-now.result (readings c.loop-place.clock) (readings c.now-now.new.self) before.readings c.now-now.ensures far.readings_are in
+          let cut = turn.cut t (record { running = far.each place some some_link here; lines = far.lines }) in
+          let size = length-set runners place runner in
+          record {
+            place = place;
+            within = omega (arith, here, size);
+            named = λ r. sym (ap (λ (x : Runner g.row.D.Denot g.row.F.Denot g.D.Disk). x.id) (set_here runners place place runner r refl here)) ∙ turn.id
+                ∙ sym (at_node c.in-Err.fault old.id (λ node e. (why.link_failed node (ap Err e)).0) (λ node e. (why.disk_failed node works (ap Err e)).0) (λ node key e. why.sound node key (ap Err e)));
+            cut = cut_at runners links place runner some link some_link here there g.L.Link.coming g.L.Link.sent (readings c.loop-place.clock) c.loop-place.steps before far
+                (readings c.now-now.new.self) read.1 why.unsent turn.tells
+                (subst (λ m. IsCutIn m t (g.L.Link.coming link) (LeavesSome old.server runner.server)) read.0 cut);
+          };
+      nodes = keeps_nodes runners links place runner link here there c.args.runners.now c.args.links.now faults nodes kept some
+          (record { id = turn.id; later = turn.disk_later; tells = turn.tells; accepts = turn.accepts });
+      links = keeps_links runners links place runner link here there c.args.runners.now c.args.links.now faults nodes kept some_link turn.link_later;
+      working = tt;
+      failed = ends_turn runners links place runner link here there c.args.runners.now c.args.links.now faults nodes kept c.in-Err.fault old.id
+          (λ before. sym (nodes.each place before some first).id) first
+          (λ node is. let failed = why.link_failed node (ap Err is) in (
+            failed.0,
+            λ before. rose_before (faults (slice_index_or c.args.links.now place before)) (faults old_link) (faults link) (kept.later place before some_link first_link) failed.1,
+          ))
+          (λ node is. let failed = why.disk_failed node works (ap Err is) in (
+            failed.0,
+            λ before. rose_before (disk_faults (runner_disk (slice_index_or c.args.runners.now place before))) (disk_faults (runner_disk old)) (disk_faults (runner_disk runner))
+                (nodes.each place before some first).later failed.1,
+          ))
+          (λ node key is. why.sound node key (ap Err is));
+      few = let steps = so_far.few in let now = turn.few in let five = c.requires.five in omega (arith, steps, now, five, first);
+      standing = tt;
+      quiet = λ all. let so_quiet = so_far.quiet all in
+          quiet_set runners links place runner link here there c.args.runners.now c.args.links.now faults (Err c.in-Err.fault) so_quiet
+          (λ r before other. why.link_quiet (λ e. other (e ∙ ap (λ n. Err (Link n)) (nodes.each place r some first).id)) ∙ so_quiet.links place r before some_link first (λ e. absurd (cc (e))))
+          (λ before other. why.disk_quiet (λ e. other (e ∙ ap (λ n. Err (Disk n)) (nodes.each place before some first).id)) (so_far.standing all place some here)
+          ∙ so_quiet.disks place before some first (λ e. absurd (cc (e))));
     }
-
-pub returns-in-Err-clause-quiet : goal.returns-in-Err-clause-quiet
-returns-in-Err-clause-quiet g c = λ all.
-    let so_far = c.loop-place.invariant in
-    let so_quiet = so_far.quiet all in
-    let place = c.loop-place.place in
-    let low = c.loop-place-test.true in
-    let runners = c.loop-place.runners in
-    let links = c.loop-place.links in
-    let nodes = so_far.nodes in
-    let node_count = nodes.count in
-    let link_count = so_far.links.count in
-    let each = c.requires.each in
-    let first : place < length c.args.runners.now = omega (arith, low, node_count) in
-    let here : place < length runners = omega (arith, first, node_count) in
-    let there : place < length links = omega (arith, first, link_count, each) in
-    let some = c.index-runners-place.result in
-    let some_link = c.index-links-place.result in
-    let turn = c.in-Err.ensures in
-    quiet_set runners links place c.turn.new.self c.turn.new.link here there c.args.runners.now c.args.links.now g.L.Link.faults (Err c.in-Err.fault) so_quiet
-    (λ r before other. turn.link_quiet (λ e. other (e ∙ ap (λ n. Err (Link n)) (nodes.each place r some first).id)) ∙ so_quiet.links place r before some_link first (λ e. absurd (cc (e))))
-    (λ before other. turn.disk_quiet (λ e. other (e ∙ ap (λ n. Err (Disk n)) (nodes.each place before some first).id)) (so_far.standing all place some here)
-    ∙ so_quiet.disks place before some first (λ e. absurd (cc (e))))

@@ -78,30 +78,6 @@ invariant_of-self g c =
           ap (λ l. closure_of (slice_index_or l i runner)) went.same ∙ (went.nodes.each i runner runner inside).accepts ∙ c.turns.self.alike i runner inside;
     }
 
-pub returns-in-Err-clause-nodes : goal.returns-in-Err-clause-nodes
-returns-in-Err-clause-nodes g c =
-    let value = c.as_mut_slice.ensures.value in
-    let items = runners_of c.turns.self in
-    let new = c.take_turn.new.runners in
-    let went = taken c.turns.self.list.len items _ new value c.as_mut_slice.ensures.len c.take_turn.ensures.nodes in
-    subst (λ l. KeepsNodes (runners_of c.args.self.now) l) (sym went.same) (nodes_then (runners_of c.args.self.now) items new c.turns.invariant.nodes went.nodes)
-
-pub returns-in-Err-clause-links : goal.returns-in-Err-clause-links
-returns-in-Err-clause-links g c =
-    links_then g.L.Link.faults c.args.links.now c.turns.links c.take_turn.new.links c.turns.invariant.links c.take_turn.ensures.links
-
-pub returns-in-Err-clause-failed : goal.returns-in-Err-clause-failed
-returns-in-Err-clause-failed g c =
-    let value = c.as_mut_slice.ensures.value in
-    let items = runners_of c.turns.self in
-    let new = c.take_turn.new.runners in
-    let went = taken c.turns.self.list.len items _ new value c.as_mut_slice.ensures.len c.take_turn.ensures.nodes in
-    let before = runners_of c.args.self.now in
-    let faults = g.L.Link.faults in
-    subst (λ l. EndsTurn faults before l c.args.links.now c.take_turn.new.links c.in-Err.fault) (sym went.same)
-    (ends_later faults before items new c.args.links.now c.turns.links c.take_turn.new.links c.in-Err.fault c.turns.invariant.nodes c.turns.invariant.links c.requires.each
-    (subst (λ l. EndsTurn faults l new c.turns.links c.take_turn.new.links c.in-Err.fault) value c.in-Err.ensures.failed))
-
 pub turns-preserved : goal.turns-preserved
 turns-preserved g c =
     let so_far = c.turns.invariant in
@@ -149,8 +125,8 @@ returns-clause-turned g c = λ all is.
     subst (λ n. Stand g.L.Link.coming g.L.Link.sent (runners_of c.turns.self) c.turns.links (g.C.Clock.readings c.turns.clock) c.turns.steps
     (all_turns (length (runners_of c.args.self.now)) n all)) end (so_far.turned all is)
 
-pub returns-in-Err-clause-cut : goal.returns-in-Err-clause-cut
-returns-in-Err-clause-cut g c = λ all is.
+pub returns-in-Err : goal.returns-in-Err
+returns-in-Err g c =
     let so_far = c.turns.invariant in
     let value = c.as_mut_slice.ensures.value in
     let items = runners_of c.turns.self in
@@ -158,28 +134,32 @@ returns-in-Err-clause-cut g c = λ all is.
     let list = take c.turns.self.list.len (new ++ drop (length new) items) in
     let went = taken c.turns.self.list.len items _ new value c.as_mut_slice.ensures.len c.take_turn.ensures.nodes in
     let before = runners_of c.args.self.now in
-    let by_then = all_turns (length before) c.turns.taken all in
-    let cut = c.in-Err.ensures.cut by_then
-    (subst (λ l. Stand g.L.Link.coming g.L.Link.sent l c.turns.links (g.C.Clock.readings c.turns.clock) c.turns.steps by_then) (sym value) (so_far.turned all is)) in
-    let count : length before ≡ length list = sym (ap length went.same ∙ went.nodes.count ∙ so_far.nodes.count) in
-    record {
-      taken = c.turns.taken;
-      fewer = c.turns-test.true;
-      turn = subst (λ n. IsCutTurn g.L.Link.coming g.L.Link.sent list c.take_turn.new.links (g.C.Clock.readings c.take_turn.new.clock) (all_turns n c.turns.taken all) c.in-Err.fault) count
-          (subst (λ l. IsCutTurn g.L.Link.coming g.L.Link.sent l c.take_turn.new.links (g.C.Clock.readings c.take_turn.new.clock) by_then c.in-Err.fault) (sym went.same) cut);
-    }
-
-pub returns-in-Err-clause-quiet : goal.returns-in-Err-clause-quiet
-returns-in-Err-clause-quiet g c = λ all.
-    let so_far = c.turns.invariant in
-    let value = c.as_mut_slice.ensures.value in
-    let items = runners_of c.turns.self in
-    let new = c.take_turn.new.runners in
-    let went = taken c.turns.self.list.len items _ new value c.as_mut_slice.ensures.len c.take_turn.ensures.nodes in
-    let before = runners_of c.args.self.now in
+    let links_old = c.args.links.now in
+    let links = c.take_turn.new.links in
+    let coming = g.L.Link.coming in
+    let sent = g.L.Link.sent in
     let faults = g.L.Link.faults in
+    let readings = g.C.Clock.readings in
+    let turn = c.in-Err.ensures in
     let result = Err c.in-Err.fault in
-    let turn = c.in-Err.ensures.quiet (subst (λ l. AreStanding l) (sym value) (so_far.standing all)) in
-    subst (λ l. StayQuiet faults before l c.args.links.now c.take_turn.new.links result) (sym went.same)
-    (quiet_then faults before items new c.args.links.now c.turns.links c.take_turn.new.links result so_far.nodes (so_far.quiet all)
-    (subst (λ l. StayQuiet faults l new c.turns.links c.take_turn.new.links result) value turn))
+    record {
+      turned = tt;
+      cut = λ all is.
+          let by_then = all_turns (length before) c.turns.taken all in
+          let cut = turn.cut by_then (subst (λ l. Stand coming sent l c.turns.links (readings c.turns.clock) c.turns.steps by_then) (sym value) (so_far.turned all is)) in
+          let count : length before ≡ length list = sym (ap length went.same ∙ went.nodes.count ∙ so_far.nodes.count) in
+          record {
+            taken = c.turns.taken;
+            fewer = c.turns-test.true;
+            turn = subst (λ n. IsCutTurn coming sent list links (readings c.take_turn.new.clock) (all_turns n c.turns.taken all) c.in-Err.fault) count
+                (subst (λ l. IsCutTurn coming sent l links (readings c.take_turn.new.clock) by_then c.in-Err.fault) (sym went.same) cut);
+          };
+      nodes = subst (λ l. KeepsNodes before l) (sym went.same) (nodes_then before items new so_far.nodes went.nodes);
+      links = links_then faults links_old c.turns.links links so_far.links c.take_turn.ensures.links;
+      failed = subst (λ l. EndsTurn faults before l links_old links c.in-Err.fault) (sym went.same)
+          (ends_later faults before items new links_old c.turns.links links c.in-Err.fault so_far.nodes so_far.links c.requires.each
+          (subst (λ l. EndsTurn faults l new c.turns.links links c.in-Err.fault) value turn.failed));
+      quiet = λ all. subst (λ l. StayQuiet faults before l links_old links result) (sym went.same)
+          (quiet_then faults before items new links_old c.turns.links links result so_far.nodes (so_far.quiet all)
+          (subst (λ l. StayQuiet faults l new c.turns.links links result) value (turn.quiet (subst (λ l. AreStanding l) (sym value) (so_far.standing all)))));
+    }
