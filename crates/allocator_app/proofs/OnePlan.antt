@@ -96,11 +96,11 @@ is_of (Watch candump lines ids) = (candump, lines, ids, refl)
 is_of (Convert from_candump to_candump lines) = (from_candump, to_candump, lines, refl)
 is_of (Decode name part payload) = (name, part, payload, refl)
 
--- both plans of some words are of one mode
+-- two plans of the same words are of one mode
 of_mode : (plan other : Plan) (words : List (List ℕ)) → IsPlan plan words → IsPlan other words → IsOf (mode other) plan
 of_mode plan other words p q = subst (λ m. IsOf m plan) (sym (mode_is plan words p) ∙ mode_is other words q) (is_of plan)
 
--- ---- and its parameters
+-- ---- the parameters of a plan
 
 abbrev kept : List ℕ → ArrayVec ℕ
 kept list = record { items = list }

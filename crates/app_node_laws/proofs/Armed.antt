@@ -94,7 +94,7 @@ behind_suc : (puts : ℕ) → (call : ℕ) × (stop_behind puts ≡ suc call)
 behind_suc zero = (0, refl)
 behind_suc (suc puts) = (suc (suc (suc (stop_behind puts))), refl)
 
--- it stops behind the last of these puts, or later
+-- the disk stops behind the last of these puts, or later
 pub record AllPut (puts : List Put) (stop : ℕ) (key_disk after : KeyDisk Stored) (faults : ℕ) : Type 0 where
   pub few : length puts ≤ stop
   pub all : are_put puts (armed (stop_behind stop) faults) ≡ true
@@ -104,7 +104,7 @@ pub record AllPut (puts : List Put) (stop : ℕ) (key_disk after : KeyDisk Store
   pub nothing_unsynced : after.unsynced ≡ None
   pub store : after.store ≡ after_puts puts key_disk.store
 
--- or before
+-- the disk stops before the last of them
 pub record SomePut (puts : List Put) (stop : ℕ) (key_disk after : KeyDisk Stored) (faults : ℕ) : Type 0 where
   pub many : stop < length puts
   pub not_all : are_put puts (armed (stop_behind stop) faults) ≡ false

@@ -22,7 +22,7 @@ use Rattle.app_node_laws.proofs.Places.{own_is}
 use Rattle.app_node_laws.proofs.Rows.{Runs, going_of}
 use Rattle.app_node_laws.proofs.Stored.{after_noted, after_some, as_many}
 
--- its disk stops behind so many more puts
+-- the disk of a member stops behind so many more puts
 pub record IsArmed (x : Member) (left : ℕ) : Type 0 where
   pub calls : x.disk.calls ≡ armed (stop_behind left) x.disk.calls.faults
   pub nothing_unsynced : x.disk.unsynced ≡ None
@@ -33,7 +33,7 @@ pub record RunsArmed (n : ℕ) (w : Cluster) (server : AllocatorState) (left : �
   pub arm : IsArmed (w.member n) left
   pub others : (m : ℕ) → m ≢ n → IsCalm (w.member m)
 
--- it is stopped, and all disks are calm
+-- the member is stopped, and all disks are calm
 pub record IsDead (n : ℕ) (w : Cluster) : Type 0 where
   pub down : (w.member n).life ≡ Down
   pub calm : AreCalm w
@@ -90,7 +90,7 @@ is_armed_on x left is = λ i. record x.disk { calls = is.calls i; unsynced = is.
 abbrev pub after_event : ℕ → Cluster → Event → Cluster
 after_event n w event = record (with_member w n (stepped (w.rows + 1) event (w.member n).life (w.member n))) { rows = w.rows + 1 }
 
--- it went on, or stopped within the step
+-- the member went on, or stopped within the step
 pub record GoesOn (n : ℕ) (w v : Cluster) (step_state : StepState) (left : ℕ) : Type 0 where
   pub more : ℕ
   pub more_is : more + length step_state.puts ≡ left

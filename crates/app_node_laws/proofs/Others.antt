@@ -136,7 +136,7 @@ event_at (IsKilled n moment word came puts) w may = (
     w3 = after_rows w2 (while_running n (came_rows n moment came) w2)
 event_at (OfAllocatee row) w may = allocatee_at row may.0
 
--- it is not of this member
+-- the event is not of this member
 abbrev pub IsOfAnother : ℕ → Event → Type 0
 IsOfAnother m event = Some m ≡ whose event → ⊥
 

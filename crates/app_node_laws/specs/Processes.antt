@@ -36,7 +36,7 @@ whose (Stops n) = Some n
 whose (IsKilled n moment word came puts) = Some n
 whose (OfAllocatee row) = None
 
--- it is of one of these
+-- the member of an event is one of these
 abbrev pub is_of_these : List ℕ → Option ℕ → Bool
 is_of_these mine None = false
 is_of_these mine (Some n) = is_member mine n
@@ -53,7 +53,7 @@ pub record TakesTurn (w : Cluster) (n moment word : ℕ) (came : Came) (all : To
 
 -- of a process that runs these members, of a cluster of so many, with what was handed in
 module _ (size : ℕ) (mine : List ℕ) (given : Given) where
-  -- its members, when all have taken so many turns, and those before the place one more
+  -- the members of the process, when all have taken so many turns, and those before the place one more
   abbrev pub together_at : ℕ → ℕ → Together
   together_at taken place = first_turns place (all_turns (length mine) taken (opened size mine given))
 

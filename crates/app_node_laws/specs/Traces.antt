@@ -24,7 +24,7 @@ pub data Came : Type 0 where
   IsForeign : (frame : Frame) → Came
 
 pub data Event : Type 0 where
-  -- its process opens a member
+  -- the process of a member opens it
   Opens : (n moment word : ℕ) → Event
   -- a member takes a turn to its end
   Turns : (n moment word : ℕ) (came : Came) → Event

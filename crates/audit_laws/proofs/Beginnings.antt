@@ -83,6 +83,6 @@ module _ (one : StandsForOne) (choice : ℕ → Bool) (w later : Cluster) (headl
   pub stored_agree : AreCalm w → (nodes : List ℕ) (stores : List Reading) (place a b : ℕ) → AreStoredBy w nodes stores → IsDifference stores place a b → ⊥
   stored_agree calm nodes stores place a b are = no_difference (the_list choice w) stores place a b (λ k below. stored_begins calm (slice_index nodes k) (store_at stores k) (are k below))
 
--- and so the world of rows has it, after all of them
+-- the world of rows has the headline after all of them
 pub headline_at_end : (ids : List ℕ) (rows : List Row) (choice : ℕ → Bool) → HasHeadline ids rows → Fits choice (cluster ids) rows → Headline choice (world_of ids rows) (world_of ids (rows ++ []))
 headline_at_end ids rows choice has fits = has.holds rows [] [] choice (sym (append-nil rows)) (subst (Fits choice (cluster ids)) (sym (append-nil rows)) fits)
