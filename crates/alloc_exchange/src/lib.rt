@@ -14,8 +14,6 @@ mod exchange;
 mod heard;
 pub mod laws;
 mod stage;
-#[cfg(test)]
-mod tests;
 
 pub use exchange::Exchange;
 pub use heard::{Heard, Ignore};

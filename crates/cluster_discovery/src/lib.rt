@@ -26,6 +26,3 @@ mod cluster;
 pub mod laws;
 
 pub use cluster::Cluster;
-
-#[cfg(test)]
-mod tests;

@@ -14,6 +14,3 @@ mod reading;
 mod writing;
 
 pub use decoding::decode;
-
-#[cfg(test)]
-mod tests;

@@ -33,6 +33,3 @@ pub use reader::TextReader;
 pub use section::Numbers;
 pub use texts::Texts;
 pub use word::is_name;
-
-#[cfg(test)]
-mod tests;

@@ -27,6 +27,3 @@ mod query;
 mod watch;
 
 pub use watch::Watch;
-
-#[cfg(test)]
-mod tests;

@@ -1,6 +1,6 @@
 ghost use Rattle.std.specs.Prelude.{◌≤◌, length};
 
-use super::*;
+use dsdl_text::{LineFault, Numbers, PROFILE, TextReader, Texts};
 use std::test::Fail;
 
 /// The types of a text, or the fault of the first line that has one.

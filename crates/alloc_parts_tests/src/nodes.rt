@@ -1,7 +1,7 @@
-//! The watch by worked values.
+//! Watching the nodes of the bus.
 
-use crate::Watch;
 use can_frame::{NodeId, Uid};
+use node_discovery::Watch;
 
 const UID: Uid = [7; 16];
 

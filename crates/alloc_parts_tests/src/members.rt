@@ -1,7 +1,7 @@
-//! A cluster by worked values.
+//! Finding the members of a cluster.
 
-use crate::Cluster;
 use arrayvec::ArrayVec;
+use cluster_discovery::Cluster;
 use dsdl_codec::Discovery;
 
 fn told(size: u8, nodes: &[u8]) -> Discovery {

@@ -1,6 +1,6 @@
 //! The three requests of a device with the unique ID 000102..0f that prefers node ID 125.
 
-use crate::{Exchange, Heard, Ignore};
+use alloc_exchange::{Exchange, Heard, Ignore};
 use arrayvec::ArrayVec;
 use dsdl_codec::Allocation;
 use std::test::Fail;
