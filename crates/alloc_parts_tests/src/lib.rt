@@ -1,5 +1,5 @@
-//! Worked cases of the parts that an allocator is made of: who is on the bus, who is in the cluster, the exchange with a
-//! device, and the choice of its node ID.
+//! Worked cases of the parts that an allocator is made of: who is on the bus, who is in the cluster, the exchange
+//! with a device, and the choice of its node ID.
 #![tactic(auto)]
 
 #[cfg(test)]
