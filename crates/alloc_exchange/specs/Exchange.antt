@@ -24,7 +24,7 @@ abbrev pub last_moment : List Accepted → ℕ
 last_moment [] = 0
 last_moment (last ∷ earlier) = last.moment
 
--- those that still count: none more than 500 ms after the last one
+-- the requests that still count: none of them once more than 500 ms have passed since the last one
 abbrev pub kept : List Accepted → ℕ → List Accepted
 kept accepted now = if nat_lt (last_moment accepted + 500) now then [] else accepted
 

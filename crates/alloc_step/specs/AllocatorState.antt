@@ -23,7 +23,7 @@ use Rattle.alloc_step.specs.declared.event.View.{View}
 use Rattle.alloc_step.specs.Transfers.{Ids, first_ids}
 
 pub record AllocatorState : Type 0 where
-  -- its own node ID, and how many members its cluster has
+  -- the allocator's own node ID, and how many members its cluster has
   pub me : ℕ
   pub size : ℕ
   -- the server of the message machine, and what it waits for

@@ -18,7 +18,7 @@ use Rattle.alloc_step.specs.AllocatorState.{AllocatorState, members_of}
 pub record StepState : Type 0 where
   pub timed : AllocatorState
   pub moves : List Move
-  -- those of the moves, each with the origin that its entry gets
+  -- the puts of the moves, each with the origin that its entry gets
   pub puts : List PutWithOrigin
   pub offers : List Offer
 
@@ -95,7 +95,7 @@ given_by_offer offer = if offer.fitted then given_in offer.what offer.payload el
 abbrev pub pairs : StepState → List Given
 pairs g = filter_map given_by_offer g.offers
 
--- those of one transfer
+-- the pair of one transfer, or none, as a list
 abbrev pub one_given : Option Given → List Given
 one_given None = []
 one_given (Some given) = given ∷ []

@@ -94,7 +94,7 @@ record_phase step g = if may_propose g.timed then records_node step (candidate g
 
 -- ---- a query for a unique ID, to the least node that is due; the request of GetNodeInfo is empty
 
--- one that fitted is noted, any other is owed again
+-- a query that fitted is noted; any other is owed again
 abbrev pub with_query : ℕ → ℕ → StepState → StepState
 with_query node id g =
     record g { timed = record g.timed { watch = of_node node (Asked id g.timed.now) ∷ g.timed.watch } }

@@ -64,9 +64,9 @@ outgoing me what to id payload =
 -- a transfer that a step offers
 pub record Offer : Type 0 where
   pub what : What
-  -- its destination, 0 for messages
+  -- the destination, 0 for messages
   pub to : ℕ
-  -- its transfer ID
+  -- the transfer ID
   pub id : ℕ
   pub payload : List ℕ
   -- the step of the request that it answers, or 0
@@ -121,7 +121,7 @@ pub record SentTransfer : Type 0 where
   pub by : ℕ
   pub offer : Offer
 
--- its frames, each with the mark of its place
+-- the frames of a transfer, each with the mark of its place
 abbrev pub frames_of : SentTransfer → List Queued
 frames_of made =
     queued_frames
@@ -138,7 +138,7 @@ has_room queue payload = nat_le (length queue + frame_count (length payload)) qu
 
 -- ---- transfer IDs
 
--- those that come next: one for each message type, and one for each service and destination, by its node ID
+-- the transfer IDs that come next: one for each message type, and one for each service and destination, by its node ID
 pub record Ids : Type 0 where
   pub alloc : ℕ
   pub disc : ℕ

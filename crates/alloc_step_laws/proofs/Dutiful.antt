@@ -122,12 +122,12 @@ expire_wait : (list : List ℕ) (me number now : ℕ) (given : Given) (nodes : L
 expire_wait list me number now given [] plain times = refl
 expire_wait list me number now given (node ∷ nodes) plain times = expire_wait list me number now given nodes _ _
 
--- it has waited in this term, and does not lead
+-- the server has waited in this term, and does not lead
 abbrev Waits : ℕ → StepState → Type 0
 Waits term g = (g.timed.plain.memory.role ≢ Leader) × (g.timed.plain.store.term ≡ term)
     × ((knows_all g.timed && has_waited g.timed.times g.timed.now) ≡ true)
 
--- it stood, and this is the next term
+-- the server stood for election, and this is the next term
 abbrev Stood : ℕ → StepState → Type 0
 Stood term g = (g.timed.plain.memory.role ≢ Follower) × (g.timed.plain.store.term ≡ term)
 

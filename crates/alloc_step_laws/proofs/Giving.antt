@@ -58,7 +58,7 @@ allocation_gives node uid given gives = elim (tell (nat_le (length uid) 16)) [
 pub follow_up_gives : (bytes : List ℕ) (given : Pair) → Gives Alloc (allocation_payload 0 bytes) given → ⊥
 follow_up_gives bytes given gives = omega (arith, (allocation_gives 0 bytes given gives).0)
 
--- nor does a request or a response
+-- a request or a response gives nothing: what gives a pair is a message
 pub message_gives : (what : What) (payload : List ℕ) (given : Pair) → Gives what payload given → kind_of what ≡ Broadcast
 message_gives what payload given gives = ap kind_of gives.kind
 

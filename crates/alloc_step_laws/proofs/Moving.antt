@@ -189,7 +189,7 @@ module _ (laws : Laws) (members : List ℕ) (number : ℕ) (bag : List Message) 
         once = h.once;
       }) (λ e. h)
     where
-      -- its own Discovery teaches a server nothing
+      -- a server's own Discovery teaches it nothing
       sent_one : Sure (sends number Disc 0 (discovery_bytes (own_discovery g.timed)) None g) → Sure (tells_members number g)
       sent_one s = (s.0, λ counts. let w = s.1 counts in record { complete = w.complete; all = w.all })
 
@@ -298,7 +298,7 @@ module _ (laws : Laws) (members : List ℕ) (number : ℕ) (bag : List Message) 
 
   -- ---- an Allocation
 
-  -- one that does not fit says nothing
+  -- a transfer that does not fit says nothing
   unfitted : (what : What) (to : ℕ) (payload : List ℕ) (says : Option Message) (g : StepState) → Sure g → has_room g.timed.queue payload ≡ false
       → Sure (sends number what to payload says g)
   unfitted what to payload says g h full = (

@@ -205,7 +205,7 @@ signed false signature ident w e = absurd (cc)
 signed true None ident w e = absurd (cc)
 signed true (Some n) ident w e = let same : w ≡ record { ident = ident; signature = n } = cc in ap (λ (x : Wanted). x.ident) same
 
--- and its data type is one of the table
+-- the data type of a wanted frame is one of the table
 pub wanted_type : (rows : List AcceptRow) (me id : ℕ) (w : Wanted) → wanted rows me id ≡ Ok w
     → (signature : ℕ) × (first_signature rows w.ident.kind w.ident.number ≡ Some signature)
 unfolding wanted

@@ -14,7 +14,7 @@ abbrev pub AreAllApart : List Offer → Type 0
 AreAllApart [] = ⊤
 AreAllApart (first ∷ rest) = ((other : Offer) → In other rest → AreApart first other) × AreAllApart rest
 
--- those that fitted are told apart by kind, destination and transfer ID: there is one of each name
+-- offers that fitted are told apart by kind, destination and transfer ID: there is one of each name
 abbrev pub OneByName : List Offer → Type 0
 OneByName offers = (a b : Offer) → In a offers → In b offers → a.fitted ≡ true → b.fitted ≡ true →
     a.what ≡ b.what → a.to ≡ b.to

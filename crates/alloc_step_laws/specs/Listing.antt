@@ -18,7 +18,7 @@ pub record IsDelivered (t : AllocatorState) (number : ℕ) (event : Event) (d : 
   pub gives : let then_ = (begins number (moment_of event) t).timed in
       answer (setting_for then_.me) then_.sessions (at_step then_ arrival) ≡ Gives d
 
--- it is a Discovery; of the messages that are received only NodeStatus, 341, is none
+-- a delivered transfer is this Discovery; of the messages that are received only NodeStatus, 341, is none
 pub record IsDiscovery (d : Delivery) (message : Discovery) : Type 0 where
   pub kind : d.ident.kind ≡ Broadcast
   pub number : nat_eq d.ident.number 341 ≡ false

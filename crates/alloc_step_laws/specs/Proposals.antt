@@ -12,6 +12,6 @@ abbrev pub HasUids : List Watched → Type 0
 HasUids watch = (node : ℕ) (uid : List ℕ) (moment : ℕ) → In (of_node node (Taken uid moment)) watch →
     length uid ≡ 16
 
--- and so has that of each entry that a step records
+-- the unique ID of each entry that a step records has 16 bytes
 abbrev pub RecordsUids : StepState → Type 0
 RecordsUids step_state = (entry : Entry) → In (ProposeEntry entry) step_state.moves → length entry.uid ≡ 16

@@ -20,7 +20,7 @@ use Rattle.alloc_step_marks.specs.Unmarked.{unmarked_frame, unmarked_going, unma
 use Rattle.alloc_step_marks.proofs.Twice.{joined_same, map_twice, twice, twice_frames, twice_offers, twice_plain, twice_sessions}
 use Rattle.alloc_step_marks.proofs.Moves.{all_puts_same, all_times_same, plains_same, twice_move, unnumbered_move}
 
--- they differ in marks and numbers alone
+-- the two steps differ in marks and numbers alone
 abbrev pub Same : StepState → StepState → Type 0
 Same g h = unmarked_going g ≡ unmarked_going h
 

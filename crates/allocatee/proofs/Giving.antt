@@ -48,7 +48,7 @@ module _ (number word : ℕ) where
 
 -- ---- an Allocation that it hears
 
--- it is an allocator's, and gives it this node ID
+-- the Allocation is an allocator's, and gives the device this node ID
 pub record IsTold (a : Asking) (anonymous : Bool) (message : Allocation) (node : ℕ) : Type 0 where
   pub known : anonymous ≡ false
   pub uid : message.uid.items ≡ a.uid
@@ -117,7 +117,7 @@ module _ (word : ℕ) (message : Allocation) (node : ℕ) where
   unfolding hears
   kept_hears anonymous a e = kept_by anonymous a a.holds refl e
 
--- its unique ID stays
+-- the unique ID of the device stays
 module _ (word : ℕ) (message : Allocation) where
   uid_given : (b : Bool) (a : Asking) → (if b then record a { holds = Some message.node } else a).uid ≡ a.uid
   uid_given true a = refl

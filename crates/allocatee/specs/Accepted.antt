@@ -10,6 +10,6 @@ rows = record { kind = Anonymous; number = 1; signature = 0x0b2a812620a11d40 }
     ∷ record { kind = Message; number = 1; signature = 0x0b2a812620a11d40 }
     ∷ []
 
--- its receiver: it has no node ID of its own, so no frame is dropped as its own
+-- the receiver of an allocatee: without a node ID of its own it drops no frame as its own
 abbrev pub setting : Setting
 setting = record { rows = rows; me = 0; sessions = 8; blocks = 8 }

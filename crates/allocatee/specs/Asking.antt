@@ -16,7 +16,7 @@ use Rattle.allocatee.specs.declared.timer.Timer.{Timer}
 use Rattle.allocatee.specs.declared.timer.FollowUp.{FollowUp}
 
 pub record Asking : Type 0 where
-  -- its unique ID, and the node ID that it prefers, 0 for any
+  -- the device's unique ID, and the node ID that it prefers, 0 for any
   pub uid : List ℕ
   pub preferred : ℕ
   -- the frames that wait for the bus, in the order of offering, and the transfer ID that comes next

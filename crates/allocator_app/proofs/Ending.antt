@@ -32,7 +32,7 @@ reported (Differ index a b) limit first bytes left sink sink_now ends over = abs
 reported NoPart limit first bytes left sink sink_now ends over = absurd over
 reported NoValue limit first bytes left sink sink_now ends over = absurd over
 
--- and what holds along all lawful rows holds along those of the report
+-- what holds along all lawful rows holds along those of the report
 pub holds_along : (Claim : List ℕ → List Row → Type 0) → ((ids : List ℕ) (rows : List Row) → AreMembers ids → Lawful (cluster ids) rows → Claim ids rows) →
     (status : Status) (limit : ℕ) (nodes bytes : List ℕ) (left sink sink_now : Option (List ℕ)) → AreMembers nodes →
     Ends status limit (cluster nodes) bytes left sink sink_now → IsToTheEnd status →

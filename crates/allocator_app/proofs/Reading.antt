@@ -71,7 +71,7 @@ reads_ahead first w bytes waiting filled left left_now sink sink_before sink_now
       };
     }
 
--- and so while the sink grows
+-- reads stay ahead of the report while the sink grows
 still_ahead : (first : Cluster) (bytes : List ℕ) (left sink sink_now sink_then : Option (List ℕ)) → ReadsAhead first bytes left sink sink_now →
     Grows sink_now sink_then → ReadsAhead first bytes left sink sink_then
 still_ahead first bytes left sink sink_now sink_then reads grew = record {
@@ -344,7 +344,7 @@ is_begun NoRow count = tt
 is_begun (Refused why) count = tt
 is_begun Full count = tt
 
--- none of them tells of a fault, nor of want of memory
+-- no end of rows tells of a fault, nor of want of memory
 pub is_no_fault : (rows : Rows) (count : ℕ) → (status_of rows count ≡ Memory → ⊥) × (status_of rows count ≡ ReadFault → ⊥) × (status_of rows count ≡ WriteFault → ⊥)
 is_no_fault Taken count = (λ e. cc, λ e. cc, λ e. cc)
 is_no_fault NoRow count = (λ e. cc, λ e. cc, λ e. cc)

@@ -7,7 +7,7 @@ use Rattle.app_base.specs.declared.status.Status.{Status}
 use Rattle.app_base.specs.declared.status.Status.TheVariants.{Done, Memory, WriteFault}
 use Rattle.app_soak.specs.Counts.{IsEnd, soak_report}
 
--- its lines were written, or a front of them, where the sink failed. The two numbers and the two lists behind them are
+-- A soak's lines were written, or a prefix of them where the sink failed. The two numbers and the two lists behind are
 -- the faults that the sink has counted, and what it has been written, before and now
 pub record Soaks (seed rounds size : ℕ) (faults_old faults : ℕ) (before now : Option (List ℕ)) (status : Status)
     : Type 0 where

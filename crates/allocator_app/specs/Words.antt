@@ -42,7 +42,7 @@ abbrev pub form_word : Bool → List ℕ
 form_word true = codes "candump"
 form_word false = codes "slcan"
 
--- none, or 1 to 5 different node IDs
+-- no node IDs, or 1 to 5 different ones
 abbrev pub AreFew : List ℕ → Type 0
 AreFew ids = (ids ≡ []) ⊎ AreMembers ids
 
@@ -97,7 +97,7 @@ IsSound (Convert from_candump to_candump lines) = (1 ≤ lines) × (lines ≤ 10
 IsSound (Decode name part payload) =
     IsTrue (is_name name.items) × (1 ≤ part) × (part ≤ 2) × (length payload.items ≤ 376)
 
--- none of them is there
+-- no disk is there
 abbrev pub AreAbsent : {D : Type 0} → List (Option D) → Type 0
 AreAbsent disks = EachIndex disks (λ i. IsNone (slice_index_or disks i None))
 

@@ -49,7 +49,7 @@ module _ (each : EachRow) (sound : InEveryRun Invariants) (choice : ℕ → Bool
     one_more : IsReached (next w row) (made_in w row earlier) (so_far ++ own)
     one_more = joined choice (made_in w row earlier) (next w row) (beginning ids) so_far own is.lawful one
 
-    -- and then the events of other rows
+    -- the events of one row, and then those of other rows
     followed : (made : List SentTransfer) (later : Cluster) (rest : List Event) → Continues choice made later (machine.run (beginning ids) (so_far ++ own)) rest
         → Continues choice made later now (own ++ rest)
     followed made later rest is_so = joined choice made later now own rest one.lawful

@@ -43,7 +43,7 @@ module _ (choice other : ℕ → Bool) (number : ℕ) (same : (row : ℕ) → ro
     crash_fits true now (Up t) e is_so = inl tt
     crash_fits true now (Failed failure) e is_so = by_row failure e now is_so
 
-  -- it fits this row too, or the row stops the member that failed at that one
+  -- the other choice fits this row too, or the row stops the member that failed at that one
   row_fits : (w : Cluster) → AreApart w → (row : Row) → FitsRow choice w row → FitsRow other w row ⊎ IsOver (next w row) number
   row_fits w is (Crash n calls pattern) is_so =
       crash_fits w is n calls pattern (restarted_on pattern (w.member n).disk).store (calls == 0) refl (w.member n).life refl is_so

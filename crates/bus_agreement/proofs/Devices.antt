@@ -59,7 +59,7 @@ pub record DeviceLaws : Type 0 where
 
 -- ---- what a device is delivered
 
--- it hears Allocations alone
+-- an allocatee hears Allocations alone
 only_allocations : (kind : Kind) (number s : ℕ) → first_signature device.rows kind number ≡ Some s → is_anonymous kind ≡ false → (kind ≡ Message) × (number ≡ 1)
 unfolding device.rows
 only_allocations Message number s e known = (refl, elim (eqb_tells 1 number) [ inl same ↦ sym same.1 | inr apart ↦ absurd (cc (rw apart.0 at e)) ])

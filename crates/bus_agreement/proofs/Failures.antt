@@ -194,7 +194,7 @@ pub over_after : (w : Cluster) (rows : List Row) (number : ℕ) → IsOver w num
 over_after w [] number is = is
 over_after w (row ∷ rows) number is = over_after (next w row) rows number (over_after_one w row number is)
 
--- it is over once the member has stopped
+-- a failure is over once its member has stopped
 pub over_by_stop : (w : Cluster) (n calls : ℕ) (pattern : Pattern) (number : ℕ) → AreApart w → failed_in w n ≡ Some number → (calls == 0) ≡ true
     → IsOver (next w (Crash n calls pattern)) number
 over_by_stop w n calls pattern number is failed now = record {

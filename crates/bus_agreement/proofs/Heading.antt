@@ -41,7 +41,7 @@ module _ (choice : ℕ → Bool) (w : Cluster) where
   step_other : (n : ℕ) (ns : List ℕ) → nat_lt (length (longest choice w ns)) (length (logs n)) ≡ false → longest choice w (n ∷ ns) ≡ longest choice w ns
   step_other n ns e = ap (λ (b : Bool). if b then logs n else longest choice w ns) e
 
-  -- it is empty, or the log of one of them
+  -- the longest log is empty, or the log of one of the members
   pub longest_is : (ns : List ℕ) → (longest choice w ns ≡ []) ⊎ ((n : ℕ) × In n ns × (longest choice w ns ≡ logs n))
   longest_is [] = inl refl
   longest_is (n ∷ ns) = elim (lt_tells (length (longest choice w ns)) (length (logs n))) [
@@ -52,7 +52,7 @@ module _ (choice : ℕ → Bool) (w : Cluster) where
     ]
   ]
 
-  -- and none is longer
+  -- no member's log is longer than the longest
   pub longest_most : (n : ℕ) (ns : List ℕ) → In n ns → length (logs n) ≤ length (longest choice w ns)
   longest_most n [] there = absurd there
   longest_most n (m ∷ ns) (inl same) = elim (lt_tells (length (longest choice w ns)) (length (logs m))) [

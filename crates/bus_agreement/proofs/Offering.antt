@@ -218,7 +218,7 @@ module _ (laws : FrameLaws) (ids : List ℕ) (low : (n : ℕ) → In n ids → 1
       what : x.offer.what ≡ Alloc
       what = one_what x.offer.what Alloc Broadcast 1 (ap (λ (i : Ident). i.kind) own ∙ of.kind) refl (ap (λ (i : Ident). i.number) own ∙ of.number) refl
 
-  -- and one from elsewhere is none
+  -- a frame of an Allocation on the bus is a member's: one from elsewhere is no such frame
   pub on_bus : IsOnBus made ids frame → In n ids × IsMadeBy made bag frame n
   on_bus (inl (m, listed, piece)) = its_frame m listed piece
   on_bus (inr foreign) = absurd (cc (sym (forged_allocation ids of.ident of.kind of.number), ap (λ (o : Option Ident). is_forged ids o) (sym of.read), foreign))

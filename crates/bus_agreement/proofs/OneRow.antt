@@ -151,7 +151,7 @@ module _ (laws : RowLaws) (choice : ℕ → Bool) (made : List SentTransfer) (w 
           subst (λ (events : List machine.Event). Continues choice made later run events) (sym r.1)
           (record { lawful = (r.2, tt); shows = r.4; writable = r.3 })
 
-      -- one that failed takes no step
+      -- a member that failed takes no step
       by_life : (life : MemberStatus) → x.life ≡ life → is_running life ≡ true
           → Continues choice (made_by number n event life x made) later run (step_events choice w.ids n number event life x)
       by_life Down e running = absurd (cc (running))

@@ -59,7 +59,7 @@ whole_at (mark ∷ marks) first i d e f h =
 
 -- ---- a frame that came is a piece
 
--- it is one of a transfer, by its identifier, bytes and mark
+-- the frame is one of a transfer, by its identifier, bytes and mark
 pub record IsPieceOf (x : SentTransfer) (arrival : Arrival) : Type 0 where
   pub place : arrival.mark.place < length (theirs x)
   pub id : arrival.id ≡ identifier_number (ident_of x.by x.offer.what x.offer.to)

@@ -121,7 +121,7 @@ module _ (choice : ℕ → Bool) (made : List SentTransfer) (w : Cluster) (run :
     past = λ x i. omega (arith, shows.past x i);
   }
 
-  -- those that were there heard no less, and hold what they held
+  -- allocatees that were there heard no less, and hold what they held
   pub still_asking : (frame : Queued) → AreShown w.allocatee (w.frames ++ frame ∷ [])
   still_asking frame a x e = asking_more made made (λ y i. i) w.frames (w.frames ++ frame ∷ []) (one_more w.frames frame) x (shows.asking a x e)
 

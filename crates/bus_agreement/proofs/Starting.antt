@@ -51,7 +51,7 @@ loose_finds disk store is nothing_unsynced pattern = by disk.unsynced refl where
   by None e = is
   by (Some unsynced) e = of_bool unsynced e (keeps pattern (disk.copies unsynced.key))
 
--- and the other way
+-- a store that each stop leaves is the one that is stored
 finds_stored : (disk : KeyDisk Stored) (store : Store) → AlwaysFinds disk store → store_of disk.store ≡ store
 finds_stored disk store finds = sym (by disk.unsynced) ∙ finds New where
   by : (l : Option (Unsynced Stored)) → store_of (settled_by New l disk).store ≡ store_of disk.store
@@ -130,7 +130,7 @@ module _ (choice : ℕ → Bool) (made : List SentTransfer) (w : Cluster) (run :
       past = λ x i. omega (arith, shows.past x i);
     }
 
-  -- one that failed went down with the step that failed, and the choice agrees with what the stop finds
+  -- a member that failed went down with the step that failed, and the choice agrees with what the stop finds
   pub failed_stop_shown : (failure : Failure) → (w.member n).life ≡ Failed failure
       → FitsCrash true choice (w.member n).life (restarted_on pattern (w.member n).disk).store → Shows choice made (next w (Crash n 0 pattern)) run
   failed_stop_shown failure runs fits = record {

@@ -115,7 +115,7 @@ module _ (codec : CodecLaws) (ids : List ℕ) (made : List SentTransfer) (bag : 
       ∙ (ap (λ (n : ℕ). record request { step = d.mark.step; from = n }) (from ∙ is.by)
       ∙ ap (λ (n : ℕ). record request { step = d.mark.step; from = d.ident.source; to = n }) (to ∙ (is.to ∙ to_me)))
 
-  -- it says the request that its bytes are
+  -- a transfer says the request that its bytes are
   pub vote_says : x.offer.what ≡ VoteQ → (request : VoteRequest) → vote_request_of d.payload ≡ Some request
       → x.offer.says ≡ Some (Requests (handled.vote_request_of request d.mark.step d.ident.source me))
   vote_says what request read = said.is ∙ ap (λ (r : Request). Some (Requests r)) whole

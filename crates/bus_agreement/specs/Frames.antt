@@ -27,7 +27,7 @@ pub record IsPiece (made : List SentTransfer) (by : ℕ) (frame : Queued) : Type
 abbrev pub IsMembers : List SentTransfer → List ℕ → Queued → Type 0
 IsMembers made ids frame = (n : ℕ) × In n ids × IsPiece made n frame
 
--- it has no member's source, and is no transfer that members send each other
+-- the frame has no member's source, and is no transfer that members send each other
 abbrev pub IsForeign : List ℕ → Queued → Type 0
 IsForeign ids frame = is_forged ids (identifier_of frame.id) ≡ false
 

@@ -45,7 +45,7 @@ BusIsMade made w run = (frame : Queued) (n : ℕ) → In frame w.frames → IsOf
 pub record Mirrors (choice : ℕ → Bool) (w : Cluster) (run : machine.World) : Type 0 where
   -- each member has stored what its server in the run has
   pub stored : (n : ℕ) → In n w.ids → (run.server n).store ≡ stored choice w n
-  -- one that runs is its server in the run
+  -- a member that runs is its server in the run
   pub serves : (n : ℕ) (server : AllocatorState) → In n w.ids → (w.member n).life ≡ Up server →
       run.server n ≡ server.plain
   -- a stop would find what is stored, or what a choice may say of a failed step

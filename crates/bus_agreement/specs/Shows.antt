@@ -61,7 +61,7 @@ pub record ShowsUp (made : List SentTransfer) (ids : List ℕ) (frames : List Qu
   pub runs : IsInRun ids run m server disk
   pub works : IsAtWork made ids frames m server
 
--- one that failed: it is down in the run, with what the choice says is stored; a stop would find the puts that are
+-- a member that failed is down in the run, with what the choice says is stored; a stop would find the puts that are
 -- done for sure, or one more
 pub record ShowsFailed (choice : ℕ → Bool) (run : machine.World) (m : ℕ) (failure : Failure)
     (disk : KeyDisk Stored) : Type 0 where
@@ -70,7 +70,7 @@ pub record ShowsFailed (choice : ℕ → Bool) (run : machine.World) (m : ℕ) (
   pub found : (pattern : Pattern) →
       store_of (restarted_on pattern disk).store ≡ stored_after failure (found_by pattern disk)
 
--- one that is stopped: a selector that waits for a sync makes no difference to what is stored
+-- a member that is stopped: a selector that waits for a sync makes no difference to what is stored
 pub record ShowsDown (run : machine.World) (m : ℕ) (disk : KeyDisk Stored) : Type 0 where
   pub down : (run.server m).memory ≡ lost
   pub stored : (run.server m).store ≡ store_of disk.store

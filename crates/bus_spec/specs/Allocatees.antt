@@ -19,7 +19,7 @@ abbrev pub next_from : Option Device → Option Queued
 next_from None = None
 next_from (Some device) = next_out device.asking.queue
 
--- and what is left of it then
+-- the allocatee after its next frame went out
 abbrev pub after_sending_from : Option Device → Option Device
 after_sending_from None = None
 after_sending_from (Some device) = Some (popped device)

@@ -100,11 +100,11 @@ with_allocatee w a x = record w { allocatee = at w.allocatee a x }
 abbrev pub steps_at : Cluster → ℕ → device.Event → Cluster
 steps_at w a event = with_allocatee w a (stepped_at (w.rows + 1) event (w.allocatee a))
 
--- it receives frame k
+-- an allocatee receives frame k
 abbrev pub receipt_at : Cluster → ℕ → ℕ → ℕ → device.Event
 receipt_at w k moment word = device.Rx (arriving (frame_at w.frames k) moment) word
 
--- its next frame goes from its queue to the bus
+-- the next frame of allocatee a goes from its queue to the bus
 abbrev pub sends_from : Cluster → ℕ → Cluster
 sends_from w a = record (with_allocatee w a (after_sending_from (w.allocatee a)))
     { frames = w.frames ++ in_list (next_from (w.allocatee a)) }

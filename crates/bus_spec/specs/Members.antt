@@ -28,7 +28,7 @@ pub record Failure : Type 0 where
 pub data MemberStatus : Type 0 where
   Down : MemberStatus
   Up : (server : AllocatorState) → MemberStatus
-  -- it runs, and takes no step any more
+  -- the member runs, and takes no step any more
   Failed : (failure : Failure) → MemberStatus
 
 pub record Member : Type 0 where
@@ -71,7 +71,7 @@ stopped_with pattern disk x = record { life = Down; disk = restarted_on pattern 
 
 -- ---- an opening
 
--- one that failed leaves the member stopped; where its disk stopped, it starts again
+-- an opening that failed leaves the member stopped; where its disk stopped, it starts again
 abbrev pub unopened : Member → KeyDisk Stored → Member
 unopened x disk = if disk.calls.stopped then stopped_with x.pattern disk x else record x { life = Down; disk = disk }
 
@@ -87,11 +87,11 @@ opened n size moment word x =
 
 -- ---- a step
 
--- its puts, as the disk makes them
+-- the puts of a step, as the disk makes them
 abbrev pub puts_of : Member → StepState → List Put
 puts_of x step_state = stored_puts step_state.puts x.disk.store
 
--- one that was cut off by the disk: the member stops with it, or stays as one that failed
+-- a step was cut off by the disk: the member stops with it, or stays as one that failed
 abbrev pub cut_off : Member → ℕ → AllocatorState → StepState → KeyDisk Stored → Member
 cut_off x row before step_state disk =
     if disk.calls.stopped

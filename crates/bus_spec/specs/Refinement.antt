@@ -57,7 +57,7 @@ going_events choice members m row x server step_state =
     then Steps m row step_state.moves (messages row step_state) ∷ []
     else cut_events choice members m row x server step_state
 
--- one that is stopped, or has failed, takes no step
+-- a member that is stopped, or has failed, takes no step
 abbrev pub step_events : (ℕ → Bool) → List ℕ → ℕ → ℕ → Event → MemberStatus → Member
     → List RunEvent
 step_events choice members m row event Down x = []
@@ -87,7 +87,7 @@ events choice w (row ∷ rows) = row_events choice w row ++ events choice (next 
 
 -- ---- the transfers that were made
 
--- those of these offers that fitted, the latest first, before those made earlier
+-- the transfers of the offers that fitted, the latest first, before those made earlier
 abbrev pub made_of : ℕ → ℕ → List Offer → List SentTransfer → List SentTransfer
 made_of row m [] earlier = earlier
 made_of row m (offer ∷ offers) earlier =

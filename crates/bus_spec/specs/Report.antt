@@ -69,7 +69,7 @@ abbrev pub step_told_at : ℕ → ℕ → device.Event → Option Device → Tel
 step_told_at a row event None = HasLeft a
 step_told_at a row event (Some x) = asking_told a (device.step x row event)
 
--- its frame k of the bus; without a frame no sending is lawful
+-- an allocatee's frame, which is frame k of the bus; without a frame no sending is lawful
 abbrev pub putting_told : ℕ → ℕ → Option Queued → Telling
 putting_told a k None = HasLeft a
 putting_told a k (Some frame) = HasPut a k frame.id frame.bytes
@@ -147,7 +147,7 @@ end_line rows = codes "end " ++ decimal rows ++ codes "\n"
 unfoldable pub all_logs : Cluster → List ℕ
 all_logs w = log_lines w 1 125
 
--- and how many rows there were
+-- the logs, and then how many rows there were
 abbrev pub end_lines : Cluster → List ℕ
 end_lines w = all_logs w ++ end_line w.rows
 

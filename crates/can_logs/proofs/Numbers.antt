@@ -44,7 +44,7 @@ decimal_parsed n word r few parses is =
 ok_parts : {E : Type 0} (r : Result ℕ E) (n v : ℕ) (P : Type 0) → r ≡ Ok n → OkIff r P v → P × (n ≡ v)
 ok_parts r n v P is h = rw is at h
 
--- and what is parsed is digits, where no plus leads
+-- a word that is parsed is digits, where no plus leads
 pub parsed_decimal : {E : Type 0} (n : ℕ) (word : List ℕ) (r : Result ℕ E) → get_or word 0 0 ≢ 43 → ParsesUnsigned 64 10 word r → r ≡ Ok n → IsDecimal n word
 parsed_decimal n word r plain parses is =
     let found = ok_parts r n (digits_value 10 word) (AllDigits 10 word × (0 < length word) × (digits_value 10 word < 2 ^ 64)) is (parse_plain digits 64 word r parses plain) in

@@ -39,7 +39,7 @@ parts_at byte text place is within =
     let at = eqb-true (get_or text (position_or_len (λ other. other == byte) text) 0) byte (passes_at_first (λ other. other == byte) text 0 (rw (← is) within)) in
     rw is (split_at_first (λ other. other == byte) text 0 (rw (← is) within) ∙ ap (λ x. take (position_or_len (λ other. other == byte) text) text ++ x ∷ drop (position_or_len (λ other. other == byte) text + 1) text) at)
 
--- and the byte does not stand before it
+-- the byte does not stand before its first place
 pub none_before : (byte : ℕ) (text : List ℕ) (place : ℕ) → place ≡ position_or_len (λ other. other == byte) text → place ≤ length text
     → All (λ other. other ≢ byte) (take place text)
 none_before byte text place is within =

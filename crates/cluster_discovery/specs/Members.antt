@@ -6,7 +6,7 @@ use Rattle.dsdl_codec.specs.declared.discovery.Discovery.{Discovery}
 
 -- how the member began
 pub record Start : Type 0 where
-  -- its own node ID
+  -- the member's own node ID
   pub me : ℕ
   -- how many members the cluster is to have
   pub size : ℕ

@@ -38,7 +38,7 @@ module _ (form : Form) (limit : ℕ) where
   ends_there taken rest NoPart said more ends begins low = absurd ends
   ends_there taken rest NoValue said more ends begins low = absurd ends
 
-  -- they end there in one way
+  -- the lines end there in one way
   one_end : (taken : ℕ) (rest : List ℕ) (status other : Status) → EndsAs form limit taken rest status → EndsAs form limit taken rest other → status ≡ other
   one_end taken rest Done Done p q = refl
   one_end taken rest Done (BadRow b) p q = absurd (p q.1.begins)

@@ -267,7 +267,7 @@ module _ (told : List Line → List ℕ) (done : ℕ → List ℕ) (form : Form)
         (still_ahead left_now sink_now sink_then (subst (λ l. ReadsAhead told form bytes l sink sink_now) (sym same) so_far.reads_ahead)
         (grows-front sink_now sink_then output front))
 
-    -- and what a fault of the next line leaves
+    -- what a fault of the next line leaves
     pub fails : {A : Type 0} (result : Result A Fault) (left_now sink_then : Option (List ℕ)) (fault : Fault) → result ≡ Err fault →
         (result ≡ Err Source → FailsBehind form limit taken waiting left left_now) → (result ≡ Err Source → Appends sink_now sink_then output) →
         (result ≡ Err Sink → left_now ≡ left) → (result ≡ Err Sink → WritesFront sink_now sink_then output) →

@@ -52,7 +52,7 @@ abbrev pub Says : Form → Line → List ℕ → Type 0
 Says Candump said text = (read : LogLine) × candump.Reads read text × (said ≡ of_candump read)
 Says Slcan said text = (read : SlLine) × slcan.Reads read text × (said ≡ of_slcan read)
 
--- its frame may be written
+-- the frame of a line may be written
 abbrev pub IsLineWritable : Line → Type 0
 IsLineWritable (Frame logged) =
     candump.IsWritable (log_line.Data logged.sec logged.micros logged.iface logged.frame)

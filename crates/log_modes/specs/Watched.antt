@@ -62,7 +62,7 @@ unwatched = record { messages = []; services = λ id. [] }
 abbrev pub no_mark : Mark
 no_mark = record { step = 0; re = 0; place = 0 }
 
--- it comes at the moment of its line, in milliseconds
+-- a frame comes at the moment of its line, in milliseconds
 abbrev pub came_at : Logged → Arrival
 came_at logged = arrival_of logged.frame no_mark (logged.sec * 1000 + logged.micros / 1000)
 

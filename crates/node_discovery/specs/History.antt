@@ -7,7 +7,7 @@ pub data Event : Type 0 where
   Status : (moment : ℕ) → Event
   -- the node was asked for its unique ID, under this transfer ID
   Asked : (transfer_id moment : ℕ) → Event
-  -- its answer was taken
+  -- the answer of the node was taken
   Taken : (uid : List ℕ) (moment : ℕ) → Event
 
 -- how old a moment is; 0 where it is later than now

@@ -38,7 +38,7 @@ after_info events from transfer_id uid now =
 abbrev pub is_unknown : List Watched → List Bool → ℕ → ℕ → Bool
 is_unknown events known node now = is_nameless (history node events) now && not (slice_index_or known node true)
 
--- it is to be asked, since the last query is old enough
+-- the node is to be asked: its unique ID is wanted, and the last query is old enough
 abbrev pub is_due : List Watched → List Bool → ℕ → ℕ → Bool
 is_due events known node now = is_unknown events known node now && may_be_asked (history node events) now
 

@@ -14,7 +14,7 @@ pub record HasCause {T E : Type 0} (before now : ℕ) (result : Result T E) : Ty
   pub later : before ≤ now
   pub failed : OnErr result (Rose before now)
 
--- the same of a write, and it takes nothing of a piece that is not empty only where the count rose
+-- a count of faults never falls; a write fails only where it rose, and only there takes nothing of a piece with bytes
 pub record HasWriteCause {E : Type 0} (before now : ℕ) (piece : List ℕ) (result : Result ℕ E) : Type 0 where
   pub later : before ≤ now
   pub failed : OnErr result (Rose before now)

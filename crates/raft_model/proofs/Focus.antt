@@ -182,7 +182,7 @@ focus_twice z m f g = λ i. record {
   stamps = g.ledger.stamps;
 }
 
--- the same micro move, of server m
+-- a micro move of the one server, as that of server m
 abbrev pub of : ℕ → Micro → Micro
 of m (Open _) = Open m
 of m (Halt _) = Halt m

@@ -13,7 +13,7 @@ use Rattle.raft_model.proofs.At.{at_each, at2_each, at3_each}
 use Rattle.raft_model.proofs.Stored.{each_take}
 use Rattle.raft_model.proofs.Apart.{candidate_no_follower, false_true, leader_no_follower}
 
--- the same of one member
+-- a fresh term of one member: nothing of it was voted or stood for
 pub record IsFresh (fr : Bool) (r : Role) (t : ℕ) (l : List Entry) (kept : List KeptVote) (candidacies : List Candidacy) (m : ℕ) : Type 0
   where
     pub follower : fr ≡ true → r ≡ Follower

@@ -27,7 +27,7 @@ appended server request Refused e = refl
 appended server request Held e = refl
 appended server request (Added entry) e = refl
 
--- and counts no votes
+-- a Follower counts no votes
 counts_none : (server : RaftServer) (answer : Answer) → server.memory.role ≡ Follower → counts server answer ≡ true → ⊥
 counts_none server answer e c =
     candidate_no_follower server.memory.role

@@ -107,7 +107,7 @@ module _ {D : Type 0} (ghosts : Ghosts D) where
   pub ends_at : (ids : List ℕ) (disks : List (Option D)) (stores : List Stored) (p : ℕ) → AreStoresOf ghosts disks stores → length stores ≡ p → p < length ids → EndsAt ghosts ids disks (slice_index ids p)
   ends_at ids disks stores p read count within = record { stores = stores; read = read; within = rw count within; is = ap (slice_index ids) (sym count) }
 
-  -- and this one is damaged
+  -- the disks before this one have stores, and it is damaged
   pub ends_at_damage : (ids : List ℕ) (disks : List (Option D)) (stores : List Stored) (p : ℕ) (disk : D) (key : ℕ) → AreStoresOf ghosts disks stores → length stores ≡ p → p < length ids
       → slice_index_or disks p None ≡ Some disk → IsDamagedDisk ghosts disk key → EndsAtDamage ghosts ids disks (slice_index ids p) key
   unfolding ends_at

@@ -73,14 +73,14 @@ module _ {D : Type 0} (ghosts : Ghosts D) (ids : List ℕ) (disks : List (Option
     pub all : length stores ≡ length ids
     pub compares : Compares ids stores status report
 
-  -- those before that of this node are stores
+  -- the disks before that of this node have stores
   pub record EndsAt (id : ℕ) : Type 0 where
     pub stores : List Stored
     pub read : AreStoresOf ghosts disks stores
     pub within : length stores < length ids
     pub is : id ≡ slice_index ids (length stores)
 
-  -- and that of this node is damaged, first at this key
+  -- the disks before that of this node have stores, and its own is damaged, first at this key
   pub record EndsAtDamage (id key : ℕ) : Type 0 where
     pub at : EndsAt id
     pub disk : D
@@ -106,7 +106,7 @@ module _ {D : Type 0} (ghosts : Ghosts D) (ids : List ℕ) (disks : List (Option
     pub now : slice_index_or new place None ≡ Some after
     pub rose : Rose (ghosts.faults before) (ghosts.faults after)
 
-  -- which counts of faults rose: that of the disk which is named, and no other
+  -- the count of faults of the disk that the status names rose, and no other
   pub record CountsOne (new : List (Option D)) (status : Status) : Type 0 where
     pub named : (id : ℕ) → status ≡ DiskFault id → HasFailed new id
     pub others : (k : ℕ) (before after : D) → k < length ids →

@@ -39,7 +39,7 @@ last_line count = codes "agree " ++ decimal count ++ codes "\n"
 abbrev pub agreed_report : List Stored → List Entry → List ℕ
 agreed_report stores list = lines_to stores list (length list) ++ last_line (length list)
 
--- and the one line where they do not, or are not read
+-- the one line that is written where the stores do not agree, or are not read
 abbrev pub line_of : Status → List ℕ
 line_of (DiskFault id) = codes "disk fault " ++ decimal id ++ codes "\n"
 line_of (Damaged id key) = codes "damaged " ++ decimal id ++ codes " " ++ decimal key ++ codes "\n"

@@ -15,7 +15,7 @@ abbrev pub AreCommitted : List Stored → Type 0
 AreCommitted stores = (k : ℕ) → k < length stores →
     (store_at stores k).commit ≤ length (store_at stores k).entries.items
 
--- and it has the origin of each
+-- a store has the origin of each entry that it has committed
 abbrev pub HaveMarks : List Stored → Type 0
 HaveMarks stores = (k : ℕ) → k < length stores →
     (store_at stores k).commit ≤ length (store_at stores k).origins.items

@@ -13,7 +13,7 @@ use Rattle.transfer_rx.specs.Acceptance.{first_signature}
 abbrev pub HasCrc : ℕ → Progress → List ℕ → Type 0
 HasCrc signature progress chain = 0 < progress.taken → progress.crc ≡ transfer_crc signature (drop 2 chain)
 
--- the same, under the signature of the session's key
+-- where frames were taken, the CRC is that of their bytes, under the signature of the session's key
 abbrev pub HasOwnCrc : (Key → Option ℕ) → Progress → List ℕ → Type 0
 HasOwnCrc signature_of progress chain =
     (signature : ℕ) → signature_of progress.key ≡ Some signature → HasCrc signature progress chain

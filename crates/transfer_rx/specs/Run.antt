@@ -48,7 +48,7 @@ pub record ComesWhole (setting : Setting) (sessions : List Session) (w : Wanted)
   pub ends : arrivals ≡ before ++ last ∷ []
   pub cutting : IsCutting w.signature (piece_in last).tail.id payload
       (map piece_in (of_key setting (key_of w.ident) arrivals))
-  -- none comes more than 2,000 ms after an earlier one
+  -- no frame comes more than 2,000 ms after an earlier one
   pub in_time : AllPairs (λ earlier later. later.moment - earlier.moment ≤ 2000) arrivals
   pub may_begin : MayBegin setting sessions (key_of w.ident) first
   -- the blocks suffice for each of its frames

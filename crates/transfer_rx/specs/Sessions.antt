@@ -22,7 +22,7 @@ pub record Session : Type 0 where
 abbrev pub session_of : Key → List Session → Option Session
 session_of key sessions = find (λ session. same_key key session.key) sessions
 
--- those of other keys
+-- the sessions of other keys
 abbrev pub others : Key → List Session → List Session
 others key sessions = filter (λ session. not (same_key key session.key)) sessions
 

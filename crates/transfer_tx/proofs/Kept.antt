@@ -183,7 +183,7 @@ lowest_last xs i x size higher =
           omega (arith, here, there, higher other blank below);
     }
 
--- the same frames with one more between them
+-- frames, and the same frames with one more between them
 module _ (frame frame' : ℕ → Queued) (earlier earlier' : ℕ → ℕ) (n place : ℕ) (x : Queued)
     (frame_below : (k : ℕ) → k < place → frame' k ≡ frame k) (frame_here : frame' place ≡ x) (frame_above : (k : ℕ) → place ≤ k → frame' (suc k) ≡ frame k)
     (earlier_below : (k : ℕ) → k < place → earlier' k ≡ earlier k) (earlier_here : earlier' place ≡ place) (earlier_above : (k : ℕ) → place ≤ k → earlier' (suc k) ≡ earlier k)

@@ -25,6 +25,6 @@ offered [] = []
 offered (Offers more ∷ events) = more ++ offered events
 offered (Pops ∷ events) = offered events
 
--- those of one identifier, in their order
+-- the frames of one identifier, in their order
 abbrev pub of_identifier : ℕ → List Queued → List Queued
 of_identifier id frames = filter (λ frame. nat_eq frame.id id) frames

@@ -45,7 +45,7 @@ has_quorum members votes = nat_le (quorum members) (how_many votes members)
 abbrev pub stand_puts : ℕ → Store → List Put
 stand_puts member store = PutTerm (store.term + 1) ∷ PutVote None ∷ PutVote (Some member) ∷ []
 
--- its own vote alone counts
+-- the votes of a candidate that has its own vote alone
 abbrev pub own_vote : ℕ → ℕ → Bool
 own_vote member peer = peer == member
 
