@@ -60,7 +60,7 @@ local function says(kind, name, payload)
   if name == "Allocation" and long > 0 then return says_allocation(kind, payload) end
   if name == "NodeStatus" and long == 7 then return "up " .. number(payload, 1) .. " s" end
   if name == "Discovery" and long > 0 then
-    return "knows " .. table.concat({payload:byte(2, long)}, ", ") .. " of " .. payload:byte(1) .. " members"
+    return "knows " .. table.concat({payload:byte(2, long)}, ", ") .. ", in a cluster of " .. payload:byte(1)
   end
   if name == "RequestVote" and kind == "request" and long == 9 then
     return "asks for a vote in term " .. number(payload, 1) .. ", its log ends at place " .. payload:byte(9) ..

@@ -107,7 +107,7 @@ class Teller:
             return f"{source} is there, up {number(payload)} s"
         if kind == "disc":
             known = ", ".join(map(str, payload[1:])) or "nobody"
-            return f"{source} knows {known} of {payload[0]} members"
+            return f"{source} knows {known}, in a cluster of {payload[0]}"
         if kind == "infoq":
             return f"{source} asks {to} for its unique ID"
         if kind == "info":

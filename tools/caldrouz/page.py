@@ -16,7 +16,7 @@ def clip(changes, first, last):
 
 
 def facts(run, title, first, last):
-    """All that the page has, in lists without names where there are many; docs/TOOLS.md says what is what."""
+    """All that the page has, in lists without names where there are many; docs/SEEING.md says what is what."""
     index = {lane: at for at, lane in enumerate(run.lanes)}
     inside = range(first, last + 1)
     frames = {}
