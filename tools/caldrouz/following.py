@@ -118,7 +118,12 @@ class Follower:
         """Goes through the log. The rows are the partner's then; NotExplained has the line that is not explained."""
         frames = self.recording.frames
         if self.heard:
-            self._warm_up()
+            try:
+                self._warm_up()
+            except (Conflict, Refused) as reason:
+                raise NotExplained(
+                    frames[0], str(reason), self.partner.rows, self.partner.lines, self.unlogged
+                ) from None
         while self.index < len(frames) or self.happened < len(self.happenings):
             frame = frames[self.index] if self.index < len(frames) else None
             if self.happened < len(self.happenings) and (
