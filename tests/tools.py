@@ -245,6 +245,11 @@ def test_a_calm_bus_is_explained():
     is_explained(log_lines(HERE, "logs", "calm.log"), unlogged=6)
 
 
+def test_a_clock_that_was_set_is_explained():
+    """The clock of the machine was set forward by an hour, and the leader was killed behind that."""
+    is_explained(log_lines(HERE, "logs", "clock_set_forward.log"))
+
+
 def test_bridges_that_came_late_are_explained():
     is_explained(log_lines(HERE, "logs", "late_bridges.log"), unlogged=13)
     is_explained(log_lines(HERE, "logs", "late_and_killed.log"), unlogged=6)
