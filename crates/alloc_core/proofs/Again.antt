@@ -12,7 +12,7 @@ use Rattle.raft_core.specs.Times.{given_at}
 use Rattle.raft_model.specs.Moves.Move.{AnswerAgain}
 use Rattle.alloc_step.specs.declared.offered.Offered.{Offered}
 use Rattle.alloc_step.specs.Exchange.{allocation_payload, gives_entry}
-use Rattle.alloc_step.specs.StepState.{StepState, sends, takes}
+use Rattle.alloc_step.specs.StepState.{StepState, with_transfer, with_moves}
 use Rattle.alloc_step.specs.Transfers.{has_room}
 use Rattle.alloc_core.specs.declared.member.Member.{Member}
 use Rattle.alloc_core.specs.Stands.{IsInStep}
@@ -39,9 +39,9 @@ not_under n m h = grind (arith, nat_tests)
 
 -- the move that answers again changes nothing
 pub again : {D : Type 0} {disk : Ghosts D} (start : Durable D disk) (member : Member D disk) (offered : Offered) (g : StepState) (step place : ℕ) (entry : Entry)
-    → IsInStep start member offered (sends step Alloc 0 (allocation_payload entry.node entry.uid) None g) → IsInStep start member offered (gives_entry step (AnswerAgain place) entry g)
-again start member offered g step place entry h = by (has_room g.timed.queue (allocation_payload entry.node entry.uid))
+    → IsInStep start member offered (with_transfer step Alloc 0 (allocation_payload entry.node entry.uid) None g) → IsInStep start member offered (gives_entry step (AnswerAgain place) entry g)
+again start member offered g step place entry h = by (has_room g.allocator.queue (allocation_payload entry.node entry.uid))
   where
-    by : (b : Bool) → IsInStep start member offered (if b then takes step (given_at g.timed.now) (AnswerAgain place ∷ []) (sends step Alloc 0 (allocation_payload entry.node entry.uid) None g) else sends step Alloc 0 (allocation_payload entry.node entry.uid) None g)
-    by true = noted_moves start member offered (sends step Alloc 0 (allocation_payload entry.node entry.uid) None g) h step (given_at g.timed.now) (AnswerAgain place ∷ []) member.raft refl h.stands.raft
+    by : (b : Bool) → IsInStep start member offered (if b then with_moves step (given_at g.allocator.now) (AnswerAgain place ∷ []) (with_transfer step Alloc 0 (allocation_payload entry.node entry.uid) None g) else with_transfer step Alloc 0 (allocation_payload entry.node entry.uid) None g)
+    by true = noted_moves start member offered (with_transfer step Alloc 0 (allocation_payload entry.node entry.uid) None g) h step (given_at g.allocator.now) (AnswerAgain place ∷ []) member.raft refl h.stands.raft
     by false = h

@@ -6,24 +6,24 @@ use Rattle.raft_log.specs.declared.durable.Durable.{Durable}
 use Rattle.raft_core.specs.Handled.{moves_of_expire, puts_with_origins}
 use Rattle.raft_core.specs.StoredPuts.{CallWrites, PutWithOrigin}
 use Rattle.raft_core.specs.Times.{Given, given_at, overdue}
-use Rattle.raft_model.specs.Handlers.{plain_after}
+use Rattle.raft_model.specs.Handlers.{server_after}
 use Rattle.raft_model.specs.Moves.Move.{GiveUp}
 use Rattle.raft_model.specs.Server.{RaftServer}
 use Rattle.alloc_step.specs.declared.offered.Offered.{Offered}
-use Rattle.alloc_step.specs.Step.{all_nodes, at_moment, at_sessions, begins}
+use Rattle.alloc_step.specs.Step.{all_nodes, at_moment, at_sessions, begin_phase}
 use Rattle.alloc_step.specs.AllocatorState.{AllocatorState, members_of}
 use Rattle.transfer_rx.specs.Sessions.{Session}
 use Rattle.alloc_core.specs.declared.member.Member.{Member}
 use Rattle.alloc_core.specs.Stands.{IsFresh, IsInStep, StandsFor}
 
 -- giving up calls makes no puts
-expire_is_quiet : (members : List ℕ) (me step : ℕ) (given : Given) (plain : RaftServer) (nodes : List ℕ) → puts_with_origins members me step given plain (moves_of_expire nodes) ≡ []
-expire_is_quiet members me step given plain [] = refl
-expire_is_quiet members me step given plain (node ∷ nodes) = expire_is_quiet members me step given (plain_after members me step plain (GiveUp node)) nodes
+expire_is_quiet : (members : List ℕ) (me step : ℕ) (given : Given) (raft_server : RaftServer) (nodes : List ℕ) → puts_with_origins members me step given raft_server (moves_of_expire nodes) ≡ []
+expire_is_quiet members me step given raft_server [] = refl
+expire_is_quiet members me step given raft_server (node ∷ nodes) = expire_is_quiet members me step given (server_after members me step raft_server (GiveUp node)) nodes
 
 pub begun : {D : Type 0} {disk : Ghosts D} (start : Durable D disk) (member : Member D disk) (t : AllocatorState) (offered : Offered) (step now : ℕ) (sessions : List Session)
-    → CallWrites [] start start None → member.durable ≡ start → IsFresh offered → StandsFor member (begins step now t).timed
-    → IsInStep start member offered (at_sessions sessions (begins step now t))
+    → CallWrites [] start start None → member.durable ≡ start → IsFresh offered → StandsFor member (begin_phase step now t).allocator
+    → IsInStep start member offered (at_sessions sessions (begin_phase step now t))
 begun start member t offered step now sessions nothing same fresh h = record {
   stands = record {
     me = h.me;
@@ -39,6 +39,6 @@ begun start member t offered step now sessions nothing same fresh h = record {
   };
   sent = fresh.sent;
   given = fresh.given;
-  puts = subst (λ (list : List PutWithOrigin). CallWrites list start member.durable None) (sym (expire_is_quiet (members_of t) t.me step (given_at (at_moment now t).now) t.plain (overdue t.times (at_moment now t).now all_nodes)))
+  puts = subst (λ (list : List PutWithOrigin). CallWrites list start member.durable None) (sym (expire_is_quiet (members_of t) t.me step (given_at (at_moment now t).now) t.raft_server (overdue t.times (at_moment now t).now all_nodes)))
       (subst (λ (d : Durable _ _). CallWrites [] start d None) (sym same) nothing);
 }

@@ -18,11 +18,11 @@ use Rattle.raft_model.specs.Moves.Move.{CallForVote, CallToAppend}
 use Rattle.raft_model.specs.Server.{RaftServer}
 use Rattle.alloc_step.specs.Ending.{append_call_bytes, calls_by, calls_owed, vote_call_bytes}
 use Rattle.alloc_step.specs.StepState.{StepState}
-use Rattle.alloc_step.specs.Transfers.{given_in}
+use Rattle.alloc_step.specs.Transfers.{pair_in}
 use Rattle.alloc_core.specs.Calling.{bytes_of, what_of}
 
 -- it gives no pair
-pub no_pair : (call : Call) (payload : List ℕ) → given_in (what_of call) payload ≡ None
+pub no_pair : (call : Call) (payload : List ℕ) → pair_in (what_of call) payload ≡ None
 no_pair (Vote request) payload = refl
 no_pair (Append request) payload = refl
 
@@ -42,23 +42,23 @@ append_bytes request sent says =
     ∙ ap (λ (e : Option Entry). append_request_bytes (record { term = request.term; prev_term = request.prev_term; prev_index = request.prev_index; commit = request.commit; entry = e }) 0) (sym says.entry)
 
 -- the move that is owed is made by this transfer
-pub calls_as : (step peer : ℕ) (g : StepState) (call : Call) (move : Move) → Says g.timed.me step g.timed.plain peer call move
+pub calls_as : (step peer : ℕ) (g : StepState) (call : Call) (move : Move) → Says g.allocator.me step g.allocator.raft_server peer call move
     → (request : Request) × (calls_owed step (Some move) g ≡ calls_by step (what_of call) peer move request (bytes_of call) g)
 calls_as step peer g (Vote asked) move says =
-    let sent : Request = vote_request g.timed.me step g.timed.plain.store peer in (
+    let sent : Request = vote_request g.allocator.me step g.allocator.raft_server.store peer in (
       sent,
       subst (λ (m : Move). calls_owed step (Some m) g ≡ calls_by step VoteQ peer m sent (vote_request_bytes asked) g) (sym says.0)
           (ap (λ (bytes : List ℕ). calls_by step VoteQ peer (CallForVote peer) sent bytes g) (vote_bytes asked sent says.1)),
     )
 calls_as step peer g (Append asked) move says =
-    let sent : Request = append_request g.timed.me step g.timed.plain.store peer says.0 true in (
+    let sent : Request = append_request g.allocator.me step g.allocator.raft_server.store peer says.0 true in (
       sent,
       subst (λ (m : Move). calls_owed step (Some m) g ≡ calls_by step AppQ peer m sent (append_request_bytes asked 0) g) (sym says.1)
           (ap (λ (bytes : List ℕ). calls_by step AppQ peer (CallToAppend peer says.0 true) sent bytes g) (append_bytes asked sent says.2)),
     )
 
 -- a call makes no puts
-pub call_is_quiet : (members : List ℕ) (me step : ℕ) (given : Given) (plain : RaftServer) (peer : ℕ) (call : Call) (move : Move) → Says me step plain peer call move
-    → puts_with_origins members me step given plain (move ∷ []) ≡ []
-call_is_quiet members me step given plain peer (Vote asked) move says = ap (λ (m : Move). puts_with_origins members me step given plain (m ∷ [])) says.0
-call_is_quiet members me step given plain peer (Append asked) move says = ap (λ (m : Move). puts_with_origins members me step given plain (m ∷ [])) says.1
+pub call_is_quiet : (members : List ℕ) (me step : ℕ) (given : Given) (raft_server : RaftServer) (peer : ℕ) (call : Call) (move : Move) → Says me step raft_server peer call move
+    → puts_with_origins members me step given raft_server (move ∷ []) ≡ []
+call_is_quiet members me step given raft_server peer (Vote asked) move says = ap (λ (m : Move). puts_with_origins members me step given raft_server (m ∷ [])) says.0
+call_is_quiet members me step given raft_server peer (Append asked) move says = ap (λ (m : Move). puts_with_origins members me step given raft_server (m ∷ [])) says.1

@@ -21,13 +21,13 @@ use Rattle.can_frame.specs.declared.step.Role.TheVariants.{Follower}
 use Rattle.raft_log.specs.Stored.{Stored}
 use Rattle.raft_log.specs.declared.durable.Durable.{Durable}
 use Rattle.raft_log.specs.DurableViews.{durable_state}
-use Rattle.raft_model.specs.Handlers.{plain_after_all}
+use Rattle.raft_model.specs.Handlers.{server_after_all}
 use Rattle.raft_model.specs.Moves.{Move}
 use Rattle.raft_model.specs.Server.{RaftServer}
 use Rattle.alloc_core.specs.declared.member.Member.{Member}
 use Rattle.alloc_step.specs.declared.offered.Offered.{Offered}
 use Rattle.alloc_step.specs.AllocatorState.{members_of, start_of}
-use Rattle.alloc_step.specs.StepState.{StepState, takes}
+use Rattle.alloc_step.specs.StepState.{StepState, with_moves}
 use Rattle.alloc_core.specs.Stands.{IsInStep}
 use Rattle.alloc_core.proofs.Lists.{append_none}
 
@@ -46,9 +46,9 @@ counts_same r list later state server times h same = record {
 
 module _ {D : Type 0} {disk : Ghosts D} (start : Durable D disk) (member : Member D disk) (offered : Offered) (g : StepState) (h : IsInStep start member offered g) where
   -- it heard or sent a Discovery, and counts the members that it counted before
-  pub noted_cluster : (k : Cluster) (events : List Heard) → cluster.StandsFor k (start_of g.timed) events
-      → raft.StandsFor member.raft (members (start_of g.timed) events) (durable_state member.durable) g.timed.plain g.timed.times
-      → IsInStep start (record member { cluster = k }) offered (record g { timed = record g.timed { heard = events } })
+  pub noted_cluster : (k : Cluster) (events : List Heard) → cluster.StandsFor k (start_of g.allocator) events
+      → raft.StandsFor member.raft (members (start_of g.allocator) events) (durable_state member.durable) g.allocator.raft_server g.allocator.times
+      → IsInStep start (record member { cluster = k }) offered (record g { allocator = record g.allocator { heard = events } })
   noted_cluster k events knows counts = record {
     stands = record {
       me = h.stands.me;
@@ -69,7 +69,7 @@ module _ {D : Type 0} {disk : Ghosts D} (start : Durable D disk) (member : Membe
 
   -- something happened with a node
   pub noted_watch : (w : Watch) (events : List Watched) → watch.StandsFor w events
-      → IsInStep start (record member { watch = w }) offered (record g { timed = record g.timed { watch = events } })
+      → IsInStep start (record member { watch = w }) offered (record g { allocator = record g.allocator { watch = events } })
   noted_watch w events knows = record {
     stands = record {
       me = h.stands.me;
@@ -90,7 +90,7 @@ module _ {D : Type 0} {disk : Ghosts D} (start : Durable D disk) (member : Membe
 
   -- a request of the exchange was heard
   pub noted_request : (x : Exchange) (accepted : List Accepted) → exchange.StandsFor x accepted
-      → IsInStep start (record member { exchange = x }) offered (record g { timed = record g.timed { accepted = accepted } })
+      → IsInStep start (record member { exchange = x }) offered (record g { allocator = record g.allocator { accepted = accepted } })
   noted_request x accepted knows = record {
     stands = record {
       me = h.stands.me;
@@ -110,7 +110,7 @@ module _ {D : Type 0} {disk : Ghosts D} (start : Durable D disk) (member : Membe
   }
 
   -- its NodeStatus was sent
-  pub noted_status : (now : ℕ) → now ≡ g.timed.now → IsInStep start (record member { status_at = now }) offered (record g { timed = record g.timed { status_at = g.timed.now } })
+  pub noted_status : (now : ℕ) → now ≡ g.allocator.now → IsInStep start (record member { status_at = now }) offered (record g { allocator = record g.allocator { status_at = g.allocator.now } })
   noted_status now at = record {
     stands = record {
       me = h.stands.me;
@@ -131,9 +131,9 @@ module _ {D : Type 0} {disk : Ghosts D} (start : Durable D disk) (member : Membe
 
   -- moves without puts were made
   pub noted_moves : (step : ℕ) (given : Given) (moves : List Move) (r : Raft)
-      → puts_with_origins (members_of g.timed) g.timed.me step given g.timed.plain moves ≡ []
-      → raft.StandsFor r (members_of g.timed) (durable_state member.durable) (plain_after_all (members_of g.timed) g.timed.me step g.timed.plain moves) (times_after_all (members_of g.timed) g.timed.me step given g.timed.plain moves g.timed.times)
-      → IsInStep start (record member { raft = r }) offered (takes step given moves g)
+      → puts_with_origins (members_of g.allocator) g.allocator.me step given g.allocator.raft_server moves ≡ []
+      → raft.StandsFor r (members_of g.allocator) (durable_state member.durable) (server_after_all (members_of g.allocator) g.allocator.me step g.allocator.raft_server moves) (times_after_all (members_of g.allocator) g.allocator.me step given g.allocator.raft_server moves g.allocator.times)
+      → IsInStep start (record member { raft = r }) offered (with_moves step given moves g)
   noted_moves step given moves r quiet counts = record {
     stands = record {
       me = h.stands.me;

@@ -4,7 +4,7 @@ use Rattle.std.specs.Prelude.{nat_eq, slice_index_or}
 use Rattle.std.proofs.lemmas.Bool.Decides.{nat_tests}
 use Rattle.can_frame.specs.declared.entry.Entry.{Entry}
 use Rattle.can_frame.specs.Log.{HasNodeId, blank}
-use Rattle.cluster_discovery.specs.Members.{lists}
+use Rattle.cluster_discovery.specs.Members.{is_on_list}
 use Rattle.cluster_discovery.specs.Views.{member_list}
 use Rattle.disk_model.specs.declared.disk.Disk.{Ghosts}
 use Rattle.raft_log.specs.DurableViews.{durable_state}
@@ -36,10 +36,10 @@ not_recorded log node false before marked is not h =
 
 -- a member knows those that the server in time knows, for which it stands
 pub knows : {D : Type 0} {disk : Ghosts D} (member : Member D disk) (t : AllocatorState) (node : ℕ) → StandsFor member t
-    → is_known t node ≡ (lists (member_list member.cluster) node || is_recorded (durable_state member.durable).log node)
+    → is_known t node ≡ (is_on_list (member_list member.cluster) node || is_recorded (durable_state member.durable).log node)
 knows member t node h =
-    ap (λ (list : List ℕ). lists list node || is_recorded t.plain.store.log node) (sym h.cluster.members)
-    ∙ ap (λ (store : Store). lists (member_list member.cluster) node || is_recorded store.log node) h.raft.store
+    ap (λ (list : List ℕ). is_on_list list node || is_recorded t.raft_server.store.log node) (sym h.cluster.members)
+    ∙ ap (λ (store : Store). is_on_list (member_list member.cluster) node || is_recorded store.log node) h.raft.store
 
 -- the table of those that are known begins without a mark
 pub unmarked : (listed recorded : Bool) → (listed || (recorded || false)) ≡ (listed || recorded)

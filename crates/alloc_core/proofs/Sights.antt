@@ -11,7 +11,7 @@ use Rattle.alloc_step.specs.declared.offered.Offered.{Offered}
 use Rattle.alloc_step.specs.Delivered.{StepResult, bad, reads, took}
 use Rattle.alloc_step.specs.StepState.{StepState}
 use Rattle.alloc_core.specs.Stands.{GoesTo, IsInStep, SeesTo}
-use Rattle.alloc_core.proofs.Taking.{is_going}
+use Rattle.alloc_core.proofs.Taking.{is_step_state}
 
 -- the value of a payload that is one, and a payload that is none
 pub read_as : {A : Type 0} (P : StepResult → Type 0) (does : A → StepState → StepState) (value : Option A) (a : A) (g : StepState) → Some a ≡ value → P (took (does a g)) → P (reads does value g)
@@ -23,7 +23,7 @@ read_none P does value g is p = subst (λ (v : Option _). P (reads does v g)) is
 module _ {D : Type 0} {disk : Ghosts D} (start : Durable D disk) (member : Member D disk) (offered : Offered) where
   -- it goes on and has seen this
   pub sees : (step_result : StepResult) (seen : Seen) → seen ≡ step_result.seen → IsInStep start member offered step_result.step_state → SeesTo start member offered step_result (Ok seen)
-  sees step_result seen is h = record { goes = is_going start member offered step_result.step_state h; seen = is }
+  sees step_result seen is h = record { goes = is_step_state start member offered step_result.step_state h; seen = is }
 
   -- a put failed: what would have been seen does not matter
   pub sees_failed : (step_result : StepResult) (result : Result Seen Fault) (fault : Fault) → result_err result ≡ Some fault → GoesTo start member offered step_result.step_state (result_err result) → SeesTo start member offered step_result result

@@ -45,18 +45,18 @@ either_way true x = refl
 either_way false x = refl
 
 module _ (step : ℕ) (g : StepState) where
-  pub nothing_led : is_leader g.timed.plain.memory.role ≡ false → query_phase step (record_phase step g) ≡ g
+  pub nothing_led : is_leader g.allocator.raft_server.memory.role ≡ false → query_phase step (record_phase step g) ≡ g
   nothing_led not_leader =
-      let recorded : record_phase step g ≡ g = ap (λ (b : Bool). if (b && nat_lt (length g.timed.plain.store.log) 127) then records_node step (candidate g.timed) g else g) not_leader in
+      let recorded : record_phase step g ≡ g = ap (λ (b : Bool). if (b && nat_lt (length g.allocator.raft_server.store.log) 127) then records_node step (candidate g.allocator) g else g) not_leader in
       ap (query_phase step) recorded
-      ∙ ap (λ (b : Bool). if b then asks step (next_query g.timed.watch (known g.timed) g.timed.now) g else g) not_leader
+      ∙ ap (λ (b : Bool). if b then asks step (next_query g.allocator.watch (known g.allocator) g.allocator.now) g else g) not_leader
 
-  pub nothing_unknown : ((node : ℕ) → 1 ≤ node → node < 126 → is_stranger g.timed node ≡ false) → query_phase step (record_phase step g) ≡ g
+  pub nothing_unknown : ((node : ℕ) → 1 ≤ node → node < 126 → is_stranger g.allocator node ≡ false) → query_phase step (record_phase step g) ≡ g
   nothing_unknown all =
       let recorded : record_phase step g ≡ g =
-      ap (λ (node : Option ℕ). if may_propose g.timed then records_node step node g else g) (no_candidates g.timed all)
-      ∙ either_way (may_propose g.timed) g
+      ap (λ (node : Option ℕ). if may_propose g.allocator then records_node step node g else g) (no_candidates g.allocator all)
+      ∙ either_way (may_propose g.allocator) g
       in
       ap (query_phase step) recorded
-      ∙ ap (λ (node : Option ℕ). if is_leader g.timed.plain.memory.role then asks step node g else g) (no_query g.timed all)
-      ∙ either_way (is_leader g.timed.plain.memory.role) g
+      ∙ ap (λ (node : Option ℕ). if is_leader g.allocator.raft_server.memory.role then asks step node g else g) (no_query g.allocator all)
+      ∙ either_way (is_leader g.allocator.raft_server.memory.role) g

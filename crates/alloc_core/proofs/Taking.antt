@@ -11,12 +11,12 @@ use Rattle.raft_core.specs.Handled.{MakesMoves, puts_with_origins}
 use Rattle.raft_core.specs.Stands as stands
 use Rattle.raft_core.specs.StoredPuts.{CallWrites, PutWithOrigin}
 use Rattle.raft_core.specs.Times.{Given, times_after_all}
-use Rattle.raft_model.specs.Handlers.{plain_after_all}
+use Rattle.raft_model.specs.Handlers.{server_after_all}
 use Rattle.raft_model.specs.Moves.{Move}
 use Rattle.alloc_core.specs.declared.member.Member.{Member}
 use Rattle.alloc_step.specs.declared.offered.Offered.{Offered}
 use Rattle.alloc_step.specs.AllocatorState.{members_of}
-use Rattle.alloc_step.specs.StepState.{StepState, takes}
+use Rattle.alloc_step.specs.StepState.{StepState, with_moves}
 use Rattle.alloc_core.specs.Stands.{GoesTo, IsInStep}
 use Rattle.alloc_core.specs.Puts.{PutsGoOn}
 use Rattle.alloc_step.specs.Extends.{Extends}
@@ -25,10 +25,10 @@ use Rattle.alloc_core.proofs.Lists.{append_none}
 module _ {D : Type 0} {disk : Ghosts D} (start : Durable D disk) (old : Member D disk) (durable : Durable D disk) (raft : Raft) (offered : Offered) (g : StepState) (h : IsInStep start old offered g)
     (step : ℕ) (given : Given) (moves : List Move) (failed : Option Fault) where
   pub took_moves : PutsGoOn D disk
-      → MakesMoves (members_of g.timed) g.timed.me step given moves g.timed.plain g.timed.times old.durable durable raft failed
-      → GoesTo start (record old { durable = durable; raft = raft }) offered (takes step given moves g) failed
+      → MakesMoves (members_of g.allocator) g.allocator.me step given moves g.allocator.raft_server g.allocator.times old.durable durable raft failed
+      → GoesTo start (record old { durable = durable; raft = raft }) offered (with_moves step given moves g) failed
   took_moves laws made =
-      let puts : CallWrites (g.puts ++ puts_with_origins (members_of g.timed) g.timed.me step given g.timed.plain moves) start durable failed =
+      let puts : CallWrites (g.puts ++ puts_with_origins (members_of g.allocator) g.allocator.me step given g.allocator.raft_server moves) start durable failed =
       laws.joined g.puts _ start old.durable durable failed h.puts made.puts in
       record {
         puts = puts;
@@ -36,7 +36,7 @@ module _ {D : Type 0} {disk : Ghosts D} (start : Durable D disk) (old : Member D
           stands = record {
             me = h.stands.me;
             size = h.stands.size;
-            raft = subst (λ (f : Option Fault). IfNone f (stands.StandsFor raft (members_of g.timed) (durable_state durable) (plain_after_all (members_of g.timed) g.timed.me step g.timed.plain moves) (times_after_all (members_of g.timed) g.timed.me step given g.timed.plain moves g.timed.times))) none made.after;
+            raft = subst (λ (f : Option Fault). IfNone f (stands.StandsFor raft (members_of g.allocator) (durable_state durable) (server_after_all (members_of g.allocator) g.allocator.me step g.allocator.raft_server moves) (times_after_all (members_of g.allocator) g.allocator.me step given g.allocator.raft_server moves g.allocator.times))) none made.after;
             exchange = h.stands.exchange;
             watch = h.stands.watch;
             cluster = h.stands.cluster;
@@ -47,12 +47,12 @@ module _ {D : Type 0} {disk : Ghosts D} (start : Durable D disk) (old : Member D
           };
           sent = h.sent;
           given = h.given;
-          puts = subst (λ (f : Option Fault). CallWrites (g.puts ++ puts_with_origins (members_of g.timed) g.timed.me step given g.timed.plain moves) start durable f) none puts;
+          puts = subst (λ (f : Option Fault). CallWrites (g.puts ++ puts_with_origins (members_of g.allocator) g.allocator.me step given g.allocator.raft_server moves) start durable f) none puts;
         };
       }
 
 -- no put is behind those that are there
-pub no_more : (g later : StepState) → later.puts ≡ g.puts → later.timed.sessions ≡ g.timed.sessions → later.timed.me ≡ g.timed.me → Extends g later
+pub no_more : (g later : StepState) → later.puts ≡ g.puts → later.allocator.sessions ≡ g.allocator.sessions → later.allocator.me ≡ g.allocator.me → Extends g later
 no_more g later same sessions me = record { more = []; puts = same ∙ sym (append_none g.puts); sessions = sessions; me = me }
 
 -- where a put failed, the step ends there, whatever it would have done later
@@ -65,8 +65,8 @@ module _ {D : Type 0} {disk : Ghosts D} (start : Durable D disk) (new : Member D
     step_state = λ none. cc;
   })
 
-pub is_going : {D : Type 0} {disk : Ghosts D} (start : Durable D disk) (new : Member D disk) (offered : Offered) (g : StepState) → IsInStep start new offered g → GoesTo start new offered g None
-is_going start new offered g h = record { puts = h.puts; step_state = λ _. h }
+pub is_step_state : {D : Type 0} {disk : Ghosts D} (start : Durable D disk) (new : Member D disk) (offered : Offered) (g : StepState) → IsInStep start new offered g → GoesTo start new offered g None
+is_step_state start new offered g h = record { puts = h.puts; step_state = λ _. h }
 
 -- what `?` gives on
 pub given_on : {T : Type 0} (result : Result T Fault) (fault : Fault) → IsErr result → IsErrAnd result (λ e. e ≡ fault) → result_err result ≡ Some fault

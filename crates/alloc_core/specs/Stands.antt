@@ -18,14 +18,14 @@ use Rattle.cluster_discovery.specs.Stands as cluster
 use Rattle.alloc_core.specs.declared.member.Member.{Member}
 use Rattle.alloc_step.specs.declared.offered.Offered.{Offered}
 use Rattle.alloc_step.specs.AllocatorState.{AllocatorState, members_of, start_of}
-use Rattle.alloc_step.specs.StepState.{StepState, newly_given, pairs, sents}
+use Rattle.alloc_step.specs.StepState.{StepState, pairs_if_fitted, pairs, listing_of}
 use Rattle.alloc_step.specs.Delivered.{StepResult}
 
 -- part for part
 pub record StandsFor {D : Type 0} {disk : Ghosts D} (member : Member D disk) (t : AllocatorState) : Type 0 where
   pub me : member.me ≡ t.me
   pub size : member.size ≡ t.size
-  pub raft : raft.StandsFor member.raft (members_of t) (durable_state member.durable) t.plain t.times
+  pub raft : raft.StandsFor member.raft (members_of t) (durable_state member.durable) t.raft_server t.times
   pub exchange : exchange.StandsFor member.exchange t.accepted
   pub watch : watch.StandsFor member.watch t.watch
   pub cluster : cluster.StandsFor member.cluster (start_of t) t.heard
@@ -52,8 +52,8 @@ pub record IsReady {D : Type 0} {disk : Ghosts D} (member : Member D disk) : Typ
 -- the member is in a step that has gone so far, from what was stored at its beginning
 pub record IsInStep {D : Type 0} {disk : Ghosts D} (start : Durable D disk) (member : Member D disk)
     (offered : Offered) (g : StepState) : Type 0 where
-  pub stands : StandsFor member g.timed
-  pub sent : offered.sent.items ≡ sents g
+  pub stands : StandsFor member g.allocator
+  pub sent : offered.sent.items ≡ listing_of g
   pub given : offered.answers.items ≡ pairs g
   pub puts : CallWrites g.puts start member.durable None
 
@@ -77,7 +77,7 @@ pub record IsFresh (offered : Offered) : Type 0 where
 -- a transfer was listed, and then the pair that it gives
 pub record ListsGiven (before listed after : Offered) (fitted : Bool) (what : What) (payload : List ℕ) : Type 0 where
   pub sent : after.sent ≡ listed.sent
-  pub given : after.answers.items ≡ before.answers.items ++ newly_given fitted what payload
+  pub given : after.answers.items ≡ before.answers.items ++ pairs_if_fitted fitted what payload
 
 -- ---- parts of a step, from one member to another, and from what was listed to what is
 

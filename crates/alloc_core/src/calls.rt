@@ -7,7 +7,7 @@ ghost use Rattle.alloc_core.specs.Calling as calling;
 ghost use Rattle.raft_core.specs.Calls.{IsWritable};
 ghost use Rattle.raft_core.specs.StoredPuts.{CallFaultIsSticky};
 ghost use Rattle.alloc_step.specs.declared.offered.Offered.{Offered};
-ghost use Rattle.alloc_step.specs.Ending.{call_phase, calls_all, calls_peer, commit_phase, ends, tell_phase};
+ghost use Rattle.alloc_step.specs.Ending.{call_phase, calls_all, calls_peer, commit_phase, end_phase, tell_phase};
 ghost use Rattle.alloc_step.specs.AllocatorState.{AllocatorState, members_of};
 
 use crate::member::Member;
@@ -29,7 +29,7 @@ impl<D: Disk> Member<D> {
         requires ready { IsReady self.old }
         requires room { array_vec_len offered.old.sent ≤ 6 }
         requires pairs { array_vec_len offered.old.answers ≤ 1 }
-        ensures goes { GoesUpTo self.old self.new offered.old offered.new (ends offered.old.step)
+        ensures goes { GoesUpTo self.old self.new offered.old offered.new (end_phase offered.old.step)
             (result_err result) }
         ensures ready { OnOk result (IsReady self.new) }
         ensures faults { CallFaultIsSticky self.old.durable self.new.durable (result_err result) }

@@ -9,7 +9,7 @@ ghost use Rattle.dsdl_codec.specs.Discovery.{discovery_of};
 ghost use Rattle.dsdl_codec.specs.NodeStatus.{node_status_of};
 ghost use Rattle.raft_core.specs.StoredPuts.{CallFaultIsSticky};
 ghost use Rattle.alloc_step.specs.declared.offered.Offered.{Offered};
-ghost use Rattle.alloc_step.specs.Delivered.{delivers, hears_discovery, hears_status, message, reads, request, response};
+ghost use Rattle.alloc_step.specs.Delivered.{delivery_phase, hears_discovery, hears_status, message, reads, request, response};
 ghost use Rattle.transfer_rx.specs.Told.{delivery_of};
 
 use crate::member::Member;
@@ -32,7 +32,7 @@ impl<D: Disk> Member<D> {
         requires room { array_vec_len offered.old.sent < 12 }
         requires pairs { array_vec_len offered.old.answers < 2 }
         ensures sees { SeesUpTo self.old self.new offered.old offered.new
-            (delivers offered.old.step (delivery_of transfer.now)) result }
+            (delivery_phase offered.old.step (delivery_of transfer.now)) result }
         ensures ready { OnOk result (IsReady self.new) }
         ensures lists { ListsUpTo 1 1 offered.old offered.new }
         ensures faults { CallFaultIsSticky self.old.durable self.new.durable (result_err result) }

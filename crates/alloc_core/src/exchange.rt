@@ -18,7 +18,7 @@ ghost use Rattle.alloc_step.specs.declared.offered.Offered.{Offered};
 ghost use Rattle.alloc_step.specs.Delivered.{reads};
 ghost use Rattle.alloc_step.specs.Exchange as exchange;
 ghost use Rattle.alloc_step.specs.Exchange.{allocation_payload, answers_again, hears_allocation, hears_whole, records, with_request};
-ghost use Rattle.alloc_step.specs.StepState.{newly_given, sends};
+ghost use Rattle.alloc_step.specs.StepState.{pairs_if_fitted, with_transfer};
 ghost use Rattle.alloc_step.specs.AllocatorState.{AllocatorState, known, may_propose};
 ghost use Rattle.alloc_step.specs.Transfers.{has_room};
 
@@ -114,7 +114,7 @@ impl<D: Disk> Member<D> {
         requires size { length bytes.now ≤ 16 }
         requires room { array_vec_len offered.old.sent < 12 }
         ensures step_state { GoesOn self.old self.new offered.old offered.new
-            (sends offered.old.step Alloc 0 (allocation_payload 0 bytes.now) None) }
+            (with_transfer offered.old.step Alloc 0 (allocation_payload 0 bytes.now) None) }
         ensures ready { IsReady self.new }
         ensures lists { ListsUpTo 1 0 offered.old offered.new }
         ensures durable { self.new.durable ≡ self.old.durable }
@@ -206,7 +206,7 @@ impl<D: Disk> Member<D> {
         requires pairs { array_vec_len offered.old.answers < 2 }
         ensures fitted { result ≡ has_room self.old.outbox.queue (allocation_payload node uid.now) }
         ensures step_state { GoesOn self.old self.new offered.old offered.new
-            (sends offered.old.step Alloc 0 (allocation_payload node uid.now) None) }
+            (with_transfer offered.old.step Alloc 0 (allocation_payload node uid.now) None) }
         ensures rest { self.new ≡ record self.old { outbox = self.new.outbox } }
         ensures ready { IsReady self.new }
         ensures lists { ListsUpTo 1 1 offered.old offered.new }
@@ -222,7 +222,7 @@ impl<D: Disk> Member<D> {
 fn give_if(fitted: bool, uid: &Uid, node: u8, offered: &mut Offered)
     requires node { node < 128 }
     requires pairs { array_vec_len offered.old.answers < 2 }
-    ensures given { offered.new.answers.items ≡ offered.old.answers.items ++ newly_given fitted
+    ensures given { offered.new.answers.items ≡ offered.old.answers.items ++ pairs_if_fitted fitted
         Alloc (allocation_payload node uid.now) }
     ensures sent { offered.new.sent ≡ offered.old.sent }
     ensures lists { ListsUpTo 0 1 offered.old offered.new }

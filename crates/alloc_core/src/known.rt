@@ -3,10 +3,10 @@
 ghost use Rattle.std.specs.Prelude.{◌≡◌, ◌<◌, ℕ, Bool, ◌||◌, true, false, length, slice_index_or};
 ghost use Rattle.can_frame.specs.Log.{HasNodeId};
 ghost use Rattle.can_frame.specs.declared.entry.Entry.{Entry};
-ghost use Rattle.cluster_discovery.specs.Members.{lists};
+ghost use Rattle.cluster_discovery.specs.Members.{is_on_list};
 ghost use Rattle.cluster_discovery.specs.Views.{member_list};
 ghost use Rattle.raft_log.specs.DurableViews.{durable_state};
-ghost use Rattle.alloc_step.specs.AllocatorState as timed;
+ghost use Rattle.alloc_step.specs.AllocatorState as allocator;
 ghost use Rattle.alloc_step.specs.AllocatorState.{AllocatorState, is_recorded};
 
 use crate::member::Member;
@@ -19,7 +19,7 @@ impl<D: Disk> Member<D> {
 
     /// By node ID: the members, and the nodes that stand in the log.
     pub fn known(&self) -> [bool; 128]
-        ensures known { (t : AllocatorState) → StandsFor self.now t → result ≡ timed.known t }
+        ensures known { (t : AllocatorState) → StandsFor self.now t → result ≡ allocator.known t }
         ensures free { (node : ℕ) → node < 128 → slice_index_or result node true ≡ false →
             HasNodeId (durable_state self.now.durable).log node → ⊥ }
     {
@@ -30,7 +30,7 @@ impl<D: Disk> Member<D> {
 
     /// By node ID: those that are known, and the nodes that are online.
     pub fn taken(&self) -> [bool; 128]
-        ensures taken { (t : AllocatorState) → StandsFor self.now t → result ≡ timed.taken t }
+        ensures taken { (t : AllocatorState) → StandsFor self.now t → result ≡ allocator.taken t }
         ensures free { (node : ℕ) → node < 128 → slice_index_or result node true ≡ false →
             HasNodeId (durable_state self.now.durable).log node → ⊥ }
     {
@@ -42,7 +42,7 @@ impl<D: Disk> Member<D> {
     /// Marks the nodes that stand in the log, and the members.
     fn mark_known(&self, marked: &mut [bool; 128])
         ensures { (node : ℕ) (d : Bool) → node < 128 → slice_index_or marked.new node d ≡
-            (lists (member_list self.now.cluster) node ||
+            (is_on_list (member_list self.now.cluster) node ||
             (is_recorded (durable_state self.now.durable).log node ||
             slice_index_or marked.old node d)) }
     {
@@ -67,7 +67,7 @@ fn mark_recorded(log: &[Entry], marked: &mut [bool; 128])
 fn mark_listed(members: &[u8], marked: &mut [bool; 128])
     requires { (i : ℕ) → i < length members.now → slice_index_or members.now i 0 < 128 }
     ensures { (node : ℕ) (d : Bool) → node < 128 → slice_index_or marked.new node d ≡
-        (lists members.now node || slice_index_or marked.old node d) }
+        (is_on_list members.now node || slice_index_or marked.old node d) }
 {
     for member in members {
         marked[usize::from(*member)] = true;

@@ -4,17 +4,17 @@ ghost use Rattle.can_frame.specs.Identifier.{IsIdentifier};
 ghost use Rattle.can_frame.specs.Log.{HasUid, log_limit};
 ghost use Rattle.raft_core.specs.RaftViews.{raft_role};
 ghost use Rattle.can_frame.specs.declared.step.Role.TheVariants.{Leader};
-ghost use Rattle.cluster_discovery.specs.Members.{lists};
+ghost use Rattle.cluster_discovery.specs.Members.{is_on_list};
 ghost use Rattle.raft_log.specs.DurableViews.{durable_disk, durable_fault, durable_state};
 ghost use Rattle.raft_core.specs.StoredPuts.{store_of};
 ghost use Rattle.raft_model.specs.Messages.{Message};
 ghost use Rattle.raft_model.specs.Moves.Elections.{is_leader};
 ghost use Rattle.alloc_step.specs.declared.offered.Offered.{Offered};
-ghost use Rattle.alloc_step.specs.StepState.{responds, sends};
-ghost use Rattle.alloc_step.specs.Step.{at_sessions, begins};
+ghost use Rattle.alloc_step.specs.StepState.{with_response_to, with_transfer};
+ghost use Rattle.alloc_step.specs.Step.{at_sessions, begin_phase};
 ghost use Rattle.transfer_rx.specs.Sessions.{Session};
 ghost use Rattle.alloc_step.specs.AllocatorState.{AllocatorState, may_propose, members_of, opening, recorded_at, status_of};
-ghost use Rattle.alloc_step.specs.Transfers.{given_in, has_room, ident_of};
+ghost use Rattle.alloc_step.specs.Transfers.{pair_in, has_room, ident_of};
 ghost use Rattle.transfer_rx.specs.Told.{delivery_of};
 
 use crate::puts::puts_go_on;
@@ -91,7 +91,7 @@ impl<D: Disk> Member<D> {
         requires { IsReady self.old }
         ensures step_state { (t : AllocatorState) → StandsFor self.old t → (offered : Offered) →
             IsFresh offered → (step : ℕ) (sessions : List Session) →
-            IsInStep self.old.durable self.new offered (at_sessions sessions (begins step now t)) }
+            IsInStep self.old.durable self.new offered (at_sessions sessions (begin_phase step now t)) }
         ensures durable { self.new.durable ≡ self.old.durable }
         ensures ready { IsReady self.new }
     {
@@ -104,14 +104,14 @@ impl<D: Disk> Member<D> {
     pub fn lists(&self, node: u8) -> bool
         ensures least { result ≡ true → 1 ≤ node }
         ensures most { result ≡ true → node ≤ 125 }
-        ensures stands { (t : AllocatorState) → StandsFor self.now t → result ≡ lists (members_of t) node }
+        ensures stands { (t : AllocatorState) → StandsFor self.now t → result ≡ is_on_list (members_of t) node }
     {
         self.cluster.members().contains(&node)
     }
 
     pub fn leads(&self) -> bool
         ensures leads { result ≡ true → raft_role self.now.raft ≡ Leader }
-        ensures stands { (t : AllocatorState) → StandsFor self.now t → result ≡ is_leader t.plain.memory.role }
+        ensures stands { (t : AllocatorState) → StandsFor self.now t → result ≡ is_leader t.raft_server.memory.role }
     {
         self.raft.role() == Role::Leader
     }
@@ -163,10 +163,10 @@ impl<D: Disk> Member<D> {
         ensures gives { (after : Offered) → ListsGiven offered.old offered.new after result what
             payload.items →
             (says : Option Message) → GoesOn self.old self.new offered.old after
-            (sends offered.old.step what to payload.items says) }
-        ensures step_state { given_in what payload.items ≡ None →
+            (with_transfer offered.old.step what to payload.items says) }
+        ensures step_state { pair_in what payload.items ≡ None →
             (says : Option Message) → GoesOn self.old self.new offered.old offered.new
-            (sends offered.old.step what to payload.items says) }
+            (with_transfer offered.old.step what to payload.items says) }
         ensures rest { self.new ≡ record self.old { outbox = self.new.outbox } }
         ensures ready { IsReady self.new }
         ensures lists { ListsUpTo 1 0 offered.old offered.new }
@@ -190,9 +190,9 @@ impl<D: Disk> Member<D> {
         requires ident { IsIdentifier (ident_of self.old.me what request.now.ident.source) }
         requires id { request.now.id < 32 }
         requires room { array_vec_len offered.old.sent < 12 }
-        ensures step_state { given_in what payload.items ≡ None →
+        ensures step_state { pair_in what payload.items ≡ None →
             (says : Option Message) → GoesOn self.old self.new offered.old offered.new
-            (responds offered.old.step what (delivery_of request.now) payload.items says) }
+            (with_response_to offered.old.step what (delivery_of request.now) payload.items says) }
         ensures rest { self.new ≡ record self.old { outbox = self.new.outbox } }
         ensures ready { IsReady self.new }
         ensures lists { ListsUpTo 1 0 offered.old offered.new }

@@ -10,7 +10,7 @@ ghost use Rattle.raft_core.specs.RaftViews.{raft_role};
 ghost use Rattle.raft_log.specs.DurableViews.{durable_state};
 ghost use Rattle.raft_core.specs.StoredPuts.{CallFaultIsSticky};
 ghost use Rattle.alloc_step.specs.declared.offered.Offered.{Offered};
-ghost use Rattle.alloc_step.specs.Tick.{asks, candidate, discovery_phase, election_phase, is_candidate, new_uid, proposes, query_phase, record_phase, records_as, reserves, status_phase, ticks};
+ghost use Rattle.alloc_step.specs.Tick.{asks, candidate, discovery_phase, election_phase, is_candidate, new_uid, proposes, query_phase, record_phase, records_as, reserves, status_phase, clock_phase};
 ghost use Rattle.alloc_step.specs.AllocatorState.{AllocatorState, is_known};
 ghost use Rattle.alloc_core.specs.Strangers.{is_stranger};
 
@@ -33,7 +33,7 @@ impl<D: Disk> Member<D> {
         requires ready { IsReady self.old }
         requires room { array_vec_len offered.old.sent ≤ 4 }
         ensures goes { GoesUpTo self.old self.new offered.old offered.new
-            (ticks offered.old.step word) (result_err result) }
+            (clock_phase offered.old.step word) (result_err result) }
         ensures ready { OnOk result (IsReady self.new) }
         ensures lists { ListsUpTo 3 0 offered.old offered.new }
         ensures faults { CallFaultIsSticky self.old.durable self.new.durable (result_err result) }

@@ -15,9 +15,9 @@ pub record Accepted : Type 0 where
   pub moment : ℕ
 
 -- the bytes of the unique ID so far: the parts, one behind the other
-abbrev pub collected : List Accepted → List ℕ
-collected [] = []
-collected (last ∷ earlier) = collected earlier ++ last.bytes
+abbrev pub bytes_so_far : List Accepted → List ℕ
+bytes_so_far [] = []
+bytes_so_far (last ∷ earlier) = bytes_so_far earlier ++ last.bytes
 
 -- the moment of the last accepted request, 0 where there is none
 abbrev pub last_moment : List Accepted → ℕ
@@ -25,8 +25,8 @@ last_moment [] = 0
 last_moment (last ∷ earlier) = last.moment
 
 -- the requests that still count: none of them once more than 500 ms have passed since the last one
-abbrev pub kept : List Accepted → ℕ → List Accepted
-kept accepted now = if nat_lt (last_moment accepted + 500) now then [] else accepted
+abbrev pub recent_requests : List Accepted → ℕ → List Accepted
+recent_requests accepted now = if nat_lt (last_moment accepted + 500) now then [] else accepted
 
 -- a request is of the first stage by its flag, else of the second with 6 bytes, else of the third
 abbrev pub stage_of : Allocation → Stage
@@ -50,7 +50,7 @@ has_length message = nat_eq (length message.uid.items) (stage_length (stage_of m
 
 -- the stage of the request is the one that is expected
 abbrev pub is_expected : List Accepted → Allocation → Bool
-is_expected accepted message = nat_eq (length (collected accepted)) (bytes_before (stage_of message))
+is_expected accepted message = nat_eq (length (bytes_so_far accepted)) (bytes_before (stage_of message))
 
 -- the requests with one more that is accepted
 abbrev pub with_request : List Accepted → Allocation → ℕ → List Accepted
@@ -58,13 +58,13 @@ with_request accepted message now = record { bytes = message.uid.items; moment =
 
 -- the unique ID is whole
 abbrev pub is_whole : List Accepted → Bool
-is_whole accepted = nat_eq (length (collected accepted)) 16
+is_whole accepted = nat_eq (length (bytes_so_far accepted)) 16
 
 -- the answer to the last accepted request, whose node field is the preference
 abbrev pub response : List Accepted → ℕ → Bool → Heard
 response accepted preferred may_follow =
-    if is_whole accepted then Whole (collected accepted) preferred
-    else if may_follow then FollowUp (record { items = collected accepted })
+    if is_whole accepted then Whole (bytes_so_far accepted) preferred
+    else if may_follow then FollowUp (record { items = bytes_so_far accepted })
     else Denied
 
 -- what is left behind that answer: only a follow-up leaves the requests
@@ -86,11 +86,11 @@ after_message accepted message now may_follow =
 
 -- what is answered to a message at a moment, by the requests accepted since the last clearing
 unfoldable pub answer : List Accepted → Allocation → ℕ → Bool → Heard
-answer accepted message now may_follow = answer_to (kept accepted now) message now may_follow
+answer accepted message now may_follow = answer_to (recent_requests accepted now) message now may_follow
 
 -- the requests accepted since the last clearing, behind a message
 unfoldable pub after : List Accepted → Allocation → ℕ → Bool → List Accepted
-after accepted message now may_follow = after_message (kept accepted now) message now may_follow
+after accepted message now may_follow = after_message (recent_requests accepted now) message now may_follow
 
 -- so many bytes are collected behind a stage
 abbrev pub IsEndOfStage : ℕ → Type 0

@@ -18,7 +18,7 @@ pub struct Exchange {
 }
 
 impl Exchange {
-    ghost use Rattle.alloc_exchange.specs.Exchange.{Accepted, answer, after, kept, with_request, response, left_over, HasItsSize, IsEndOfStage};
+    ghost use Rattle.alloc_exchange.specs.Exchange.{Accepted, answer, after, recent_requests, with_request, response, left_over, HasItsSize, IsEndOfStage};
     ghost use Rattle.alloc_exchange.specs.Stands.{StandsFor};
 
     /// An exchange that has accepted nothing.
@@ -59,7 +59,7 @@ impl Exchange {
 
     fn forget_where_late(&mut self, now: u64)
         ensures { (accepted : List Accepted) → StandsFor self.old accepted →
-            StandsFor self.new (kept accepted now) }
+            StandsFor self.new (recent_requests accepted now) }
     {
         if now > self.last.saturating_add(500) {
             *self = Exchange::new();

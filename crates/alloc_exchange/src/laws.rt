@@ -4,7 +4,7 @@ ghost use Rattle.std.specs.Prelude.{◌≡◌, ◌≤◌, ◌+◌, ◌++◌, ℕ
 ghost use Rattle.dsdl_codec.specs.declared.allocation.Allocation.{Allocation};
 ghost use Rattle.alloc_exchange.specs.declared.heard.Ignore.{Ignore};
 ghost use Rattle.alloc_exchange.specs.declared.heard.Heard.TheVariants.{Ignored, Denied, Whole};
-ghost use Rattle.alloc_exchange.specs.Exchange.{Accepted, answer, after, kept};
+ghost use Rattle.alloc_exchange.specs.Exchange.{Accepted, answer, after, recent_requests};
 
 /// A request that is ignored changes nothing but that what is too old is forgotten.
 #[tactic(auto, unfolding(crate::specs::Exchange::answer, crate::specs::Exchange::after))]
@@ -12,7 +12,7 @@ pub fn ignored_requests_change_nothing()
     ensures { (accepted : List Accepted) (message : Allocation) (now : ℕ) (may_follow : Bool)
         (why : Ignore) →
         answer accepted message now may_follow ≡ Ignored why →
-        after accepted message now may_follow ≡ kept accepted now }
+        after accepted message now may_follow ≡ recent_requests accepted now }
 {}
 
 /// Where the unique ID is whole, and where a follow-up is denied, nothing is kept.

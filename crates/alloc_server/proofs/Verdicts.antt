@@ -7,18 +7,18 @@ use Rattle.transfer_rx.specs.Sessions.{Session}
 use Rattle.can_frame.specs.declared.frame.Frame.{Frame}
 use Rattle.can_frame.specs.declared.mark.Mark.{Mark}
 use Rattle.alloc_step.specs.Accepted.{setting_for}
-use Rattle.alloc_step.specs.Judging.{is_response, is_stale, judged, judges, misses}
+use Rattle.alloc_step.specs.Judging.{is_response, is_stale, answer_judgement, arrival_judgement, misses}
 use Rattle.raft_core.specs.Times.{Sending}
 use Rattle.raft_model.specs.Messages.{Request as Call}
 use Rattle.alloc_step.specs.AllocatorState.{AllocatorState}
 
-judged_none : (t : AllocatorState) (step now : ℕ) (a : Answer) → delivered a ≡ None → judged t step now a ≡ Fine
+judged_none : (t : AllocatorState) (step now : ℕ) (a : Answer) → delivered a ≡ None → answer_judgement t step now a ≡ Fine
 judged_none t step now (Gives d) none = cc
 judged_none t step now Continues none = refl
 judged_none t step now (Drops why) none = refl
 
-judged_some : (t : AllocatorState) (step now : ℕ) (a : Answer) (d : Delivery) → delivered a ≡ Some d → judged t step now a ≡ judged t step now (Gives d)
-judged_some t step now (Gives e) d some = let same : e ≡ d = cc in ap (λ (x : Delivery). judged t step now (Gives x)) same
+judged_some : (t : AllocatorState) (step now : ℕ) (a : Answer) (d : Delivery) → delivered a ≡ Some d → answer_judgement t step now a ≡ answer_judgement t step now (Gives d)
+judged_some t step now (Gives e) d some = let same : e ≡ d = cc in ap (λ (x : Delivery). answer_judgement t step now (Gives x)) same
 judged_some t step now Continues d some = cc
 judged_some t step now (Drops why) d some = cc
 
@@ -26,12 +26,12 @@ module _ (t : AllocatorState) (arrival : Arrival) where
   abbrev pub now_then : Arrival
   now_then = record arrival { moment = max t.now arrival.moment }
 
-  pub judges_none : delivered (answer (setting_for t.me) t.sessions now_then) ≡ None → judges t arrival ≡ Fine
-  unfolding judges
+  pub judges_none : delivered (answer (setting_for t.me) t.sessions now_then) ≡ None → arrival_judgement t arrival ≡ Fine
+  unfolding arrival_judgement
   judges_none none = judged_none t arrival.mark.step (max t.now arrival.moment) _ none
 
-  pub judges_some : (d : Delivery) → delivered (answer (setting_for t.me) t.sessions now_then) ≡ Some d → judges t arrival ≡ judged t arrival.mark.step (max t.now arrival.moment) (Gives d)
-  unfolding judges
+  pub judges_some : (d : Delivery) → delivered (answer (setting_for t.me) t.sessions now_then) ≡ Some d → arrival_judgement t arrival ≡ answer_judgement t arrival.mark.step (max t.now arrival.moment) (Gives d)
+  unfolding arrival_judgement
   judges_some d some = judged_some t arrival.mark.step (max t.now arrival.moment) _ d some
 
 -- what is foretold at the moment of a step
@@ -48,7 +48,7 @@ at_most n h = grind arith
 
 -- a response of a member is judged by the call to it
 pub stale_as : (t : AllocatorState) (d : Delivery) (now : ℕ) (r : Bool) → is_response d.ident.kind ≡ true → d.ident.source ≤ 125
-    → r ≡ misses d now (t.plain.memory.pending d.ident.source) (t.times.sending d.ident.source) → r ≡ is_stale t d now
+    → r ≡ misses d now (t.raft_server.memory.pending d.ident.source) (t.times.sending d.ident.source) → r ≡ is_stale t d now
 stale_as t d now r responds device is = is ∙ both (is_response d.ident.kind) (nat_le d.ident.source 125) _ responds (at_most d.ident.source device)
 
 pub misses_as : (d : Delivery) (now : ℕ) (call call2 : Option Call) (sending sending2 : Option Sending) → call ≡ call2 → sending ≡ sending2 → misses d now call2 sending2 ≡ misses d now call sending

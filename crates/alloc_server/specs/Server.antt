@@ -24,7 +24,7 @@ use Rattle.can_frame.specs.declared.step.Seen.{Seen}
 use Rattle.alloc_step.specs.declared.offered.Offered.{Offered}
 use Rattle.transfer_rx.specs.Reassembly.{arrival_of}
 use Rattle.alloc_step.specs.Accepted.{setting_for}
-use Rattle.alloc_step.specs.StepState.{pairs, sents}
+use Rattle.alloc_step.specs.StepState.{pairs, listing_of}
 use Rattle.alloc_core.specs.Stands as member
 use Rattle.alloc_step.specs.Delivered.{StepResult}
 use Rattle.alloc_step.specs.Step.{Event, Rx, Tick}
@@ -38,7 +38,7 @@ event_of (RxCode frame mark now) = Rx (arrival_of frame mark now)
 -- what a finished step tells
 pub record Tells (outcome : Outcome) (step_result : StepResult) : Type 0 where
   pub seen : outcome.seen ≡ step_result.seen
-  pub sent : outcome.sent.items ≡ sents step_result.step_state
+  pub sent : outcome.sent.items ≡ listing_of step_result.step_state
   pub given : outcome.answers.items ≡ pairs step_result.step_state
 
 module _ {D F : Type 0} {disk : Ghosts D} where
@@ -95,7 +95,7 @@ module _ {D F : Type 0} {disk : Ghosts D} where
   pub record StepsTo (old new : Server D F disk) (step_result : StepResult) (result : Result Outcome Fault)
       : Type 0 where
     -- where no put fails, it stands for the server afterwards, and tells what was seen and offered
-    pub stands : OnOk result (StandsFor new step_result.step_state.timed)
+    pub stands : OnOk result (StandsFor new step_result.step_state.allocator)
     pub tells : IfOk result (λ outcome. Tells outcome step_result)
     -- its puts are made in order, up to the first that fails
     pub leaves : LeavesSome old new step_result.step_state.puts
@@ -110,5 +110,5 @@ pub record ComesTo {D F : Type 0} {disk : Ghosts D} (start : Durable D disk) (t 
     (after : Member D disk) (r : Receiver F 160 128) (offered : Offered) (step_result : StepResult)
     (result : Result Seen Fault) : Type 0 where
   pub sees : member.SeesTo start after offered step_result result
-  pub sessions : receiver.HasSessions r step_result.step_state.timed.sessions
-  pub me : step_result.step_state.timed.me ≡ t.me
+  pub sessions : receiver.HasSessions r step_result.step_state.allocator.sessions
+  pub me : step_result.step_state.allocator.me ≡ t.me

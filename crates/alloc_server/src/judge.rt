@@ -9,7 +9,7 @@ ghost use Rattle.can_frame.specs.declared.step.Judged.TheVariants.{Fine, Stale, 
 ghost use Rattle.transfer_rx.specs.Acceptance.{AnswersByRows};
 ghost use Rattle.transfer_rx.specs.Reassembly.{arrival_of};
 ghost use Rattle.alloc_step.specs.Accepted as accepted;
-ghost use Rattle.alloc_step.specs.Judging.{is_response, is_stale, judges, misses};
+ghost use Rattle.alloc_step.specs.Judging.{is_response, is_stale, arrival_judgement, misses};
 ghost use Rattle.transfer_rx.specs.Memory.{ReceiverFitsInMemory};
 ghost use Rattle.alloc_step.specs.AllocatorState.{AllocatorState};
 
@@ -31,7 +31,7 @@ impl<D: Disk, F: Fn(Kind, u16) -> Option<u64> + Copy> Server<D, F> {
         requires callable { F.IsAlwaysCallable (accepts self.now) }
         requires answers { AnswersByRows (F.post (accepts self.now)) accepted.rows }
         ensures judged { (t : AllocatorState) → StandsFor self.now t →
-            result ≡ judges t (arrival_of frame.now mark now) }
+            result ≡ arrival_judgement t (arrival_of frame.now mark now) }
         ensures failed { IsSome (fault_of self.now) → result ≡ Fine }
     {
         if self.failed() {
@@ -49,7 +49,7 @@ impl<D: Disk, F: Fn(Kind, u16) -> Option<u64> + Copy> Server<D, F> {
         requires callable { F.IsAlwaysCallable (accepts self.now) }
         requires answers { AnswersByRows (F.post (accepts self.now)) accepted.rows }
         ensures { (t : AllocatorState) → StandsFor self.now t →
-            result ≡ judges t (arrival_of frame.now mark now) }
+            result ≡ arrival_judgement t (arrival_of frame.now mark now) }
     {
         let now = self.member.latest.max(now);
         let Some(transfer) = self.receiver.peek(frame, mark, now) else {

@@ -21,7 +21,7 @@ ghost use Rattle.raft_core.specs.OneFit.{ReachesUpTo-prop};
 ghost use Rattle.alloc_core.specs.Stands.{IsReady};
 ghost use Rattle.alloc_step.specs.Accepted as accepted;
 ghost use Rattle.transfer_rx.specs.Memory.{ReceiverFitsInMemory};
-ghost use Rattle.alloc_step.specs.Step.{popped};
+ghost use Rattle.alloc_step.specs.Step.{after_pop};
 ghost use Rattle.alloc_step.specs.Step as steps;
 ghost use Rattle.alloc_step.specs.AllocatorState.{AllocatorState, entry_of, opening, view_of};
 
@@ -155,7 +155,7 @@ impl<D: Disk, F: Fn(Kind, u16) -> Option<u64> + Copy> Server<D, F> {
     /// The next frame for the bus.
     pub fn pop(&mut self) -> Option<Marked>
         ensures next { option_map queued_of result ≡ next_out (queued self.old) }
-        ensures rest { (t : AllocatorState) → StandsFor self.old t → StandsFor self.new (popped t) }
+        ensures rest { (t : AllocatorState) → StandsFor self.old t → StandsFor self.new (after_pop t) }
         ensures none { IsNone result ↔ (queued self.old ≡ []) }
         ensures unchanged { IsNone result → self.new ≡ self.old }
         ensures closed { IsSome (fault_of self.old) → IsNone result }

@@ -24,16 +24,16 @@ use Rattle.id_selector.specs.Choice.{chosen}
 use Rattle.node_discovery.specs.Watch.{some_unknown}
 use Rattle.raft_core.specs.Handled as handled
 use Rattle.raft_core.specs.Times.{given_at, is_awaited}
-use Rattle.raft_model.specs.Decisions.{grants, judges}
+use Rattle.raft_model.specs.Decisions.{grants, verdict_on}
 use Rattle.raft_model.specs.Messages.{Request as Call}
 use Rattle.raft_model.specs.Moves.{Move}
 use Rattle.raft_model.specs.Moves.Elections.{with_term}
 use Rattle.raft_model.specs.Moves.Move.{AnswerAgain, TakeAppendRequest, TakeVoteRequest}
 use Rattle.transfer_rx.specs.Reassembly.{Answer, Continues, Delivery, Drops, Gives}
-use Rattle.alloc_step.specs.Delivered.{asks_info, by_kind, delivers, hears_discovery, hears_status, message, reads, request, response}
+use Rattle.alloc_step.specs.Delivered.{asks_info, by_kind, delivery_phase, hears_discovery, hears_status, message, reads, request, response}
 use Rattle.alloc_step.specs.Exchange.{answers_or_records, answers_request, hears_allocation, hears_whole, may_follow, records, records_at, with_request}
 use Rattle.alloc_step.specs.Extends.{Extends}
-use Rattle.alloc_step.specs.StepState.{StepState, takes}
+use Rattle.alloc_step.specs.StepState.{StepState, with_moves}
 use Rattle.alloc_step.specs.Services.{answers_append, answers_append_request, answers_call, answers_vote, answers_vote_request, append_answered, ends_append_call, ends_vote_call, hears_info, is_listed, takes_append_answer, takes_append_request, takes_vote_answer, takes_vote_request, tells_info, vote_answered}
 use Rattle.alloc_step.specs.Step.{with_answer}
 use Rattle.alloc_step.specs.AllocatorState.{is_zero, known, may_propose, recorded_at, taken}
@@ -49,31 +49,31 @@ reads_more does (Some a) g more = more a
 
 answers_vote_more : (step : ℕ) (d : Delivery) (r : Call) (g : StepState) → Extends g (answers_vote step d r g)
 answers_vote_more step d r g =
-    let moved : StepState = takes step (given_at g.timed.now) (TakeVoteRequest r (grants (with_term g.timed.plain.store r.term) r) ∷ []) g in
-    and_more g moved (answers_vote step d r g) (takes_more step (given_at g.timed.now) (TakeVoteRequest r (grants (with_term g.timed.plain.store r.term) r) ∷ []) g) (no_more moved (answers_vote step d r g) refl refl refl)
+    let moved : StepState = with_moves step (given_at g.allocator.now) (TakeVoteRequest r (grants (with_term g.allocator.raft_server.store r.term) r) ∷ []) g in
+    and_more g moved (answers_vote step d r g) (takes_more step (given_at g.allocator.now) (TakeVoteRequest r (grants (with_term g.allocator.raft_server.store r.term) r) ∷ []) g) (no_more moved (answers_vote step d r g) refl refl refl)
 
 vote_request_more : (step : ℕ) (d : Delivery) (asked : VoteRequest) (g : StepState) → Extends g (takes_vote_request step d asked g)
-vote_request_more step d asked g = either_more (is_listed d g.timed) g (answers_vote_request step d asked g) g (answers_vote_more step d (handled.vote_request_of asked d.mark.step d.ident.source g.timed.me) g) (itself g)
+vote_request_more step d asked g = either_more (is_listed d g.allocator) g (answers_vote_request step d asked g) g (answers_vote_more step d (handled.vote_request_of asked d.mark.step d.ident.source g.allocator.me) g) (itself g)
 
 answers_append_more : (step : ℕ) (d : Delivery) (r : Call) (g : StepState) → Extends g (answers_append step d r g)
 answers_append_more step d r g =
-    let moved : StepState = takes step (given_at g.timed.now) (TakeAppendRequest r (judges g.timed.plain r) ∷ []) g in
-    and_more g moved (answers_append step d r g) (takes_more step (given_at g.timed.now) (TakeAppendRequest r (judges g.timed.plain r) ∷ []) g) (no_more moved (answers_append step d r g) refl refl refl)
+    let moved : StepState = with_moves step (given_at g.allocator.now) (TakeAppendRequest r (verdict_on g.allocator.raft_server r) ∷ []) g in
+    and_more g moved (answers_append step d r g) (takes_more step (given_at g.allocator.now) (TakeAppendRequest r (verdict_on g.allocator.raft_server r) ∷ []) g) (no_more moved (answers_append step d r g) refl refl refl)
 
 append_request_more : (step : ℕ) (d : Delivery) (asked : AppendRequest) (g : StepState) → Extends g (takes_append_request step d asked g)
-append_request_more step d asked g = either_more (is_listed d g.timed) g (answers_append_request step d asked g) g (answers_append_more step d (handled.append_request_of asked d.mark.step d.ident.source g.timed.me) g) (itself g)
+append_request_more step d asked g = either_more (is_listed d g.allocator) g (answers_append_request step d asked g) g (answers_append_more step d (handled.append_request_of asked d.mark.step d.ident.source g.allocator.me) g) (itself g)
 
 call_more : (step : ℕ) (move : Call → Move) (pending : Option Call) (g : StepState) → Extends g (answers_call step move pending g)
 call_more step move None g = itself g
-call_more step move (Some r) g = takes_more step (given_at g.timed.now) (move r ∷ []) g
+call_more step move (Some r) g = takes_more step (given_at g.allocator.now) (move r ∷ []) g
 
 vote_answer_more : (step : ℕ) (d : Delivery) (says : VoteAnswer) (g : StepState) → Extends g (takes_vote_answer step d says g)
-vote_answer_more step d says g = either_more (is_listed d g.timed) g (ends_vote_call step d says g) g
-    (either_more (is_awaited g.timed.plain g.timed.times d.ident.source false d.id) g (answers_call step (vote_answered d says) (g.timed.plain.memory.pending d.ident.source) g) g (call_more step (vote_answered d says) (g.timed.plain.memory.pending d.ident.source) g) (itself g)) (itself g)
+vote_answer_more step d says g = either_more (is_listed d g.allocator) g (ends_vote_call step d says g) g
+    (either_more (is_awaited g.allocator.raft_server g.allocator.times d.ident.source false d.id) g (answers_call step (vote_answered d says) (g.allocator.raft_server.memory.pending d.ident.source) g) g (call_more step (vote_answered d says) (g.allocator.raft_server.memory.pending d.ident.source) g) (itself g)) (itself g)
 
 append_answer_more : (step : ℕ) (d : Delivery) (says : AppendAnswer) (g : StepState) → Extends g (takes_append_answer step d says g)
-append_answer_more step d says g = either_more (is_listed d g.timed) g (ends_append_call step d says g) g
-    (either_more (is_awaited g.timed.plain g.timed.times d.ident.source true d.id) g (answers_call step (append_answered d says) (g.timed.plain.memory.pending d.ident.source) g) g (call_more step (append_answered d says) (g.timed.plain.memory.pending d.ident.source) g) (itself g)) (itself g)
+append_answer_more step d says g = either_more (is_listed d g.allocator) g (ends_append_call step d says g) g
+    (either_more (is_awaited g.allocator.raft_server g.allocator.times d.ident.source true d.id) g (answers_call step (append_answered d says) (g.allocator.raft_server.memory.pending d.ident.source) g) g (call_more step (append_answered d says) (g.allocator.raft_server.memory.pending d.ident.source) g) (itself g)) (itself g)
 
 info_more : (step : ℕ) (d : Delivery) (payload : List ℕ) (g : StepState) → Extends g (asks_info step d payload g).step_state
 info_more step d [] g = no_more g (tells_info step d g) refl refl refl
@@ -86,15 +86,15 @@ records_at_more step uid None g = itself g
 records_at_more step uid (Some node) g = proposes_more step _ uid node g
 
 records_more : (step : ℕ) (uid : List ℕ) (preference : ℕ) (g : StepState) → Extends g (records step uid preference g)
-records_more step uid preference g = either_more (may_propose g.timed && not (some_unknown g.timed.watch (known g.timed) g.timed.now)) g (records_at step uid (chosen (taken g.timed) preference) g) g
-    (records_at_more step uid (chosen (taken g.timed) preference) g) (itself g)
+records_more step uid preference g = either_more (may_propose g.allocator && not (some_unknown g.allocator.watch (known g.allocator) g.allocator.now)) g (records_at step uid (chosen (taken g.allocator) preference) g) g
+    (records_at_more step uid (chosen (taken g.allocator) preference) g) (itself g)
 
 recorded_more : (step : ℕ) (uid : List ℕ) (preference : ℕ) (place : Option ℕ) (g : StepState) → Extends g (answers_or_records step uid preference place g)
 recorded_more step uid preference None g = records_more step uid preference g
-recorded_more step uid preference (Some place) g = either_more (nat_lt place g.timed.plain.store.commit) g _ g (gives_more step (AnswerAgain place) (slice_index_or g.timed.plain.store.log place (blank 0)) g) (itself g)
+recorded_more step uid preference (Some place) g = either_more (nat_lt place g.allocator.raft_server.store.commit) g _ g (gives_more step (AnswerAgain place) (slice_index_or g.allocator.raft_server.store.log place (blank 0)) g) (itself g)
 
 whole_more : (step : ℕ) (uid : List ℕ) (preference : ℕ) (g : StepState) → Extends g (hears_whole step uid preference g)
-whole_more step uid preference g = either_more (is_zero uid) g g (answers_or_records step uid preference (recorded_at g.timed.plain.store.log uid) g) (itself g) (recorded_more step uid preference (recorded_at g.timed.plain.store.log uid) g)
+whole_more step uid preference g = either_more (is_zero uid) g g (answers_or_records step uid preference (recorded_at g.allocator.raft_server.store.log uid) g) (itself g) (recorded_more step uid preference (recorded_at g.allocator.raft_server.store.log uid) g)
 
 heard_more : (step : ℕ) (heard : Heard) (g : StepState) → Extends g (answers_request step heard g)
 heard_more step (FollowUp bytes) g = no_more g (answers_request step (FollowUp bytes) g) refl refl refl
@@ -105,7 +105,7 @@ heard_more step Denied g = itself g
 allocation_more : (step : ℕ) (asked : Allocation) (g : StepState) → Extends g (hears_allocation step asked g)
 allocation_more step asked g =
     let heard : StepState = with_request asked g in
-    and_more g heard (hears_allocation step asked g) (no_more g heard refl refl refl) (heard_more step (answer g.timed.accepted asked g.timed.now (may_follow g.timed)) heard)
+    and_more g heard (hears_allocation step asked g) (no_more g heard refl refl refl) (heard_more step (answer g.allocator.accepted asked g.allocator.now (may_follow g.allocator)) heard)
 
 -- ---- by the data type
 
@@ -138,8 +138,8 @@ kind_more step d Message g = message_more d g
 kind_more step d Request g = request_more step d g
 kind_more step d Response g = response_more step d g
 
-pub delivers_more : (step : ℕ) (d : Delivery) (g : StepState) → Extends g (delivers step d g).step_state
-unfolding delivers
+pub delivers_more : (step : ℕ) (d : Delivery) (g : StepState) → Extends g (delivery_phase step d g).step_state
+unfolding delivery_phase
 delivers_more step d g = kind_more step d d.ident.kind g
 
 pub answer_more : (step : ℕ) (a : Answer) (g : StepState) → Extends g (with_answer step a g).step_state

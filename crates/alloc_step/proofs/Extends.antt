@@ -7,10 +7,10 @@ use Rattle.raft_core.specs.Times.{Given}
 use Rattle.raft_model.specs.Moves.{Move}
 use Rattle.alloc_step.specs.AllocatorState.{members_of}
 use Rattle.alloc_step.specs.Extends.{Extends}
-use Rattle.alloc_step.specs.StepState.{StepState, takes}
+use Rattle.alloc_step.specs.StepState.{StepState, with_moves}
 use Rattle.alloc_step.proofs.Lists.{append_none}
 
-pub no_more : (g later : StepState) → later.puts ≡ g.puts → later.timed.sessions ≡ g.timed.sessions → later.timed.me ≡ g.timed.me → Extends g later
+pub no_more : (g later : StepState) → later.puts ≡ g.puts → later.allocator.sessions ≡ g.allocator.sessions → later.allocator.me ≡ g.allocator.me → Extends g later
 no_more g later same sessions me = record { more = []; puts = same ∙ sym (append_none g.puts); sessions = sessions; me = me }
 
 pub itself : (g : StepState) → Extends g g
@@ -24,8 +24,8 @@ and_more g mid later a b = record {
   me = b.me ∙ a.me;
 }
 
-pub takes_more : (step : ℕ) (given : Given) (moves : List Move) (g : StepState) → Extends g (takes step given moves g)
-takes_more step given moves g = record { more = puts_with_origins (members_of g.timed) g.timed.me step given g.timed.plain moves; puts = refl; sessions = refl; me = refl }
+pub takes_more : (step : ℕ) (given : Given) (moves : List Move) (g : StepState) → Extends g (with_moves step given moves g)
+takes_more step given moves g = record { more = puts_with_origins (members_of g.allocator) g.allocator.me step given g.allocator.raft_server moves; puts = refl; sessions = refl; me = refl }
 
 pub either_more : (b : Bool) (g x y : StepState) → Extends g x → Extends g y → Extends g (if b then x else y)
 either_more true g x y a b = a

@@ -9,14 +9,14 @@ use Rattle.can_frame.specs.declared.step.Role.{Role}
 use Rattle.can_frame.specs.declared.step.Role.TheVariants.{Follower, Candidate, Leader}
 use Rattle.can_frame.specs.Log.{entry_at}
 use Rattle.can_frame.specs.Zeros.{zeros}
-use Rattle.cluster_discovery.specs.Members.{Event as Heard, Start, is_complete, lists, members}
+use Rattle.cluster_discovery.specs.Members.{Event as Heard, Start, is_complete, is_on_list, members}
 use Rattle.dsdl_codec.specs.declared.node_status.NodeStatus.{NodeStatus}
 use Rattle.node_discovery.specs.History.{is_online}
 use Rattle.node_discovery.specs.Watch.{Watched, history}
 use Rattle.raft_core.specs.StoredPuts.{number_of_vote}
 use Rattle.raft_core.specs.Times.{Times, opened_times}
 use Rattle.raft_model.specs.Moves.Elections.{is_leader}
-use Rattle.raft_model.specs.Server.{RaftServer, Role as MachineRole, Store, opened}
+use Rattle.raft_model.specs.Server.{RaftServer, Role as MachineRole, Store, memory_when_opened}
 use Rattle.transfer_rx.specs.Sessions.{Session}
 use Rattle.transfer_tx.specs.Queue.{Queued}
 use Rattle.alloc_step.specs.declared.event.View.{View}
@@ -27,7 +27,7 @@ pub record AllocatorState : Type 0 where
   pub me : ℕ
   pub size : ℕ
   -- the server of the message machine, and what it waits for
-  pub plain : RaftServer
+  pub raft_server : RaftServer
   pub times : Times
   -- the transfers that it receives
   pub sessions : List Session
@@ -52,7 +52,7 @@ abbrev pub opening : ℕ → ℕ → Store → ℕ → ℕ → AllocatorState
 opening me size store now word = record {
   me = me;
   size = size;
-  plain = record { store = store; memory = opened };
+  raft_server = record { store = store; memory = memory_when_opened };
   times = opened_times now word;
   sessions = [];
   queue = [];
@@ -88,7 +88,7 @@ is_zero uid = bytes_eq uid zeros
 
 -- a leader whose log has room may record a pair
 abbrev pub may_propose : AllocatorState → Bool
-may_propose t = is_leader t.plain.memory.role && nat_lt (length t.plain.store.log) 127
+may_propose t = is_leader t.raft_server.memory.role && nat_lt (length t.raft_server.store.log) 127
 
 -- ---- node IDs
 
@@ -97,7 +97,7 @@ is_recorded log node = list_any (λ entry. nat_eq entry.node node) log
 
 -- members, and nodes that stand in the log
 abbrev pub is_known : AllocatorState → ℕ → Bool
-is_known t node = lists (members_of t) node || is_recorded t.plain.store.log node
+is_known t node = is_on_list (members_of t) node || is_recorded t.raft_server.store.log node
 
 -- node IDs that may not be given: those known, and those of nodes that are online
 abbrev pub is_taken : AllocatorState → ℕ → Bool
@@ -127,14 +127,14 @@ role_shown MachineRole.Leader = Leader
 
 abbrev pub view_of : AllocatorState → View
 view_of t = record {
-  role = role_shown t.plain.memory.role;
-  term = t.plain.store.term;
-  vote = number_of_vote t.plain.store.vote;
-  last = length t.plain.store.log;
-  commit = t.plain.store.commit;
+  role = role_shown t.raft_server.memory.role;
+  term = t.raft_server.store.term;
+  vote = number_of_vote t.raft_server.store.vote;
+  last = length t.raft_server.store.log;
+  commit = t.raft_server.store.commit;
   queued = length t.queue;
 }
 
 -- the entry at a place; at place 0 the blank of term 0
 abbrev pub entry_of : AllocatorState → ℕ → Entry
-entry_of t place = entry_at t.plain.store.log place
+entry_of t place = entry_at t.raft_server.store.log place

@@ -37,11 +37,12 @@ reads does None g = bad g
 reads does (Some value) g = took (does value g)
 
 abbrev pub hears_status : Delivery → StepState → StepState
-hears_status d g = record g { timed = record g.timed { watch = after_status g.timed.watch d.ident.source g.timed.now } }
+hears_status d g = record g
+    { allocator = record g.allocator { watch = after_status g.allocator.watch d.ident.source g.allocator.now } }
 
 abbrev pub hears_discovery : Delivery → Discovery → StepState → StepState
 hears_discovery d message g =
-    record g { timed = record g.timed { heard = Heard d.ident.source message ∷ g.timed.heard } }
+    record g { allocator = record g.allocator { heard = Heard d.ident.source message ∷ g.allocator.heard } }
 
 -- the request of GetNodeInfo is empty
 abbrev pub asks_info : ℕ → Delivery → List ℕ → StepState → StepResult
@@ -73,5 +74,5 @@ by_kind step d Message g = message d g
 by_kind step d Request g = request step d g
 by_kind step d Response g = response step d g
 
-unfoldable pub delivers : ℕ → Delivery → StepState → StepResult
-delivers step d g = by_kind step d d.ident.kind g
+unfoldable pub delivery_phase : ℕ → Delivery → StepState → StepResult
+delivery_phase step d g = by_kind step d d.ident.kind g

@@ -16,7 +16,7 @@ use Rattle.raft_model.specs.Moves.Elections.{is_leader}
 use Rattle.raft_model.specs.Moves.Move.{AnswerAgain}
 use Rattle.alloc_step.specs.Transfers.{has_room}
 use Rattle.alloc_step.specs.AllocatorState.{AllocatorState, is_zero, known, may_propose, recorded_at, taken}
-use Rattle.alloc_step.specs.StepState.{StepState, sends, takes}
+use Rattle.alloc_step.specs.StepState.{StepState, with_transfer, with_moves}
 use Rattle.alloc_step.specs.Tick.{proposes}
 
 -- ---- Allocations: a node ID, or 0 in a follow-up, and bytes of the unique ID
@@ -28,14 +28,15 @@ allocation_payload node uid =
 -- the Allocation of an entry, given by a move where it fits: without room nothing is noted
 abbrev pub gives_entry : ℕ → Move → Entry → StepState → StepState
 gives_entry step move entry g =
-    if has_room g.timed.queue (allocation_payload entry.node entry.uid)
-    then takes step (given_at g.timed.now) (move ∷ [])
-    (sends step Alloc 0 (allocation_payload entry.node entry.uid) None g)
-    else sends step Alloc 0 (allocation_payload entry.node entry.uid) None g
+    if has_room g.allocator.queue (allocation_payload entry.node entry.uid)
+    then with_moves step (given_at g.allocator.now) (move ∷ [])
+    (with_transfer step Alloc 0 (allocation_payload entry.node entry.uid) None g)
+    else with_transfer step Alloc 0 (allocation_payload entry.node entry.uid) None g
 
 -- the entry that has so many before it
 abbrev pub gives_pair : ℕ → Move → ℕ → StepState → StepState
-gives_pair step move place g = gives_entry step move (slice_index_or g.timed.plain.store.log place (blank 0)) g
+gives_pair step move place g =
+    gives_entry step move (slice_index_or g.allocator.raft_server.store.log place (blank 0)) g
 
 -- ---- a whole unique ID
 
@@ -47,14 +48,14 @@ records_at step uid (Some node) g = proposes step 1 uid node g
 -- and has not told its unique ID
 abbrev pub records : ℕ → List ℕ → ℕ → StepState → StepState
 records step uid preference g =
-    if may_propose g.timed && not (some_unknown g.timed.watch (known g.timed) g.timed.now)
-    then records_at step uid (chosen (taken g.timed) preference) g
+    if may_propose g.allocator && not (some_unknown g.allocator.watch (known g.allocator) g.allocator.now)
+    then records_at step uid (chosen (taken g.allocator) preference) g
     else g
 
 -- a committed pair is given again, whatever the role; one that is not committed yet is not
 abbrev pub answers_again : ℕ → ℕ → StepState → StepState
 answers_again step place g =
-    if nat_lt place g.timed.plain.store.commit then gives_pair step (AnswerAgain place) place g else g
+    if nat_lt place g.allocator.raft_server.store.commit then gives_pair step (AnswerAgain place) place g else g
 
 abbrev pub answers_or_records : ℕ → List ℕ → ℕ → Option ℕ → StepState → StepState
 answers_or_records step uid preference None g = records step uid preference g
@@ -63,25 +64,31 @@ answers_or_records step uid preference (Some place) g = answers_again step place
 -- zeros are no device's unique ID, and do nothing
 abbrev pub hears_whole : ℕ → List ℕ → ℕ → StepState → StepState
 hears_whole step uid preference g =
-    if is_zero uid then g else answers_or_records step uid preference (recorded_at g.timed.plain.store.log uid) g
+    if is_zero uid then g
+    else answers_or_records step uid preference (recorded_at g.allocator.raft_server.store.log uid) g
 
 -- ---- a request
 
 -- follow-ups are given by a leader whose log is committed, or full
 abbrev pub may_follow : AllocatorState → Bool
-may_follow t = is_leader t.plain.memory.role
-    && (nat_eq t.plain.store.commit (length t.plain.store.log) || nat_eq (length t.plain.store.log) 127)
+may_follow t = is_leader t.raft_server.memory.role
+    && (nat_eq t.raft_server.store.commit (length t.raft_server.store.log)
+    || nat_eq (length t.raft_server.store.log) 127)
 
 abbrev pub with_request : Allocation → StepState → StepState
 with_request message g =
-    record g { timed = record g.timed { accepted = after g.timed.accepted message g.timed.now (may_follow g.timed) } }
+    record g {
+      allocator = record g.allocator
+          { accepted = after g.allocator.accepted message g.allocator.now (may_follow g.allocator) };
+    }
 
 abbrev pub answers_request : ℕ → Heard → StepState → StepState
-answers_request step (FollowUp bytes) g = sends step Alloc 0 (allocation_payload 0 bytes.items) None g
+answers_request step (FollowUp bytes) g = with_transfer step Alloc 0 (allocation_payload 0 bytes.items) None g
 answers_request step (Whole uid preference) g = hears_whole step uid preference g
 answers_request step (Ignored why) g = g
 answers_request step Denied g = g
 
 abbrev pub hears_allocation : ℕ → Allocation → StepState → StepState
 hears_allocation step message g =
-    answers_request step (answer g.timed.accepted message g.timed.now (may_follow g.timed)) (with_request message g)
+    answers_request step (answer g.allocator.accepted message g.allocator.now (may_follow g.allocator))
+    (with_request message g)

@@ -7,5 +7,5 @@ use Rattle.alloc_step.specs.StepState.{StepState}
 pub record Extends (g later : StepState) : Type 0 where
   pub more : List PutWithOrigin
   pub puts : later.puts ≡ g.puts ++ more
-  pub sessions : later.timed.sessions ≡ g.timed.sessions
-  pub me : later.timed.me ≡ g.timed.me
+  pub sessions : later.allocator.sessions ≡ g.allocator.sessions
+  pub me : later.allocator.me ≡ g.allocator.me

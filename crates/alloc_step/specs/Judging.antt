@@ -37,16 +37,16 @@ is_response Response = true
 abbrev pub is_stale : AllocatorState → Delivery → ℕ → Bool
 is_stale t d now =
     (is_response d.ident.kind && nat_le d.ident.source 125)
-    && misses d now (t.plain.memory.pending d.ident.source) (t.times.sending d.ident.source)
+    && misses d now (t.raft_server.memory.pending d.ident.source) (t.times.sending d.ident.source)
 
-abbrev pub judged : AllocatorState → ℕ → ℕ → Answer → Judged
-judged t step now (Gives d) =
+abbrev pub answer_judgement : AllocatorState → ℕ → ℕ → Answer → Judged
+answer_judgement t step now (Gives d) =
     if not d.whole && not (nat_eq step 0) then Torn else (if is_stale t d now then Stale else Fine)
-judged t step now Continues = Fine
-judged t step now (Drops why) = Fine
+answer_judgement t step now Continues = Fine
+answer_judgement t step now (Drops why) = Fine
 
 -- a frame that comes to the server, judged at the moment that a step would have
-unfoldable pub judges : AllocatorState → Arrival → Judged
-judges t arrival =
-    judged t arrival.mark.step (max t.now arrival.moment)
+unfoldable pub arrival_judgement : AllocatorState → Arrival → Judged
+arrival_judgement t arrival =
+    answer_judgement t arrival.mark.step (max t.now arrival.moment)
     (answer (setting_for t.me) t.sessions (record arrival { moment = max t.now arrival.moment }))

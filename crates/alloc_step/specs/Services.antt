@@ -1,7 +1,7 @@
 -- What a server does with requests and responses of services. Those of Raft count from members on its list alone.
 use Rattle.std.specs.Prelude.{ℕ, ◌∷◌, [], Bool, true, false, List, Option, None, Some, if◌then◌else◌}
 use Rattle.can_frame.specs.declared.step.What.TheVariants.{App, Info, Vote}
-use Rattle.cluster_discovery.specs.Members.{lists}
+use Rattle.cluster_discovery.specs.Members.{is_on_list}
 use Rattle.dsdl_codec.specs.declared.append_answer.AppendAnswer.{AppendAnswer}
 use Rattle.dsdl_codec.specs.declared.append_request.AppendRequest.{AppendRequest}
 use Rattle.dsdl_codec.specs.declared.node_info.NodeInfo.{NodeInfo}
@@ -13,7 +13,7 @@ use Rattle.dsdl_codec.specs.VoteAnswer.{vote_answer_bytes}
 use Rattle.node_discovery.specs.Watch.{after_info}
 use Rattle.raft_core.specs.Handled.{answer_of, append_request_of, vote_request_of}
 use Rattle.raft_core.specs.Times.{given_at, is_awaited}
-use Rattle.raft_model.specs.Decisions.{grants, judges}
+use Rattle.raft_model.specs.Decisions.{grants, verdict_on}
 use Rattle.raft_model.specs.Messages.{Request}
 use Rattle.raft_model.specs.Messages.Message.{Answers}
 use Rattle.raft_model.specs.Moves.{Move}
@@ -23,11 +23,11 @@ use Rattle.raft_model.specs.Moves.Leading.{answer_to}
 use Rattle.raft_model.specs.Moves.Move.{TakeAppendAnswer, TakeAppendRequest, TakeVoteAnswer, TakeVoteRequest}
 use Rattle.transfer_rx.specs.Reassembly.{Delivery}
 use Rattle.alloc_step.specs.AllocatorState.{AllocatorState, members_of, status_of}
-use Rattle.alloc_step.specs.StepState.{StepState, responds, takes}
+use Rattle.alloc_step.specs.StepState.{StepState, with_response_to, with_moves}
 
 -- the source is on the list
 abbrev pub is_listed : Delivery → AllocatorState → Bool
-is_listed d t = lists (members_of t) d.ident.source
+is_listed d t = is_on_list (members_of t) d.ident.source
 
 -- ---- GetNodeInfo
 
@@ -57,33 +57,36 @@ info_of t = record {
 }
 
 abbrev pub tells_info : ℕ → Delivery → StepState → StepState
-tells_info step d g = responds step Info d (node_info_bytes (info_of g.timed)) None g
+tells_info step d g = with_response_to step Info d (node_info_bytes (info_of g.allocator)) None g
 
 abbrev pub hears_info : Delivery → NodeInfo → StepState → StepState
 hears_info d info g =
-    record g { timed = record g.timed { watch = after_info g.timed.watch d.ident.source d.id info.uid g.timed.now } }
+    record g {
+      allocator = record g.allocator
+          { watch = after_info g.allocator.watch d.ident.source d.id info.uid g.allocator.now };
+    }
 
 -- ---- RequestVote: the move, and then the answer, whether it fits or not
 
 abbrev pub answers_vote : ℕ → Delivery → Request → StepState → StepState
 answers_vote step d request g =
-    let store = with_term g.timed.plain.store request.term in
+    let store = with_term g.allocator.raft_server.store request.term in
     let granted : Bool = grants store request in
-    responds step Vote d (vote_answer_bytes (record { term = store.term; granted = granted }) 0)
-    (Some (Answers (answer_to g.timed.me step store request granted)))
-    (takes step (given_at g.timed.now) (TakeVoteRequest request granted ∷ []) g)
+    with_response_to step Vote d (vote_answer_bytes (record { term = store.term; granted = granted }) 0)
+    (Some (Answers (answer_to g.allocator.me step store request granted)))
+    (with_moves step (given_at g.allocator.now) (TakeVoteRequest request granted ∷ []) g)
 
 abbrev pub answers_vote_request : ℕ → Delivery → VoteRequest → StepState → StepState
 answers_vote_request step d request g =
-    answers_vote step d (vote_request_of request d.mark.step d.ident.source g.timed.me) g
+    answers_vote step d (vote_request_of request d.mark.step d.ident.source g.allocator.me) g
 
 abbrev pub takes_vote_request : ℕ → Delivery → VoteRequest → StepState → StepState
-takes_vote_request step d request g = if is_listed d g.timed then answers_vote_request step d request g else g
+takes_vote_request step d request g = if is_listed d g.allocator then answers_vote_request step d request g else g
 
 -- an answer is taken by the call that waits for it, and is the answer to that call
 abbrev pub answers_call : ℕ → (Request → Move) → Option Request → StepState → StepState
 answers_call step move None g = g
-answers_call step move (Some request) g = takes step (given_at g.timed.now) (move request ∷ []) g
+answers_call step move (Some request) g = with_moves step (given_at g.allocator.now) (move request ∷ []) g
 
 abbrev pub vote_answered : Delivery → VoteAnswer → Request → Move
 vote_answered d answer request =
@@ -91,28 +94,28 @@ vote_answered d answer request =
 
 abbrev pub ends_vote_call : ℕ → Delivery → VoteAnswer → StepState → StepState
 ends_vote_call step d answer g =
-    if is_awaited g.timed.plain g.timed.times d.ident.source false d.id
-    then answers_call step (vote_answered d answer) (g.timed.plain.memory.pending d.ident.source) g else g
+    if is_awaited g.allocator.raft_server g.allocator.times d.ident.source false d.id
+    then answers_call step (vote_answered d answer) (g.allocator.raft_server.memory.pending d.ident.source) g else g
 
 abbrev pub takes_vote_answer : ℕ → Delivery → VoteAnswer → StepState → StepState
-takes_vote_answer step d answer g = if is_listed d g.timed then ends_vote_call step d answer g else g
+takes_vote_answer step d answer g = if is_listed d g.allocator then ends_vote_call step d answer g else g
 
 -- ---- AppendEntries, likewise
 
 abbrev pub answers_append : ℕ → Delivery → Request → StepState → StepState
 answers_append step d request g =
-    let store = with_term g.timed.plain.store request.term in
-    let verdict : Verdict = judges g.timed.plain request in
-    responds step App d (append_answer_bytes (record { term = store.term; success = is_accepted verdict }) 0)
-    (Some (Answers (answer_to g.timed.me step store request (is_accepted verdict))))
-    (takes step (given_at g.timed.now) (TakeAppendRequest request verdict ∷ []) g)
+    let store = with_term g.allocator.raft_server.store request.term in
+    let verdict : Verdict = verdict_on g.allocator.raft_server request in
+    with_response_to step App d (append_answer_bytes (record { term = store.term; success = is_accepted verdict }) 0)
+    (Some (Answers (answer_to g.allocator.me step store request (is_accepted verdict))))
+    (with_moves step (given_at g.allocator.now) (TakeAppendRequest request verdict ∷ []) g)
 
 abbrev pub answers_append_request : ℕ → Delivery → AppendRequest → StepState → StepState
 answers_append_request step d request g =
-    answers_append step d (append_request_of request d.mark.step d.ident.source g.timed.me) g
+    answers_append step d (append_request_of request d.mark.step d.ident.source g.allocator.me) g
 
 abbrev pub takes_append_request : ℕ → Delivery → AppendRequest → StepState → StepState
-takes_append_request step d request g = if is_listed d g.timed then answers_append_request step d request g else g
+takes_append_request step d request g = if is_listed d g.allocator then answers_append_request step d request g else g
 
 abbrev pub append_answered : Delivery → AppendAnswer → Request → Move
 append_answered d answer request =
@@ -120,8 +123,8 @@ append_answered d answer request =
 
 abbrev pub ends_append_call : ℕ → Delivery → AppendAnswer → StepState → StepState
 ends_append_call step d answer g =
-    if is_awaited g.timed.plain g.timed.times d.ident.source true d.id
-    then answers_call step (append_answered d answer) (g.timed.plain.memory.pending d.ident.source) g else g
+    if is_awaited g.allocator.raft_server g.allocator.times d.ident.source true d.id
+    then answers_call step (append_answered d answer) (g.allocator.raft_server.memory.pending d.ident.source) g else g
 
 abbrev pub takes_append_answer : ℕ → Delivery → AppendAnswer → StepState → StepState
-takes_append_answer step d answer g = if is_listed d g.timed then ends_append_call step d answer g else g
+takes_append_answer step d answer g = if is_listed d g.allocator then ends_append_call step d answer g else g

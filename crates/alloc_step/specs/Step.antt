@@ -9,10 +9,10 @@ use Rattle.transfer_rx.specs.Sessions.{Session}
 use Rattle.transfer_tx.specs.Queue.{left_behind}
 use Rattle.alloc_step.specs.Accepted.{setting_for}
 use Rattle.alloc_step.specs.AllocatorState.{AllocatorState}
-use Rattle.alloc_step.specs.StepState.{StepState, standing, takes}
-use Rattle.alloc_step.specs.Tick.{ticks}
-use Rattle.alloc_step.specs.Delivered.{StepResult, delivers}
-use Rattle.alloc_step.specs.Ending.{ends}
+use Rattle.alloc_step.specs.StepState.{StepState, initial_state, with_moves}
+use Rattle.alloc_step.specs.Tick.{clock_phase}
+use Rattle.alloc_step.specs.Delivered.{StepResult, delivery_phase}
+use Rattle.alloc_step.specs.Ending.{end_phase}
 
 -- what happens at a server, with its moment
 pub data Event : Type 0 where
@@ -32,16 +32,17 @@ at_moment now t = record t { now = max t.now now }
 unfoldable pub all_nodes : List ℕ
 all_nodes = range_with_len 0 128
 
-abbrev pub gives_up : ℕ → StepState → StepState
-gives_up step g = takes step (given_at g.timed.now) (moves_of_expire (overdue g.timed.times g.timed.now all_nodes)) g
+abbrev pub expiry_phase : ℕ → StepState → StepState
+expiry_phase step g =
+    with_moves step (given_at g.allocator.now) (moves_of_expire (overdue g.allocator.times g.allocator.now all_nodes)) g
 
-abbrev pub begins : ℕ → ℕ → AllocatorState → StepState
-begins step now t = gives_up step (standing (at_moment now t))
+abbrev pub begin_phase : ℕ → ℕ → AllocatorState → StepState
+begin_phase step now t = expiry_phase step (initial_state (at_moment now t))
 
 -- ---- the event
 
 abbrev pub with_answer : ℕ → Answer → StepState → StepResult
-with_answer step (Gives delivery) g = delivers step delivery g
+with_answer step (Gives delivery) g = delivery_phase step delivery g
 with_answer step Continues g = record { seen = Part; step_state = g }
 with_answer step (Drops why) g = record { seen = Dropped why; step_state = g }
 
@@ -51,35 +52,36 @@ at_step t arrival = record arrival { moment = t.now }
 
 -- the receiver has these sessions
 abbrev pub at_sessions : List Session → StepState → StepState
-at_sessions sessions g = record g { timed = record g.timed { sessions = sessions } }
+at_sessions sessions g = record g { allocator = record g.allocator { sessions = sessions } }
 
 abbrev pub with_sessions : Arrival → StepState → StepState
-with_sessions arrival g = at_sessions (next (setting_for g.timed.me) g.timed.sessions (at_step g.timed arrival)) g
+with_sessions arrival g =
+    at_sessions (next (setting_for g.allocator.me) g.allocator.sessions (at_step g.allocator arrival)) g
 
 -- the receiver takes the frame, and the server what it delivers
-abbrev pub receives : ℕ → Arrival → StepState → StepResult
-receives step arrival g =
-    with_answer step (answer (setting_for g.timed.me) g.timed.sessions (at_step g.timed arrival))
+abbrev pub receive_phase : ℕ → Arrival → StepState → StepResult
+receive_phase step arrival g =
+    with_answer step (answer (setting_for g.allocator.me) g.allocator.sessions (at_step g.allocator arrival))
     (with_sessions arrival g)
 
 abbrev pub event_phase : ℕ → Event → StepState → StepResult
-event_phase step (Tick now word) g = record { seen = Ticked; step_state = ticks step word g }
-event_phase step (Rx arrival) g = receives step arrival g
+event_phase step (Tick now word) g = record { seen = Ticked; step_state = clock_phase step word g }
+event_phase step (Rx arrival) g = receive_phase step arrival g
 
 -- ---- the step
 
-abbrev pub ended : ℕ → StepResult → StepResult
-ended step step_result = record step_result { step_state = ends step step_result.step_state }
+abbrev pub with_end_phase : ℕ → StepResult → StepResult
+with_end_phase step step_result = record step_result { step_state = end_phase step step_result.step_state }
 
 -- what the receiver answered is taken, and the step ends
 abbrev pub takes_answer : ℕ → Answer → StepState → StepResult
-takes_answer step a g = ended step (with_answer step a g)
+takes_answer step a g = with_end_phase step (with_answer step a g)
 
 unfoldable pub step : AllocatorState → ℕ → Event → StepResult
-step t number event = ended number (event_phase number event (begins number (moment_of event) t))
+step t number event = with_end_phase number (event_phase number event (begin_phase number (moment_of event) t))
 
 -- ---- between steps
 
 -- the next frame has gone out
-abbrev pub popped : AllocatorState → AllocatorState
-popped t = record t { queue = left_behind t.queue }
+abbrev pub after_pop : AllocatorState → AllocatorState
+after_pop t = record t { queue = left_behind t.queue }

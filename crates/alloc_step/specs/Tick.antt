@@ -18,7 +18,7 @@ use Rattle.raft_model.specs.Moves.Elections.{is_leader}
 use Rattle.raft_model.specs.Moves.Move.{ProposeEntry}
 use Rattle.alloc_step.specs.Transfers.{has_room, id_of}
 use Rattle.alloc_step.specs.AllocatorState.{AllocatorState, is_known, is_zero, known, knows_all, may_propose, members_of, recorded_at, start_of, status_of}
-use Rattle.alloc_step.specs.StepState.{StepState, sends, takes}
+use Rattle.alloc_step.specs.StepState.{StepState, with_transfer, with_moves}
 
 -- ---- Discovery: one that finds no room counts as sent
 
@@ -26,39 +26,41 @@ abbrev pub discovery_of : AllocatorState → Discovery
 discovery_of t = record { size = t.size; known = record { items = members_of t } }
 
 abbrev pub with_discovery : StepState → StepState
-with_discovery g = record g { timed = record g.timed { heard = SentAt g.timed.now ∷ g.timed.heard } }
+with_discovery g = record g { allocator = record g.allocator { heard = SentAt g.allocator.now ∷ g.allocator.heard } }
 
 abbrev pub tells_members : ℕ → StepState → StepState
-tells_members step g = with_discovery (sends step Disc 0 (discovery_bytes (discovery_of g.timed)) None g)
+tells_members step g = with_discovery (with_transfer step Disc 0 (discovery_bytes (discovery_of g.allocator)) None g)
 
 abbrev pub discovery_phase : ℕ → StepState → StepState
-discovery_phase step g = if is_due (start_of g.timed) g.timed.heard g.timed.now then tells_members step g else g
+discovery_phase step g =
+    if is_due (start_of g.allocator) g.allocator.heard g.allocator.now then tells_members step g else g
 
 -- ---- NodeStatus: 1,000 ms after the last one or the opening, whether that one fitted or not
 
 abbrev pub with_status : StepState → StepState
-with_status g = record g { timed = record g.timed { status_at = g.timed.now } }
+with_status g = record g { allocator = record g.allocator { status_at = g.allocator.now } }
 
 abbrev pub tells_status : ℕ → StepState → StepState
-tells_status step g = with_status (sends step Stat 0 (node_status_bytes (status_of g.timed)) None g)
+tells_status step g = with_status (with_transfer step Stat 0 (node_status_bytes (status_of g.allocator)) None g)
 
 abbrev pub status_phase : ℕ → StepState → StepState
-status_phase step g = if nat_le 1000 (g.timed.now - g.timed.status_at) then tells_status step g else g
+status_phase step g = if nat_le 1000 (g.allocator.now - g.allocator.status_at) then tells_status step g else g
 
 -- ---- the tick of Raft
 
 abbrev pub election_moves : AllocatorState → List Move
-election_moves t = moves_of_tick (knows_all t) t.now t.plain t.times
+election_moves t = moves_of_tick (knows_all t) t.now t.raft_server t.times
 
 abbrev pub election_phase : ℕ → ℕ → StepState → StepState
-election_phase step word g = takes step (given_tick g.timed.now word) (election_moves g.timed) g
+election_phase step word g = with_moves step (given_tick g.allocator.now word) (election_moves g.allocator) g
 
 -- ---- the log: a leader records a pair, or keeps back a node ID
 
 -- the origin says how it got the pair: 1 by the exchange, 2 by GetNodeInfo, 3 a reservation
 abbrev pub proposes : ℕ → ℕ → List ℕ → ℕ → StepState → StepState
 proposes step origin uid node g =
-    takes step (given_proposal g.timed.now origin) (ProposeEntry (proposal g.timed.plain.store.term uid node) ∷ []) g
+    with_moves step (given_proposal g.allocator.now origin)
+    (ProposeEntry (proposal g.allocator.raft_server.store.term uid node) ∷ []) g
 
 abbrev pub reserves : ℕ → ℕ → StepState → StepState
 reserves step node g = proposes step 3 zeros node g
@@ -78,7 +80,7 @@ if_new log None = None
 if_new log (Some uid) = if is_zero uid || is_some (recorded_at log uid) then None else Some uid
 
 abbrev pub new_uid : AllocatorState → ℕ → Option (List ℕ)
-new_uid t node = if_new t.plain.store.log (identity (history node t.watch) t.now)
+new_uid t node = if_new t.raft_server.store.log (identity (history node t.watch) t.now)
 
 -- a node is proposed with a new unique ID, and else reserved
 abbrev pub records_as : ℕ → ℕ → Option (List ℕ) → StepState → StepState
@@ -87,31 +89,32 @@ records_as step node (Some uid) g = proposes step 2 uid node g
 
 abbrev pub records_node : ℕ → Option ℕ → StepState → StepState
 records_node step None g = g
-records_node step (Some node) g = records_as step node (new_uid g.timed node) g
+records_node step (Some node) g = records_as step node (new_uid g.allocator node) g
 
 abbrev pub record_phase : ℕ → StepState → StepState
-record_phase step g = if may_propose g.timed then records_node step (candidate g.timed) g else g
+record_phase step g = if may_propose g.allocator then records_node step (candidate g.allocator) g else g
 
 -- ---- a query for a unique ID, to the least node that is due; the request of GetNodeInfo is empty
 
 -- a query that fitted is noted; any other is owed again
 abbrev pub with_query : ℕ → ℕ → StepState → StepState
 with_query node id g =
-    record g { timed = record g.timed { watch = of_node node (Asked id g.timed.now) ∷ g.timed.watch } }
+    record g { allocator = record g.allocator { watch = of_node node (Asked id g.allocator.now) ∷ g.allocator.watch } }
 
 abbrev pub asks : ℕ → Option ℕ → StepState → StepState
 asks step None g = g
 asks step (Some node) g =
-    if has_room g.timed.queue [] then with_query node (id_of g.timed.ids InfoQ node) (sends step InfoQ node [] None g)
-    else sends step InfoQ node [] None g
+    if has_room g.allocator.queue []
+    then with_query node (id_of g.allocator.ids InfoQ node) (with_transfer step InfoQ node [] None g)
+    else with_transfer step InfoQ node [] None g
 
 abbrev pub query_phase : ℕ → StepState → StepState
 query_phase step g =
-    if is_leader g.timed.plain.memory.role
-    then asks step (next_query g.timed.watch (known g.timed) g.timed.now) g else g
+    if is_leader g.allocator.raft_server.memory.role
+    then asks step (next_query g.allocator.watch (known g.allocator) g.allocator.now) g else g
 
 -- ---- in order
 
-abbrev pub ticks : ℕ → ℕ → StepState → StepState
-ticks step word g =
+abbrev pub clock_phase : ℕ → ℕ → StepState → StepState
+clock_phase step word g =
     query_phase step (record_phase step (election_phase step word (status_phase step (discovery_phase step g))))

@@ -86,22 +86,22 @@ abbrev pub Given : Type 0
 Given = List ℕ × ℕ
 
 -- a node ID for a whole unique ID
-abbrev pub given_by : Option Allocation → Option Given
-given_by None = None
-given_by (Some allocation) =
+abbrev pub pair_of_allocation : Option Allocation → Option Given
+pair_of_allocation None = None
+pair_of_allocation (Some allocation) =
     if nat_le 1 allocation.node && nat_eq (length allocation.uid.items) 16
     then Some (allocation.uid.items, allocation.node) else None
 
-abbrev pub given_in : What → List ℕ → Option Given
-given_in Alloc payload = given_by (allocation_of payload)
-given_in Disc payload = None
-given_in Stat payload = None
-given_in InfoQ payload = None
-given_in Info payload = None
-given_in VoteQ payload = None
-given_in Vote payload = None
-given_in AppQ payload = None
-given_in App payload = None
+abbrev pub pair_in : What → List ℕ → Option Given
+pair_in Alloc payload = pair_of_allocation (allocation_of payload)
+pair_in Disc payload = None
+pair_in Stat payload = None
+pair_in InfoQ payload = None
+pair_in Info payload = None
+pair_in VoteQ payload = None
+pair_in Vote payload = None
+pair_in AppQ payload = None
+pair_in App payload = None
 
 -- the message of the machine that a member's transfer carries, which a step made
 abbrev pub pair_message : ℕ → ℕ → Option Given → Option Message
@@ -109,7 +109,7 @@ pair_message step me None = None
 pair_message step me (Some given) = Some (Pairs (record { step = step; from = me; uid = given.0; node = given.1 }))
 
 abbrev pub message_by : ℕ → ℕ → What → List ℕ → Option Message → Option Message
-message_by step me Alloc payload says = pair_message step me (given_in Alloc payload)
+message_by step me Alloc payload says = pair_message step me (pair_in Alloc payload)
 message_by step me what payload says = says
 
 abbrev pub message_of : ℕ → ℕ → Offer → Option Message
@@ -170,17 +170,17 @@ id_of ids Vote to = slice_index ids.vote to
 id_of ids AppQ to = slice_index ids.append to
 id_of ids App to = slice_index ids.append to
 
-abbrev pub following : ℕ → ℕ
-following id = (id + 1) % 32
+abbrev pub id_after : ℕ → ℕ
+id_after id = (id + 1) % 32
 
 -- after a message, or a request to a node, that fitted
 abbrev pub ids_after : What → ℕ → Ids → Ids
-ids_after Alloc to ids = record ids { alloc = following ids.alloc }
-ids_after Disc to ids = record ids { disc = following ids.disc }
-ids_after Stat to ids = record ids { stat = following ids.stat }
-ids_after InfoQ to ids = record ids { info = slice_set ids.info to (following (slice_index ids.info to)) }
-ids_after Info to ids = record ids { info = slice_set ids.info to (following (slice_index ids.info to)) }
-ids_after VoteQ to ids = record ids { vote = slice_set ids.vote to (following (slice_index ids.vote to)) }
-ids_after Vote to ids = record ids { vote = slice_set ids.vote to (following (slice_index ids.vote to)) }
-ids_after AppQ to ids = record ids { append = slice_set ids.append to (following (slice_index ids.append to)) }
-ids_after App to ids = record ids { append = slice_set ids.append to (following (slice_index ids.append to)) }
+ids_after Alloc to ids = record ids { alloc = id_after ids.alloc }
+ids_after Disc to ids = record ids { disc = id_after ids.disc }
+ids_after Stat to ids = record ids { stat = id_after ids.stat }
+ids_after InfoQ to ids = record ids { info = slice_set ids.info to (id_after (slice_index ids.info to)) }
+ids_after Info to ids = record ids { info = slice_set ids.info to (id_after (slice_index ids.info to)) }
+ids_after VoteQ to ids = record ids { vote = slice_set ids.vote to (id_after (slice_index ids.vote to)) }
+ids_after Vote to ids = record ids { vote = slice_set ids.vote to (id_after (slice_index ids.vote to)) }
+ids_after AppQ to ids = record ids { append = slice_set ids.append to (id_after (slice_index ids.append to)) }
+ids_after App to ids = record ids { append = slice_set ids.append to (id_after (slice_index ids.append to)) }

@@ -1,7 +1,7 @@
 -- The members that a server knows: itself first, at most five, none twice, and the others 1 to 125.
 use Rattle.std.proofs.Common.{◌≡◌, ◌≢◌, ℕ, suc, ◌+◌, ◌≤◌, Bool, true, false, List, [], ◌∷◌, ◌++◌, length, length-append, ◌⊎◌, inl, inr, refl, sym, ◌∙◌, ap, subst, arith, drop}
 use Rattle.std.specs.Prelude.{◌&&◌, not, nat_le, nat_lt, nat_eq}
-use Rattle.cluster_discovery.specs.Members.{Event, Start, all_joined, counts, joined, lists, may_join, members}
+use Rattle.cluster_discovery.specs.Members.{Event, Start, members_with_all, counts, members_with, is_on_list, may_join, members}
 use Rattle.cluster_discovery.specs.Members.Event.{Heard, Sent}
 use Rattle.raft_model.specs.Lists.{In, how_many}
 use Rattle.raft_model.specs.Members.{HasNoneTwice, IsAll}
@@ -15,7 +15,7 @@ pub record IsList (size me : ℕ) (list : List ℕ) : Type 0 where
   pub few : (length list ≤ size) ⊎ (length list ≡ 1)
   pub devices : (peer : ℕ) → In peer peers → (1 ≤ peer) × (peer ≤ 125)
 
-pub unlisted : (list : List ℕ) (node : ℕ) → lists list node ≡ false → In node list → ⊥
+pub unlisted : (list : List ℕ) (node : ℕ) → is_on_list list node ≡ false → In node list → ⊥
 unlisted list node h i = eq_false node node (none_passes (λ member. nat_eq member node) list h node i) refl
 
 -- ---- a list that has all members has each of them
@@ -61,30 +61,30 @@ joins size me node list h may = record {
 }
   where
     range : (nat_le 1 node && nat_le node 125) ≡ true
-    range = and_left (nat_le 1 node && nat_le node 125) (nat_lt (length list) size && not (lists list node)) may
+    range = and_left (nat_le 1 node && nat_le node 125) (nat_lt (length list) size && not (is_on_list list node)) may
 
-    rest : (nat_lt (length list) size && not (lists list node)) ≡ true
-    rest = and_right (nat_le 1 node && nat_le node 125) (nat_lt (length list) size && not (lists list node)) may
+    rest : (nat_lt (length list) size && not (is_on_list list node)) ≡ true
+    rest = and_right (nat_le 1 node && nat_le node 125) (nat_lt (length list) size && not (is_on_list list node)) may
 
     room : nat_lt (length list) size ≡ true
-    room = and_left (nat_lt (length list) size) (not (lists list node)) rest
+    room = and_left (nat_lt (length list) size) (not (is_on_list list node)) rest
 
-    new : lists list node ≡ false
-    new = not_true (lists list node) (and_right (nat_lt (length list) size) (not (lists list node)) rest)
+    new : is_on_list list node ≡ false
+    new = not_true (is_on_list list node) (and_right (nat_lt (length list) size) (not (is_on_list list node)) rest)
 
-joined_list : (size me node : ℕ) (list : List ℕ) → IsList size me list → IsList size me (joined size list node)
+joined_list : (size me node : ℕ) (list : List ℕ) → IsList size me list → IsList size me (members_with size list node)
 joined_list size me node list h =
     either (λ (l : List ℕ). IsList size me l) (may_join size list node) (list ++ node ∷ []) list (λ may. joins size me node list h may) (λ e. h)
 
-all_joined_list : (size me : ℕ) (nodes list : List ℕ) → IsList size me list → IsList size me (all_joined size list nodes)
+all_joined_list : (size me : ℕ) (nodes list : List ℕ) → IsList size me list → IsList size me (members_with_all size list nodes)
 all_joined_list size me [] list h = h
-all_joined_list size me (node ∷ nodes) list h = all_joined_list size me nodes (joined size list node) (joined_list size me node list h)
+all_joined_list size me (node ∷ nodes) list h = all_joined_list size me nodes (members_with size list node) (joined_list size me node list h)
 
 pub members_list : (start : Start) (events : List Event) → IsList start.size start.me (members start events)
 members_list start [] = record { peers = []; is = refl; once = ((λ i. i), tt); few = inr refl; devices = λ peer i. absurd i }
 members_list start (Heard from message ∷ events) =
     either (λ (l : List ℕ). IsList start.size start.me l) (counts start from message)
-    (all_joined start.size (members start events) (from ∷ message.known.items)) (members start events)
+    (members_with_all start.size (members start events) (from ∷ message.known.items)) (members start events)
     (λ e. all_joined_list start.size start.me (from ∷ message.known.items) (members start events) (members_list start events))
     (λ e. members_list start events)
 members_list start (Sent moment ∷ events) = members_list start events

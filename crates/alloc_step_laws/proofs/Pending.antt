@@ -2,13 +2,13 @@
 use Rattle.std.proofs.Common.{◌≡◌, ℕ, Bool, true, false, List, [], ◌∷◌, ◌⊎◌, inl, inr, refl, ◌∙◌, ap, Option, None}
 use Rattle.std.specs.Prelude.{◌==◌, ◌&&◌, nat_lt, if◌then◌else◌}
 use Rattle.raft_core.specs.Times.{Given, Sending, Times, begin_wait, end_call, end_vote_call, raise, stand, step_down, times_after, times_after_all, win}
-use Rattle.raft_model.specs.Handlers.{calls_of_all, plain_after, plain_after_all}
+use Rattle.raft_model.specs.Handlers.{calls_of_all, server_after, server_after_all}
 use Rattle.raft_model.specs.Lists.{In, at}
 use Rattle.raft_model.specs.Messages.{Answer, Request}
 use Rattle.raft_model.specs.Moves.{Move, memory_after}
 use Rattle.raft_model.specs.Moves.Appending.{acknowledges, matched_memory}
 use Rattle.raft_model.specs.Moves.Appending.Verdict.{Added, Held, Outdated, Refused}
-use Rattle.raft_model.specs.Moves.Elections.{counted, counts, ended, has_quorum, own_vote, stand_memory, stepped_down, win_memory, with_vote}
+use Rattle.raft_model.specs.Moves.Elections.{votes_with, counts, memory_without_call, has_quorum, own_vote, stand_memory, stepped_down, win_memory, with_vote}
 use Rattle.raft_model.specs.Moves.Move.{AnswerAgain, CallForVote, CallToAppend, CommitTo, GiveUp, ProposeEntry, TakeAppendAnswer, TakeAppendRequest, TakeVoteAnswer, TakeVoteRequest, TellNothing, TellPair, TimeOut}
 use Rattle.raft_model.specs.Server.{Memory, RaftServer, Role}
 use Rattle.raft_model.specs.Server.Role.{Candidate, Follower, Leader}
@@ -84,7 +84,7 @@ module _ (peer : ℕ) where
       → StaysOrEnds peer server.memory
       (if higher then stepped_down server.memory answer.from
       else (if counted_one then (if won then win_memory server.store (with_vote server.memory answer) else with_vote server.memory answer)
-      else ended server.memory answer.from)) times
+      else memory_without_call server.memory answer.from)) times
       (if higher then step_down given.now server.memory.role (end_vote_call answer.from times)
       else (if counted_one && won then win (end_vote_call answer.from times) else end_vote_call answer.from times))
   vote_answered given server times answer true c q = ended_one peer answer.from _ _ times _ refl (down_sends given.now server.memory.role _)
@@ -95,7 +95,7 @@ module _ (peer : ℕ) where
   append_answered : (given : Given) (server : RaftServer) (times : Times) (answer : Answer) (higher counted_one : Bool)
       → StaysOrEnds peer server.memory
       (if higher then stepped_down server.memory answer.from
-      else (if counted_one then matched_memory server.memory answer else ended server.memory answer.from)) times
+      else (if counted_one then matched_memory server.memory answer else memory_without_call server.memory answer.from)) times
       (raise given.now answer.term server (end_call answer.from times))
   append_answered given server times answer true c = ended_one peer answer.from _ _ times _ refl (raised_sends given.now answer.term server _)
   append_answered given server times answer false true = ended_one peer answer.from _ _ times _ refl (raised_sends given.now answer.term server _)
@@ -109,7 +109,7 @@ module _ (peer : ℕ) where
   after_move members me step given server (TakeVoteRequest request granted) times free =
       asked_vote given server times request granted (nat_lt server.store.term request.term)
   after_move members me step given server (TakeVoteAnswer answer) times free =
-      vote_answered given server times answer (nat_lt server.store.term answer.term) (counts server answer) (has_quorum members (counted server.memory answer))
+      vote_answered given server times answer (nat_lt server.store.term answer.term) (counts server answer) (has_quorum members (votes_with server.memory answer))
   after_move members me step given server (TakeAppendRequest request Outdated) times free = untouched _ _ _ _ refl refl
   after_move members me step given server (TakeAppendRequest request Refused) times free = untouched _ _ _ _ refl refl
   after_move members me step given server (TakeAppendRequest request Held) times free = untouched _ _ _ _ refl refl
@@ -134,11 +134,11 @@ module _ (peer : ℕ) where
 
   pub after_moves : (members : List ℕ) (me step : ℕ) (given : Given) (moves : List Move) (server : RaftServer) (times : Times)
       → ((node : ℕ) → In node (calls_of_all moves) → ⊥)
-      → StaysOrEnds peer server.memory (plain_after_all members me step server moves).memory times
+      → StaysOrEnds peer server.memory (server_after_all members me step server moves).memory times
       (times_after_all members me step given server moves times)
   after_moves members me step given [] server times free = inl (record { pending = refl; sending = refl })
   after_moves members me step given (move ∷ moves) server times free =
       and_then _ _ _ _ _ _
       (after_move members me step given server move times (λ node i. free node (in_back node (calls_of_all moves) (calls_of_all (move ∷ [])) i)))
-      (after_moves members me step given moves (plain_after members me step server move) (times_after members me given server move times)
+      (after_moves members me step given moves (server_after members me step server move) (times_after members me given server move times)
       (λ node i. free node (in_front node (calls_of_all moves) _ i)))

@@ -21,20 +21,20 @@ use Rattle.transfer_rx.specs.Reassembly.Answer.{Gives}
 use Rattle.transfer_rx.specs.Sessions.{Session}
 use Rattle.transfer_rx.specs.Sound.{IsDelivered}
 use Rattle.alloc_step.specs.Ending.{commit_phase, tell_phase}
-use Rattle.alloc_step.specs.StepState.{StepState, sends}
-use Rattle.alloc_step.specs.Step.{Event, begins, event_phase, moment_of, popped, step}
+use Rattle.alloc_step.specs.StepState.{StepState, with_transfer}
+use Rattle.alloc_step.specs.Step.{Event, begin_phase, event_phase, moment_of, after_pop, step}
 use Rattle.alloc_step.specs.AllocatorState.{AllocatorState, opening, start_of}
-use Rattle.alloc_step.specs.Transfers.{Ids, Offer, first_ids, following, has_room, id_of, ids_after, kind_of}
+use Rattle.alloc_step.specs.Transfers.{Ids, Offer, first_ids, id_after, has_room, id_of, ids_after, kind_of}
 use Rattle.alloc_step.specs.Outbox.{counted_if}
 use Rattle.alloc_step_laws.specs.Sound.{AreIds, IsDestination, IsInRange, IsOnTheBus, IsSound}
-use Rattle.alloc_step_laws.proofs.Keeping.{IsSentTo, Keeping}
+use Rattle.alloc_step_laws.proofs.KeptByChanges.{IsSentTo, Keeping}
 use Rattle.alloc_step_laws.proofs.Lists.{in_append}
-use Rattle.alloc_step_laws.proofs.Walk.{event_keeps, step_keeps, tell_keeps}
+use Rattle.alloc_step_laws.proofs.KeptBySteps.{event_keeps, step_keeps, tell_keeps}
 
 -- ---- what a step never changes
 
 abbrev HasStart : Start → StepState → Type 0
-HasStart start g = start_of g.timed ≡ start
+HasStart start g = start_of g.allocator ≡ start
 
 abbrev Anything : Delivery → Type 0
 Anything d = ⊤
@@ -53,21 +53,21 @@ start_keeping number event start = record {
 }
 
 start_when_seen : (t : AllocatorState) (number : ℕ) (event : Event)
-    → start_of (event_phase number event (begins number (moment_of event) t)).step_state.timed ≡ start_of t
+    → start_of (event_phase number event (begin_phase number (moment_of event) t)).step_state.allocator ≡ start_of t
 start_when_seen t number event =
-    event_keeps number event (HasStart (start_of t)) Anything (start_keeping number event (start_of t)) (begins number (moment_of event) t)
+    event_keeps number event (HasStart (start_of t)) Anything (start_keeping number event (start_of t)) (begin_phase number (moment_of event) t)
     (λ arrival is d e. tt) refl
 
 pub start_when_told : (t : AllocatorState) (number : ℕ) (event : Event)
-    → start_of (tell_phase number (commit_phase number (event_phase number event (begins number (moment_of event) t)).step_state)).timed ≡ start_of t
+    → start_of (tell_phase number (commit_phase number (event_phase number event (begin_phase number (moment_of event) t)).step_state)).allocator ≡ start_of t
 start_when_told t number event =
     tell_keeps number event (HasStart (start_of t)) Anything (start_keeping number event (start_of t))
-    (commit_phase number (event_phase number event (begins number (moment_of event) t)).step_state) (start_when_seen t number event)
+    (commit_phase number (event_phase number event (begin_phase number (moment_of event) t)).step_state) (start_when_seen t number event)
 
-pub me_when_seen : (t : AllocatorState) (number : ℕ) (event : Event) → (event_phase number event (begins number (moment_of event) t)).step_state.timed.me ≡ t.me
+pub me_when_seen : (t : AllocatorState) (number : ℕ) (event : Event) → (event_phase number event (begin_phase number (moment_of event) t)).step_state.allocator.me ≡ t.me
 me_when_seen t number event = ap (λ (s : Start). s.me) (start_when_seen t number event)
 
-pub same_start : (t : AllocatorState) (number : ℕ) (event : Event) → start_of (step t number event).step_state.timed ≡ start_of t
+pub same_start : (t : AllocatorState) (number : ℕ) (event : Event) → start_of (step t number event).step_state.allocator ≡ start_of t
 same_start t number event =
     step_keeps number event (HasStart (start_of t)) Anything (start_keeping number event (start_of t)) t (λ arrival is d e. tt) refl
 
@@ -76,7 +76,7 @@ same_start t number event =
 abbrev AreBelow : List ℕ → Type 0
 AreBelow ids = (node : ℕ) → slice_index ids node < 32
 
-next_below : (id : ℕ) → following id < 32
+next_below : (id : ℕ) → id_after id < 32
 next_below id = omega arith
 
 set_below : (ids : List ℕ) (place id : ℕ) → id < 32 → AreBelow ids → AreBelow (slice_set ids place id)
@@ -117,7 +117,7 @@ after_info to ids h = record {
   alloc = h.alloc;
   disc = h.disc;
   stat = h.stat;
-  info = set_below ids.info to (following (slice_index ids.info to)) (next_below (slice_index ids.info to)) h.info;
+  info = set_below ids.info to (id_after (slice_index ids.info to)) (next_below (slice_index ids.info to)) h.info;
   vote = h.vote;
   append = h.append;
 }
@@ -128,7 +128,7 @@ after_vote to ids h = record {
   disc = h.disc;
   stat = h.stat;
   info = h.info;
-  vote = set_below ids.vote to (following (slice_index ids.vote to)) (next_below (slice_index ids.vote to)) h.vote;
+  vote = set_below ids.vote to (id_after (slice_index ids.vote to)) (next_below (slice_index ids.vote to)) h.vote;
   append = h.append;
 }
 
@@ -139,7 +139,7 @@ after_append to ids h = record {
   stat = h.stat;
   info = h.info;
   vote = h.vote;
-  append = set_below ids.append to (following (slice_index ids.append to)) (next_below (slice_index ids.append to)) h.append;
+  append = set_below ids.append to (id_after (slice_index ids.append to)) (next_below (slice_index ids.append to)) h.append;
 }
 
 after_are : (what : What) (to : ℕ) (ids : Ids) → AreIds ids → AreIds (ids_after what to ids)
@@ -163,7 +163,7 @@ counted_are false what to ids h = h
 -- ---- transfers
 
 pub record InRange (g : StepState) : Type 0 where
-  pub ids : AreIds g.timed.ids
+  pub ids : AreIds g.allocator.ids
   pub offers : (offer : Offer) → In offer g.offers → IsInRange offer
 
 with_one : (offers : List Offer) (new : Offer) → ((offer : Offer) → In offer offers → IsInRange offer) → IsInRange new
@@ -181,10 +181,10 @@ destination RequestKind to is = is
 destination Response to is = absurd is
 
 sends_in_range : (step : ℕ) (what : What) (to : ℕ) (payload : List ℕ) (says : Option Message) (g : StepState) → IsDestination (kind_of what) to
-    → InRange g → InRange (sends step what to payload says g)
+    → InRange g → InRange (with_transfer step what to payload says g)
 sends_in_range step what to payload says g is h = record {
-  ids = counted_are (has_room g.timed.queue payload) what to g.timed.ids h.ids;
-  offers = with_one g.offers _ h.offers (record { id = next_is what to g.timed.ids h.ids; to = is });
+  ids = counted_are (has_room g.allocator.queue payload) what to g.allocator.ids h.ids;
+  offers = with_one g.offers _ h.offers (record { id = next_is what to g.allocator.ids h.ids; to = is });
 }
 
 -- a delivered transfer has an identifier of the table, and a transfer ID
@@ -270,7 +270,7 @@ module _ (in_the_table : (id : ℕ) (ident : Ident) → id < 2 ^ 29 → identifi
       → (offer : Offer) → In offer (step t number event).step_state.offers → IsInRange offer
   transfers_in_range t number event h bus = (step_in_range t number event h.ids bus).offers
 
-  pub step_sound : (t : AllocatorState) (number : ℕ) (event : Event) → IsSound t → IsOnTheBus event → IsSound (step t number event).step_state.timed
+  pub step_sound : (t : AllocatorState) (number : ℕ) (event : Event) → IsSound t → IsOnTheBus event → IsSound (step t number event).step_state.allocator
   step_sound t number event h bus = record {
     size = subst (λ (s : Start). s.size ≤ 5) (sym (same_start t number event)) h.size;
     ids = (step_in_range t number event h.ids bus).ids;
@@ -279,10 +279,10 @@ module _ (in_the_table : (id : ℕ) (ident : Ident) → id < 2 ^ 29 → identifi
 pub opening_sound : (me size : ℕ) (store : Store) (now word : ℕ) → size ≤ 5 → IsSound (opening me size store now word)
 opening_sound me size store now word small = record { size = small; ids = first_are }
 
-pub popped_sound : (t : AllocatorState) → IsSound t → IsSound (popped t)
+pub popped_sound : (t : AllocatorState) → IsSound t → IsSound (after_pop t)
 popped_sound t h = record { size = h.size; ids = h.ids }
 
 pub same_server : (t : AllocatorState) (number : ℕ) (event : Event)
-    → ((step t number event).step_state.timed.me ≡ t.me) × ((step t number event).step_state.timed.size ≡ t.size)
+    → ((step t number event).step_state.allocator.me ≡ t.me) × ((step t number event).step_state.allocator.size ≡ t.size)
 same_server t number event =
     (ap (λ (s : Start). s.me) (same_start t number event), ap (λ (s : Start). s.size) (same_start t number event))

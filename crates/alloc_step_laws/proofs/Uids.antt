@@ -3,7 +3,7 @@ use Rattle.std.proofs.Common.{◌≡◌, ℕ, Bool, List, [], length, length-tak
 use Rattle.std.specs.Prelude.{⊤, ◌+◌, ◌||◌, is_some, slice_index_or}
 use Rattle.alloc_exchange.specs.declared.heard.Heard.{Heard}
 use Rattle.alloc_exchange.specs.declared.heard.Heard.TheVariants.{Denied, FollowUp, Ignored, Whole}
-use Rattle.alloc_exchange.specs.Exchange.{Accepted, answer, collected, has_length, is_expected, is_whole, kept, response, with_request}
+use Rattle.alloc_exchange.specs.Exchange.{Accepted, answer, bytes_so_far, has_length, is_expected, is_whole, recent_requests, response, with_request}
 use Rattle.can_frame.specs.declared.entry.Entry.{Entry}
 use Rattle.dsdl_codec.specs.declared.allocation.Allocation.{Allocation}
 use Rattle.dsdl_codec.specs.declared.node_info.NodeInfo.{NodeInfo}
@@ -34,15 +34,15 @@ IsWholeOf Denied = ⊤
 
 responds_whole : (accepted : List Accepted) (preferred : ℕ) (may : Bool) → IsWholeOf (response accepted preferred may)
 responds_whole accepted preferred may =
-    either IsWholeOf (is_whole accepted) _ _ (λ whole. eq_true (length (collected accepted)) 16 whole) (λ e. either IsWholeOf may _ _ (λ f. tt) (λ f. tt))
+    either IsWholeOf (is_whole accepted) _ _ (λ whole. eq_true (length (bytes_so_far accepted)) 16 whole) (λ e. either IsWholeOf may _ _ (λ f. tt) (λ f. tt))
 
 pub answers_whole : (accepted : List Accepted) (message : Allocation) (now : ℕ) (may : Bool) → IsWholeOf (answer accepted message now may)
 unfolding answer
 answers_whole accepted message now may = elim (tell (has_length message)) [
   | inr b ↦ rw b tt
-  | inl b ↦ rw b (elim (tell (is_expected (kept accepted now) message)) [
+  | inl b ↦ rw b (elim (tell (is_expected (recent_requests accepted now) message)) [
     | inr c ↦ rw c tt
-    | inl c ↦ rw c (responds_whole (with_request (kept accepted now) message now) message.node may)
+    | inl c ↦ rw c (responds_whole (with_request (recent_requests accepted now) message now) message.node may)
   ])
 ]
 

@@ -11,11 +11,11 @@ use Rattle.alloc_step.specs.Transfers.{Offer}
 
 -- a transfer ID and a moment are kept for each pending call, and for nothing else
 abbrev pub KeepsCalls : AllocatorState → Type 0
-KeepsCalls t = (peer : ℕ) → is_some (t.times.sending peer) ≡ is_some (t.plain.memory.pending peer)
+KeepsCalls t = (peer : ℕ) → is_some (t.times.sending peer) ≡ is_some (t.raft_server.memory.pending peer)
 
 -- the call to a peer was pending before, under the same transfer ID since the same moment
 pub record StaysPending (before after : AllocatorState) (peer : ℕ) : Type 0 where
-  pub pending : after.plain.memory.pending peer ≡ before.plain.memory.pending peer
+  pub pending : after.raft_server.memory.pending peer ≡ before.raft_server.memory.pending peer
   pub sending : after.times.sending peer ≡ before.times.sending peer
 
 -- the kind of transfer that carries a request
@@ -32,10 +32,11 @@ pub record IsCalled (number : ℕ) (step_state : StepState) (peer : ℕ) (reques
   pub to : offer.to ≡ peer
   pub says : offer.says ≡ Some (Requests request)
   pub step : request.step ≡ number
-  pub kept : step_state.timed.times.sending peer ≡ Some (record { id = offer.id; moment = step_state.timed.now })
+  pub kept : step_state.allocator.times.sending peer
+      ≡ Some (record { id = offer.id; moment = step_state.allocator.now })
 
 -- each call that is pending after a step was pending before it, or the step made it
 abbrev pub CallsAreMade : ℕ → AllocatorState → StepState → Type 0
 CallsAreMade number before step_state = (peer : ℕ) (request : Request) →
-    step_state.timed.plain.memory.pending peer ≡ Some request
-    → StaysPending before step_state.timed peer ⊎ IsCalled number step_state peer request
+    step_state.allocator.raft_server.memory.pending peer ≡ Some request
+    → StaysPending before step_state.allocator peer ⊎ IsCalled number step_state peer request

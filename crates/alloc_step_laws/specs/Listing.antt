@@ -7,7 +7,7 @@ use Rattle.dsdl_codec.specs.Discovery.{discovery_of}
 use Rattle.transfer_rx.specs.Reassembly.{Arrival, Delivery, answer}
 use Rattle.transfer_rx.specs.Reassembly.Answer.{Gives}
 use Rattle.alloc_step.specs.Accepted.{setting_for}
-use Rattle.alloc_step.specs.Step.{Event, at_step, begins, moment_of}
+use Rattle.alloc_step.specs.Step.{Event, at_step, begin_phase, moment_of}
 use Rattle.alloc_step.specs.Step.Event.{Rx}
 use Rattle.alloc_step.specs.AllocatorState.{AllocatorState, start_of}
 
@@ -15,7 +15,7 @@ use Rattle.alloc_step.specs.AllocatorState.{AllocatorState, start_of}
 pub record IsDelivered (t : AllocatorState) (number : ℕ) (event : Event) (d : Delivery) : Type 0 where
   pub arrival : Arrival
   pub comes : event ≡ Rx arrival
-  pub gives : let then_ = (begins number (moment_of event) t).timed in
+  pub gives : let then_ = (begin_phase number (moment_of event) t).allocator in
       answer (setting_for then_.me) then_.sessions (at_step then_ arrival) ≡ Gives d
 
 -- a delivered transfer is this Discovery; of the messages that are received only NodeStatus, 341, is none

@@ -15,17 +15,17 @@ use alloc_step::laws::phases_add_puts;
 pub fn queue_of_a_step()
     ensures { (t : AllocatorState) (number : ℕ) (event : Event) →
         let step_state = (step t number event).step_state in
-        step_state.timed.queue ≡ t.queue ++ all_frames_put number t.me step_state.offers }
+        step_state.allocator.queue ≡ t.queue ++ all_frames_put number t.me step_state.offers }
 {}
 
 /// A frame comes to the receiver once, at the step's moment; a tick leaves its sessions.
 pub fn sessions_of_a_step()
     ensures frame { (t : AllocatorState) (number : ℕ) (arrival : Arrival) →
-        (step t number (Rx arrival)).step_state.timed.sessions
+        (step t number (Rx arrival)).step_state.allocator.sessions
         ≡ next (setting_for t.me) t.sessions
         (record arrival { moment = max t.now arrival.moment }) }
     ensures tick { (t : AllocatorState) (number now word : ℕ) →
-        (step t number (Tick now word)).step_state.timed.sessions ≡ t.sessions }
+        (step t number (Tick now word)).step_state.allocator.sessions ≡ t.sessions }
 {
     phases_add_puts();
 }
@@ -33,5 +33,5 @@ pub fn sessions_of_a_step()
 /// A server that runs still runs when its step is over.
 pub fn a_step_leaves_the_server_up()
     ensures { (t : AllocatorState) (number : ℕ) (event : Event) →
-        (step t number event).step_state.timed.plain.memory.up ≡ t.plain.memory.up }
+        (step t number event).step_state.allocator.raft_server.memory.up ≡ t.raft_server.memory.up }
 {}

@@ -25,7 +25,7 @@ ghost use Rattle.alloc_step_laws.specs.Saying.{IsSaid};
 ghost use Rattle.alloc_step_laws.specs.Sound.{FromSound, IsInRange, IsSound};
 ghost use Rattle.alloc_step.specs.Ending.{call_phase};
 ghost use Rattle.alloc_step.specs.StepState.{pairs};
-ghost use Rattle.alloc_step.specs.Step.{Event, popped, step};
+ghost use Rattle.alloc_step.specs.Step.{Event, after_pop, step};
 ghost use Rattle.alloc_step.specs.Step.Event.{Tick};
 ghost use Rattle.alloc_step.specs.Tick.{discovery_of as own_discovery};
 ghost use Rattle.alloc_step.specs.AllocatorState.{AllocatorState, knows_all, members_of, opening};
@@ -54,14 +54,14 @@ pub fn transfers_of_a_step_are_apart()
 pub fn steps_stay_in_range()
     ensures opening { (me size : ℕ) (store : Store) (now word : ℕ) → size ≤ 5 →
         IsSound (opening me size store now word) }
-    ensures step { FromSound (λ step_state. IsSound step_state.timed) }
-    ensures popped { (t : AllocatorState) → IsSound t → IsSound (popped t) }
+    ensures step { FromSound (λ step_state. IsSound step_state.allocator) }
+    ensures popped { (t : AllocatorState) → IsSound t → IsSound (after_pop t) }
     ensures transfers { FromSound (λ step_state. (offer : Offer) → In offer step_state.offers →
         IsInRange offer) }
     ensures me { (t : AllocatorState) (number : ℕ) (event : Event) →
-        (step t number event).step_state.timed.me ≡ t.me }
+        (step t number event).step_state.allocator.me ≡ t.me }
     ensures size { (t : AllocatorState) (number : ℕ) (event : Event) →
-        (step t number event).step_state.timed.size ≡ t.size }
+        (step t number event).step_state.allocator.size ≡ t.size }
 {
     identifiers_both_ways();
     deliveries_are_whole_transfers();
@@ -95,10 +95,10 @@ pub fn calls_of_a_step()
     ensures made { (t : AllocatorState) (number : ℕ) (event : Event) →
         CallsAreMade number t (step t number event).step_state }
     ensures kept { (t : AllocatorState) (number : ℕ) (event : Event) → KeepsCalls t →
-        KeepsCalls (step t number event).step_state.timed }
+        KeepsCalls (step t number event).step_state.allocator }
     ensures opening { (me size : ℕ) (store : Store) (now word : ℕ) →
         KeepsCalls (opening me size store now word) }
-    ensures popped { (t : AllocatorState) → KeepsCalls t → KeepsCalls (popped t) }
+    ensures popped { (t : AllocatorState) → KeepsCalls t → KeepsCalls (after_pop t) }
 {}
 
 /// A step is one of the message machine, where what is delivered to it was said by a member: its
@@ -107,13 +107,13 @@ pub fn calls_of_a_step()
 /// by them. No entry that they propose has a member's node ID. What of this the next step asks for,
 /// each step keeps.
 pub fn moves_of_a_step()
-    ensures moves { WhereItMayStep (λ members bag t number event. (site : LocalState) →
-        Begins t site → IsOfTheMachine members t.me number bag site (step t number event).step_state) }
+    ensures moves { WhereItMayStep (λ members bag t number event. (local_state : LocalState) →
+        Begins t local_state → IsOfTheMachine members t.me number bag local_state (step t number event).step_state) }
     ensures keeps { WhereItMayStep (λ members bag t number event.
-        KeepsOrder (step t number event).step_state.timed) }
+        KeepsOrder (step t number event).step_state.allocator) }
     ensures opening { (me size : ℕ) (store : Store) (now word : ℕ) →
         KeepsOrder (opening me size store now word) }
-    ensures popped { (t : AllocatorState) → KeepsOrder t → KeepsOrder (popped t) }
+    ensures popped { (t : AllocatorState) → KeepsOrder t → KeepsOrder (after_pop t) }
 {
     laws_below();
 }
@@ -123,12 +123,12 @@ pub fn moves_of_a_step()
 /// step offers has the size of the cluster and the list as it was before the step.
 pub fn members_of_a_step()
     ensures named { (t : AllocatorState) (number : ℕ) (event : Event) (node : ℕ) →
-        In node (members_of (step t number event).step_state.timed) →
+        In node (members_of (step t number event).step_state.allocator) →
         In node (members_of t) ⊎ IsNamed t number event node }
     ensures stay { (t : AllocatorState) (number : ℕ) (event : Event) (node : ℕ) →
-        In node (members_of t) → In node (members_of (step t number event).step_state.timed) }
+        In node (members_of t) → In node (members_of (step t number event).step_state.allocator) }
     ensures complete { (t : AllocatorState) (number : ℕ) (event : Event) → knows_all t ≡ true →
-        members_of (step t number event).step_state.timed ≡ members_of t }
+        members_of (step t number event).step_state.allocator ≡ members_of t }
     ensures told { (t : AllocatorState) (number : ℕ) (event : Event) (offer : Offer) →
         In offer (step t number event).step_state.offers → offer.what ≡ Disc →
         offer.payload ≡ discovery_bytes (own_discovery t) }
@@ -149,10 +149,10 @@ pub fn proposals_of_a_step()
     ensures uids { (t : AllocatorState) (number : ℕ) (event : Event) → HasUids t.watch →
         RecordsUids (step t number event).step_state }
     ensures keeps { (t : AllocatorState) (number : ℕ) (event : Event) → HasUids t.watch →
-        HasUids (step t number event).step_state.timed.watch }
+        HasUids (step t number event).step_state.allocator.watch }
     ensures opening { (me size : ℕ) (store : Store) (now word : ℕ) →
         HasUids (opening me size store now word).watch }
-    ensures popped { (t : AllocatorState) → HasUids t.watch → HasUids (popped t).watch }
+    ensures popped { (t : AllocatorState) → HasUids t.watch → HasUids (after_pop t).watch }
 {}
 
 /// Where the commit index lies within the log, it does so after each step; and what the step gives to
@@ -161,18 +161,18 @@ pub fn proposals_of_a_step()
 /// with however many bytes of a unique ID, and so each pair of those that fitted.
 pub fn pairs_of_a_step()
     ensures offered { (t : AllocatorState) (number : ℕ) (event : Event) →
-        t.plain.store.commit ≤ length t.plain.store.log →
+        t.raft_server.store.commit ≤ length t.raft_server.store.log →
         (offer : Offer) (given : Given) → In offer (step t number event).step_state.offers →
         Gives offer.what offer.payload given →
-        let store = (step t number event).step_state.timed.plain.store in
+        let store = (step t number event).step_state.allocator.raft_server.store in
         IsGivenIn (committed store) given }
     ensures committed { (t : AllocatorState) (number : ℕ) (event : Event) →
-        t.plain.store.commit ≤ length t.plain.store.log →
+        t.raft_server.store.commit ≤ length t.raft_server.store.log →
         (given : Given) → In given (pairs (step t number event).step_state) →
-        IsGivenIn (committed (step t number event).step_state.timed.plain.store) given }
+        IsGivenIn (committed (step t number event).step_state.allocator.raft_server.store) given }
     ensures inside { (t : AllocatorState) (number : ℕ) (event : Event) →
-        t.plain.store.commit ≤ length t.plain.store.log →
-        let store = (step t number event).step_state.timed.plain.store in
+        t.raft_server.store.commit ≤ length t.raft_server.store.log →
+        let store = (step t number event).step_state.allocator.raft_server.store in
         store.commit ≤ length store.log }
 {
     law_decisions();
@@ -187,16 +187,16 @@ pub fn duty_of_a_step()
     ensures phases { (t : AllocatorState) (number : ℕ) (event : Event) →
         (step t number event).step_state ≡ call_phase number (when_told t number event) }
     ensures commit { WhereItMayStep (λ members bag t number event.
-        let seen = when_seen t number event in seen.timed.plain.memory.role ≡ Leader →
-        CommitDuty members t.me seen.timed.plain (when_committed t number event).timed.plain) }
+        let seen = when_seen t number event in seen.allocator.raft_server.memory.role ≡ Leader →
+        CommitDuty members t.me seen.allocator.raft_server (when_committed t number event).allocator.raft_server) }
     ensures tell { (t : AllocatorState) (number : ℕ) (event : Event) →
         TellsDuly number (when_committed t number event) (when_told t number event) }
     ensures tick { (t : AllocatorState) (number now word : ℕ) → knows_all t ≡ true →
-        has_waited t.times (max t.now now) ≡ true → t.plain.memory.role ≢ Leader →
-        t.plain.store.term < term_limit →
-        TickDuty t.plain (step t number (Tick now word)).step_state.timed.plain }
-    ensures win { WhereItMayStep (λ members bag t number event. WinDuty members t.plain →
-        WinDuty members (step t number event).step_state.timed.plain) }
+        has_waited t.times (max t.now now) ≡ true → t.raft_server.memory.role ≢ Leader →
+        t.raft_server.store.term < term_limit →
+        TickDuty t.raft_server (step t number (Tick now word)).step_state.allocator.raft_server }
+    ensures win { WhereItMayStep (λ members bag t number event. WinDuty members t.raft_server →
+        WinDuty members (step t number event).step_state.allocator.raft_server) }
 {
     laws_below();
 }

@@ -4,19 +4,19 @@ use Rattle.std.specs.Prelude.{◌==◌, ◌&&◌, nat_lt, if◌then◌else◌}
 use Rattle.raft_core.specs.Handled.{puts_with_origins, origin_of}
 use Rattle.raft_core.specs.StoredPuts.{PutWithOrigin, with_origin}
 use Rattle.raft_core.specs.Times.{Given, Times, times_after, times_after_all}
-use Rattle.raft_model.specs.Handlers.{plain_after, plain_after_all}
+use Rattle.raft_model.specs.Handlers.{server_after, server_after_all}
 use Rattle.raft_model.specs.Lists.{at}
 use Rattle.raft_model.specs.Messages.{Answer, Request}
 use Rattle.raft_model.specs.Moves.{Move, memory_after, puts}
 use Rattle.raft_model.specs.Moves.Appending.{acknowledges, matched_memory, append_memory}
 use Rattle.raft_model.specs.Moves.Appending.Verdict.{Added, Held, Outdated, Refused}
-use Rattle.raft_model.specs.Moves.Elections.{counted, counting_memory, counts, ended, has_quorum, own_vote, stand_memory, stepped_down, term_memory, win_memory, with_vote}
+use Rattle.raft_model.specs.Moves.Elections.{votes_with, counting_memory, counts, memory_without_call, has_quorum, own_vote, stand_memory, stepped_down, term_memory, win_memory, with_vote}
 use Rattle.raft_model.specs.Moves.Leading.{append_request, vote_request}
 use Rattle.raft_model.specs.Moves.Move.{AnswerAgain, CallForVote, CallToAppend, CommitTo, GiveUp, ProposeEntry, TakeAppendAnswer, TakeAppendRequest, TakeVoteAnswer, TakeVoteRequest, TellNothing, TellPair, TimeOut}
 use Rattle.raft_model.specs.Server.{Memory, RaftServer, Put, Store, put_all}
 use Rattle.raft_model.specs.Server.Role.{Follower}
-use Rattle.alloc_step_marks.specs.Unmarked.{unmarked_memory, unmarked_plain, unnumbered, unnumbered_call}
-use Rattle.alloc_step_marks.proofs.Twice.{twice_call, twice_memory, twice_plain}
+use Rattle.alloc_step_marks.specs.Unmarked.{unmarked_memory, unmarked_raft_server, unnumbered, unnumbered_call}
+use Rattle.alloc_step_marks.proofs.Twice.{twice_call, twice_memory, twice_raft_server}
 
 abbrev pub unnumbered_answer : Answer → Answer
 unnumbered_answer answer = record answer { step = 0; request = unnumbered answer.request }
@@ -68,18 +68,18 @@ either_same : (b : Bool) (x y v w : Memory) → unmarked_memory x ≡ unmarked_m
 either_same true x y v w e f = e
 either_same false x y v w e f = f
 
-ended_same : (memory : Memory) (peer : ℕ) → unmarked_memory (ended memory peer) ≡ unmarked_memory (ended (unmarked_memory memory) peer)
+ended_same : (memory : Memory) (peer : ℕ) → unmarked_memory (memory_without_call memory peer) ≡ unmarked_memory (memory_without_call (unmarked_memory memory) peer)
 ended_same memory peer = call_same memory memory.pending peer None None refl
 
 memory_same : (members : List ℕ) (me s r : ℕ) (p : RaftServer) (move : Move)
-    → unmarked_memory (memory_after members me s p move) ≡ unmarked_memory (memory_after members me r (unmarked_plain p) (unnumbered_move move))
+    → unmarked_memory (memory_after members me s p move) ≡ unmarked_memory (memory_after members me r (unmarked_raft_server p) (unnumbered_move move))
 memory_same members me s r p TimeOut = either_same (has_quorum members (own_vote me)) _ _ _ _ refl refl
 memory_same members me s r p (TakeVoteRequest request granted) =
     either_same (nat_lt p.store.term request.term) _ p.memory _ _ (pending_same (record p.memory { role = Follower }) p.memory.pending) (pending_same p.memory p.memory.pending)
 memory_same members me s r p (TakeVoteAnswer answer) =
     either_same (nat_lt p.store.term answer.term) _ _ _ _ (call_same (record p.memory { role = Follower }) p.memory.pending answer.from None None refl)
     (either_same (counts p answer) _ _ _ _
-    (either_same (has_quorum members (counted p.memory answer)) _ _ _ _ refl (call_same (record p.memory { votes = counted p.memory answer }) p.memory.pending answer.from None None refl))
+    (either_same (has_quorum members (votes_with p.memory answer)) _ _ _ _ refl (call_same (record p.memory { votes = votes_with p.memory answer }) p.memory.pending answer.from None None refl))
     (ended_same p.memory answer.from))
 memory_same members me s r p (TakeAppendRequest request Outdated) = pending_same p.memory p.memory.pending
 memory_same members me s r p (TakeAppendRequest request Refused) = pending_same (record p.memory { role = Follower }) p.memory.pending
@@ -100,7 +100,7 @@ memory_same members me s r p (GiveUp peer) = ended_same p.memory peer
 
 -- ---- puts, times and origins: they do not look at pending calls
 
-puts_same : (members : List ℕ) (me : ℕ) (p : RaftServer) (move : Move) → puts members me p move ≡ puts members me (unmarked_plain p) (unnumbered_move move)
+puts_same : (members : List ℕ) (me : ℕ) (p : RaftServer) (move : Move) → puts members me p move ≡ puts members me (unmarked_raft_server p) (unnumbered_move move)
 puts_same members me p TimeOut = refl
 puts_same members me p (TakeVoteRequest request true) = refl
 puts_same members me p (TakeVoteRequest request false) = refl
@@ -120,7 +120,7 @@ puts_same members me p (AnswerAgain place) = refl
 puts_same members me p (GiveUp peer) = refl
 
 times_same : (members : List ℕ) (me : ℕ) (given : Given) (p : RaftServer) (move : Move) (times : Times)
-    → times_after members me given p move times ≡ times_after members me given (unmarked_plain p) (unnumbered_move move) times
+    → times_after members me given p move times ≡ times_after members me given (unmarked_raft_server p) (unnumbered_move move) times
 times_same members me given p TimeOut times = refl
 times_same members me given p (TakeVoteRequest request granted) times = refl
 times_same members me given p (TakeVoteAnswer answer) times = refl
@@ -155,52 +155,52 @@ origin_same given (GiveUp peer) = refl
 
 -- ---- a move, and all moves, of servers that differ in their calls' numbers alone
 
-plain_of : Store → Memory → RaftServer
-plain_of store memory = record { store = store; memory = memory }
+raft_server_of : Store → Memory → RaftServer
+raft_server_of store memory = record { store = store; memory = memory }
 
 after_same : (members : List ℕ) (me s r : ℕ) (p : RaftServer) (move : Move)
-    → unmarked_plain (plain_after members me s p move) ≡ unmarked_plain (plain_after members me r (unmarked_plain p) (unnumbered_move move))
+    → unmarked_raft_server (server_after members me s p move) ≡ unmarked_raft_server (server_after members me r (unmarked_raft_server p) (unnumbered_move move))
 after_same members me s r p move = λ i. record { store = put_all p.store (puts_same members me p move i); memory = memory_same members me s r p move i }
 
 module _ (members : List ℕ) (me s r : ℕ) (given : Given) where
-  after_moves : (p q : RaftServer) (move : Move) → unmarked_plain p ≡ unmarked_plain q
-      → unmarked_plain (plain_after members me s p move) ≡ unmarked_plain (plain_after members me r q (unnumbered_move move))
+  after_moves : (p q : RaftServer) (move : Move) → unmarked_raft_server p ≡ unmarked_raft_server q
+      → unmarked_raft_server (server_after members me s p move) ≡ unmarked_raft_server (server_after members me r q (unnumbered_move move))
   after_moves p q move e =
       after_same members me s r p move
-      ∙ ap (λ (x : RaftServer). unmarked_plain (plain_after members me r x (unnumbered_move move))) e
-      ∙ ap (λ (m : Move). unmarked_plain (plain_after members me r (unmarked_plain q) m)) (sym (twice_move move))
+      ∙ ap (λ (x : RaftServer). unmarked_raft_server (server_after members me r x (unnumbered_move move))) e
+      ∙ ap (λ (m : Move). unmarked_raft_server (server_after members me r (unmarked_raft_server q) m)) (sym (twice_move move))
       ∙ sym (after_same members me r r q (unnumbered_move move))
 
-  puts_of : (p q : RaftServer) (move : Move) → unmarked_plain p ≡ unmarked_plain q → puts members me p move ≡ puts members me q (unnumbered_move move)
+  puts_of : (p q : RaftServer) (move : Move) → unmarked_raft_server p ≡ unmarked_raft_server q → puts members me p move ≡ puts members me q (unnumbered_move move)
   puts_of p q move e =
       puts_same members me p move
       ∙ ap (λ (x : RaftServer). puts members me x (unnumbered_move move)) e
-      ∙ ap (λ (m : Move). puts members me (unmarked_plain q) m) (sym (twice_move move))
+      ∙ ap (λ (m : Move). puts members me (unmarked_raft_server q) m) (sym (twice_move move))
       ∙ sym (puts_same members me q (unnumbered_move move))
 
-  times_of : (p q : RaftServer) (move : Move) (times : Times) → unmarked_plain p ≡ unmarked_plain q
+  times_of : (p q : RaftServer) (move : Move) (times : Times) → unmarked_raft_server p ≡ unmarked_raft_server q
       → times_after members me given p move times ≡ times_after members me given q (unnumbered_move move) times
   times_of p q move times e =
       times_same members me given p move times
       ∙ ap (λ (x : RaftServer). times_after members me given x (unnumbered_move move) times) e
-      ∙ ap (λ (m : Move). times_after members me given (unmarked_plain q) m times) (sym (twice_move move))
+      ∙ ap (λ (m : Move). times_after members me given (unmarked_raft_server q) m times) (sym (twice_move move))
       ∙ sym (times_same members me given q (unnumbered_move move) times)
 
-  pub plains_same : (moves : List Move) (p q : RaftServer) → unmarked_plain p ≡ unmarked_plain q
-      → unmarked_plain (plain_after_all members me s p moves) ≡ unmarked_plain (plain_after_all members me r q (map unnumbered_move moves))
+  pub plains_same : (moves : List Move) (p q : RaftServer) → unmarked_raft_server p ≡ unmarked_raft_server q
+      → unmarked_raft_server (server_after_all members me s p moves) ≡ unmarked_raft_server (server_after_all members me r q (map unnumbered_move moves))
   plains_same [] p q e = e
-  plains_same (move ∷ moves) p q e = plains_same moves (plain_after members me s p move) (plain_after members me r q (unnumbered_move move)) (after_moves p q move e)
+  plains_same (move ∷ moves) p q e = plains_same moves (server_after members me s p move) (server_after members me r q (unnumbered_move move)) (after_moves p q move e)
 
-  pub all_times_same : (moves : List Move) (p q : RaftServer) (times : Times) → unmarked_plain p ≡ unmarked_plain q
+  pub all_times_same : (moves : List Move) (p q : RaftServer) (times : Times) → unmarked_raft_server p ≡ unmarked_raft_server q
       → times_after_all members me s given p moves times ≡ times_after_all members me r given q (map unnumbered_move moves) times
   all_times_same [] p q times e = refl
   all_times_same (move ∷ moves) p q times e =
-      all_times_same moves (plain_after members me s p move) (plain_after members me r q (unnumbered_move move)) (times_after members me given p move times) (after_moves p q move e)
-      ∙ ap (λ (x : Times). times_after_all members me r given (plain_after members me r q (unnumbered_move move)) (map unnumbered_move moves) x) (times_of p q move times e)
+      all_times_same moves (server_after members me s p move) (server_after members me r q (unnumbered_move move)) (times_after members me given p move times) (after_moves p q move e)
+      ∙ ap (λ (x : Times). times_after_all members me r given (server_after members me r q (unnumbered_move move)) (map unnumbered_move moves) x) (times_of p q move times e)
 
-  pub all_puts_same : (moves : List Move) (p q : RaftServer) → unmarked_plain p ≡ unmarked_plain q
+  pub all_puts_same : (moves : List Move) (p q : RaftServer) → unmarked_raft_server p ≡ unmarked_raft_server q
       → puts_with_origins members me s given p moves ≡ puts_with_origins members me r given q (map unnumbered_move moves)
   all_puts_same [] p q e = refl
   all_puts_same (move ∷ moves) p q e =
       λ i. with_origin (origin_same given move i) (puts_of p q move e i)
-      ++ all_puts_same moves (plain_after members me s p move) (plain_after members me r q (unnumbered_move move)) (after_moves p q move e) i
+      ++ all_puts_same moves (server_after members me s p move) (server_after members me r q (unnumbered_move move)) (after_moves p q move e) i

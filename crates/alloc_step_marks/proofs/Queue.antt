@@ -5,7 +5,7 @@ use Rattle.std.specs.List.{list_all, position_or_len, prefix_len}
 use Rattle.std.proofs.lemmas.List.{drop-map, map-append, take-map}
 use Rattle.std.proofs.lemmas.List.Folds.{list_all-map}
 use Rattle.transfer_tx.specs.Queue.{Queued, is_least, left_behind, next_out}
-use Rattle.alloc_step.specs.Step.{popped}
+use Rattle.alloc_step.specs.Step.{after_pop}
 use Rattle.alloc_step.specs.AllocatorState.{AllocatorState}
 use Rattle.alloc_step_marks.specs.Unmarked.{unmarked_frame, unmarked_server}
 
@@ -41,8 +41,8 @@ left_one frames =
 pub next_same : (t u : AllocatorState) → unmarked_server t ≡ unmarked_server u → option_map unmarked_frame (next_out t.queue) ≡ option_map unmarked_frame (next_out u.queue)
 next_same t u e = sym (next_one t.queue) ∙ ap (λ (s : AllocatorState). next_out s.queue) e ∙ next_one u.queue
 
-pub popped_same : (t u : AllocatorState) → unmarked_server t ≡ unmarked_server u → unmarked_server (popped t) ≡ unmarked_server (popped u)
-popped_same t u e = one t ∙ ap popped e ∙ sym (one u)
+pub popped_same : (t u : AllocatorState) → unmarked_server t ≡ unmarked_server u → unmarked_server (after_pop t) ≡ unmarked_server (after_pop u)
+popped_same t u e = one t ∙ ap after_pop e ∙ sym (one u)
   where
-    one : (s : AllocatorState) → unmarked_server (popped s) ≡ popped (unmarked_server s)
+    one : (s : AllocatorState) → unmarked_server (after_pop s) ≡ after_pop (unmarked_server s)
     one s = λ i. record (unmarked_server s) { queue = left_one s.queue i }

@@ -9,7 +9,7 @@ use Rattle.transfer_tx.specs.Queue.{Queued}
 use Rattle.alloc_step.specs.StepState.{StepState}
 use Rattle.alloc_step.specs.AllocatorState.{AllocatorState}
 use Rattle.alloc_step.specs.Transfers.{Offer}
-use Rattle.alloc_step_marks.specs.Unmarked.{unmarked_frame, unmarked_going, unmarked_memory, unmarked_offer, unmarked_plain, unmarked_server, unnumbered_call}
+use Rattle.alloc_step_marks.specs.Unmarked.{unmarked_frame, unmarked_step_state, unmarked_memory, unmarked_offer, unmarked_raft_server, unmarked_server, unnumbered_call}
 
 pub map_twice : {A : Type 0} (f : A → A) → ((x : A) → f (f x) ≡ f x) → (xs : List A) → map f (map f xs) ≡ map f xs
 map_twice f h [] = refl
@@ -22,8 +22,8 @@ twice_call (Some request) = refl
 pub twice_memory : (memory : Memory) → unmarked_memory (unmarked_memory memory) ≡ unmarked_memory memory
 twice_memory memory = λ i. record memory { pending = λ peer. twice_call (memory.pending peer) i }
 
-pub twice_plain : (plain : RaftServer) → unmarked_plain (unmarked_plain plain) ≡ unmarked_plain plain
-twice_plain plain = λ i. record plain { memory = twice_memory plain.memory i }
+pub twice_raft_server : (raft_server : RaftServer) → unmarked_raft_server (unmarked_raft_server raft_server) ≡ unmarked_raft_server raft_server
+twice_raft_server raft_server = λ i. record raft_server { memory = twice_memory raft_server.memory i }
 
 pub twice_sessions : (sessions : List Session) → map unmarked (map unmarked sessions) ≡ map unmarked sessions
 twice_sessions sessions = map_twice unmarked (λ s. refl) sessions
@@ -35,10 +35,10 @@ pub twice_offers : (offers : List Offer) → map unmarked_offer (map unmarked_of
 twice_offers offers = map_twice unmarked_offer (λ o. refl) offers
 
 pub twice_server : (t : AllocatorState) → unmarked_server (unmarked_server t) ≡ unmarked_server t
-twice_server t = λ i. record t { plain = twice_plain t.plain i; sessions = twice_sessions t.sessions i; queue = twice_frames t.queue i }
+twice_server t = λ i. record t { raft_server = twice_raft_server t.raft_server i; sessions = twice_sessions t.sessions i; queue = twice_frames t.queue i }
 
-pub twice : (g : StepState) → unmarked_going (unmarked_going g) ≡ unmarked_going g
-twice g = λ i. record { timed = twice_server g.timed i; moves = []; puts = g.puts; offers = twice_offers g.offers i }
+pub twice : (g : StepState) → unmarked_step_state (unmarked_step_state g) ≡ unmarked_step_state g
+twice g = λ i. record { allocator = twice_server g.allocator i; moves = []; puts = g.puts; offers = twice_offers g.offers i }
 
 -- items behind a list whose marks are gone
 pub joined_same : {A : Type 0} (f : A → A) → ((x : A) → f (f x) ≡ f x) → (xs ys zs : List A) → map f ys ≡ map f zs

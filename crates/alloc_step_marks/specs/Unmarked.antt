@@ -23,8 +23,8 @@ unnumbered_call (Some request) = Some (unnumbered request)
 abbrev pub unmarked_memory : Memory → Memory
 unmarked_memory memory = record memory { pending = λ peer. unnumbered_call (memory.pending peer) }
 
-abbrev pub unmarked_plain : RaftServer → RaftServer
-unmarked_plain plain = record plain { memory = unmarked_memory plain.memory }
+abbrev pub unmarked_raft_server : RaftServer → RaftServer
+unmarked_raft_server raft_server = record raft_server { memory = unmarked_memory raft_server.memory }
 
 abbrev pub unmarked_frame : Queued → Queued
 unmarked_frame frame = record frame { mark = no_mark }
@@ -35,7 +35,7 @@ unmarked_frames frames = map unmarked_frame frames
 -- a server whose sessions and queue have no marks, and whose pending calls no step
 abbrev pub unmarked_server : AllocatorState → AllocatorState
 unmarked_server t = record t {
-  plain = unmarked_plain t.plain;
+  raft_server = unmarked_raft_server t.raft_server;
   sessions = map unmarked t.sessions;
   queue = unmarked_frames t.queue;
 }
@@ -45,12 +45,13 @@ abbrev pub unmarked_offer : Offer → Offer
 unmarked_offer offer = record offer { re = 0; says = None }
 
 -- a step so far: the server, the puts and the transfers
-abbrev pub unmarked_going : StepState → StepState
-unmarked_going g =
-    record { timed = unmarked_server g.timed; moves = []; puts = g.puts; offers = map unmarked_offer g.offers }
+abbrev pub unmarked_step_state : StepState → StepState
+unmarked_step_state g =
+    record { allocator = unmarked_server g.allocator; moves = []; puts = g.puts; offers = map unmarked_offer g.offers }
 
-abbrev pub unmarked_sight : StepResult → StepResult
-unmarked_sight step_result = record { seen = step_result.seen; step_state = unmarked_going step_result.step_state }
+abbrev pub unmarked_step_result : StepResult → StepResult
+unmarked_step_result step_result =
+    record { seen = step_result.seen; step_state = unmarked_step_state step_result.step_state }
 
 abbrev pub unmarked_event : Event → Event
 unmarked_event (Tick now word) = Tick now word

@@ -7,7 +7,7 @@ use Rattle.can_frame.specs.declared.identifier.Ident.{Ident}
 use Rattle.can_frame.specs.Cutting.{Piece, frames_of}
 use Rattle.can_frame.specs.Identifier.{IsIdentifier, identifier_number, identifier_of}
 use Rattle.transfer_tx.specs.Queue.{Queued, is_least, left_behind, marked, queued_frames}
-use Rattle.allocatee.specs.Asking.{Asking, due, goes_on, has_passed, has_room, ident_of, offers, outgoing, queued, quiet, request_bytes, ticks, waits_anew}
+use Rattle.allocatee.specs.Asking.{Asking, due, next_stage, has_passed, has_room, ident_of, request_offer, outgoing, with_queued, nothing_offered, request_bytes, clock_phase, with_timer_restarted}
 use Rattle.allocatee.specs.Given.{IsAnonymous}
 
 abbrev pub ReadsAgain : Type 0
@@ -35,28 +35,28 @@ module _ (again : ReadsAgain) where
   all_cut word id step payload = all_marked word step 0 0 (frames_of 0x0b2a812620a11d40 id payload)
 
   module _ (step word : ℕ) where
-    all_queued : (payload : List ℕ) (fits : Bool) (a : Asking) → All IsAnonymous a.queue → All IsAnonymous (queued step word payload fits a).queue
+    all_queued : (payload : List ℕ) (fits : Bool) (a : Asking) → All IsAnonymous a.queue → All IsAnonymous (with_queued step word payload fits a).queue
     all_queued payload true a all = All-append IsAnonymous a.queue (queued_frames (outgoing word a.id payload) step 0) all (all_cut word a.id step payload)
     all_queued payload false a all = all
 
-    all_offered : (first : Bool) (part : List ℕ) (a : Asking) → All IsAnonymous a.queue → All IsAnonymous (offers step word first part a).asking.queue
+    all_offered : (first : Bool) (part : List ℕ) (a : Asking) → All IsAnonymous a.queue → All IsAnonymous (request_offer step word first part a).asking.queue
     all_offered first part a all = all_queued (request_bytes a first part) (has_room a.queue (request_bytes a first part)) a all
 
     all_asked : (b : Bool) (a : Asking) → All IsAnonymous a.queue
-        → All IsAnonymous (if b then offers step word true (take 6 a.uid) (waits_anew word a) else quiet a).asking.queue
-    all_asked true a all = all_offered true (take 6 a.uid) (waits_anew word a) all
+        → All IsAnonymous (if b then request_offer step word true (take 6 a.uid) (with_timer_restarted word a) else nothing_offered a).asking.queue
+    all_asked true a all = all_offered true (take 6 a.uid) (with_timer_restarted word a) all
     all_asked false a all = all
 
-    all_gone_on : (known : Option ℕ) (a : Asking) → All IsAnonymous a.queue → All IsAnonymous (goes_on step word known a).asking.queue
+    all_gone_on : (known : Option ℕ) (a : Asking) → All IsAnonymous a.queue → All IsAnonymous (next_stage step word known a).asking.queue
     all_gone_on None a all = all_asked (has_passed a.moment a.request) a all
     all_gone_on (Some known) a all = all_offered false (take 6 (drop known a.uid)) (record a { follow_up = None }) all
 
-    all_by : (b : Bool) (a : Asking) → All IsAnonymous a.queue → All IsAnonymous (if b then quiet a else goes_on step word (due a.moment a.follow_up) a).asking.queue
+    all_by : (b : Bool) (a : Asking) → All IsAnonymous a.queue → All IsAnonymous (if b then nothing_offered a else next_stage step word (due a.moment a.follow_up) a).asking.queue
     all_by true a all = all
     all_by false a all = all_gone_on (due a.moment a.follow_up) a all
 
-    pub all_ticks : (a : Asking) → All IsAnonymous a.queue → All IsAnonymous (ticks step word a).asking.queue
-    unfolding ticks
+    pub all_ticks : (a : Asking) → All IsAnonymous a.queue → All IsAnonymous (clock_phase step word a).asking.queue
+    unfolding clock_phase
     all_ticks a all = all_by (is_some a.holds) a all
 
 pub all_left : (queue : List Queued) → All IsAnonymous queue → All IsAnonymous (left_behind queue)

@@ -10,9 +10,9 @@ use Rattle.transfer_rx.specs.Keys.{is_anonymous}
 use Rattle.transfer_rx.specs.Reassembly.{Answer, Arrival, next}
 use Rattle.transfer_rx.specs.Reassembly.Answer.{Continues, Drops, Gives}
 use Rattle.allocatee.specs.Accepted.{setting}
-use Rattle.allocatee.specs.Allocatee.{Device, Event, answer_to, at_step, reads, step, takes}
+use Rattle.allocatee.specs.Allocatee.{Device, Event, answer_to, at_step, after_reading, step, after_receiver_answer}
 use Rattle.allocatee.specs.Allocatee.Event.{Rx, Tick}
-use Rattle.allocatee.specs.Asking.{Asking, answered, at_moment, begins_with, due, follows, given, goes_on, has_passed, has_room, hears, interrupted, offers, queued, quiet, request_bytes, ticks, waits_anew}
+use Rattle.allocatee.specs.Asking.{Asking, after_answer, at_moment, begins_with, due, with_follow_up, with_node_id, next_stage, has_passed, has_room, after_allocation, after_interruption, request_offer, with_queued, nothing_offered, request_bytes, clock_phase, with_timer_restarted}
 use Rattle.allocatee.specs.Given.{IsGivenBy}
 
 -- ---- its clock changes neither its unique ID nor what it holds
@@ -22,28 +22,28 @@ pub record IsSame (before after : Asking) : Type 0 where
   pub holds : after.holds ≡ before.holds
 
 module _ (number word : ℕ) where
-  same_queued : (payload : List ℕ) (fits : Bool) (a : Asking) → IsSame a (queued number word payload fits a)
+  same_queued : (payload : List ℕ) (fits : Bool) (a : Asking) → IsSame a (with_queued number word payload fits a)
   same_queued payload true a = record { uid = refl; holds = refl }
   same_queued payload false a = record { uid = refl; holds = refl }
 
-  same_offered : (first : Bool) (part : List ℕ) (a : Asking) → IsSame a (offers number word first part a).asking
+  same_offered : (first : Bool) (part : List ℕ) (a : Asking) → IsSame a (request_offer number word first part a).asking
   same_offered first part a = same_queued (request_bytes a first part) (has_room a.queue (request_bytes a first part)) a
 
-  same_asked : (b : Bool) (a : Asking) → IsSame a (if b then offers number word true (take 6 a.uid) (waits_anew word a) else quiet a).asking
-  same_asked true a = let s = same_offered true (take 6 a.uid) (waits_anew word a) in record { uid = s.uid; holds = s.holds }
+  same_asked : (b : Bool) (a : Asking) → IsSame a (if b then request_offer number word true (take 6 a.uid) (with_timer_restarted word a) else nothing_offered a).asking
+  same_asked true a = let s = same_offered true (take 6 a.uid) (with_timer_restarted word a) in record { uid = s.uid; holds = s.holds }
   same_asked false a = record { uid = refl; holds = refl }
 
-  same_gone_on : (known : Option ℕ) (a : Asking) → IsSame a (goes_on number word known a).asking
+  same_gone_on : (known : Option ℕ) (a : Asking) → IsSame a (next_stage number word known a).asking
   same_gone_on None a = same_asked (has_passed a.moment a.request) a
   same_gone_on (Some known) a =
       let s = same_offered false (take 6 (drop known a.uid)) (record a { follow_up = None }) in record { uid = s.uid; holds = s.holds }
 
-  same_by : (b : Bool) (a : Asking) → IsSame a (if b then quiet a else goes_on number word (due a.moment a.follow_up) a).asking
+  same_by : (b : Bool) (a : Asking) → IsSame a (if b then nothing_offered a else next_stage number word (due a.moment a.follow_up) a).asking
   same_by true a = record { uid = refl; holds = refl }
   same_by false a = same_gone_on (due a.moment a.follow_up) a
 
-  same_ticks : (a : Asking) → IsSame a (ticks number word a).asking
-  unfolding ticks
+  same_ticks : (a : Asking) → IsSame a (clock_phase number word a).asking
+  unfolding clock_phase
   same_ticks a = same_by (is_some a.holds) a
 
 -- ---- an Allocation that it hears
@@ -80,7 +80,7 @@ module _ (word : ℕ) (message : Allocation) (node : ℕ) where
   by_range false a r e = inl e
 
   by_bytes : (whole begins : Bool) (a : Asking) → bytes_eq message.uid.items a.uid ≡ whole
-      → (if whole then given message.node a else if begins then follows word (length message.uid.items) a else a).holds ≡ Some node
+      → (if whole then with_node_id message.node a else if begins then with_follow_up word (length message.uid.items) a else a).holds ≡ Some node
       → (a.holds ≡ Some node) ⊎ IsTold a false message node
   by_bytes true begins a w e = elim (by_range (nat_le 1 message.node && nat_le message.node 125) a refl e) [
     | inl before ↦ inl before
@@ -95,26 +95,26 @@ module _ (word : ℕ) (message : Allocation) (node : ℕ) where
   by_bytes false true a w e = inl e
   by_bytes false false a w e = inl e
 
-  by_source : (holds anonymous : Bool) (a : Asking) → (if holds then a else if anonymous then interrupted word a else answered word message (interrupted word a)).holds ≡ Some node
+  by_source : (holds anonymous : Bool) (a : Asking) → (if holds then a else if anonymous then after_interruption word a else after_answer word message (after_interruption word a)).holds ≡ Some node
       → (a.holds ≡ Some node) ⊎ IsTold a anonymous message node
   by_source true anonymous a e = inl e
   by_source false true a e = inl e
-  by_source false false a e = elim (by_bytes (bytes_eq message.uid.items a.uid) (begins_with a.uid message.uid.items) (interrupted word a) refl e) [
+  by_source false false a e = elim (by_bytes (bytes_eq message.uid.items a.uid) (begins_with a.uid message.uid.items) (after_interruption word a) refl e) [
     | inl before ↦ inl before
     | inr told ↦ inr (record { known = told.known; uid = told.uid; gives = told.gives; least = told.least; most = told.most })
   ]
 
-  told : (anonymous : Bool) (a : Asking) → (hears word anonymous message a).holds ≡ Some node → (a.holds ≡ Some node) ⊎ IsTold a anonymous message node
-  unfolding hears
+  told : (anonymous : Bool) (a : Asking) → (after_allocation word anonymous message a).holds ≡ Some node → (a.holds ≡ Some node) ⊎ IsTold a anonymous message node
+  unfolding after_allocation
   told anonymous a e = by_source (is_some a.holds) anonymous a e
 
   kept_by : (anonymous : Bool) (a : Asking) (held : Option ℕ) → a.holds ≡ held → held ≡ Some node
-      → (if is_some held then a else if anonymous then interrupted word a else answered word message (interrupted word a)).holds ≡ Some node
+      → (if is_some held then a else if anonymous then after_interruption word a else after_answer word message (after_interruption word a)).holds ≡ Some node
   kept_by anonymous a None h e = absurd (cc (e))
   kept_by anonymous a (Some n) h e = h ∙ e
 
-  kept_hears : (anonymous : Bool) (a : Asking) → a.holds ≡ Some node → (hears word anonymous message a).holds ≡ Some node
-  unfolding hears
+  kept_hears : (anonymous : Bool) (a : Asking) → a.holds ≡ Some node → (after_allocation word anonymous message a).holds ≡ Some node
+  unfolding after_allocation
   kept_hears anonymous a e = kept_by anonymous a a.holds refl e
 
 -- the unique ID of the device stays
@@ -123,71 +123,71 @@ module _ (word : ℕ) (message : Allocation) where
   uid_given true a = refl
   uid_given false a = refl
 
-  uid_answered : (whole begins : Bool) (a : Asking) → (if whole then given message.node a else if begins then follows word (length message.uid.items) a else a).uid ≡ a.uid
+  uid_answered : (whole begins : Bool) (a : Asking) → (if whole then with_node_id message.node a else if begins then with_follow_up word (length message.uid.items) a else a).uid ≡ a.uid
   uid_answered true begins a = uid_given (nat_le 1 message.node && nat_le message.node 125) a
   uid_answered false true a = refl
   uid_answered false false a = refl
 
-  uid_by : (holds anonymous : Bool) (a : Asking) → (if holds then a else if anonymous then interrupted word a else answered word message (interrupted word a)).uid ≡ a.uid
+  uid_by : (holds anonymous : Bool) (a : Asking) → (if holds then a else if anonymous then after_interruption word a else after_answer word message (after_interruption word a)).uid ≡ a.uid
   uid_by true anonymous a = refl
   uid_by false true a = refl
-  uid_by false false a = uid_answered (bytes_eq message.uid.items a.uid) (begins_with a.uid message.uid.items) (interrupted word a)
+  uid_by false false a = uid_answered (bytes_eq message.uid.items a.uid) (begins_with a.uid message.uid.items) (after_interruption word a)
 
-  uid_hears : (anonymous : Bool) (a : Asking) → (hears word anonymous message a).uid ≡ a.uid
-  unfolding hears
+  uid_hears : (anonymous : Bool) (a : Asking) → (after_allocation word anonymous message a).uid ≡ a.uid
+  unfolding after_allocation
   uid_hears anonymous a = uid_by (is_some a.holds) anonymous a
 
   queue_given : (b : Bool) (a : Asking) → (if b then record a { holds = Some message.node } else a).queue ≡ a.queue
   queue_given true a = refl
   queue_given false a = refl
 
-  queue_answered : (whole begins : Bool) (a : Asking) → (if whole then given message.node a else if begins then follows word (length message.uid.items) a else a).queue ≡ a.queue
+  queue_answered : (whole begins : Bool) (a : Asking) → (if whole then with_node_id message.node a else if begins then with_follow_up word (length message.uid.items) a else a).queue ≡ a.queue
   queue_answered true begins a = queue_given (nat_le 1 message.node && nat_le message.node 125) a
   queue_answered false true a = refl
   queue_answered false false a = refl
 
-  queue_by : (holds anonymous : Bool) (a : Asking) → (if holds then a else if anonymous then interrupted word a else answered word message (interrupted word a)).queue ≡ a.queue
+  queue_by : (holds anonymous : Bool) (a : Asking) → (if holds then a else if anonymous then after_interruption word a else after_answer word message (after_interruption word a)).queue ≡ a.queue
   queue_by true anonymous a = refl
   queue_by false true a = refl
-  queue_by false false a = queue_answered (bytes_eq message.uid.items a.uid) (begins_with a.uid message.uid.items) (interrupted word a)
+  queue_by false false a = queue_answered (bytes_eq message.uid.items a.uid) (begins_with a.uid message.uid.items) (after_interruption word a)
 
-  queue_hears : (anonymous : Bool) (a : Asking) → (hears word anonymous message a).queue ≡ a.queue
-  unfolding hears
+  queue_hears : (anonymous : Bool) (a : Asking) → (after_allocation word anonymous message a).queue ≡ a.queue
+  unfolding after_allocation
   queue_hears anonymous a = queue_by (is_some a.holds) anonymous a
 
 -- ---- a frame
 
 module _ (word : ℕ) where
-  uid_read : (anonymous : Bool) (o : Option Allocation) (a : Asking) → (reads word anonymous o a).uid ≡ a.uid
+  uid_read : (anonymous : Bool) (o : Option Allocation) (a : Asking) → (after_reading word anonymous o a).uid ≡ a.uid
   uid_read anonymous None a = refl
   uid_read anonymous (Some message) a = uid_hears word message anonymous a
 
-  queue_read : (anonymous : Bool) (o : Option Allocation) (a : Asking) → (reads word anonymous o a).queue ≡ a.queue
+  queue_read : (anonymous : Bool) (o : Option Allocation) (a : Asking) → (after_reading word anonymous o a).queue ≡ a.queue
   queue_read anonymous None a = refl
   queue_read anonymous (Some message) a = queue_hears word message anonymous a
 
-  uid_taken : (answer : Answer) (a : Asking) → (takes word answer a).uid ≡ a.uid
+  uid_taken : (answer : Answer) (a : Asking) → (after_receiver_answer word answer a).uid ≡ a.uid
   uid_taken (Gives d) a = uid_read (is_anonymous d.ident.kind) (allocation_of d.payload) a
   uid_taken Continues a = refl
   uid_taken (Drops why) a = refl
 
-  queue_taken : (answer : Answer) (a : Asking) → (takes word answer a).queue ≡ a.queue
+  queue_taken : (answer : Answer) (a : Asking) → (after_receiver_answer word answer a).queue ≡ a.queue
   queue_taken (Gives d) a = queue_read (is_anonymous d.ident.kind) (allocation_of d.payload) a
   queue_taken Continues a = refl
   queue_taken (Drops why) a = refl
 
   module _ (node : ℕ) where
-    kept_read : (anonymous : Bool) (o : Option Allocation) (a : Asking) → a.holds ≡ Some node → (reads word anonymous o a).holds ≡ Some node
+    kept_read : (anonymous : Bool) (o : Option Allocation) (a : Asking) → a.holds ≡ Some node → (after_reading word anonymous o a).holds ≡ Some node
     kept_read anonymous None a e = e
     kept_read anonymous (Some message) a e = kept_hears word message node anonymous a e
 
-    kept_taken : (answer : Answer) (a : Asking) → a.holds ≡ Some node → (takes word answer a).holds ≡ Some node
+    kept_taken : (answer : Answer) (a : Asking) → a.holds ≡ Some node → (after_receiver_answer word answer a).holds ≡ Some node
     kept_taken (Gives d) a e = kept_read (is_anonymous d.ident.kind) (allocation_of d.payload) a e
     kept_taken Continues a e = e
     kept_taken (Drops why) a e = e
 
     -- what was read gives it
-    told_read : (anonymous : Bool) (o : Option Allocation) (a : Asking) → (reads word anonymous o a).holds ≡ Some node
+    told_read : (anonymous : Bool) (o : Option Allocation) (a : Asking) → (after_reading word anonymous o a).holds ≡ Some node
         → (a.holds ≡ Some node) ⊎ ((message : Allocation) × (o ≡ Some message) × IsTold a anonymous message node)
     told_read anonymous None a e = inl e
     told_read anonymous (Some message) a e = elim (told word message node anonymous a e) [ inl before ↦ inl before | inr now ↦ inr (message, refl, now) ]
@@ -196,7 +196,7 @@ module _ (word : ℕ) where
 
 module _ (d : Device) (number node : ℕ) where
   module _ (arrival : Arrival) (word : ℕ) where
-    by_answer : (answer : Answer) → answer_to d arrival ≡ answer → (takes word answer (at_moment arrival.moment d.asking)).holds ≡ Some node
+    by_answer : (answer : Answer) → answer_to d arrival ≡ answer → (after_receiver_answer word answer (at_moment arrival.moment d.asking)).holds ≡ Some node
         → (d.asking.holds ≡ Some node) ⊎ IsGivenBy d (Rx arrival word) node
     by_answer (Gives delivery) comes e =
         elim (told_read word node (is_anonymous delivery.ident.kind) (allocation_of delivery.payload) (at_moment arrival.moment d.asking) e) [

@@ -10,7 +10,7 @@ use Rattle.transfer_rx.specs.Keys.{is_anonymous}
 use Rattle.transfer_rx.specs.Reassembly.{Answer, Arrival, Continues, Drops, Gives, answer, next}
 use Rattle.transfer_rx.specs.Sessions.{Session}
 use Rattle.allocatee.specs.Accepted.{setting}
-use Rattle.allocatee.specs.Asking.{Asking, asking_from, at_moment, hears, sent_one, ticks}
+use Rattle.allocatee.specs.Asking.{Asking, asking_from, at_moment, after_allocation, without_first_frame, clock_phase}
 
 pub record Device : Type 0 where
   pub asking : Asking
@@ -36,18 +36,19 @@ pub record StepResult : Type 0 where
 -- ---- a frame
 
 -- an Allocation is taken; a payload that reads as none does nothing
-abbrev pub reads : ℕ → Bool → Option Allocation → Asking → Asking
-reads word anonymous None a = a
-reads word anonymous (Some message) a = hears word anonymous message a
+abbrev pub after_reading : ℕ → Bool → Option Allocation → Asking → Asking
+after_reading word anonymous None a = a
+after_reading word anonymous (Some message) a = after_allocation word anonymous message a
 
 abbrev pub seen_of_reading : Option Allocation → Seen
 seen_of_reading None = Bad
 seen_of_reading (Some message) = Took
 
-abbrev pub takes : ℕ → Answer → Asking → Asking
-takes word (Gives delivery) a = reads word (is_anonymous delivery.ident.kind) (allocation_of delivery.payload) a
-takes word Continues a = a
-takes word (Drops why) a = a
+abbrev pub after_receiver_answer : ℕ → Answer → Asking → Asking
+after_receiver_answer word (Gives delivery) a =
+    after_reading word (is_anonymous delivery.ident.kind) (allocation_of delivery.payload) a
+after_receiver_answer word Continues a = a
+after_receiver_answer word (Drops why) a = a
 
 abbrev pub seen_of : Answer → Seen
 seen_of (Gives delivery) = seen_of_reading (allocation_of delivery.payload)
@@ -63,29 +64,29 @@ answer_to d arrival = answer setting d.sessions (at_step d arrival)
 
 -- ---- the step
 
-abbrev pub ticked : ℕ → ℕ → ℕ → Device → StepResult
-ticked number now word d = record {
+abbrev pub tick_result : ℕ → ℕ → ℕ → Device → StepResult
+tick_result number now word d = record {
   seen = Ticked;
-  sent = (ticks number word (at_moment now d.asking)).sent;
-  device = record d { asking = (ticks number word (at_moment now d.asking)).asking };
+  sent = (clock_phase number word (at_moment now d.asking)).sent;
+  device = record d { asking = (clock_phase number word (at_moment now d.asking)).asking };
 }
 
-abbrev pub received : Arrival → ℕ → Device → StepResult
-received arrival word d = record {
+abbrev pub receipt_result : Arrival → ℕ → Device → StepResult
+receipt_result arrival word d = record {
   seen = seen_of (answer_to d arrival);
   sent = [];
   device = record {
-    asking = takes word (answer_to d arrival) (at_moment arrival.moment d.asking);
+    asking = after_receiver_answer word (answer_to d arrival) (at_moment arrival.moment d.asking);
     sessions = next setting d.sessions (at_step d arrival);
   };
 }
 
 unfoldable pub step : Device → ℕ → Event → StepResult
-step d number (Tick now word) = ticked number now word d
-step d number (Rx arrival word) = received arrival word d
+step d number (Tick now word) = tick_result number now word d
+step d number (Rx arrival word) = receipt_result arrival word d
 
 -- ---- between steps
 
 -- the next frame has gone out
-abbrev pub popped : Device → Device
-popped d = record d { asking = sent_one d.asking }
+abbrev pub after_pop : Device → Device
+after_pop d = record d { asking = without_first_frame d.asking }

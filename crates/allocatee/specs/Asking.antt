@@ -51,8 +51,8 @@ abbrev pub at_moment : ℕ → Asking → Asking
 at_moment now a = record a { moment = max a.moment now }
 
 -- the request timer restarts at this moment
-abbrev pub waits_anew : ℕ → Asking → Asking
-waits_anew word a = record a { request = timer_from a.moment (request_wait word) }
+abbrev pub with_timer_restarted : ℕ → Asking → Asking
+with_timer_restarted word a = record a { request = timer_from a.moment (request_wait word) }
 
 -- rule A: at its opening the request timer starts
 abbrev pub asking_from : List ℕ → ℕ → ℕ → ℕ → Asking
@@ -102,30 +102,31 @@ pub record Ticking : Type 0 where
   pub sent : List Sent
   pub asking : Asking
 
-abbrev pub quiet : Asking → Ticking
-quiet a = record { sent = []; asking = a }
+abbrev pub nothing_offered : Asking → Ticking
+nothing_offered a = record { sent = []; asking = a }
 
 -- a payload that fits goes into the queue, and the transfer ID goes on; one that does not fit changes nothing
-abbrev pub queued : ℕ → ℕ → List ℕ → Bool → Asking → Asking
-queued step word payload fits a = if fits
+abbrev pub with_queued : ℕ → ℕ → List ℕ → Bool → Asking → Asking
+with_queued step word payload fits a = if fits
     then record a { queue = a.queue ++ queued_frames (outgoing word a.id payload) step 0; id = (a.id + 1) % 32 }
     else a
 
-abbrev pub sends : ℕ → ℕ → List ℕ → Asking → Ticking
-sends step word payload a = record {
+abbrev pub payload_offer : ℕ → ℕ → List ℕ → Asking → Ticking
+payload_offer step word payload a = record {
   sent = record { what = Alloc; to = 0; fitted = has_room a.queue payload } ∷ [];
-  asking = queued step word payload (has_room a.queue payload) a;
+  asking = with_queued step word payload (has_room a.queue payload) a;
 }
 
-abbrev pub offers : ℕ → ℕ → Bool → List ℕ → Asking → Ticking
-offers step word first part a = sends step word (request_bytes a first part) a
+abbrev pub request_offer : ℕ → ℕ → Bool → List ℕ → Asking → Ticking
+request_offer step word first part a = payload_offer step word (request_bytes a first part) a
 
 -- ---- its clock
 
 -- rule B, the first stage: where the request timer has passed it restarts, and the first 6 bytes are offered
-abbrev pub asks : ℕ → ℕ → Asking → Ticking
-asks step word a =
-    if has_passed a.moment a.request then offers step word true (take 6 a.uid) (waits_anew word a) else quiet a
+abbrev pub first_stage : ℕ → ℕ → Asking → Ticking
+first_stage step word a =
+    if has_passed a.moment a.request then request_offer step word true (take 6 a.uid) (with_timer_restarted word a)
+    else nothing_offered a
 
 -- how many bytes of its unique ID the answer had that the follow-up follows, where its wait has passed
 abbrev pub due : ℕ → Option FollowUp → Option ℕ
@@ -134,50 +135,51 @@ due now (Some follow_up) = if has_passed now follow_up.timer then Some follow_up
 
 -- the second and third stage: the next 6 bytes behind those, or as many as are left, and then no follow-up waits;
 -- where none is due, the first stage
-abbrev pub goes_on : ℕ → ℕ → Option ℕ → Asking → Ticking
-goes_on step word None a = asks step word a
-goes_on step word (Some known) a =
-    offers step word false (take 6 (drop known a.uid)) (record a { follow_up = None })
+abbrev pub next_stage : ℕ → ℕ → Option ℕ → Asking → Ticking
+next_stage step word None a = first_stage step word a
+next_stage step word (Some known) a =
+    request_offer step word false (take 6 (drop known a.uid)) (record a { follow_up = None })
 
 -- a device that holds a node ID sends no more requests
-unfoldable pub ticks : ℕ → ℕ → Asking → Ticking
-ticks step word a = if is_some a.holds then quiet a else goes_on step word (due a.moment a.follow_up) a
+unfoldable pub clock_phase : ℕ → ℕ → Asking → Ticking
+clock_phase step word a =
+    if is_some a.holds then nothing_offered a else next_stage step word (due a.moment a.follow_up) a
 
 -- ---- Allocations that it receives
 
 -- rule E: the answer to its whole unique ID gives it a node ID of 1 to 125
-abbrev pub given : ℕ → Asking → Asking
-given node a = if nat_le 1 node && nat_le node 125 then record a { holds = Some node } else a
+abbrev pub with_node_id : ℕ → Asking → Asking
+with_node_id node a = if nat_le 1 node && nat_le node 125 then record a { holds = Some node } else a
 
 -- the unique ID begins with these bytes, one at least
 abbrev pub begins_with : List ℕ → List ℕ → Bool
 begins_with uid bytes = not (nat_eq (length bytes) 0) && bytes_eq bytes (take (length bytes) uid)
 
 -- rule D: the answer has so many bytes of its unique ID; a follow-up with the next ones waits
-abbrev pub follows : ℕ → ℕ → Asking → Asking
-follows word known a =
+abbrev pub with_follow_up : ℕ → ℕ → Asking → Asking
+with_follow_up word known a =
     record a { follow_up = Some (record { timer = timer_from a.moment (follow_up_wait word); known = known }) }
 
 -- an answer of an allocator: to its whole unique ID, to bytes that it begins with, or to another device
-abbrev pub answered : ℕ → Allocation → Asking → Asking
-answered word message a =
-    if bytes_eq message.uid.items a.uid then given message.node a
-    else if begins_with a.uid message.uid.items then follows word (length message.uid.items) a
+abbrev pub after_answer : ℕ → Allocation → Asking → Asking
+after_answer word message a =
+    if bytes_eq message.uid.items a.uid then with_node_id message.node a
+    else if begins_with a.uid message.uid.items then with_follow_up word (length message.uid.items) a
     else a
 
 -- rule C: after any Allocation the request timer restarts, and no follow-up waits
-abbrev pub interrupted : ℕ → Asking → Asking
-interrupted word a = record (waits_anew word a) { follow_up = None }
+abbrev pub after_interruption : ℕ → Asking → Asking
+after_interruption word a = record (with_timer_restarted word a) { follow_up = None }
 
 -- a device that holds a node ID does nothing with it; an anonymous one is a request of some device, and no answer
-unfoldable pub hears : ℕ → Bool → Allocation → Asking → Asking
-hears word anonymous message a =
+unfoldable pub after_allocation : ℕ → Bool → Allocation → Asking → Asking
+after_allocation word anonymous message a =
     if is_some a.holds then a
-    else if anonymous then interrupted word a
-    else answered word message (interrupted word a)
+    else if anonymous then after_interruption word a
+    else after_answer word message (after_interruption word a)
 
 -- ---- between steps
 
 -- the next frame has gone out
-abbrev pub sent_one : Asking → Asking
-sent_one a = record a { queue = left_behind a.queue }
+abbrev pub without_first_frame : Asking → Asking
+without_first_frame a = record a { queue = left_behind a.queue }

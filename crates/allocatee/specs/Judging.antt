@@ -6,11 +6,11 @@ use Rattle.can_frame.specs.declared.step.Judged.TheVariants.{Fine, Torn}
 use Rattle.transfer_rx.specs.Reassembly.{Answer, Arrival, Continues, Drops, Gives}
 use Rattle.allocatee.specs.Allocatee.{Device, answer_to}
 
-abbrev pub judged : ℕ → Answer → Judged
-judged step (Gives d) = if not d.whole && not (nat_eq step 0) then Torn else Fine
-judged step Continues = Fine
-judged step (Drops why) = Fine
+abbrev pub answer_judgement : ℕ → Answer → Judged
+answer_judgement step (Gives d) = if not d.whole && not (nat_eq step 0) then Torn else Fine
+answer_judgement step Continues = Fine
+answer_judgement step (Drops why) = Fine
 
 -- at the moment of the step that would take it
-unfoldable pub judges : Device → Arrival → Judged
-judges d arrival = judged arrival.mark.step (answer_to d arrival)
+unfoldable pub arrival_judgement : Device → Arrival → Judged
+arrival_judgement d arrival = answer_judgement arrival.mark.step (answer_to d arrival)

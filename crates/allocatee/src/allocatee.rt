@@ -11,8 +11,8 @@ ghost use Rattle.transfer_tx.specs.Queue.{next_out};
 ghost use Rattle.transfer_tx.specs.Views.{queued_of};
 ghost use Rattle.allocatee.specs.Accepted as accepted;
 ghost use Rattle.allocatee.specs.Allocatee as device;
-ghost use Rattle.allocatee.specs.Allocatee.{Device, opening, popped};
-ghost use Rattle.allocatee.specs.Judging.{judges};
+ghost use Rattle.allocatee.specs.Allocatee.{Device, opening, after_pop};
+ghost use Rattle.allocatee.specs.Judging.{arrival_judgement};
 
 use crate::applicant::Applicant;
 use crate::event::{AEvent, AOutcome};
@@ -102,7 +102,7 @@ impl<G: Fn(Kind, u16) -> Option<u64> + Copy> Allocatee<G> {
     /// The next frame for the bus.
     pub fn pop(&mut self) -> Option<Marked>
         ensures next { option_map queued_of result ≡ next_out (queued self.old) }
-        ensures rest { (d : Device) → StandsFor self.old d → StandsFor self.new (popped d) }
+        ensures rest { (d : Device) → StandsFor self.old d → StandsFor self.new (after_pop d) }
         ensures none { IsNone result ↔ (queued self.old ≡ []) }
         ensures unchanged { IsNone result → self.new ≡ self.old }
         ensures holds { held_by self.new ≡ held_by self.old }
@@ -129,13 +129,13 @@ impl<G: Fn(Kind, u16) -> Option<u64> + Copy> Allocatee<G> {
 
     /// Whether a frame may be given to it at this moment: `Torn` where the frame would complete a transfer of
     /// frames that were not made together, unless it came from outside. Nothing changes.
-    #[tactic(auto, unfolding(crate::specs::Judging::judges))]
+    #[tactic(auto, unfolding(crate::specs::Judging::arrival_judgement))]
     pub fn judge(&self, frame: &Frame, mark: Mark, now: u64) -> Judged
         requires memory { ReceiverFitsInMemory G.row 8 8 }
         requires callable { G.IsAlwaysCallable (accepts self.now) }
         requires answers { AnswersByRows (G.post (accepts self.now)) accepted.rows }
         ensures { (d : Device) → StandsFor self.now d →
-            result ≡ judges d (arrival_of frame.now mark now) }
+            result ≡ arrival_judgement d (arrival_of frame.now mark now) }
     {
         let now = self.applicant.moment().max(now);
         match self.receiver.peek(frame, mark, now) {
@@ -158,7 +158,7 @@ fn verdict(whole: bool, step: u64) -> Judged
 /// What its receiver made of a frame.
 fn take(applicant: &mut Applicant, took: &Took, word: u32) -> Seen
     ensures seen { result ≡ device.seen_of (told took.now) }
-    ensures asking { applicant.new ≡ device.takes word (told took.now) applicant.old }
+    ensures asking { applicant.new ≡ device.after_receiver_answer word (told took.now) applicant.old }
 {
     match took {
         Took::Delivered(transfer) => hear(applicant, transfer, word),
@@ -171,7 +171,7 @@ fn take(applicant: &mut Applicant, took: &Took, word: u32) -> Seen
 fn hear(applicant: &mut Applicant, transfer: &Transfer, word: u32) -> Seen
     ensures seen { result ≡ device.seen_of_reading
         (allocation_of transfer.now.payload.items) }
-    ensures asking { applicant.new ≡ device.reads word (is_anonymous transfer.now.ident.kind)
+    ensures asking { applicant.new ≡ device.after_reading word (is_anonymous transfer.now.ident.kind)
         (allocation_of transfer.now.payload.items) applicant.old }
 {
     let Some(message) = Allocation::read(&transfer.payload) else {

@@ -3,7 +3,7 @@ ghost use Rattle.std.specs.Str.{bytes_eq};
 ghost use Rattle.can_frame.specs.Identifier.{IsIdentifier};
 ghost use Rattle.transfer_tx.specs.Queue.{left_behind, next_out};
 ghost use Rattle.transfer_tx.specs.Views.{queued_of};
-ghost use Rattle.allocatee.specs.Asking.{answered, asking_from, asks, at_moment, begins_with, due, follows, given, goes_on, has_room, hears, ident_of, interrupted, offers, outgoing, request_bytes, request_wait, sent_one, ticks, waits_anew};
+ghost use Rattle.allocatee.specs.Asking.{after_answer, asking_from, first_stage, at_moment, begins_with, due, with_follow_up, with_node_id, next_stage, has_room, after_allocation, ident_of, after_interruption, request_offer, outgoing, request_bytes, request_wait, without_first_frame, clock_phase, with_timer_restarted};
 ghost use Rattle.allocatee.specs.Asking as asking;
 
 use crate::rows::{ALLOCATION, ALLOCATION_SIGNATURE};
@@ -89,10 +89,10 @@ impl Applicant {
 
     /// A reading of its clock: a follow-up request that is due is offered; where none is, a first-stage request,
     /// if that is due. A device that holds a node ID offers nothing.
-    #[tactic(auto, unfolding(crate::specs::Asking::ticks))]
+    #[tactic(auto, unfolding(crate::specs::Asking::clock_phase))]
     pub fn tick(&mut self, word: u32, step: u64) -> ArrayVec<Sent, 1>
-        ensures sent { result.items ≡ (ticks step word self.old).sent }
-        ensures asking { self.new ≡ (ticks step word self.old).asking }
+        ensures sent { result.items ≡ (clock_phase step word self.old).sent }
+        ensures asking { self.new ≡ (clock_phase step word self.old).asking }
     {
         match (self.holds, self.due()) {
             (Some(_), _) => ArrayVec::new(),
@@ -121,8 +121,8 @@ impl Applicant {
     /// It offers a follow-up request, with the bytes behind those of the answer.
     fn follow(&mut self, known: usize, word: u32, step: u64) -> ArrayVec<Sent, 1>
         requires { known ≤ 16 }
-        ensures sent { result.items ≡ (goes_on step word (Some known) self.old).sent }
-        ensures asking { self.new ≡ (goes_on step word (Some known) self.old).asking }
+        ensures sent { result.items ≡ (next_stage step word (Some known) self.old).sent }
+        ensures asking { self.new ≡ (next_stage step word (Some known) self.old).asking }
     {
         self.follow_up = None;
         let part = self.part_from(known);
@@ -131,8 +131,8 @@ impl Applicant {
 
     /// It offers a first-stage request, where its request timer has passed.
     fn ask(&mut self, word: u32, step: u64) -> ArrayVec<Sent, 1>
-        ensures sent { result.items ≡ (asks step word self.old).sent }
-        ensures asking { self.new ≡ (asks step word self.old).asking }
+        ensures sent { result.items ≡ (first_stage step word self.old).sent }
+        ensures asking { self.new ≡ (first_stage step word self.old).asking }
     {
         if !self.request.has_passed(self.moment) {
             return ArrayVec::new();
@@ -143,7 +143,7 @@ impl Applicant {
     }
 
     fn wait_anew(&mut self, word: u32)
-        ensures { self.new ≡ waits_anew word self.old }
+        ensures { self.new ≡ with_timer_restarted word self.old }
     {
         self.request = Timer {
             since: self.moment,
@@ -172,8 +172,8 @@ impl Applicant {
         word: u32,
         step: u64,
     ) -> ArrayVec<Sent, 1>
-        ensures sent { result.items ≡ (offers step word first_part uid.items self.old).sent }
-        ensures asking { self.new ≡ (offers step word first_part uid.items self.old).asking }
+        ensures sent { result.items ≡ (request_offer step word first_part uid.items self.old).sent }
+        ensures asking { self.new ≡ (request_offer step word first_part uid.items self.old).asking }
     {
         let message = Allocation {
             node: self.preferred,
@@ -193,7 +193,7 @@ impl Applicant {
     /// Puts an anonymous message into its queue where it fits, and says whether it did.
     fn send(&mut self, payload: Payload, word: u32, step: u64) -> bool
         ensures fitted { result ≡ has_room self.old.queue payload.items }
-        ensures asking { self.new ≡ asking.queued step word payload.items result self.old }
+        ensures asking { self.new ≡ asking.with_queued step word payload.items result self.old }
     {
         let transfer = Outgoing {
             ident: ident_of(word),
@@ -211,9 +211,9 @@ impl Applicant {
     }
 
     /// It receives an Allocation: a request of a device, which is anonymous, or an answer of an allocator.
-    #[tactic(auto, unfolding(crate::specs::Asking::hears))]
+    #[tactic(auto, unfolding(crate::specs::Asking::after_allocation))]
     pub fn hear(&mut self, anonymous: bool, message: &Allocation, word: u32)
-        ensures { self.new ≡ hears word anonymous message.now self.old }
+        ensures { self.new ≡ after_allocation word anonymous message.now self.old }
     {
         if self.holds.is_some() {
             return;
@@ -228,7 +228,7 @@ impl Applicant {
 
     /// An answer of an allocator: to its whole unique ID, to bytes that it begins with, or to another device.
     fn take_answer(&mut self, message: &Allocation, word: u32)
-        ensures { self.new ≡ answered word message.now self.old }
+        ensures { self.new ≡ after_answer word message.now self.old }
     {
         let _few = message.uid.remaining_capacity();
         if self.is_whole(&message.uid) {
@@ -253,7 +253,7 @@ impl Applicant {
     /// A follow-up request with the bytes behind these waits for its moment.
     fn follow_from(&mut self, known: usize, word: u32)
         requires { known ≤ 16 }
-        ensures { self.new ≡ follows word known self.old }
+        ensures { self.new ≡ with_follow_up word known self.old }
     {
         self.follow_up = Some(FollowUp {
             timer: Timer {
@@ -266,7 +266,7 @@ impl Applicant {
 
     /// It holds the node ID from now on, where that is one of 1 to 125.
     fn take_id(&mut self, node: u8)
-        ensures { self.new ≡ given node self.old }
+        ensures { self.new ≡ with_node_id node self.old }
     {
         if node > 125 {
             return;
@@ -279,7 +279,7 @@ impl Applicant {
     /// The next frame for the bus.
     pub fn pop(&mut self) -> Option<Marked>
         ensures next { option_map queued_of result ≡ next_out self.old.queue }
-        ensures rest { self.new ≡ sent_one self.old }
+        ensures rest { self.new ≡ without_first_frame self.old }
         ensures none { IsNone result ↔ (self.old.queue ≡ []) }
     {
         self.queue.pop()

@@ -4,9 +4,9 @@ ghost use Rattle.std.specs.Prelude.{◌≡◌, ◌⊎◌, ℕ, All, List, Some, 
 ghost use Rattle.can_frame.specs.declared.step.Judged.TheVariants.{Fine};
 ghost use Rattle.transfer_rx.specs.Reassembly.{Arrival, Delivery, Gives, next};
 ghost use Rattle.allocatee.specs.Accepted.{setting};
-ghost use Rattle.allocatee.specs.Allocatee.{Device, Event, Rx, Tick, answer_to, at_step, opening, popped, step};
+ghost use Rattle.allocatee.specs.Allocatee.{Device, Event, Rx, Tick, answer_to, at_step, opening, after_pop, step};
 ghost use Rattle.allocatee.specs.Given.{IsAnonymous, IsGivenBy};
-ghost use Rattle.allocatee.specs.Judging.{judges};
+ghost use Rattle.allocatee.specs.Judging.{arrival_judgement};
 
 use can_frame::laws::identifiers_both_ways;
 
@@ -30,7 +30,7 @@ pub fn its_frames_are_anonymous()
     ensures step { (d : Device) (number : ℕ) (event : Event) → All IsAnonymous d.asking.queue →
         All IsAnonymous (step d number event).device.asking.queue }
     ensures popped { (d : Device) → All IsAnonymous d.asking.queue →
-        All IsAnonymous (popped d).asking.queue }
+        All IsAnonymous (after_pop d).asking.queue }
 {
     identifiers_both_ways();
 }
@@ -46,7 +46,7 @@ pub fn sessions_of_a_step()
 
 /// A frame that it may be given delivers a transfer whose frames were made together, or came from outside.
 pub fn what_is_fine_is_not_torn()
-    ensures { (d : Device) (arrival : Arrival) (delivery : Delivery) → judges d arrival ≡ Fine →
+    ensures { (d : Device) (arrival : Arrival) (delivery : Delivery) → arrival_judgement d arrival ≡ Fine →
         answer_to d arrival ≡ Gives delivery → delivery.whole ≡ false →
         arrival.mark.step ≡ 0 }
 {}

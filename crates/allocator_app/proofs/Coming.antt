@@ -5,17 +5,17 @@ use Rattle.replay_text.specs.declared.told.Told.{Told}
 use Rattle.replay_text.specs.declared.told.Told.TheVariants.{Opened, Stepped, Failed, Stopped, Armed, Popped, Outside, AOpened, AStepped, APopped, AEnded}
 use Rattle.replay_text.specs.Report.{told_line}
 use Rattle.replay_text.specs.Lines.{BeginsWith, BeginsWithNoRow, ReadsRows}
-use Rattle.bus_spec.specs.Cluster.{Cluster, after_rows, next}
+use Rattle.bus_spec.specs.Cluster.{Cluster, after_rows, after_row}
 use Rattle.bus_spec.specs.Lawful.{Lawful, cause}
 use Rattle.bus_spec.specs.Promise.{GivesOnce, KeepsItsWord, OffersItsOwn}
-use Rattle.bus_spec.specs.Report.{row_lines, told}
-use Rattle.bus_spec.specs.Telling.{telling_line, telling_of}
+use Rattle.bus_spec.specs.Report.{row_lines, line_of_row}
+use Rattle.bus_spec.specs.ReportLine.{text_of_line, report_line_of}
 use Rattle.bus_spec.specs.declared.unlawful.Unlawful.{Unlawful}
 use Rattle.allocator_app.specs.Input.{FindsRow}
 use Rattle.allocator_app.specs.Report.{ReadsUpTo, ReadsKeepingPromise, IsBadRow, IsBeyond, IsRefused}
 
 -- the line of what a row did is that of what the code tells
-pub line_of_told : (number : ℕ) (t : Told) → told_line number t ≡ telling_line number (telling_of t)
+pub line_of_told : (number : ℕ) (t : Told) → told_line number t ≡ text_of_line number (report_line_of t)
 line_of_told number (Opened n term vote last commit) = refl
 line_of_told number (Stepped n role term last commit queued seen sent) = refl
 line_of_told number (Failed n) = refl
@@ -36,28 +36,28 @@ ReadsRows-append (row ∷ a) b x y z p q = (p.0, p.1, ReadsRows-append a b p.0 y
 
 Lawful-append : (w : Cluster) (a b : List Row) → Lawful w a → Lawful (after_rows w a) b → Lawful w (a ++ b)
 Lawful-append w [] b p q = q
-Lawful-append w (row ∷ a) b p q = (p.0, Lawful-append (next w row) a b p.1 q)
+Lawful-append w (row ∷ a) b p q = (p.0, Lawful-append (after_row w row) a b p.1 q)
 
 lines-append : (w : Cluster) (a b : List Row) → row_lines w (a ++ b) ≡ row_lines w a ++ row_lines (after_rows w a) b
 lines-append w [] b = refl
 lines-append w (row ∷ a) b =
-    let line = telling_line (w.rows + 1) (told w row) in
-    ap (λ l. line ++ l) (lines-append (next w row) a b) ∙ sym (append_assoc line (row_lines (next w row) a) (row_lines (after_rows (next w row) a) b))
+    let line = text_of_line (w.rows + 1) (line_of_row w row) in
+    ap (λ l. line ++ l) (lines-append (after_row w row) a b) ∙ sym (append_assoc line (row_lines (after_row w row) a) (row_lines (after_rows (after_row w row) a) b))
 
 after-append : (w : Cluster) (a b : List Row) → after_rows w (a ++ b) ≡ after_rows (after_rows w a) b
 after-append w [] b = refl
-after-append w (row ∷ a) b = after-append (next w row) a b
+after-append w (row ∷ a) b = after-append (after_row w row) a b
 
 pub comes-nil : (w : Cluster) (bytes : List ℕ) → ReadsUpTo w bytes [] w bytes
 comes-nil w bytes = record { rows = []; reads = refl; lawful = tt; told = refl; leaves = refl }
 
 pub comes-one : (w : Cluster) (row : Row) (bytes rest : List ℕ) → BeginsWith row bytes rest → cause w row ≡ None →
-    ReadsUpTo w bytes (telling_line (w.rows + 1) (told w row)) (next w row) rest
+    ReadsUpTo w bytes (text_of_line (w.rows + 1) (line_of_row w row)) (after_row w row) rest
 comes-one w row bytes rest begins lawful = record {
   rows = row ∷ [];
   reads = (rest, begins, refl);
   lawful = (lawful, tt);
-  told = sym (append-nil (telling_line (w.rows + 1) (told w row)));
+  told = sym (append-nil (text_of_line (w.rows + 1) (line_of_row w row)));
   leaves = refl;
 }
 
@@ -75,14 +75,14 @@ comes-join u v w x y z l m p q = record {
 
 Kept-append : (w : Cluster) (a b : List Row) → KeepsItsWord w a → KeepsItsWord (after_rows w a) b → KeepsItsWord w (a ++ b)
 Kept-append w [] b p q = q
-Kept-append w (row ∷ a) b p q = (p.0, p.1, Kept-append (next w row) a b p.2 q)
+Kept-append w (row ∷ a) b p q = (p.0, p.1, Kept-append (after_row w row) a b p.2 q)
 
 pub goes-nil : (w : Cluster) (bytes : List ℕ) → GivesOnce w → ReadsKeepingPromise w bytes [] w bytes
 unfolding comes-nil
 goes-nil w bytes once = record { comes = comes-nil w bytes; kept = once }
 
 pub goes-one : (w : Cluster) (row : Row) (bytes rest : List ℕ) → BeginsWith row bytes rest → cause w row ≡ None → GivesOnce w → OffersItsOwn w row →
-    GivesOnce (next w row) → ReadsKeepingPromise w bytes (telling_line (w.rows + 1) (told w row)) (next w row) rest
+    GivesOnce (after_row w row) → ReadsKeepingPromise w bytes (text_of_line (w.rows + 1) (line_of_row w row)) (after_row w row) rest
 unfolding comes-one
 goes-one w row bytes rest begins lawful once own then = record { comes = comes-one w row bytes rest begins lawful; kept = (once, own, then) }
 
@@ -96,13 +96,13 @@ goes-join u v w x y z l m p q = record {
 -- one row more is taken
 pub goes-more : (first w : Cluster) (row : Row) (t : Told) (waiting before behind lines line : List ℕ) (n : ℕ) →
     ((more : List ℕ) → ReadsKeepingPromise first (waiting ++ more) lines w (before ++ more)) → FindsRow row before behind →
-    cause w row ≡ None → telling_of t ≡ told w row → GivesOnce w → OffersItsOwn w row → GivesOnce (next w row) → n ≡ w.rows + 1 → line ≡ told_line n t →
-    (more : List ℕ) → ReadsKeepingPromise first (waiting ++ more) (lines ++ line) (next w row) (behind ++ more)
+    cause w row ≡ None → report_line_of t ≡ line_of_row w row → GivesOnce w → OffersItsOwn w row → GivesOnce (after_row w row) → n ≡ w.rows + 1 → line ≡ told_line n t →
+    (more : List ℕ) → ReadsKeepingPromise first (waiting ++ more) (lines ++ line) (after_row w row) (behind ++ more)
 goes-more first w row t waiting before behind lines line n came found lawful tells once own then count is_line more =
     let one = goes-one w row (before ++ more) (behind ++ more) (found.begins more) lawful once own then in
-    let told_so = is_line ∙ line_of_told n t ∙ ap (telling_line n) tells ∙ ap (λ k. telling_line k (told w row)) count in
-    goes-join first w (next w row) (waiting ++ more) (before ++ more) (behind ++ more) lines line (came more)
-    (subst (λ l. ReadsKeepingPromise w (before ++ more) l (next w row) (behind ++ more)) (sym told_so) one)
+    let told_so = is_line ∙ line_of_told n t ∙ ap (text_of_line n) tells ∙ ap (λ k. text_of_line k (line_of_row w row)) count in
+    goes-join first w (after_row w row) (waiting ++ more) (before ++ more) (behind ++ more) lines line (came more)
+    (subst (λ l. ReadsKeepingPromise w (before ++ more) l (after_row w row) (behind ++ more)) (sym told_so) one)
 
 -- ---- the row that is not taken
 

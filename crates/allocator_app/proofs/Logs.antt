@@ -6,7 +6,7 @@ use Rattle.alloc_step.specs.declared.event.View.{View}
 use Rattle.bus_spec.specs.Cluster.{Cluster, is_member}
 use Rattle.bus_spec.specs.Members.{MemberStatus}
 use Rattle.bus_spec.specs.Members.MemberStatus.{Down, Up, Failed}
-use Rattle.bus_spec.specs.Report.{entry_lines, life_entry, life_lines, life_view, member_lines, view_at}
+use Rattle.bus_spec.specs.Report.{entry_lines, running_entry, running_lines, running_view, member_lines, view_at}
 use Rattle.allocator_app.specs.Logs.{HasLog, entry_in, log_head}
 
 log_head_of : (id commit : ℕ) (lines : List ℕ) →
@@ -24,27 +24,27 @@ commit_of : Option View → ℕ
 commit_of None = 0
 commit_of (Some view) = view.commit
 
-of_life : (id : ℕ) (life : MemberStatus) (view : View) → Some view ≡ life_view life → (log : List Entry) × ((place : ℕ) → life_entry life place ≡ entry_in log place)
-    × (life_lines id life ≡ log_head id view.commit ++ entry_lines 1 (take view.commit log))
+of_status : (id : ℕ) (status : MemberStatus) (view : View) → Some view ≡ running_view status → (log : List Entry) × ((place : ℕ) → running_entry status place ≡ entry_in log place)
+    × (running_lines id status ≡ log_head id view.commit ++ entry_lines 1 (take view.commit log))
 unfolding commit_of
-of_life id Down view e = cc
-of_life id (Up server) view e =
-    let commit : server.plain.store.commit ≡ view.commit = sym (ap commit_of e) in (
-      server.plain.store.log,
+of_status id Down view e = cc
+of_status id (Up server) view e =
+    let commit : server.raft_server.store.commit ≡ view.commit = sym (ap commit_of e) in (
+      server.raft_server.store.log,
       λ place. refl,
-      log_head_of id server.plain.store.commit (entry_lines 1 (take server.plain.store.commit server.plain.store.log))
-          ∙ ap (λ n. log_head id n ++ entry_lines 1 (take n server.plain.store.log)) commit,
+      log_head_of id server.raft_server.store.commit (entry_lines 1 (take server.raft_server.store.commit server.raft_server.store.log))
+          ∙ ap (λ n. log_head id n ++ entry_lines 1 (take n server.raft_server.store.log)) commit,
     )
-of_life id (Failed failure) view e = cc
+of_status id (Failed failure) view e = cc
 
 shown : (w : Cluster) (id : ℕ) (view : View) (test : Bool) → is_member w.ids id ≡ test →
-    Some view ≡ (if test then life_view (w.member id).life else None) → ShowsLog w id view.commit
+    Some view ≡ (if test then running_view (w.member id).status else None) → ShowsLog w id view.commit
 shown w id view true e h =
-    let life = of_life id (w.member id).life view h in
+    let status = of_status id (w.member id).status view h in
     record {
-      log = life.0;
-      shows = λ place. ap (λ (b : Bool). if b then life_entry (w.member id).life place else None) e ∙ life.1 place;
-      lines = ap (λ (b : Bool). if b then life_lines id (w.member id).life else []) e ∙ life.2;
+      log = status.0;
+      shows = λ place. ap (λ (b : Bool). if b then running_entry (w.member id).status place else None) e ∙ status.1 place;
+      lines = ap (λ (b : Bool). if b then running_lines id (w.member id).status else []) e ∙ status.2;
     }
 shown w id view false e h = cc
 

@@ -4,10 +4,10 @@ use Rattle.std.specs.declared.option.Option.{Option}
 use Rattle.replay_text.specs.declared.row.Row.{Row}
 use Rattle.replay_text.specs.Lines.{BeginsWith, ReadsRows, after_line, first_line}
 use Rattle.replay_text.specs.Schedule.{Reads}
-use Rattle.bus_spec.specs.Cluster.{Cluster, after_rows, next}
+use Rattle.bus_spec.specs.Cluster.{Cluster, after_rows, after_row}
 use Rattle.bus_spec.specs.Lawful.{Lawful, cause, number_of}
-use Rattle.bus_spec.specs.Report.{row_lines, told}
-use Rattle.bus_spec.specs.Telling.{telling_line}
+use Rattle.bus_spec.specs.Report.{row_lines, line_of_row}
+use Rattle.bus_spec.specs.ReportLine.{text_of_line}
 use Rattle.bus_spec.specs.declared.unlawful.Unlawful.{Unlawful}
 use Rattle.allocator_app.specs.InPart.{IsWrittenInPart}
 use Rattle.allocator_app.specs.InPart.IsWrittenInPart.{InRows, AtTheEnd}
@@ -25,7 +25,7 @@ IsStuck limit w bytes = (row : Row) (rest : List ℕ) → BeginsWith row bytes r
 
 pub rows-grow : (w : Cluster) (rows : List Row) → w.rows + length rows ≡ (after_rows w rows).rows
 rows-grow w [] = omega arith
-rows-grow w (row ∷ rows) = let more = rows-grow (next w row) rows in omega (arith, more)
+rows-grow w (row ∷ rows) = let more = rows-grow (after_row w row) rows in omega (arith, more)
 
 some-same : {a b : List ℕ} → Some a ≡ Some b → a ≡ b
 some-same e = cc
@@ -39,21 +39,21 @@ module _ (one_row : (a b : Row) (line : List ℕ) → Reads a line → Reads b l
   along w [] others bytes rest left reads lawful within reads_all lawful_all stuck =
       (others, subst (λ b. ReadsRows others b left) reads reads_all, lawful_all, refl, refl)
   along w (row ∷ rows) [] bytes rest left reads lawful within reads_all lawful_all stuck =
-      let more = rows-grow (next w row) rows in
+      let more = rows-grow (after_row w row) rows in
       absurd (stuck row reads.0 (subst (λ b. BeginsWith row b reads.0) reads_all reads.1) (omega (arith, more, within)) lawful.0)
   along w (row ∷ rows) (other ∷ others) bytes rest left reads lawful within reads_all lawful_all stuck =
       let same : other ≡ row = one_row other row (first_line bytes) reads_all.1.reads reads.1.reads in
       let here : reads_all.0 ≡ reads.0 = some-same (sym reads_all.1.ended ∙ reads.1.ended) in
-      let far = along (next w row) rows others reads.0 rest left reads.2 lawful.1 within
-      (subst (λ b. ReadsRows others b left) here reads_all.2) (subst (λ r. Lawful (next w r) others) same lawful_all.1)
-      (subst (λ r. IsStuck limit (after_rows (next w r) others) left) same stuck) in
-      let line = telling_line (w.rows + 1) (told w row) in (
+      let far = along (after_row w row) rows others reads.0 rest left reads.2 lawful.1 within
+      (subst (λ b. ReadsRows others b left) here reads_all.2) (subst (λ r. Lawful (after_row w r) others) same lawful_all.1)
+      (subst (λ r. IsStuck limit (after_rows (after_row w r) others) left) same stuck) in
+      let line = text_of_line (w.rows + 1) (line_of_row w row) in (
         far.0,
         far.1,
         far.2,
-        ap (λ r. after_rows (next w r) others) same ∙ far.3,
-        ap (λ r. telling_line (w.rows + 1) (told w r) ++ row_lines (next w r) others) same ∙ ap (λ l. line ++ l) far.4
-            ∙ sym (append_assoc line (row_lines (next w row) rows) (row_lines (after_rows (next w row) rows) far.0)),
+        ap (λ r. after_rows (after_row w r) others) same ∙ far.3,
+        ap (λ r. text_of_line (w.rows + 1) (line_of_row w r) ++ row_lines (after_row w r) others) same ∙ ap (λ l. line ++ l) far.4
+            ∙ sym (append_assoc line (row_lines (after_row w row) rows) (row_lines (after_rows (after_row w row) rows) far.0)),
       )
 
   -- ---- the end of a report
@@ -153,7 +153,7 @@ module _ (one_row : (a b : Row) (line : List ℕ) → Reads a line → Reads b l
       (after_rows w rows).rows ≤ limit → (bytes ≡ rest) × (rows ≡ [])
   none_more w [] bytes rest stuck reads lawful within = (reads, refl)
   none_more w (row ∷ rows) bytes rest stuck reads lawful within =
-      let more = rows-grow (next w row) rows in
+      let more = rows-grow (after_row w row) rows in
       absurd (stuck row reads.0 reads.1 (omega (arith, more, within)) lawful.0)
 
   -- reports of some bytes take the same rows: what is left behind them, where they lead, and their lines
@@ -199,5 +199,5 @@ module _ (one_row : (a b : Row) (line : List ℕ) → Reads a line → Reads b l
       let all : q.lines ≡ lines ++ behind = q.comes.told ∙ far.4 ∙ ap (λ l. l ++ behind) (sym comes.told) in
       subst (WritesFront sink_before sink_now) (sym (q.written ∙ ap (λ l. l ++ q.last) all ∙ append_assoc lines behind q.last))
       (front-of_more sink_before sink_now lines (behind ++ q.last) front)
-  begins_report first bytes report status left sink_before sink_now (AtTheEnd other ending told front no_further ahead) q =
-      subst (WritesFront sink_before sink_now) (one_report first bytes other report ending status told q).0 front
+  begins_report first bytes report status left sink_before sink_now (AtTheEnd other ending line_of_row front no_further ahead) q =
+      subst (WritesFront sink_before sink_now) (one_report first bytes other report ending status line_of_row q).0 front

@@ -2,8 +2,8 @@
 use Rattle.std.specs.Prelude.{ℕ, ◌+◌, ◌*◌, ◌/◌, ◌%◌, ◌^◌}
 
 -- where it stands after the next draw
-abbrev pub moved : ℕ → ℕ
-moved state = (state * 6364136223846793005 + 1442695040888963407) % 2 ^ 64
+abbrev pub next_state : ℕ → ℕ
+next_state state = (state * 6364136223846793005 + 1442695040888963407) % 2 ^ 64
 
 -- what is drawn where it stands so
 abbrev pub word_at : ℕ → ℕ

@@ -1,5 +1,5 @@
 ghost use Rattle.std.specs.Prelude.{◌≡◌, ◌≤◌, ◌<◌, ◌%◌, ◌^◌};
-ghost use Rattle.app_base.specs.Draws.{moved, word_at};
+ghost use Rattle.app_base.specs.Draws.{next_state, word_at};
 
 use std::marker::Model;
 
@@ -30,7 +30,7 @@ impl Draws {
 
     /// The next number, below 2^31.
     pub fn word(&mut self) -> u32
-        ensures moved { self.new ≡ moved self.old }
+        ensures moved { self.new ≡ next_state self.old }
         ensures word { result ≡ word_at self.new }
     {
         self.state = self
@@ -43,7 +43,7 @@ impl Draws {
     /// The next number, made one below `bound`: what is left of it by division.
     pub fn below(&mut self, bound: u32) -> u32
         requires { 1 ≤ bound }
-        ensures moved { self.new ≡ moved self.old }
+        ensures moved { self.new ≡ next_state self.old }
         ensures drawn { result ≡ word_at self.new % bound }
         ensures below { result < bound }
     {

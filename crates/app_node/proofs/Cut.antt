@@ -47,9 +47,9 @@ module _ {D F : Type 0} {disk : Ghosts D} {L : Type 0} (runners : List (Runner D
         ];
     stored_is = λ i low other r.
         let within : i < length runners = (let size = length-set runners place runner in omega (arith, size, low)) in
-        subst (λ (x : Runner D F disk). StandsFor x.server (before.running i).timed) (set_elsewhere runners place i runner r other) (stand.each i r some_link within).server;
+        subst (λ (x : Runner D F disk). StandsFor x.server (before.running i).allocator) (set_elsewhere runners place i runner r other) (stand.each i r some_link within).server;
     own_is = λ l.
-        let store = (before.running place).timed.plain.store in
+        let store = (before.running place).allocator.raft_server.store in
         cut_as (LeavesSome (slice_index_or runners place some).server runner.server) (PutsAt (slice_set runners place runner) place store)
         (λ puts leaves r. subst (λ (x : Runner D F disk). disk.tells (runner_disk x) ≡ true → HoldsStoreInPart disk (runner_disk x) store puts)
         (set_here runners place place runner r refl here) (λ told. record {

@@ -16,7 +16,7 @@ use Rattle.alloc_server.specs.Server.{durable_of, fault_of}
 use Rattle.app_node.specs.Cut.{IsCut, IsCutOpening, IsCutTurning, PutsAt}
 use Rattle.app_node.specs.CutRun.{AreCutTurns, HoldsAt, HoldsPartAt, HoldsStoreInPart, IsCutAtOpening, KeepsOrOpens}
 use Rattle.app_node.specs.Ends.{fault_id}
-use Rattle.app_node.specs.Opening.{Given, opened}
+use Rattle.app_node.specs.Opening.{Given, together_at_opening}
 use Rattle.app_node.specs.Run.{AreStopped}
 use Rattle.app_node.specs.Stands.{AreOpened}
 use Rattle.app_node.specs.Taking.{HasCause}
@@ -83,16 +83,16 @@ module _ {D F : Type 0} {disk : Ghosts D}
 
     pub in_turns : (cut : IsCutTurning coming sent size turns ids runners links_old links disks_old disks readings_old readings fault) (given : Given) →
         Tell coming sent disk links_old disks_old readings_old given →
-        AreCutTurns coming sent links readings (length ids) (HoldsAt disk last) (HoldsPartAt disk last) (λ place. slice_index ids place ≡ fault_id fault) turns (opened size ids given)
+        AreCutTurns coming sent links readings (length ids) (HoldsAt disk last) (HoldsPartAt disk last) (λ place. slice_index ids place ≡ fault_id fault) turns (together_at_opening size ids given)
     in_turns cut given tell =
         let telling = cut.telling given tell in
         let turning = cut.cut given tell in
         let turn = turning.turn in
         let place = turn.place in
-        let before = first_turns place (all_turns (length runners) turning.taken (opened size ids given)) in
-        let store = (before.running place).timed.plain.store in
+        let before = first_turns place (all_turns (length runners) turning.taken (together_at_opening size ids given)) in
+        let store = (before.running place).allocator.raft_server.store in
         let here = an_item runners place turn.within in
-        subst (λ n. AreCutTurns coming sent links readings n (HoldsAt disk last) (HoldsPartAt disk last) (λ k. slice_index ids k ≡ fault_id fault) turns (opened size ids given)) cut.all (record {
+        subst (λ n. AreCutTurns coming sent links readings n (HoldsAt disk last) (HoldsPartAt disk last) (λ k. slice_index ids k ≡ fault_id fault) turns (together_at_opening size ids given)) cut.all (record {
           taken = turning.taken;
           fewer = turning.fewer;
           turn = record {
@@ -119,9 +119,9 @@ module _ {D F : Type 0} {disk : Ghosts D}
         IsCut coming sent size turns ids runners links_old links disks_old disks readings_old readings fault → (i : ℕ) (link : L) → i < length ids →
         (frames : List RawFrame) × (sent (slice_index_or links i link) ≡ Some frames) × IsPrefix frames ((after_turns size turns ids given).running i).sent
     cut_begins_so given tell each (inl opening) i link low =
-        (given.sent i, ap (λ l. sent (slice_index_or l i link)) opening.untouched ∙ tell.sent_is i link (omega (arith, each, low)), all_begin (length ids) turns (opened size ids given) i)
+        (given.sent i, ap (λ l. sent (slice_index_or l i link)) opening.untouched ∙ tell.sent_is i link (omega (arith, each, low)), all_begin (length ids) turns (together_at_opening size ids given) i)
     cut_begins_so given tell each (inr turning) i link low =
         let cut = in_turns turning given tell in
         let turn = cut.turn in
-        let before = first_turns turn.place (all_turns (length ids) cut.taken (opened size ids given)) in
-        ((before.running i).sent, turn.cut.sent_is i link low, cut_begins (length ids) cut.taken turns turn.place (opened size ids given) i turn.within cut.fewer)
+        let before = first_turns turn.place (all_turns (length ids) cut.taken (together_at_opening size ids given)) in
+        ((before.running i).sent, turn.cut.sent_is i link low, cut_begins (length ids) cut.taken turns turn.place (together_at_opening size ids given) i turn.within cut.fewer)

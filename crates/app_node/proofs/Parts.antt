@@ -5,7 +5,7 @@ use Rattle.disk_model.specs.declared.disk.Disk.{Ghosts}
 use Rattle.disk_model.specs.Contents.{MayLeave}
 use Rattle.outside.specs.declared.received.RawFrame.{RawFrame}
 use Rattle.outside.specs.declared.received.Received.{Received}
-use Rattle.app_base.specs.Draws.{moved, word_at}
+use Rattle.app_base.specs.Draws.{next_state, word_at}
 use Rattle.raft_core.specs.StoredPuts.{PutWithOrigin, stored_put, stored_puts}
 use Rattle.raft_log.specs.DurableViews.{durable_state}
 use Rattle.raft_log.specs.Rules.{AlwaysStandsForState, StandsForState}
@@ -15,7 +15,7 @@ use Rattle.alloc_server.specs.declared.server.Server.{Server}
 use Rattle.alloc_server.specs.Server.{HasPut, LeavesSome, disk_of, durable_of}
 use Rattle.app_node.specs.Puts.{IsCutIn, IsHeardIn, heard_puts, step_puts, tick_puts, turn_puts}
 use Rattle.app_node.specs.Stands.{IsTurning}
-use Rattle.app_node.specs.Turn.{Turning, ticks}
+use Rattle.app_node.specs.Turn.{Turning, turn_after_tick}
 use Rattle.app_node.specs.declared.runner.Runner.{Runner}
 use Rattle.app_node.specs.declared.steps.LastSteps.{LastSteps}
 
@@ -46,18 +46,18 @@ module _ {D F : Type 0} {disk : Ghosts D} (old : Server D F disk) where
   leaves_of_disk mid new puts same leaves = λ told image left. leaves told image (subst (λ d. MayLeave (disk.contents d) image) same left)
 
   -- a turn whose first step was put, and whose second one was made as far as it came
-  pub turn_leaves : (mid new : Server D F disk) (moment word : ℕ) (t : Turning) → word ≡ word_at (moved t.running.draws) → HasPut old mid (step_puts (Tick moment word) t) →
-      disk.tells (disk_of mid) ≡ disk.tells (disk_of old) → LeavesSome mid new (heard_puts moment (ticks moment t)) → LeavesSome old new (turn_puts moment t)
+  pub turn_leaves : (mid new : Server D F disk) (moment word : ℕ) (t : Turning) → word ≡ word_at (next_state t.running.draws) → HasPut old mid (step_puts (Tick moment word) t) →
+      disk.tells (disk_of mid) ≡ disk.tells (disk_of old) → LeavesSome mid new (heard_puts moment (turn_after_tick moment t)) → LeavesSome old new (turn_puts moment t)
   unfolding turn_puts
   turn_leaves mid new moment word t is put tells leaves =
-      leaves_second (tick_puts moment t) (heard_puts moment (ticks moment t)) mid new (subst (λ w. HasPut old mid (step_puts (Tick moment w) t)) is put) tells leaves
+      leaves_second (tick_puts moment t) (heard_puts moment (turn_after_tick moment t)) mid new (subst (λ w. HasPut old mid (step_puts (Tick moment w) t)) is put) tells leaves
 
 -- ---- how far a turn came that was cut off
 
 module _ {D F : Type 0} {disk : Ghosts D} (old mid new : Server D F disk) (moment : ℕ) (t : Turning) (left : Option (List Received)) where
   -- the first step was put, and the second one was made as far as it came
-  pub turn_cut : (word : ℕ) → word ≡ word_at (moved t.running.draws) → HasPut old mid (step_puts (Tick moment word) t) → disk.tells (disk_of mid) ≡ disk.tells (disk_of old) →
-      IsHeardIn moment (ticks moment t) left (LeavesSome mid new) → IsCutIn moment t left (LeavesSome old new)
+  pub turn_cut : (word : ℕ) → word ≡ word_at (next_state t.running.draws) → HasPut old mid (step_puts (Tick moment word) t) → disk.tells (disk_of mid) ≡ disk.tells (disk_of old) →
+      IsHeardIn moment (turn_after_tick moment t) left (LeavesSome mid new) → IsCutIn moment t left (LeavesSome old new)
   turn_cut word is put tells heard = elim heard [
     | inl h ↦ inl (
       h.0,
@@ -80,13 +80,13 @@ cut_as A B f moment t left cut = elim cut [ inl h ↦ inl (h.0, f (tick_puts mom
 
 -- the one whose turn it is takes its next word
 pub next_word : {D F : Type 0} {disk : Ghosts D} {runner : Runner D F disk} {coming : Option (List Received)} {sent : Option (List RawFrame)} {steps : LastSteps}
-    {t : Turning} {draws : ℕ} → IsTurning runner coming sent steps t → draws ≡ moved runner.draws →
-    IsTurning (record runner { draws = draws }) coming sent steps (record t { running = record t.running { draws = moved t.running.draws } })
+    {t : Turning} {draws : ℕ} → IsTurning runner coming sent steps t → draws ≡ next_state runner.draws →
+    IsTurning (record runner { draws = draws }) coming sent steps (record t { running = record t.running { draws = next_state t.running.draws } })
 next_word is next = record {
   running = record {
     id = is.running.id;
     server = is.running.server;
-    draws = next ∙ ap moved is.running.draws;
+    draws = next ∙ ap next_state is.running.draws;
     coming_is = is.running.coming_is;
     sent_is = is.running.sent_is;
   };

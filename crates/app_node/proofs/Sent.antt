@@ -11,8 +11,8 @@ use Rattle.raft_model.specs.Lists.{at_here, at_other}
 use Rattle.alloc_step.specs.Step.{Event}
 use Rattle.transfer_tx.specs.Queue.{Queued, next_out}
 use Rattle.app_node.specs.Frames.{event_in, raw_of}
-use Rattle.app_node.specs.Turn.{Turning, hears, sends, sends_out, takes, ticks, turn}
-use Rattle.app_node.specs.Turns.{Together, all_turns, first_turns, turned, turning_at}
+use Rattle.app_node.specs.Turn.{Turning, turn_after_hearing, turn_after_sending, turn_after_frame, turn_after_taking, turn_after_tick, turn}
+use Rattle.app_node.specs.Turns.{Together, all_turns, first_turns, turning_after, turning_at}
 
 abbrev pub Grows : List RawFrame → List RawFrame → Type 0
 Grows xs ys = (rest : List RawFrame) × (ys ≡ xs ++ rest)
@@ -26,28 +26,28 @@ then xs ys zs p q = (p.0 ++ q.0, q.1 ∙ ap (λ l. l ++ q.0) p.1 ∙ append_asso
 pub begins : (xs ys : List RawFrame) → Grows xs ys → IsPrefix xs ys
 begins xs ys p = ap (take (length xs)) p.1 ∙ take-append_seam xs p.0
 
-takes_keep : (next : Option Event) (t : Turning) → (takes next t).running.sent ≡ t.running.sent
+takes_keep : (next : Option Event) (t : Turning) → (turn_after_taking next t).running.sent ≡ t.running.sent
 takes_keep None t = refl
 takes_keep (Some event) t = refl
 
-sends_grow : (next : Option Queued) (t : Turning) → Grows t.running.sent (sends_out next t).running.sent
+sends_grow : (next : Option Queued) (t : Turning) → Grows t.running.sent (turn_after_frame next t).running.sent
 sends_grow None t = same t.running.sent
 sends_grow (Some frame) t = (raw_of frame ∷ [], refl)
 
 turn_grows : (moment : ℕ) (t : Turning) → Grows t.running.sent (turn moment t).running.sent
 unfolding turn
 turn_grows moment t =
-    let ticked = ticks moment t in
-    let heard = hears moment ticked in
+    let ticked = turn_after_tick moment t in
+    let heard = turn_after_hearing moment ticked in
     let after = record ticked { running = record ticked.running { coming = items_behind ticked.running.coming } } in
     let kept : heard.running.sent ≡ t.running.sent = takes_keep (event_in moment (next_item ticked.running.coming)) after in
-    subst (λ l. Grows l (sends heard).running.sent) kept (sends_grow (next_out heard.running.timed.queue) heard)
+    subst (λ l. Grows l (turn_after_sending heard).running.sent) kept (sends_grow (next_out heard.running.allocator.queue) heard)
 
 -- of each, when the next one takes its turn, and when more of them do
 one_grows : (n : ℕ) (all : Together) (i : ℕ) → Grows ((first_turns n all).running i).sent ((first_turns (suc n) all).running i).sent
 one_grows n all i =
     let before = first_turns n all in
-    let done = (turned n before).running in
+    let done = (turning_after n before).running in
     elim (eqb_tells i n) [
       | inl h ↦ subst (λ r. Grows (before.running i).sent r.sent) (sym (at_here before.running n i done h.1))
           (subst (λ k. Grows (before.running k).sent done.sent) (sym h.1) (turn_grows (next_reading before.readings) (turning_at n before)))

@@ -9,10 +9,10 @@ use Rattle.outside.specs.declared.received.Received.{Received}
 use Rattle.can_frame.specs.declared.step.Seen.{Seen}
 use Rattle.can_frame.specs.declared.step.Sent.{Sent}
 use Rattle.alloc_step.specs.declared.event.View.{View}
-use Rattle.alloc_step.specs.StepState.{sents}
+use Rattle.alloc_step.specs.StepState.{listing_of}
 use Rattle.alloc_step.specs.Delivered.{StepResult}
-use Rattle.bus_spec.specs.Report.{view_told}
-use Rattle.bus_spec.specs.Telling.Telling.{HasStepped}
+use Rattle.bus_spec.specs.Report.{line_of_view}
+use Rattle.bus_spec.specs.ReportLine.ReportLine.{HasStepped}
 
 pub received : (item : Received) (old new : Option (List Received)) (items : List Received) → WhereTold (Receives {E = Failed} (Ok item)) old new →
     old ≡ Some items → (item ≡ next_item items) × (new ≡ Some (items_behind items))
@@ -29,8 +29,8 @@ unchanged (Some old) None told = absurd told
 unchanged (Some old) (Some new) told = ap Some told
 
 -- what the code shows is what the server shows
-pub told_same : (m n : ℕ) (a b : View) (seen : Seen) (sent : List Sent) (step_result : StepResult) → m ≡ n → a ≡ b → seen ≡ step_result.seen → sent ≡ sents step_result.step_state →
-    HasStepped m a.role a.term a.last a.commit a.queued seen sent ≡ view_told n b step_result
+pub told_same : (m n : ℕ) (a b : View) (seen : Seen) (sent : List Sent) (step_result : StepResult) → m ≡ n → a ≡ b → seen ≡ step_result.seen → sent ≡ listing_of step_result.step_state →
+    HasStepped m a.role a.term a.last a.commit a.queued seen sent ≡ line_of_view n b step_result
 told_same m n a b seen sent step_result id view saw listed =
     ap (λ k. HasStepped k a.role a.term a.last a.commit a.queued seen sent) id
     ∙ (ap (λ (v : View). HasStepped n v.role v.term v.last v.commit v.queued seen sent) view

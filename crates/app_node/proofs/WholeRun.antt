@@ -6,7 +6,7 @@ use Rattle.disk_model.specs.declared.disk.Disk.{Ghosts}
 use Rattle.outside.specs.Readings.{next_reading}
 use Rattle.outside.specs.declared.received.RawFrame.{RawFrame}
 use Rattle.outside.specs.declared.received.Received.{Received}
-use Rattle.app_base.specs.Draws.{moved, word_at}
+use Rattle.app_base.specs.Draws.{next_state, word_at}
 use Rattle.raft_core.specs.StoredPuts.{store_of, vote_of}
 use Rattle.raft_log.specs.declared.durable.Durable.{Durable}
 use Rattle.raft_log.specs.DurableViews.{durable_disk, durable_fault, durable_state}
@@ -15,7 +15,7 @@ use Rattle.raft_log.specs.Rules.{AlwaysStandsForState, StandsForState}
 use Rattle.raft_log.specs.Stored.{Stored, after_puts, opening_puts}
 use Rattle.alloc_step.specs.AllocatorState.{opening}
 use Rattle.alloc_server.specs.Server.{StandsFor, durable_of}
-use Rattle.app_node.specs.Opening.{Given, opened, readings_after}
+use Rattle.app_node.specs.Opening.{Given, together_at_opening, readings_after}
 use Rattle.app_node.specs.Run.{AreStopped, AreTelling}
 use Rattle.app_node.specs.Stands.{AreOpened, AreOpenedAt, Stand, runner_disk}
 use Rattle.app_node.specs.Steps.{Keeps}
@@ -52,7 +52,7 @@ module _ {D : Type 0} {disk : Ghosts D} (one_state : (image : List ℕ) (a b : S
       (tell : Tell coming sent disk links disks readings given) where
     -- the allocators are those that are opened on what was handed in
     pub all_opened : (after : Option (List ℕ)) (steps : LastSteps) → length links ≡ length ids → after ≡ Some (readings_after (length ids) given.readings) →
-        AreOpenedAt size runners given.readings → Keeps steps [] → Stand coming sent runners links after steps (opened size ids given)
+        AreOpenedAt size runners given.readings → Keeps steps [] → Stand coming sent runners links after steps (together_at_opening size ids given)
     all_opened after steps each read at none = record {
       each = λ i r l low.
           let one = are i r low in
@@ -65,8 +65,8 @@ module _ {D : Type 0} {disk : Ghosts D} (one_state : (image : List ℕ) (a b : S
           let within : i < length links = omega (arith, count, each, low) in
           record {
             id = one.id_is;
-            server = subst (λ n. StandsFor server (opening n size (store_of (given.stored i)) moment (word_at (moved node)))) one.id_is
-                (subst (λ s. StandsFor server (opening id size s moment (word_at (moved node)))) store
+            server = subst (λ n. StandsFor server (opening n size (store_of (given.stored i)) moment (word_at (next_state node)))) one.id_is
+                (subst (λ s. StandsFor server (opening id size s moment (word_at (next_state node)))) store
                 (subst (λ w. StandsFor server (opening id size (store_of (durable_state (durable_of server))) moment (word_at w))) one.draws (at i r low)));
             draws = one.draws;
             coming_is = tell.coming_is i l within;
@@ -91,9 +91,9 @@ module _ {D F L : Type 0} {disk : Ghosts D} (coming : L → Option (List Receive
     (durable : (store : Durable D disk) → durable_fault store ≡ None → disk.tells (durable_disk store) ≡ true →
     AlwaysStandsForState (disk.contents (durable_disk store)) (durable_state store)) where
   -- the disk of an allocator that was stopped
-  pub holds_store : (runner : Runner D F disk) (all : Together) (i : ℕ) (after : D) → StandsFor runner.server (all.running i).timed →
-      disk.tells (runner_disk runner) ≡ true → runner_disk runner ≡ after → HoldsStore disk after (all.running i).timed.plain.store
-  holds_store runner all i after is told same = subst (λ d. HoldsStore disk d (all.running i).timed.plain.store) same (record {
+  pub holds_store : (runner : Runner D F disk) (all : Together) (i : ℕ) (after : D) → StandsFor runner.server (all.running i).allocator →
+      disk.tells (runner_disk runner) ≡ true → runner_disk runner ≡ after → HoldsStore disk after (all.running i).allocator.raft_server.store
+  holds_store runner all i after is told same = subst (λ d. HoldsStore disk d (all.running i).allocator.raft_server.store) same (record {
     tells = told;
     state = durable_state (durable_of runner.server);
     stands = durable (durable_of runner.server) is.works told;

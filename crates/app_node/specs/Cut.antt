@@ -10,7 +10,7 @@ use Rattle.alloc_server.specs.Server.{StandsFor}
 use Rattle.alloc_step.specs.AllocatorState.{AllocatorState}
 use Rattle.app_node.specs.CutRun.{AreCutTurns, HoldsStoreInPart, IsCutRound}
 use Rattle.app_node.specs.Ends.{fault_id}
-use Rattle.app_node.specs.Opening.{Given, opened, readings_after}
+use Rattle.app_node.specs.Opening.{Given, together_at_opening, readings_after}
 use Rattle.app_node.specs.Run.{AreTelling}
 use Rattle.app_node.specs.Stands.{AreOpened, runner_disk}
 use Rattle.app_node.specs.Taking.{IsOf, IsRefused}
@@ -66,7 +66,7 @@ module _ {D F : Type 0} {disk : Ghosts D} {L : Type 0} (coming : L → Option (L
     pub telling : (given : Given) → Tell coming sent disk links_old disks_old readings_old given →
         AreTelling runners
     pub cut : (given : Given) → Tell coming sent disk links_old disks_old readings_old given →
-        AreCutAfterTurns coming sent runners links readings turns (opened size ids given) fault
+        AreCutAfterTurns coming sent runners links readings turns (together_at_opening size ids given) fault
 
   -- a run was cut off, at an opening or in a turn
   abbrev pub IsCut : Type 0

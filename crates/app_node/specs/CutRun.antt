@@ -81,9 +81,9 @@ module _ {L : Type 0} (coming : L → Option (List Received)) (sent : L → Opti
         coming (slice_index_or links i link) ≡ Some (before.running i).coming
     pub sent_is : (i : ℕ) (link : L) → i < count →
         sent (slice_index_or links i link) ≡ Some (before.running i).sent
-    pub stored_is : (i : ℕ) → i < count → (i ≡ place → ⊥) → Stores i (before.running i).timed
+    pub stored_is : (i : ℕ) → i < count → (i ≡ place → ⊥) → Stores i (before.running i).allocator
     pub own_is : (link : L) → IsCutIn (next_reading before.readings) (turning_at place before)
-        (coming (slice_index_or links place link)) (StoresPart place (before.running place).timed.plain.store)
+        (coming (slice_index_or links place link)) (StoresPart place (before.running place).allocator.raft_server.store)
 
   -- in the turn of one of which this holds: those before its place had taken theirs
   pub record IsCutRound (Named : ℕ → Type 0) (all : Together) : Type 0 where
@@ -101,7 +101,7 @@ module _ {L : Type 0} (coming : L → Option (List Received)) (sent : L → Opti
 -- of the disk at a place
 module _ {D : Type 0} (disk : Ghosts D) (disks : List (Option D)) where
   abbrev pub HoldsAt : ℕ → AllocatorState → Type 0
-  HoldsAt i t = (after : D) → slice_index_or disks i None ≡ Some after → HoldsStore disk after t.plain.store
+  HoldsAt i t = (after : D) → slice_index_or disks i None ≡ Some after → HoldsStore disk after t.raft_server.store
 
   abbrev pub HoldsPartAt : ℕ → Store → List PutWithOrigin → Type 0
   HoldsPartAt i store puts =

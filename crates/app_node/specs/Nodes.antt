@@ -11,7 +11,7 @@ use Rattle.app_base.specs.Output.{WritesFront}
 use Rattle.app_base.specs.declared.status.Status.{Status}
 use Rattle.app_base.specs.declared.status.Status.TheVariants.{Damaged, DiskFault, Done, LinkFault, Memory, WriteFault}
 use Rattle.app_node.specs.CutRun.{AreCutTurns, HoldsAt, HoldsPartAt, IsCutAtOpening, KeepsImages, KeepsOrOpens}
-use Rattle.app_node.specs.Opening.{Given, opened}
+use Rattle.app_node.specs.Opening.{Given, together_at_opening}
 use Rattle.app_node.specs.Report.{line_of, report}
 use Rattle.app_node.specs.Status.{AreWhole, DisksTell, HasRisen, IsDamagedDisk, IsFaultless, NoneRose, OfDisk, OfLink}
 use Rattle.app_node.specs.Status.{OthersStay}
@@ -43,7 +43,7 @@ module _ {L D : Type 0} (coming : L → Option (List Received)) (sent : L → Op
     pub whole : AreWhole disk ids disks_old
     pub left : (given : Given) → Tells given → AreCutTurns coming sent links readings (length ids)
         (HoldsAt disk disks) (HoldsPartAt disk disks) (λ place. slice_index ids place ≡ id) turns
-        (opened size ids given)
+        (together_at_opening size ids given)
 
   -- why a run ends with this status, and what it leaves on links, disks and clock
   abbrev pub IsEnd : Status → Type 0

@@ -3,7 +3,7 @@ use Rattle.std.specs.Prelude.{ℕ, zero, suc, List, [], length, slice_index}
 use Rattle.outside.specs.declared.received.RawFrame.{RawFrame}
 use Rattle.outside.specs.declared.received.Received.{Received}
 use Rattle.outside.specs.Readings.{next_reading, readings_behind}
-use Rattle.app_base.specs.Draws.{moved, word_at}
+use Rattle.app_base.specs.Draws.{next_state, word_at}
 use Rattle.raft_core.specs.StoredPuts.{store_of}
 use Rattle.raft_log.specs.Stored.{Stored}
 use Rattle.alloc_step.specs.AllocatorState.{opening}
@@ -25,9 +25,9 @@ readings_after (suc count) readings = readings_behind (readings_after count read
 
 -- the generator of an allocator's words stands at its node ID before the first
 abbrev pub opened_at : ℕ → List ℕ → Given → ℕ → Running
-opened_at size ids given place = let id = slice_index ids place in let state = moved id in record {
+opened_at size ids given place = let id = slice_index ids place in let state = next_state id in record {
   id = id;
-  timed = opening id size (store_of (given.stored place))
+  allocator = opening id size (store_of (given.stored place))
       (next_reading (readings_after place given.readings)) (word_at state);
   draws = state;
   coming = given.coming place;
@@ -35,8 +35,8 @@ opened_at size ids given place = let id = slice_index ids place in let state = m
 }
 
 -- the allocators of these nodes, of a cluster of a size, opened and before their first turn
-abbrev pub opened : ℕ → List ℕ → Given → Together
-opened size ids given = record {
+abbrev pub together_at_opening : ℕ → List ℕ → Given → Together
+together_at_opening size ids given = record {
   running = opened_at size ids given;
   readings = readings_after (length ids) given.readings;
   lines = [];

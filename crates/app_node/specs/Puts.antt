@@ -2,19 +2,19 @@
 use Rattle.std.specs.Prelude.{◌≡◌, ◌⊎◌, ℕ, suc, List, [], ◌++◌, length, Option, Some, None}
 use Rattle.outside.specs.declared.received.Received.{Received}
 use Rattle.outside.specs.Traffic.{items_behind, next_item}
-use Rattle.app_base.specs.Draws.{moved, word_at}
+use Rattle.app_base.specs.Draws.{next_state, word_at}
 use Rattle.raft_core.specs.StoredPuts.{PutWithOrigin}
 use Rattle.alloc_step.specs.Step.{Event, Tick, step}
 use Rattle.app_node.specs.Frames.{event_in}
-use Rattle.app_node.specs.Turn.{Turning, ticks}
+use Rattle.app_node.specs.Turn.{Turning, turn_after_tick}
 
 -- the next step
 abbrev pub step_puts : Event → Turning → List PutWithOrigin
-step_puts event t = (step t.running.timed (suc (length t.lines)) event).step_state.puts
+step_puts event t = (step t.running.allocator (suc (length t.lines)) event).step_state.puts
 
 -- the step at its clock
 abbrev pub tick_puts : ℕ → Turning → List PutWithOrigin
-tick_puts moment t = step_puts (Tick moment (word_at (moved t.running.draws))) t
+tick_puts moment t = step_puts (Tick moment (word_at (next_state t.running.draws))) t
 
 abbrev pub taken_puts : Option Event → Turning → List PutWithOrigin
 taken_puts None t = []
@@ -26,7 +26,7 @@ heard_puts moment t = taken_puts (event_in moment (next_item t.running.coming)) 
 
 -- the two steps of a turn
 unfoldable pub turn_puts : ℕ → Turning → List PutWithOrigin
-turn_puts moment t = tick_puts moment t ++ heard_puts moment (ticks moment t)
+turn_puts moment t = tick_puts moment t ++ heard_puts moment (turn_after_tick moment t)
 
 -- ---- a turn that was cut off, when these items are left of its link: what holds of the puts up to there
 

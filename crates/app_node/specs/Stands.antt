@@ -5,7 +5,7 @@ use Rattle.disk_model.specs.declared.disk.Disk.{Ghosts}
 use Rattle.outside.specs.declared.received.RawFrame.{RawFrame}
 use Rattle.outside.specs.declared.received.Received.{Received}
 use Rattle.outside.specs.Readings.{next_reading}
-use Rattle.app_base.specs.Draws.{moved, word_at}
+use Rattle.app_base.specs.Draws.{next_state, word_at}
 use Rattle.raft_core.specs.StoredPuts.{store_of}
 use Rattle.raft_log.specs.DurableViews.{durable_state}
 use Rattle.raft_log.specs.Opening.{OpensTo}
@@ -40,7 +40,7 @@ module _ {D F : Type 0} {disk : Ghosts D} where
   -- a disk was taken and opened, in a cluster of a size, for a node ID
   pub record IsOpened (runner : Runner D F disk) (before : Option D) (id : ℕ) : Type 0 where
     pub id_is : runner.id ≡ id
-    pub draws : runner.draws ≡ moved id
+    pub draws : runner.draws ≡ next_state id
     pub opens : (taken : D) → before ≡ Some taken → OpensTo taken (durable_of runner.server)
     pub later : (taken : D) → before ≡ Some taken → disk.faults taken ≤ disk.faults (runner_disk runner)
     pub tells : (taken : D) → before ≡ Some taken → disk.tells (runner_disk runner) ≡ disk.tells taken
@@ -67,7 +67,7 @@ module _ {D F : Type 0} {disk : Ghosts D} where
   pub record IsRunning (runner : Runner D F disk) (coming : Option (List Received))
       (sent : Option (List RawFrame)) (r : Running) : Type 0 where
     pub id : runner.id ≡ r.id
-    pub server : StandsFor runner.server r.timed
+    pub server : StandsFor runner.server r.allocator
     pub draws : runner.draws ≡ r.draws
     pub coming_is : coming ≡ Some r.coming
     pub sent_is : sent ≡ Some r.sent

@@ -4,20 +4,20 @@ use Rattle.std.specs.Prelude.{ℕ, suc, List, [], ◌∷◌, ◌++◌, length, O
 use Rattle.outside.specs.declared.received.RawFrame.{RawFrame}
 use Rattle.outside.specs.declared.received.Received.{Received}
 use Rattle.outside.specs.Traffic.{items_behind, next_item}
-use Rattle.app_base.specs.Draws.{moved, word_at}
+use Rattle.app_base.specs.Draws.{next_state, word_at}
 use Rattle.alloc_step.specs.Delivered.{StepResult}
-use Rattle.alloc_step.specs.Step.{Event, Tick, popped, step}
+use Rattle.alloc_step.specs.Step.{Event, Tick, after_pop, step}
 use Rattle.alloc_step.specs.AllocatorState.{AllocatorState, view_of}
 use Rattle.transfer_tx.specs.Queue.{Queued, next_out}
-use Rattle.bus_spec.specs.Report.{view_told}
-use Rattle.bus_spec.specs.Telling.{telling_line}
+use Rattle.bus_spec.specs.Report.{line_of_view}
+use Rattle.bus_spec.specs.ReportLine.{text_of_line}
 use Rattle.app_node.specs.Frames.{event_in, raw_of}
 
 -- an allocator that runs: its server, where the generator of its words stands, the items that its link still has
 -- for it, and the frames that were sent there
 pub record Running : Type 0 where
   pub id : ℕ
-  pub timed : AllocatorState
+  pub allocator : AllocatorState
   pub draws : ℕ
   pub coming : List Received
   pub sent : List RawFrame
@@ -29,46 +29,48 @@ pub record Turning : Type 0 where
 
 -- the line of a step: the numbers are those after the step, before a frame goes out
 abbrev pub step_line : ℕ → ℕ → StepResult → List ℕ
-step_line number id step_result = telling_line number (view_told id (view_of step_result.step_state.timed) step_result)
+step_line number id step_result =
+    text_of_line number (line_of_view id (view_of step_result.step_state.allocator) step_result)
 
 -- what a step came to, with its line behind all others
 abbrev pub after_step : ℕ → StepResult → Turning → Turning
 after_step number step_result t = record {
-  running = record t.running { timed = step_result.step_state.timed };
+  running = record t.running { allocator = step_result.step_state.allocator };
   lines = t.lines ++ step_line number t.running.id step_result ∷ [];
 }
 
 -- the next step: they are numbered from 1, over all allocators
-abbrev pub makes_step : Event → Turning → Turning
-makes_step event t = let number = suc (length t.lines) in after_step number (step t.running.timed number event) t
+abbrev pub turn_after_step : Event → Turning → Turning
+turn_after_step event t =
+    let number = suc (length t.lines) in after_step number (step t.running.allocator number event) t
 
 -- the allocator reads its clock, with the next word
-abbrev pub ticks : ℕ → Turning → Turning
-ticks moment t = let state = moved t.running.draws in
-    makes_step (Tick moment (word_at state)) (record t { running = record t.running { draws = state } })
+abbrev pub turn_after_tick : ℕ → Turning → Turning
+turn_after_tick moment t = let state = next_state t.running.draws in
+    turn_after_step (Tick moment (word_at state)) (record t { running = record t.running { draws = state } })
 
-abbrev pub takes : Option Event → Turning → Turning
-takes None t = t
-takes (Some event) t = makes_step event t
+abbrev pub turn_after_taking : Option Event → Turning → Turning
+turn_after_taking None t = t
+turn_after_taking (Some event) t = turn_after_step event t
 
 -- the next item of its link is taken, and a step is made of it where it is a frame
-abbrev pub hears : ℕ → Turning → Turning
-hears moment t = takes (event_in moment (next_item t.running.coming))
+abbrev pub turn_after_hearing : ℕ → Turning → Turning
+turn_after_hearing moment t = turn_after_taking (event_in moment (next_item t.running.coming))
     (record t { running = record t.running { coming = items_behind t.running.coming } })
 
-abbrev pub sends_out : Option Queued → Turning → Turning
-sends_out None t = t
-sends_out (Some frame) t = record t {
+abbrev pub turn_after_frame : Option Queued → Turning → Turning
+turn_after_frame None t = t
+turn_after_frame (Some frame) t = record t {
   running = record t.running {
-    timed = popped t.running.timed;
+    allocator = after_pop t.running.allocator;
     sent = t.running.sent ++ raw_of frame ∷ [];
   };
 }
 
 -- the next frame of its queue is sent, if there is one
-abbrev pub sends : Turning → Turning
-sends t = sends_out (next_out t.running.timed.queue) t
+abbrev pub turn_after_sending : Turning → Turning
+turn_after_sending t = turn_after_frame (next_out t.running.allocator.queue) t
 
 -- a turn, all of it at one reading of the clock
 unfoldable pub turn : ℕ → Turning → Turning
-turn moment t = sends (hears moment (ticks moment t))
+turn moment t = turn_after_sending (turn_after_hearing moment (turn_after_tick moment t))

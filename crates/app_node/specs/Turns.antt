@@ -15,8 +15,8 @@ abbrev pub turning_at : ℕ → Together → Turning
 turning_at place all = record { running = all.running place; lines = all.lines }
 
 -- the allocator at a place takes its turn, at the next reading
-abbrev pub turned : ℕ → Together → Turning
-turned place all = turn (next_reading all.readings) (turning_at place all)
+abbrev pub turning_after : ℕ → Together → Turning
+turning_after place all = turn (next_reading all.readings) (turning_at place all)
 
 abbrev pub after_turn : ℕ → Turning → Together → Together
 after_turn place done all = record {
@@ -28,7 +28,7 @@ after_turn place done all = record {
 -- the first of them take a turn each, in order
 abbrev pub first_turns : ℕ → Together → Together
 first_turns zero all = all
-first_turns (suc n) all = let before = first_turns n all in after_turn n (turned n before) before
+first_turns (suc n) all = let before = first_turns n all in after_turn n (turning_after n before) before
 
 -- so many allocators take so many turns each
 abbrev pub all_turns : ℕ → ℕ → Together → Together

@@ -7,12 +7,12 @@ use Rattle.raft_core.specs.StoredPuts.{store_of}
 use Rattle.raft_log.specs.Rules.{AlwaysStandsForState, StandsForState}
 use Rattle.raft_log.specs.Stored.{Stored}
 use Rattle.raft_model.specs.Server.{Store}
-use Rattle.app_node.specs.Opening.{Given, opened}
+use Rattle.app_node.specs.Opening.{Given, together_at_opening}
 use Rattle.app_node.specs.Turns.{Together, all_turns}
 
 -- the allocators of these nodes, of a cluster of a size, after all their turns
 abbrev pub after_turns : ℕ → ℕ → List ℕ → Given → Together
-after_turns size turns ids given = all_turns (length ids) turns (opened size ids given)
+after_turns size turns ids given = all_turns (length ids) turns (together_at_opening size ids given)
 
 -- the disk tells what it holds, and it stands for a state
 pub record TellsState {D : Type 0} (disk : Ghosts D) (before : D) (state : Stored) : Type 0 where
@@ -49,5 +49,5 @@ module _ {L D : Type 0} (coming : L → Option (List Received)) (sent : L → Op
     pub sent_is : (i : ℕ) (link : L) → i < count
         → sent (slice_index_or links i link) ≡ Some (all.running i).sent
     pub stored_is : (i : ℕ) (after : D) → i < count → slice_index_or disks i None ≡ Some after →
-        HoldsStore disk after (all.running i).timed.plain.store
+        HoldsStore disk after (all.running i).allocator.raft_server.store
     pub readings_are : readings ≡ Some all.readings

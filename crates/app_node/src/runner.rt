@@ -10,7 +10,7 @@ ghost use Rattle.outside.specs.declared.received.Received.{Received};
 ghost use Rattle.kv_store.specs.Image.{open_calls};
 ghost use Rattle.kv_store.specs.declared.fault.Fault.{Fault as StoreFault};
 ghost use Rattle.kv_store.specs.declared.fault.OpenFault.TheVariants.{Fault as DiskFault, Damaged};
-ghost use Rattle.app_base.specs.Draws.{moved, word_at};
+ghost use Rattle.app_base.specs.Draws.{next_state, word_at};
 ghost use Rattle.raft_core.specs.StoredPuts.{store_of};
 ghost use Rattle.raft_log.specs.DurableViews.{durable_state};
 ghost use Rattle.raft_log.specs.Opening.{FailsToOpen, OpensTo};
@@ -20,10 +20,10 @@ ghost use Rattle.alloc_step.specs.AllocatorState.{opening};
 ghost use Rattle.transfer_rx.specs.Acceptance.{AnswersByRows};
 ghost use Rattle.transfer_rx.specs.Memory.{ReceiverFitsInMemory};
 ghost use Rattle.replay_text.specs.Report.{told_line};
-ghost use Rattle.bus_spec.specs.Telling.{telling_line};
-ghost use Rattle.bus_spec.specs.Telling.Telling.{HasStepped};
+ghost use Rattle.bus_spec.specs.ReportLine.{text_of_line};
+ghost use Rattle.bus_spec.specs.ReportLine.ReportLine.{HasStepped};
 ghost use Rattle.app_node.specs.Puts.{IsCutIn, IsHeardIn, step_puts};
-ghost use Rattle.app_node.specs.Turn.{Turning, hears, makes_step, sends, turn};
+ghost use Rattle.app_node.specs.Turn.{Turning, turn_after_hearing, turn_after_step, turn_after_sending, turn};
 ghost use Rattle.app_node.specs.declared.steps.LastSteps.{LastSteps};
 ghost use Rattle.app_node.specs.declared.fault.Fault.TheVariants.{Link as LinkFailed, Disk as DiskFailed};
 ghost use Rattle.app_node.specs.declared.fault.Fault.TheVariants.{Damaged as IsDamaged};
@@ -72,9 +72,9 @@ impl<D: Disk, F: Fn(Kind, u16) -> Option<u64> + Copy> Runner<D, F> {
         requires callable { F.IsAlwaysCallable accept }
         requires answers { AnswersByRows (F.post accept) accepted.rows }
         ensures stands { IfOk result (λ runner. StandsFor runner.server (opening id size (store_of
-            (durable_state (durable_of runner.server))) now (word_at (moved id)))) }
+            (durable_state (durable_of runner.server))) now (word_at (next_state id)))) }
         ensures id { IfOk result (λ runner. runner.id ≡ id) }
-        ensures draws { IfOk result (λ runner. runner.draws ≡ moved id) }
+        ensures draws { IfOk result (λ runner. runner.draws ≡ next_state id) }
         ensures accepts { IfOk result (λ runner. closure_of runner ≡ accept) }
         ensures opens { IfOk result (λ runner. OpensTo disk (durable_of runner.server)) }
         ensures works { IfOk result (λ runner. Works runner) }
@@ -156,7 +156,7 @@ impl<D: Disk, F: Fn(Kind, u16) -> Option<u64> + Copy> Runner<D, F> {
         requires few { steps_made steps.old < 18446744073709551615 }
         ensures heard { OnOk result ((t : Turning) →
             IsTurning self.old (L.coming link.old) (L.sent link.old) steps.old t →
-            IsTurning self.new (L.coming link.new) (L.sent link.new) steps.new (hears now t)) }
+            IsTurning self.new (L.coming link.new) (L.sent link.new) steps.new (turn_after_hearing now t)) }
         ensures sent { L.sent link.new ≡ L.sent link.old }
         ensures cut { (t : Turning) →
             IsTurning self.old (L.coming link.old) (L.sent link.old) steps.old t →
@@ -199,7 +199,7 @@ impl<D: Disk, F: Fn(Kind, u16) -> Option<u64> + Copy> Runner<D, F> {
         requires few { steps_made steps.old < 18446744073709551615 }
         ensures stepped { OnOk result ((t : Turning) (coming : Option (List Received))
             (sent : Option (List RawFrame)) → IsTurning self.old coming sent steps.old t →
-            IsTurning self.new coming sent steps.new (makes_step (event_of event) t)) }
+            IsTurning self.new coming sent steps.new (turn_after_step (event_of event) t)) }
         ensures put { OnOk result ((t : Turning) (coming : Option (List Received))
             (sent : Option (List RawFrame)) → IsTurning self.old coming sent steps.old t →
             HasPut self.old.server self.new.server (step_puts (event_of event) t)) }
@@ -233,7 +233,7 @@ impl<D: Disk, F: Fn(Kind, u16) -> Option<u64> + Copy> Runner<D, F> {
     fn send<L: Link>(&mut self, link: &mut L) -> Result<(), Fault>
         ensures sent { OnOk result ((t : Turning) (steps : LastSteps) →
             IsTurning self.old (L.coming link.old) (L.sent link.old) steps t →
-            IsTurning self.new (L.coming link.new) (L.sent link.new) steps (sends t)) }
+            IsTurning self.new (L.coming link.new) (L.sent link.new) steps (turn_after_sending t)) }
         ensures unsent { OnErr result (L.sent link.new ≡ L.sent link.old) }
         ensures coming { L.coming link.new ≡ L.coming link.old }
         ensures id { self.new.id ≡ self.old.id }
@@ -270,7 +270,7 @@ impl<D: Disk, F: Fn(Kind, u16) -> Option<u64> + Copy> Runner<D, F> {
 
 /// What a step tells, with the numbers after it.
 fn stepped(n: u8, view: View, outcome: Outcome) -> Told
-    ensures { (number : ℕ) → told_line number result ≡ telling_line number (HasStepped n
+    ensures { (number : ℕ) → told_line number result ≡ text_of_line number (HasStepped n
         view.role view.term view.last view.commit view.queued outcome.seen outcome.sent.items) }
 {
     Told::Stepped {

@@ -10,7 +10,7 @@ use Rattle.raft_log.specs.KeyDisk.{are_put, is_open_on, opening_on, put_state_on
 use Rattle.raft_log.specs.Stored.{Put, Stored, after_puts, opening_puts}
 use Rattle.alloc_step.specs.StepState.{StepState}
 use Rattle.alloc_step.specs.AllocatorState.{AllocatorState, opening}
-use Rattle.bus_spec.specs.Members.{MemberStatus, Member, cut_off, puts_of, stopped_with, unopened, wrote}
+use Rattle.bus_spec.specs.Members.{MemberStatus, Member, after_cut_off, puts_of, stopped_with, after_failed_opening, after_writing}
 use Rattle.bus_spec.specs.Members as members
 use Rattle.bus_spec.specs.Members.MemberStatus.{Down, Up}
 use Rattle.app_node_laws.specs.Mirrored.{IsCalm}
@@ -47,11 +47,11 @@ puts_left puts key_disk faults e f = subst (λ (s : KeyDisk Stored). HasPut puts
 
 -- where nothing fails
 abbrev pub written : Member → StepState → Member
-written x step_state = record x { life = Up step_state.timed; disk = puts_on (puts_of x step_state) x.disk }
+written x step_state = record x { status = Up step_state.allocator; disk = puts_on (puts_of x step_state) x.disk }
 
-pub step_done : (x : Member) (row : ℕ) (server : AllocatorState) (step_state : StepState) → IsCalm x → wrote x row server step_state ≡ written x step_state
+pub step_done : (x : Member) (row : ℕ) (server : AllocatorState) (step_state : StepState) → IsCalm x → after_writing x row server step_state ≡ written x step_state
 step_done x row server step_state calm =
-    ap (λ (b : Bool). if b then written x step_state else cut_off x row server step_state (puts_on (puts_of x step_state) x.disk))
+    ap (λ (b : Bool). if b then written x step_state else after_cut_off x row server step_state (puts_on (puts_of x step_state) x.disk))
     (puts_done (puts_of x step_state) x.disk x.disk.calls.faults calm.calls)
 
 own_faults : (key_disk : KeyDisk Stored) (faults : ℕ) → key_disk.calls ≡ nothing_set faults → key_disk.calls ≡ nothing_set key_disk.calls.faults
@@ -67,7 +67,7 @@ step_calm x step_state calm =
 -- where nothing fails
 abbrev pub opened_member : ℕ → ℕ → ℕ → ℕ → Member → Member
 opened_member n size moment word x = record x {
-  life = Up (opening n size (store_of (opening_on x.disk).store) moment word);
+  status = Up (opening n size (store_of (opening_on x.disk).store) moment word);
   disk = opening_on x.disk;
 }
 
@@ -79,9 +79,9 @@ opening_calm : (key_disk : KeyDisk Stored) (faults : ℕ) → key_disk.calls ≡
 opening_calm key_disk faults e f =
     subst (λ (s : KeyDisk Stored). (is_open_on s ≡ true) × HasPut (opening_puts key_disk.store) key_disk (opening_on s) faults) (sym (is_still key_disk faults e f)) (opening_still key_disk faults)
 
-pub opening_done : (n size moment word : ℕ) (x : Member) → IsCalm x → members.opened n size moment word x ≡ opened_member n size moment word x
+pub opening_done : (n size moment word : ℕ) (x : Member) → IsCalm x → members.after_opening n size moment word x ≡ opened_member n size moment word x
 opening_done n size moment word x calm =
-    ap (λ (b : Bool). if b then opened_member n size moment word x else unopened x (opening_on x.disk)) (opening_calm x.disk x.disk.calls.faults calm.calls calm.nothing_unsynced).0
+    ap (λ (b : Bool). if b then opened_member n size moment word x else after_failed_opening x (opening_on x.disk)) (opening_calm x.disk x.disk.calls.faults calm.calls calm.nothing_unsynced).0
 
 pub opened_calm : (n size moment word : ℕ) (x : Member) → IsCalm x → IsCalm (opened_member n size moment word x)
 opened_calm n size moment word x calm =

@@ -39,7 +39,7 @@ pub record FollowLaws : Type 0 where
       → MayAllHappen trace w → GoesOn (length w.ids) mine given w trace from to → StandAt (length w.ids) mine given w from → (i : ℕ) → i < length mine
       → IsFollowed (length w.ids) mine given w (after_rows w (all_rows trace w)) from to (λ n. raw_by n w (all_rows trace w)) i
   pub stored : (ids : List ℕ) (trace : List Event) (r : Running) → AreMembers ids → MayAllHappen trace (cluster ids) → In r.id ids
-      → let w = world_after ids trace in IsMirrored w r → store_of (w.member r.id).disk.store ≡ r.timed.plain.store
+      → let w = world_after ids trace in IsMirrored w r → store_of (w.member r.id).disk.store ≡ r.allocator.raft_server.store
 
 -- ---- a trace behind another
 
@@ -87,7 +87,7 @@ module _ (laws : FollowLaws) (ids mine : List ℕ) (before during : List Event) 
       stands i h = (λ e. absurd (omega (arith, e)), λ e. is.waiting i h)
 
   -- what a member that is in a turn has stored
-  pub stored_there : (r : Running) (i : ℕ) → i < length mine → r.id ≡ slice_index mine i → IsMirrored v r → r.timed.plain.store ≡ store_of (v.member (slice_index mine i)).disk.store
+  pub stored_there : (r : Running) (i : ℕ) → i < length mine → r.id ≡ slice_index mine i → IsMirrored v r → r.allocator.raft_server.store ≡ store_of (v.member (slice_index mine i)).disk.store
   stored_there r i low e mirrored =
       sym (laws.stored ids (before ++ during) r is.members is.may (subst (λ (n : ℕ). In n ids) (sym e) (is.among (slice_index mine i) (at_place mine i low))) mirrored)
       ∙ ap (λ (n : ℕ). store_of (v.member n).disk.store) e
@@ -173,7 +173,7 @@ module _ (laws : FollowLaws) {L D : Type 0} (coming : L → Option (List Receive
       same_id : (i : ℕ) → (all.running i).id ≡ slice_index mine i
       same_id i = ids_then mine given size taken place i
 
-      stored_now : (i : ℕ) → i < length mine → (all.running i).timed.plain.store ≡ store_of (v.member (slice_index mine i)).disk.store
+      stored_now : (i : ℕ) → i < length mine → (all.running i).allocator.raft_server.store ≡ store_of (v.member (slice_index mine i)).disk.store
       stored_now i low = stored_there laws ids mine before during size given to is (all.running i) i low (same_id i) (follow i low).stands
 
       t : Turn
@@ -188,7 +188,7 @@ module _ (laws : FollowLaws) {L D : Type 0} (coming : L → Option (List Receive
       mirrored : IsMirrored v (all.running place)
       mirrored = (follow place within).stands
 
-      stored_as : {after : D} {puts : List PutWithOrigin} (part : HoldsStoreInPart disk after (all.running place).timed.plain.store puts)
+      stored_as : {after : D} {puts : List PutWithOrigin} (part : HoldsStoreInPart disk after (all.running place).allocator.raft_server.store puts)
           → store_of (v.member (all.running place).id).disk.store ≡ store_of part.state
       stored_as part = ap (λ (n : ℕ). store_of (v.member n).disk.store) (same_id place) ∙ sym (stored_now place within) ∙ sym part.store_is
 

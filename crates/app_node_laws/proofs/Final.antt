@@ -9,8 +9,8 @@ use Rattle.raft_model.specs.Members.{HasNoneTwice}
 use Rattle.replay_text.specs.declared.row.Row.{Row}
 use Rattle.alloc_step.specs.AllocatorState.{AllocatorState}
 use Rattle.bus_agreement.specs.Headline.{HasHeadline, Headline}
-use Rattle.bus_spec.specs.Choices.{Fits}
-use Rattle.bus_spec.specs.Cluster.{Cluster, after_rows, cluster, next, world_of}
+use Rattle.bus_spec.specs.Choices.{AgreesWithDisk}
+use Rattle.bus_spec.specs.Cluster.{Cluster, after_rows, cluster, after_row, world_of}
 use Rattle.bus_spec.specs.Logs.{stored, stored_on}
 use Rattle.bus_spec.specs.Members.{MemberStatus}
 use Rattle.outside.specs.Traffic.{next_item}
@@ -18,7 +18,7 @@ use Rattle.transfer_rx.specs.Reassembly.{Arrival, Delivery, Setting, answer}
 use Rattle.transfer_rx.specs.Reassembly.Answer.{Gives}
 use Rattle.transfer_rx.specs.Sessions.{Session}
 use Rattle.transfer_rx.specs.Sound.{IsDelivered}
-use Rattle.bus_agreement.proofs.Joining.{same_ids}
+use Rattle.bus_agreement.proofs.Concatenations.{same_ids}
 use Rattle.app_node.specs.Puts.{turn_puts}
 use Rattle.app_node.specs.Turn.{Running, Turning}
 use Rattle.app_node_laws.specs.Traces.{Came}
@@ -52,9 +52,9 @@ none_twice (x ∷ xs) once (suc i) (suc j) h k e = ap suc (none_twice xs once.1 
 -- ---- what is stored of a member that runs
 
 pub stored_as : (ids : List ℕ) (rows : List Row) (r : Running) → HasHeadline ids rows → (world_of ids rows).ids ≡ ids → In r.id ids → IsMirrored (world_of ids rows) r
-    → store_of ((world_of ids rows).member r.id).disk.store ≡ r.timed.plain.store
+    → store_of ((world_of ids rows).member r.id).disk.store ≡ r.allocator.raft_server.store
 stored_as ids rows r headline same listed is =
-    sym (shown ∙ ap (λ (life : MemberStatus). stored_on choice life (w.member r.id).disk) is.runs) ∙ ap (λ (t : AllocatorState). t.plain.store) is.same
+    sym (shown ∙ ap (λ (status : MemberStatus). stored_on choice status (w.member r.id).disk) is.runs) ∙ ap (λ (t : AllocatorState). t.raft_server.store) is.same
   where
     w : Cluster
     w = world_of ids rows
@@ -66,14 +66,14 @@ stored_as ids rows r headline same listed is =
     none_more = sym (append-nil rows)
 
     now : Headline choice w (world_of ids (rows ++ []))
-    now = headline.holds rows [] [] choice none_more (subst (λ (l : List Row). Fits choice (cluster ids) l) none_more headline.some.1)
+    now = headline.holds rows [] [] choice none_more (subst (λ (l : List Row). AgreesWithDisk choice (cluster ids) l) none_more headline.some.1)
 
-    shown : is.server.plain.store ≡ stored choice w r.id
+    shown : is.server.raft_server.store ≡ stored choice w r.id
     shown = now.shown r.id is.server (subst (λ (l : List ℕ). In r.id l) (sym same) listed) is.runs
 
 same_from : (w : Cluster) (rows : List Row) → (after_rows w rows).ids ≡ w.ids
 same_from w [] = refl
-same_from w (row ∷ rows) = same_from (next w row) rows ∙ same_ids w row
+same_from w (row ∷ rows) = same_from (after_row w row) rows ∙ same_ids w row
 
 pub same_ids_of : (ids : List ℕ) (rows : List Row) → (world_of ids rows).ids ≡ ids
 same_ids_of ids rows = same_from (cluster ids) rows

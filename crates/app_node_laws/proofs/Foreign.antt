@@ -13,10 +13,10 @@ use Rattle.transfer_rx.specs.Reassembly.Answer.{Continues, Drops, Gives}
 use Rattle.transfer_rx.specs.Sessions.{Session}
 use Rattle.transfer_rx.specs.Sound.{IsDelivered}
 use Rattle.alloc_step.specs.Accepted.{rows, setting_for}
-use Rattle.alloc_step.specs.Judging.{is_response, is_stale, judged, judges, misses}
+use Rattle.alloc_step.specs.Judging.{is_response, is_stale, answer_judgement, arrival_judgement, misses}
 use Rattle.alloc_step.specs.AllocatorState.{AllocatorState}
 use Rattle.bus_spec.specs.Cluster.{is_member}
-use Rattle.bus_spec.specs.Lawful.{is_forged, of_judged}
+use Rattle.bus_spec.specs.Lawful.{is_forged, cause_of_judgement}
 use Rattle.bus_agreement.proofs.Idents.{wanted_is}
 use Rattle.bus_agreement.proofs.Lists.{both, never, tell}
 
@@ -55,18 +55,18 @@ not_stale : (ids : List ℕ) (id : ℕ) (t : AllocatorState) (d : Delivery) (now
 not_stale ids id t d now foreign completed = elim (tell (is_stale t d now)) [
   | inr e ↦ e
   | inl e ↦
-      let r = both (is_response d.ident.kind && nat_le d.ident.source 125) (misses d now (t.plain.memory.pending d.ident.source) (t.times.sending d.ident.source)) e in
+      let r = both (is_response d.ident.kind && nat_le d.ident.source 125) (misses d now (t.raft_server.memory.pending d.ident.source) (t.times.sending d.ident.source)) e in
       never (sym foreign ∙ ap (is_forged ids) completed
-      ∙ forged ids d.ident (both (is_response d.ident.kind) (nat_le d.ident.source 125) r.0).0 (taken d now (t.plain.memory.pending d.ident.source) (t.times.sending d.ident.source) r.1))
+      ∙ forged ids d.ident (both (is_response d.ident.kind) (nat_le d.ident.source 125) r.0).0 (taken d now (t.raft_server.memory.pending d.ident.source) (t.times.sending d.ident.source) r.1))
 ]
 
-passes : (whole stale : Bool) → stale ≡ false → of_judged (if not whole && not (nat_eq 0 0) then Torn else (if stale then Stale else Fine)) ≡ None
-passes true stale e = ap (λ (b : Bool). of_judged (if b then Stale else Fine)) e
-passes false stale e = ap (λ (b : Bool). of_judged (if b then Stale else Fine)) e
+passes : (whole stale : Bool) → stale ≡ false → cause_of_judgement (if not whole && not (nat_eq 0 0) then Torn else (if stale then Stale else Fine)) ≡ None
+passes true stale e = ap (λ (b : Bool). cause_of_judgement (if b then Stale else Fine)) e
+passes false stale e = ap (λ (b : Bool). cause_of_judgement (if b then Stale else Fine)) e
 
 module _ (deliveries : (setting : Setting) (sessions : List Session) (arrival : Arrival) (delivery : Delivery) → answer setting sessions arrival ≡ Gives delivery → IsDelivered setting sessions arrival delivery) where
   judged_fine : (ids : List ℕ) (t : AllocatorState) (arrival : Arrival) → is_forged ids (identifier_of arrival.id) ≡ false → (now : ℕ) (a : Answer)
-      → answer (setting_for t.me) t.sessions arrival ≡ a → of_judged (judged t 0 now a) ≡ None
+      → answer (setting_for t.me) t.sessions arrival ≡ a → cause_of_judgement (answer_judgement t 0 now a) ≡ None
   judged_fine ids t arrival foreign now (Gives d) e =
       let is = deliveries (setting_for t.me) t.sessions arrival d e in
       let read : identifier_of arrival.id ≡ Some is.w.ident = (wanted_is rows t.me arrival.id is.w is.accepted).read in
@@ -74,8 +74,8 @@ module _ (deliveries : (setting : Setting) (sessions : List Session) (arrival : 
   judged_fine ids t arrival foreign now Continues e = refl
   judged_fine ids t arrival foreign now (Drops why) e = refl
 
-  pub foreign_fine : (ids : List ℕ) (t : AllocatorState) (arrival : Arrival) → arrival.mark.step ≡ 0 → is_forged ids (identifier_of arrival.id) ≡ false → of_judged (judges t arrival) ≡ None
-  unfolding judges
+  pub foreign_fine : (ids : List ℕ) (t : AllocatorState) (arrival : Arrival) → arrival.mark.step ≡ 0 → is_forged ids (identifier_of arrival.id) ≡ false → cause_of_judgement (arrival_judgement t arrival) ≡ None
+  unfolding arrival_judgement
   foreign_fine ids t arrival zero foreign =
-      ap (λ (n : ℕ). of_judged (judged t n (max t.now arrival.moment) (answer (setting_for t.me) t.sessions (record arrival { moment = max t.now arrival.moment })))) zero
+      ap (λ (n : ℕ). cause_of_judgement (answer_judgement t n (max t.now arrival.moment) (answer (setting_for t.me) t.sessions (record arrival { moment = max t.now arrival.moment })))) zero
       ∙ judged_fine ids t (record arrival { moment = max t.now arrival.moment }) foreign (max t.now arrival.moment) (answer (setting_for t.me) t.sessions (record arrival { moment = max t.now arrival.moment })) refl

@@ -12,14 +12,14 @@ use Rattle.replay_text.specs.declared.row.Row.TheVariants.{Crash}
 use Rattle.alloc_step.specs.StepState.{StepState}
 use Rattle.alloc_step.specs.Step.{Event}
 use Rattle.alloc_step.specs.AllocatorState.{AllocatorState}
-use Rattle.bus_spec.specs.Cluster.{Cluster, next, with_member}
-use Rattle.bus_spec.specs.Members.{MemberStatus, Member, armed as armed_member, cut_off, puts_of, stepped, stopped_with, wrote}
+use Rattle.bus_spec.specs.Cluster.{Cluster, after_row, with_member}
+use Rattle.bus_spec.specs.Members.{MemberStatus, Member, with_stop_armed as armed_member, after_cut_off, puts_of, member_after_step, stopped_with, after_writing}
 use Rattle.bus_spec.specs.Members.MemberStatus.{Down, Failed}
 use Rattle.app_node_laws.specs.Mirrored.{AreCalm, IsCalm}
 use Rattle.app_node_laws.proofs.Armed.{AllPut, IsCutBehind, SomePut, armed, armed_on, cut_behind, stop_behind, stop_is}
 use Rattle.app_node_laws.proofs.Calm.{stop_calm, stop_store, written}
 use Rattle.app_node_laws.proofs.Places.{own_is}
-use Rattle.app_node_laws.proofs.Rows.{Runs, going_of}
+use Rattle.app_node_laws.proofs.Rows.{Runs, step_state_of}
 use Rattle.app_node_laws.proofs.Stored.{after_noted, after_some, as_many}
 
 -- the disk of a member stops behind so many more puts
@@ -35,7 +35,7 @@ pub record RunsArmed (n : ℕ) (w : Cluster) (server : AllocatorState) (left : �
 
 -- the member is stopped, and all disks are calm
 pub record IsDead (n : ℕ) (w : Cluster) : Type 0 where
-  pub down : (w.member n).life ≡ Down
+  pub down : (w.member n).status ≡ Down
   pub calm : AreCalm w
 
 -- what its disk has stored
@@ -59,7 +59,7 @@ not_zero puts = elim (eqb_tells (4 * puts + 1) 0) [ inl same ↦ absurd (omega (
 abbrev with_stop : ℕ → Member → Member
 with_stop puts x = record x { disk = record x.disk { calls = record x.disk.calls { stop_in = stop_behind puts } }; pattern = Old }
 
-pub arm_world : (n puts : ℕ) (w : Cluster) → next w (Crash n (4 * puts + 1) Old) ≡ record (with_member w n (with_stop puts (w.member n))) { rows = w.rows + 1 }
+pub arm_world : (n puts : ℕ) (w : Cluster) → after_row w (Crash n (4 * puts + 1) Old) ≡ record (with_member w n (with_stop puts (w.member n))) { rows = w.rows + 1 }
 arm_world n puts w =
     (λ i. record (with_member w n (if not_zero puts i then stopped_with Old (w.member n).disk (w.member n) else armed_member (4 * puts + 1) Old (w.member n))) { rows = w.rows + 1 })
     ∙ ap (λ (call : ℕ). record (with_member w n (armed_member call Old (w.member n))) { rows = w.rows + 1 }) (sym (stop_is puts))
@@ -68,11 +68,11 @@ stop_arms : (puts : ℕ) (x : Member) → IsCalm x → IsArmed (with_stop puts x
 stop_arms puts x calm = record { calls = ap (λ (c : Calls). record c { stop_in = stop_behind puts }) calm.calls; nothing_unsynced = calm.nothing_unsynced; pattern = refl }
 
 pub arm_leaves : (n puts : ℕ) (w : Cluster) (server : AllocatorState) → AreCalm w → Runs n w server
-    → RunsArmed n (next w (Crash n (4 * puts + 1) Old)) server puts × (stored_at n (next w (Crash n (4 * puts + 1) Old)) ≡ stored_at n w)
+    → RunsArmed n (after_row w (Crash n (4 * puts + 1) Old)) server puts × (stored_at n (after_row w (Crash n (4 * puts + 1) Old)) ≡ stored_at n w)
 arm_leaves n puts w server calm runs =
     subst (λ (v : Cluster). RunsArmed n v server puts × (stored_at n v ≡ stored_at n w)) (sym (arm_world n puts w)) (
       record {
-        runs = record { member = runs.member; up = ap (λ (x : Member). x.life) own ∙ runs.up };
+        runs = record { member = runs.member; up = ap (λ (x : Member). x.status) own ∙ runs.up };
         arm = subst (λ (x : Member). IsArmed x puts) (sym own) (stop_arms puts (w.member n) (calm n));
         others = others_with n w (with_stop puts (w.member n)) (λ m apart. calm m);
       },
@@ -88,13 +88,13 @@ is_armed_on : (x : Member) (left : ℕ) → IsArmed x left → x.disk ≡ armed_
 is_armed_on x left is = λ i. record x.disk { calls = is.calls i; unsynced = is.nothing_unsynced i }
 
 abbrev pub after_event : ℕ → Cluster → Event → Cluster
-after_event n w event = record (with_member w n (stepped (w.rows + 1) event (w.member n).life (w.member n))) { rows = w.rows + 1 }
+after_event n w event = record (with_member w n (member_after_step (w.rows + 1) event (w.member n).status (w.member n))) { rows = w.rows + 1 }
 
 -- the member went on, or stopped within the step
 pub record GoesOn (n : ℕ) (w v : Cluster) (step_state : StepState) (left : ℕ) : Type 0 where
   pub more : ℕ
   pub more_is : more + length step_state.puts ≡ left
-  pub runs : RunsArmed n v step_state.timed more
+  pub runs : RunsArmed n v step_state.allocator more
   pub stored : stored_at n v ≡ after_noted step_state.puts (stored_at n w)
 
 pub record StopsIn (n : ℕ) (w v : Cluster) (step_state : StepState) (left : ℕ) : Type 0 where
@@ -107,7 +107,7 @@ module _ (n : ℕ) (w : Cluster) (server : AllocatorState) (event : Event) (left
   x = w.member n
 
   abbrev step_state : StepState
-  step_state = going_of w server event
+  step_state = step_state_of w server event
 
   abbrev faults : ℕ
   faults = x.disk.calls.faults
@@ -118,54 +118,54 @@ module _ (n : ℕ) (w : Cluster) (server : AllocatorState) (event : Event) (left
   cut : IsCutBehind (puts_of x step_state) left x.disk disk faults
   cut = subst (λ (d : KeyDisk Stored). IsCutBehind (puts_of x step_state) left x.disk (puts_on (puts_of x step_state) d) faults) (sym (is_armed_on x left is.arm)) (cut_behind (puts_of x step_state) left x.disk faults)
 
-  begun : stepped (w.rows + 1) event x.life x ≡ wrote x (w.rows + 1) server step_state
-  begun = ap (λ (life : MemberStatus). stepped (w.rows + 1) event life x) is.runs.up
+  begun : member_after_step (w.rows + 1) event x.status x ≡ after_writing x (w.rows + 1) server step_state
+  begun = ap (λ (status : MemberStatus). member_after_step (w.rows + 1) event status x) is.runs.up
 
   done : (b : Bool) → are_put (puts_of x step_state) (armed (stop_behind left) faults) ≡ b
-      → stepped (w.rows + 1) event x.life x ≡ (if b then written x step_state else cut_off x (w.rows + 1) server step_state disk)
-  done b e = begun ∙ ap (λ (c : Bool). if c then written x step_state else cut_off x (w.rows + 1) server step_state disk) (ap (are_put (puts_of x step_state)) is.arm.calls ∙ e)
+      → member_after_step (w.rows + 1) event x.status x ≡ (if b then written x step_state else after_cut_off x (w.rows + 1) server step_state disk)
+  done b e = begun ∙ ap (λ (c : Bool). if c then written x step_state else after_cut_off x (w.rows + 1) server step_state disk) (ap (are_put (puts_of x step_state)) is.arm.calls ∙ e)
 
   went_on : AllPut (puts_of x step_state) left x.disk disk faults → GoesOn n w (after_event n w event) step_state left
   went_on all = record {
     more = all.left;
     more_is = omega (arith, all.left_is, as_many step_state.puts x.disk.store);
     runs = record {
-      runs = record { member = is.runs.member; up = ap (λ (y : Member). y.life) own };
+      runs = record { member = is.runs.member; up = ap (λ (y : Member). y.status) own };
       arm = subst (λ (y : Member). IsArmed y all.left) (sym own)
           (record { calls = all.calls ∙ ap (λ (c : Calls). armed (stop_behind all.left) c.faults) (sym all.calls); nothing_unsynced = all.nothing_unsynced; pattern = is.arm.pattern });
-      others = others_with n w (stepped (w.rows + 1) event x.life x) is.others;
+      others = others_with n w (member_after_step (w.rows + 1) event x.status x) is.others;
     };
     stored = ap (λ (y : Member). y.disk.store) own ∙ all.store;
   }
     where
       own : (after_event n w event).member n ≡ written x step_state
-      own = own_is w n (stepped (w.rows + 1) event x.life x) ∙ done true all.all
+      own = own_is w n (member_after_step (w.rows + 1) event x.status x) ∙ done true all.all
 
   stopped_in : SomePut (puts_of x step_state) left x.disk disk faults → StopsIn n w (after_event n w event) step_state left
   stopped_in some = record {
     few = omega (arith, some.many, as_many step_state.puts x.disk.store);
     dead = record {
-      down = ap (λ (y : Member). y.life) own;
-      calm = all_with n w (stepped (w.rows + 1) event x.life x) is.others (subst IsCalm (sym made) (stop_calm x.pattern disk x));
+      down = ap (λ (y : Member). y.status) own;
+      calm = all_with n w (member_after_step (w.rows + 1) event x.status x) is.others (subst IsCalm (sym made) (stop_calm x.pattern disk x));
     };
     stored = ap (λ (y : Member). y.disk.store) own ∙ stop_store x.pattern disk some.nothing_unsynced ∙ some.store;
   }
     where
-      made : stepped (w.rows + 1) event x.life x ≡ stopped_with x.pattern disk x
+      made : member_after_step (w.rows + 1) event x.status x ≡ stopped_with x.pattern disk x
       made = done false some.not_all
-          ∙ ap (λ (b : Bool). if b then stopped_with x.pattern disk x else record x { life = Failed (record { row = w.rows + 1; before = server; step_state = step_state; done = done_on (puts_of x step_state) x.disk.calls }); disk = disk }) some.stopped
+          ∙ ap (λ (b : Bool). if b then stopped_with x.pattern disk x else record x { status = Failed (record { row = w.rows + 1; before = server; step_state = step_state; done = done_on (puts_of x step_state) x.disk.calls }); disk = disk }) some.stopped
 
       own : (after_event n w event).member n ≡ stopped_with x.pattern disk x
-      own = own_is w n (stepped (w.rows + 1) event x.life x) ∙ made
+      own = own_is w n (member_after_step (w.rows + 1) event x.status x) ∙ made
 
   pub step_cut : GoesOn n w (after_event n w event) step_state left ⊎ StopsIn n w (after_event n w event) step_state left
   step_cut = elim cut [ inl all ↦ inl (went_on all) | inr some ↦ inr (stopped_in some) ]
 
 -- ---- a stop at once
 
-pub stop_dead : (n : ℕ) (w : Cluster) (server : AllocatorState) (left : ℕ) → RunsArmed n w server left → IsDead n (next w (Crash n 0 Old)) × (stored_at n (next w (Crash n 0 Old)) ≡ stored_at n w)
+pub stop_dead : (n : ℕ) (w : Cluster) (server : AllocatorState) (left : ℕ) → RunsArmed n w server left → IsDead n (after_row w (Crash n 0 Old)) × (stored_at n (after_row w (Crash n 0 Old)) ≡ stored_at n w)
 stop_dead n w server left is = (
-  record { down = ap (λ (y : Member). y.life) own; calm = all_with n w stopped is.others (stop_calm Old (w.member n).disk (w.member n)) },
+  record { down = ap (λ (y : Member). y.status) own; calm = all_with n w stopped is.others (stop_calm Old (w.member n).disk (w.member n)) },
   ap (λ (y : Member). y.disk.store) own ∙ stop_store Old (w.member n).disk is.arm.nothing_unsynced,
 )
   where

@@ -6,7 +6,7 @@ use Rattle.outside.specs.declared.received.RawFrame.{RawFrame}
 use Rattle.outside.specs.declared.received.Received.{Received}
 use Rattle.outside.specs.declared.received.Received.TheVariants.{Frame as Item, Junk, Nothing}
 use Rattle.outside.specs.Traffic.{next_item}
-use Rattle.app_base.specs.Draws.{moved, word_at}
+use Rattle.app_base.specs.Draws.{next_state, word_at}
 use Rattle.raft_core.specs.StoredPuts.{PutWithOrigin}
 use Rattle.raft_log.specs.Stored.{Stored}
 use Rattle.replay_text.specs.declared.row.Row.{Row}
@@ -23,18 +23,18 @@ use Rattle.alloc_step.specs.Step.Event.{Rx as Comes}
 use Rattle.alloc_step.specs.AllocatorState.{AllocatorState}
 use Rattle.alloc_step_marks.specs.Unmarked.{unmarked_event, unmarked_server}
 use Rattle.bus_spec.specs.declared.unlawful.Unlawful.TheVariants.{NoNode}
-use Rattle.bus_spec.specs.Cluster.{Cluster, after_rows, arriving, frame_at, from_outside, is_member, next, receipt_of, tick_of}
-use Rattle.bus_spec.specs.Lawful.{Lawful, because, cause, judged, no_such_frame, not_running, or_else}
+use Rattle.bus_spec.specs.Cluster.{Cluster, after_rows, arrival_at, frame_at, from_outside, is_member, after_row, receipt_of, tick_of}
+use Rattle.bus_spec.specs.Lawful.{Lawful, because, cause, arrival_refusal, no_such_frame, not_running, or_else}
 use Rattle.bus_spec.specs.Members.{is_running}
 use Rattle.app_node.specs.Frames.{event_in, is_frame, receipt}
 use Rattle.app_node.specs.Puts.{heard_puts, step_puts, taken_puts, tick_puts, turn_puts}
-use Rattle.app_node.specs.Turn.{Turning, ticks}
-use Rattle.app_node_laws.specs.Traces.{Came, IsForeign, IsKilled, MayOccur, Silence, Told, WasSent, came_rows, rows_of, then_, while_running}
+use Rattle.app_node.specs.Turn.{Turning, turn_after_tick}
+use Rattle.app_node_laws.specs.Traces.{Came, IsForeign, IsKilled, MayOccur, Silence, RowsFrom, WasSent, came_rows, rows_of, rows_then, while_running}
 use Rattle.app_node_laws.specs.Mirrored.{AreCalm, Carries}
 use Rattle.app_node_laws.proofs.Killed.{IsDead, RunsArmed, arm_leaves, not_zero, step_cut, stop_dead, stored_at}
 use Rattle.app_node_laws.proofs.Lawfully.{foreign_judged}
 use Rattle.app_node_laws.proofs.Places.{after_both, lawful_both}
-use Rattle.app_node_laws.proofs.Rows.{Runs, ext_frame, ext_lawful, ext_there, going_of, rx_lawful, stop_lawful, tick_lawful}
+use Rattle.app_node_laws.proofs.Rows.{Runs, ext_frame, ext_lawful, ext_there, step_state_of, rx_lawful, stop_lawful, tick_lawful}
 use Rattle.app_node_laws.proofs.Stored.{after_noted, after_some, all_of, some_of_first, some_of_rest}
 use Rattle.app_node_laws.proofs.Turning.{MarkLaws, same_event}
 
@@ -51,13 +51,13 @@ finishes_on n w first rest state lawful is = record {
   stored = ap (stored_at n) (after_both w first rest) ∙ is.stored;
 }
 
-abbrev pub stop_told : ℕ → Told
+abbrev pub stop_told : ℕ → RowsFrom
 stop_told n = while_running n (λ w. Crash n 0 Old ∷ [])
 
-pub running_now : (n : ℕ) (w : Cluster) (server : AllocatorState) (left : ℕ) → RunsArmed n w server left → is_running (w.member n).life ≡ true
+pub running_now : (n : ℕ) (w : Cluster) (server : AllocatorState) (left : ℕ) → RunsArmed n w server left → is_running (w.member n).status ≡ true
 running_now n w server left is = ap is_running is.runs.up
 
-pub dead_now : (n : ℕ) (w : Cluster) → IsDead n w → is_running (w.member n).life ≡ false
+pub dead_now : (n : ℕ) (w : Cluster) → IsDead n w → is_running (w.member n).status ≡ false
 dead_now n w is = ap is_running is.down
 
 -- ---- at last it stops, if it has not
@@ -83,24 +83,24 @@ module _ (marks : MarkLaws)
     (deliveries : (setting : Setting) (sessions : List Session) (arrival : Arrival) (delivery : Delivery) → answer setting sessions arrival ≡ Gives delivery → IsDelivered setting sessions arrival delivery)
     (n : ℕ) where
   -- the same puts
-  puts_as : (server timed : AllocatorState) (row number : ℕ) (e f : Event) → unmarked_server server ≡ unmarked_server timed → unmarked_event e ≡ unmarked_event f
-      → (step server row e).step_state.puts ≡ (step timed number f).step_state.puts
-  puts_as server timed row number e f same events = ap (λ (s : StepResult). s.step_state.puts) (marks.step server timed row number e f same events)
+  puts_as : (server allocator : AllocatorState) (row number : ℕ) (e f : Event) → unmarked_server server ≡ unmarked_server allocator → unmarked_event e ≡ unmarked_event f
+      → (step server row e).step_state.puts ≡ (step allocator number f).step_state.puts
+  puts_as server allocator row number e f same events = ap (λ (s : StepResult). s.step_state.puts) (marks.step server allocator row number e f same events)
 
-  server_as : (server timed : AllocatorState) (row number : ℕ) (e f : Event) → unmarked_server server ≡ unmarked_server timed → unmarked_event e ≡ unmarked_event f
-      → unmarked_server (step server row e).step_state.timed ≡ unmarked_server (step timed number f).step_state.timed
-  server_as server timed row number e f same events = ap (λ (s : StepResult). s.step_state.timed) (marks.step server timed row number e f same events)
+  server_as : (server allocator : AllocatorState) (row number : ℕ) (e f : Event) → unmarked_server server ≡ unmarked_server allocator → unmarked_event e ≡ unmarked_event f
+      → unmarked_server (step server row e).step_state.allocator ≡ unmarked_server (step allocator number f).step_state.allocator
+  server_as server allocator row number e f same events = ap (λ (s : StepResult). s.step_state.allocator) (marks.step server allocator row number e f same events)
 
   -- ---- a frame that comes while so many puts are left
 
   rx_finishes : (w : Cluster) (k moment : ℕ) (server : AllocatorState) (left : ℕ) (puts : List PutWithOrigin) → RunsArmed n w server left → no_such_frame w k ≡ None
-      → judged (w.member n).life (arriving (frame_at w.frames k) moment) ≡ None → (going_of w server (receipt_of w k moment)).puts ≡ puts
-      → Finishes n w (Rx n k moment ∷ stop_told n (next w (Rx n k moment))) (after_some left puts (stored_at n w))
+      → arrival_refusal (w.member n).status (arrival_at (frame_at w.frames k) moment) ≡ None → (step_state_of w server (receipt_of w k moment)).puts ≡ puts
+      → Finishes n w (Rx n k moment ∷ stop_told n (after_row w (Rx n k moment))) (after_some left puts (stored_at n w))
   rx_finishes w k moment server left puts is there fine same = elim (step_cut n w server (receipt_of w k moment) left is) [
     | inl on ↦ finishes_on n w (Rx n k moment ∷ []) (stop_told n w1) (after_some left puts (stored_at n w)) (lawful, tt)
         (as_stored n w1 (stop_told n w1) (stored_at n w1) (after_some left puts (stored_at n w))
         (on.stored ∙ sym (all_of own left (stored_at n w) (omega (arith, on.more_is))) ∙ ap (λ (p : List PutWithOrigin). after_some left p (stored_at n w)) same)
-        (stop_running n w1 (going_of w server (receipt_of w k moment)).timed on.more on.runs))
+        (stop_running n w1 (step_state_of w server (receipt_of w k moment)).allocator on.more on.runs))
     | inr off ↦ finishes_on n w (Rx n k moment ∷ []) (stop_told n w1) (after_some left puts (stored_at n w)) (lawful, tt)
         (as_stored n w1 (stop_told n w1) (stored_at n w1) (after_some left puts (stored_at n w))
         (off.stored ∙ ap (λ (p : List PutWithOrigin). after_some left p (stored_at n w)) same)
@@ -108,10 +108,10 @@ module _ (marks : MarkLaws)
   ]
     where
       w1 : Cluster
-      w1 = next w (Rx n k moment)
+      w1 = after_row w (Rx n k moment)
 
       own : List PutWithOrigin
-      own = (going_of w server (receipt_of w k moment)).puts
+      own = (step_state_of w server (receipt_of w k moment)).puts
 
       lawful : cause w (Rx n k moment) ≡ None
       lawful = rx_lawful w n k moment server is.runs there fine
@@ -136,25 +136,25 @@ module _ (marks : MarkLaws)
       (nothing_left left (stored_at n w) ∙ ap (λ (p : List PutWithOrigin). after_some left p (stored_at n w)) same) (stop_running n w server left is)
 
   came_finishes : (w : Cluster) (t : Turning) (moment : ℕ) (item : Received) (came : Came) (server : AllocatorState) (left : ℕ) → RunsArmed n w server left
-      → unmarked_server server ≡ unmarked_server t.running.timed → MayOccur n moment came w → Carries w.frames item came
-      → Finishes n w (then_ (came_rows n moment came) (stop_told n) w) (after_some left (item_puts moment item t) (stored_at n w))
+      → unmarked_server server ≡ unmarked_server t.running.allocator → MayOccur n moment came w → Carries w.frames item came
+      → Finishes n w (rows_then (came_rows n moment came) (stop_told n) w) (after_some left (item_puts moment item t) (stored_at n w))
   came_finishes w t moment (Item raw) Silence server left is same may carries = silence w server left (item_puts moment (Item raw) t) is (of_none raw moment t carries)
   came_finishes w t moment Junk Silence server left is same may carries = silence w server left [] is refl
   came_finishes w t moment Nothing Silence server left is same may carries = silence w server left [] is refl
   came_finishes w t moment (Item raw) (WasSent k) server left is same may carries =
       rx_finishes w k moment server left (item_puts moment (Item raw) t) is may.0 may.1
-      (puts_as server t.running.timed (w.rows + 1) (suc (length t.lines)) (receipt_of w k moment) (receipt moment raw) same (same_event marks deliveries n raw (frame_at w.frames k) moment carries)
+      (puts_as server t.running.allocator (w.rows + 1) (suc (length t.lines)) (receipt_of w k moment) (receipt moment raw) same (same_event marks deliveries n raw (frame_at w.frames k) moment carries)
       ∙ of_frame raw moment t carries.frame)
   came_finishes w t moment (Item raw) (IsForeign frame) server left is same may carries =
-      finishes_on n w (Ext frame ∷ []) (Rx n (length w.frames + 1) moment ∷ stop_told n (next out (Rx n (length w.frames + 1) moment))) (after_some left (item_puts moment (Item raw) t) (stored_at n w)) (ext_lawful w frame may, tt)
+      finishes_on n w (Ext frame ∷ []) (Rx n (length w.frames + 1) moment ∷ stop_told n (after_row out (Rx n (length w.frames + 1) moment))) (after_some left (item_puts moment (Item raw) t) (stored_at n w)) (ext_lawful w frame may, tt)
       (rx_finishes out (length w.frames + 1) moment server left (item_puts moment (Item raw) t) (record { runs = record { member = is.runs.member; up = is.runs.up }; arm = is.arm; others = is.others })
       (ext_there w frame) (foreign_judged deliveries n w frame moment server is.runs may)
-      (puts_as server t.running.timed (w.rows + 1 + 1) (suc (length t.lines)) (Comes (arriving last moment)) (receipt moment raw) same
-      (ap (λ (q : Queued). unmarked_event (Comes (arriving q moment))) (ext_frame w.frames outside) ∙ same_event marks deliveries n raw outside moment carries)
+      (puts_as server t.running.allocator (w.rows + 1 + 1) (suc (length t.lines)) (Comes (arrival_at last moment)) (receipt moment raw) same
+      (ap (λ (q : Queued). unmarked_event (Comes (arrival_at q moment))) (ext_frame w.frames outside) ∙ same_event marks deliveries n raw outside moment carries)
       ∙ of_frame raw moment t carries.frame))
     where
       out : Cluster
-      out = next w (Ext frame)
+      out = after_row w (Ext frame)
 
       outside : Queued
       outside = from_outside frame.id frame.bytes.items
@@ -171,24 +171,24 @@ module _ (marks : MarkLaws)
   abbrev ticked_rows : ℕ → ℕ → ℕ → List Row
   ticked_rows puts moment word = Crash n (4 * puts + 1) Old ∷ Tick n moment word ∷ []
 
-  pub killed_told : (w : Cluster) (t : Turning) (moment puts : ℕ) (came : Came) (server : AllocatorState) → AreCalm w → Runs n w server → unmarked_server server ≡ unmarked_server t.running.timed
-      → let word = word_at (moved t.running.draws) in let ticked = after_rows w (ticked_rows puts moment word) in
-      (is_running (ticked.member n).life ≡ true → MayOccur n moment came ticked) → Carries w.frames (next_item t.running.coming) came
+  pub killed_told : (w : Cluster) (t : Turning) (moment puts : ℕ) (came : Came) (server : AllocatorState) → AreCalm w → Runs n w server → unmarked_server server ≡ unmarked_server t.running.allocator
+      → let word = word_at (next_state t.running.draws) in let ticked = after_rows w (ticked_rows puts moment word) in
+      (is_running (ticked.member n).status ≡ true → MayOccur n moment came ticked) → Carries w.frames (next_item t.running.coming) came
       → Finishes n w (rows_of (IsKilled n moment word came puts) w) (after_some puts (turn_puts moment t) (stored_at n w))
   unfolding turn_puts
   killed_told w t moment puts came server calm runs same may carries =
-      finishes_on n w (ticked_rows puts moment word) (then_ (while_running n (came_rows n moment came)) (stop_told n) w2) state
+      finishes_on n w (ticked_rows puts moment word) (rows_then (while_running n (came_rows n moment came)) (stop_told n) w2) state
       (arm_lawful n w puts runs.member, (tick_lawful w1 n moment word server arm.0.runs, tt))
       (elim (step_cut n w1 server (tick_of moment word) puts arm.0) [
         | inl on ↦
-            subst (λ (b : Bool). Finishes n w2 (then_ (λ v. if b then came_rows n moment came v else []) (stop_told n) w2) state) (sym (running_now n w2 tick.timed on.more on.runs))
-            (as_stored n w2 (then_ (came_rows n moment came) (stop_told n) w2) (after_some on.more heard (stored_at n w2)) state
+            subst (λ (b : Bool). Finishes n w2 (rows_then (λ v. if b then came_rows n moment came v else []) (stop_told n) w2) state) (sym (running_now n w2 tick.allocator on.more on.runs))
+            (as_stored n w2 (rows_then (came_rows n moment came) (stop_told n) w2) (after_some on.more heard (stored_at n w2)) state
             (ap (after_some on.more heard) (on.stored ∙ (λ i. after_noted (ticked i) (arm.1 i)))
             ∙ sym (some_of_rest (tick_puts moment t) heard on.more puts (stored_at n w) (subst (λ (p : List PutWithOrigin). on.more + length p ≡ puts) ticked on.more_is)))
-            (came_finishes w2 (ticks moment t) moment (next_item t.running.coming) came tick.timed on.more on.runs (server_as server t.running.timed (w1.rows + 1) (suc (length t.lines)) (tick_of moment word) (tick_of moment word) same refl)
-            (may (running_now n w2 tick.timed on.more on.runs)) carries))
+            (came_finishes w2 (turn_after_tick moment t) moment (next_item t.running.coming) came tick.allocator on.more on.runs (server_as server t.running.allocator (w1.rows + 1) (suc (length t.lines)) (tick_of moment word) (tick_of moment word) same refl)
+            (may (running_now n w2 tick.allocator on.more on.runs)) carries))
         | inr off ↦
-            subst (λ (b : Bool). Finishes n w2 (then_ (λ v. if b then came_rows n moment came v else []) (stop_told n) w2) state) (sym (dead_now n w2 off.dead))
+            subst (λ (b : Bool). Finishes n w2 (rows_then (λ v. if b then came_rows n moment came v else []) (stop_told n) w2) state) (sym (dead_now n w2 off.dead))
             (as_stored n w2 (stop_told n w2) (stored_at n w2) state
             (off.stored ∙ (λ i. after_some puts (ticked i) (arm.1 i))
             ∙ sym (some_of_first (tick_puts moment t) heard puts (stored_at n w) (subst (λ (p : List PutWithOrigin). puts < length p) ticked off.few)))
@@ -196,25 +196,25 @@ module _ (marks : MarkLaws)
       ])
     where
       word : ℕ
-      word = word_at (moved t.running.draws)
+      word = word_at (next_state t.running.draws)
 
       w1 : Cluster
-      w1 = next w (Crash n (4 * puts + 1) Old)
+      w1 = after_row w (Crash n (4 * puts + 1) Old)
 
       w2 : Cluster
-      w2 = next w1 (Tick n moment word)
+      w2 = after_row w1 (Tick n moment word)
 
       arm : RunsArmed n w1 server puts × (stored_at n w1 ≡ stored_at n w)
       arm = arm_leaves n puts w server calm runs
 
       tick : StepState
-      tick = going_of w1 server (tick_of moment word)
+      tick = step_state_of w1 server (tick_of moment word)
 
       heard : List PutWithOrigin
-      heard = heard_puts moment (ticks moment t)
+      heard = heard_puts moment (turn_after_tick moment t)
 
       ticked : tick.puts ≡ tick_puts moment t
-      ticked = puts_as server t.running.timed (w1.rows + 1) (suc (length t.lines)) (tick_of moment word) (tick_of moment word) same refl
+      ticked = puts_as server t.running.allocator (w1.rows + 1) (suc (length t.lines)) (tick_of moment word) (tick_of moment word) same refl
 
       state : Stored
       state = after_some puts (tick_puts moment t ++ heard) (stored_at n w)

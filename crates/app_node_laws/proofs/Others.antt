@@ -7,7 +7,7 @@ use Rattle.raft_model.specs.Lists.{at_other}
 use Rattle.replay_text.specs.declared.row.Row.{Row}
 use Rattle.replay_text.specs.declared.row.Row.TheVariants.{AEnd, AOpen, ARx, ASend, ATick, Crash, Ext, Fault, Open, Rx, Send, Tick}
 use Rattle.transfer_tx.specs.Queue.{Queued}
-use Rattle.bus_spec.specs.Cluster.{Cluster, after_rows, in_list, next}
+use Rattle.bus_spec.specs.Cluster.{Cluster, after_rows, in_list, after_row}
 use Rattle.bus_agreement.proofs.Lists.{never}
 use Rattle.bus_spec.specs.Members.{is_running, next_frame}
 use Rattle.app_node.specs.Frames.{raw_of}
@@ -42,7 +42,7 @@ module _ (whom : Option ℕ) (m : ℕ) (apart : Some m ≡ whom → ⊥) where
   other : (k : ℕ) → Some k ≡ whom → m ≢ k
   other k e f = apart (ap (λ (j : ℕ). Some j) f ∙ e)
 
-  row_member : (w : Cluster) (row : Row) → IsAt whom row → (next w row).member m ≡ w.member m
+  row_member : (w : Cluster) (row : Row) → IsAt whom row → (after_row w row).member m ≡ w.member m
   row_member w (Open k ms word) is = at_other w.member k m _ (other k is)
   row_member w (Tick k ms word) is = at_other w.member k m _ (other k is)
   row_member w (Rx k frame ms) is = at_other w.member k m _ (other k is)
@@ -62,7 +62,7 @@ module _ (whom : Option ℕ) (m : ℕ) (apart : Some m ≡ whom → ⊥) where
   row_sent w (Rx k frame ms) is = refl
   row_sent w (Send k) is = elim (eqb_tells k m) [
     | inl same ↦ absurd (apart (ap (λ (j : ℕ). Some j) (sym same.1) ∙ is))
-    | inr not_same ↦ ap (λ (b : Bool). if b then in_list (next_frame (w.member k).life) else []) not_same.0
+    | inr not_same ↦ ap (λ (b : Bool). if b then in_list (next_frame (w.member k).status) else []) not_same.0
   ]
   row_sent w (Ext frame) is = refl
   row_sent w (Crash k calls pattern) is = refl
@@ -75,11 +75,11 @@ module _ (whom : Option ℕ) (m : ℕ) (apart : Some m ≡ whom → ⊥) where
 
   rows_member : (w : Cluster) (rows : List Row) → AreAt whom rows → (after_rows w rows).member m ≡ w.member m
   rows_member w [] is = refl
-  rows_member w (row ∷ rows) is = rows_member (next w row) rows is.1 ∙ row_member w row is.0
+  rows_member w (row ∷ rows) is = rows_member (after_row w row) rows is.1 ∙ row_member w row is.0
 
   rows_sent : (w : Cluster) (rows : List Row) → AreAt whom rows → sent_by m w rows ≡ []
   rows_sent w [] is = refl
-  rows_sent w (row ∷ rows) is = λ i. row_sent w row is.0 i ++ rows_sent (next w row) rows is.1 i
+  rows_sent w (row ∷ rows) is = λ i. row_sent w row is.0 i ++ rows_sent (after_row w row) rows is.1 i
 
 -- the rows of what happens are at its member
 
@@ -112,10 +112,10 @@ allocatee_at (AEnd a) is = (tt, tt)
 
 event_at : (event : Event) (w : Cluster) → MayHappen event w → AreAt (whose event) (rows_of event w)
 event_at (Opens n moment word) w may = (refl, tt)
-event_at (Turns n moment word came) w may = (refl, both_at (Some n) (came_rows n moment came w1) (out_rows n w2) (came_at n moment came w1) (send_at n (next_frame (w2.member n).life)))
+event_at (Turns n moment word came) w may = (refl, both_at (Some n) (came_rows n moment came w1) (out_rows n w2) (came_at n moment came w1) (send_at n (next_frame (w2.member n).status)))
   where
     w1 : Cluster
-    w1 = next w (Tick n moment word)
+    w1 = after_row w (Tick n moment word)
 
     w2 : Cluster
     w2 = after_rows w1 (came_rows n moment came w1)
@@ -125,7 +125,7 @@ event_at (IsKilled n moment word came puts) w may = (
   (
     refl,
     both_at (Some n) (while_running n (came_rows n moment came) w2) (while_running n (λ v. Crash n 0 Old ∷ []) w3)
-        (if_at n (is_running (w2.member n).life) (came_rows n moment came w2) (came_at n moment came w2)) (if_at n (is_running (w3.member n).life) (Crash n 0 Old ∷ []) (refl, tt)),
+        (if_at n (is_running (w2.member n).status) (came_rows n moment came w2) (came_at n moment came w2)) (if_at n (is_running (w3.member n).status) (Crash n 0 Old ∷ []) (refl, tt)),
   ),
 )
   where

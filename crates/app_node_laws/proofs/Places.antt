@@ -5,7 +5,7 @@ use Rattle.std.proofs.lemmas.List.{map-append}
 use Rattle.raft_model.specs.Lists.{at_here, at_other}
 use Rattle.replay_text.specs.declared.row.Row.{Row}
 use Rattle.transfer_tx.specs.Queue.{Queued}
-use Rattle.bus_spec.specs.Cluster.{Cluster, after_rows, next, with_member}
+use Rattle.bus_spec.specs.Cluster.{Cluster, after_rows, after_row, with_member}
 use Rattle.bus_spec.specs.Lawful.{Lawful}
 use Rattle.bus_spec.specs.Members.{Member}
 use Rattle.app_node.specs.Frames.{raw_of}
@@ -28,17 +28,17 @@ calm_with w n x all own = each_with IsCalm w n x all own
 
 pub after_both : (w : Cluster) (first rest : List Row) → after_rows w (first ++ rest) ≡ after_rows (after_rows w first) rest
 after_both w [] rest = refl
-after_both w (row ∷ first) rest = after_both (next w row) first rest
+after_both w (row ∷ first) rest = after_both (after_row w row) first rest
 
 pub lawful_both : (w : Cluster) (first rest : List Row) → Lawful w first → Lawful (after_rows w first) rest → Lawful w (first ++ rest)
 lawful_both w [] rest a b = b
-lawful_both w (row ∷ first) rest a b = (a.0, lawful_both (next w row) first rest a.1 b)
+lawful_both w (row ∷ first) rest a b = (a.0, lawful_both (after_row w row) first rest a.1 b)
 
 queued_both : (n : ℕ) (w : Cluster) (first rest : List Row) → sent_by n w (first ++ rest) ≡ sent_by n w first ++ sent_by n (after_rows w first) rest
 queued_both n w [] rest = refl
 queued_both n w (row ∷ first) rest =
-    ap (λ (l : List Queued). sent_in n w row ++ l) (queued_both n (next w row) first rest)
-    ∙ sym (append_assoc (sent_in n w row) (sent_by n (next w row) first) (sent_by n (after_rows (next w row) first) rest))
+    ap (λ (l : List Queued). sent_in n w row ++ l) (queued_both n (after_row w row) first rest)
+    ∙ sym (append_assoc (sent_in n w row) (sent_by n (after_row w row) first) (sent_by n (after_rows (after_row w row) first) rest))
 
 pub sent_both : (n : ℕ) (w : Cluster) (first rest : List Row) → raw_by n w (first ++ rest) ≡ raw_by n w first ++ raw_by n (after_rows w first) rest
 sent_both n w first rest =

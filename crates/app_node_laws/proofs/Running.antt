@@ -6,7 +6,7 @@ use Rattle.std.proofs.lemmas.List.{take_all}
 use Rattle.outside.specs.declared.received.RawFrame.{RawFrame}
 use Rattle.outside.specs.Readings.{next_reading}
 use Rattle.outside.specs.Traffic.{items_behind, next_item}
-use Rattle.app_base.specs.Draws.{moved, word_at}
+use Rattle.app_base.specs.Draws.{next_state, word_at}
 use Rattle.raft_core.specs.StoredPuts.{store_of}
 use Rattle.raft_log.specs.KeyDisk.{opening_on}
 use Rattle.raft_log.specs.Stored.{Put, Stored, after_puts, opening_puts}
@@ -19,16 +19,16 @@ use Rattle.transfer_rx.specs.Sound.{IsDelivered}
 use Rattle.transfer_tx.specs.Queue.{Queued, next_out}
 use Rattle.alloc_step.specs.Step.{Event as StepEvent}
 use Rattle.alloc_step.specs.AllocatorState.{opening}
-use Rattle.bus_spec.specs.Cluster.{Cluster, after_rows, is_member, next}
+use Rattle.bus_spec.specs.Cluster.{Cluster, after_rows, is_member, after_row}
 use Rattle.bus_spec.specs.Members.{Member}
 use Rattle.bus_spec.specs.Members.MemberStatus.{Up}
 use Rattle.app_node.specs.Frames.{event_in}
-use Rattle.app_node.specs.Opening.{Given, opened, opened_at, readings_after}
-use Rattle.app_node.specs.Turn.{Running, Turning, hears, sends_out, takes, ticks, turn}
-use Rattle.app_node.specs.Turns.{Together, all_turns, first_turns, turned, turning_at}
+use Rattle.app_node.specs.Opening.{Given, together_at_opening, opened_at, readings_after}
+use Rattle.app_node.specs.Turn.{Running, Turning, turn_after_hearing, turn_after_frame, turn_after_taking, turn_after_tick, turn}
+use Rattle.app_node.specs.Turns.{Together, all_turns, first_turns, turning_after, turning_at}
 use Rattle.app_node_laws.specs.Traces.{Came, Event, IsKilled, MayAllHappen, MayHappen, OfAllocatee, Opens, Stops, Turns, all_rows, rows_of}
 use Rattle.app_node_laws.specs.Mirrored.{AreCalm, Carries, IsMirrored, raw_by}
-use Rattle.bus_agreement.proofs.Joining.{same_ids}
+use Rattle.bus_agreement.proofs.Concatenations.{same_ids}
 use Rattle.bus_agreement.proofs.Lists.{never}
 use Rattle.replay_text.specs.declared.row.Row.{Row}
 use Rattle.app_node_laws.specs.Processes.{ComesNext, GoesOn, IsWaiting, OneOf, Point, StandAt, StandsAt, TakesTurn, is_of_these, next_point, place_of, running_at, together_at, whose}
@@ -43,19 +43,19 @@ use Rattle.app_node_laws.proofs.Turning.{MarkLaws, Tells, turn_told}
 
 -- ---- a turn keeps the node ID
 
-taken_id : (o : Option StepEvent) (t : Turning) → (takes o t).running.id ≡ t.running.id
+taken_id : (o : Option StepEvent) (t : Turning) → (turn_after_taking o t).running.id ≡ t.running.id
 taken_id None t = refl
 taken_id (Some taken) t = refl
 
-sent_id : (o : Option Queued) (t : Turning) → (sends_out o t).running.id ≡ t.running.id
+sent_id : (o : Option Queued) (t : Turning) → (turn_after_frame o t).running.id ≡ t.running.id
 sent_id None t = refl
 sent_id (Some frame) t = refl
 
 turn_id : (moment : ℕ) (t : Turning) → (turn moment t).running.id ≡ t.running.id
 unfolding turn
 turn_id moment t =
-    sent_id (next_out (hears moment (ticks moment t)).running.timed.queue) (hears moment (ticks moment t))
-    ∙ taken_id (event_in moment (next_item t.running.coming)) (record (ticks moment t) { running = record (ticks moment t).running { coming = items_behind t.running.coming } })
+    sent_id (next_out (turn_after_hearing moment (turn_after_tick moment t)).running.allocator.queue) (turn_after_hearing moment (turn_after_tick moment t))
+    ∙ taken_id (event_in moment (next_item t.running.coming)) (record (turn_after_tick moment t) { running = record (turn_after_tick moment t).running { coming = items_behind t.running.coming } })
 
 -- ---- node IDs stay
 
@@ -67,12 +67,12 @@ ids_first mine all (suc places) is i = elim (eqb_tells i places) [
   | inr apart ↦ ap (λ (r : Running). r.id) (at_other (first_turns places all).running places i _ apart.1) ∙ ids_first mine all places is i
 ]
 
-pub ids_of : (mine : List ℕ) (given : Given) (size turns i : ℕ) → ((all_turns (length mine) turns (opened size mine given)).running i).id ≡ slice_index mine i
+pub ids_of : (mine : List ℕ) (given : Given) (size turns i : ℕ) → ((all_turns (length mine) turns (together_at_opening size mine given)).running i).id ≡ slice_index mine i
 ids_of mine given size zero i = refl
-ids_of mine given size (suc turns) i = ids_first mine (all_turns (length mine) turns (opened size mine given)) (length mine) (ids_of mine given size turns) i
+ids_of mine given size (suc turns) i = ids_first mine (all_turns (length mine) turns (together_at_opening size mine given)) (length mine) (ids_of mine given size turns) i
 
 pub ids_then : (mine : List ℕ) (given : Given) (size taken place i : ℕ) → ((together_at size mine given taken place).running i).id ≡ slice_index mine i
-ids_then mine given size taken place i = ids_first mine (all_turns (length mine) taken (opened size mine given)) place (ids_of mine given size taken) i
+ids_then mine given size taken place i = ids_first mine (all_turns (length mine) taken (together_at_opening size mine given)) place (ids_of mine given size taken) i
 
 -- ---- members
 
@@ -101,7 +101,7 @@ module _ (marks : MarkLaws)
 
   module _ (size : ℕ) where
     ids_at : (taken place i : ℕ) → ((together_at size mine given taken place).running i).id ≡ slice_index mine i
-    ids_at taken place i = ids_first mine (all_turns count taken (opened size mine given)) place (ids_of mine given size taken) i
+    ids_at taken place i = ids_first mine (all_turns count taken (together_at_opening size mine given)) place (ids_of mine given size taken) i
 
     -- ---- what happens at others
 
@@ -109,12 +109,12 @@ module _ (marks : MarkLaws)
     Stands w point i = StandsAt size mine given w point i
 
     still_mirrored : (w v : Cluster) (r : Running) → v.member r.id ≡ w.member r.id → IsMirrored w r → IsMirrored v r
-    still_mirrored w v r e is = record { server = is.server; runs = ap (λ (x : Member). x.life) e ∙ is.runs; same = is.same }
+    still_mirrored w v r e is = record { server = is.server; runs = ap (λ (x : Member). x.status) e ∙ is.runs; same = is.same }
 
     still_stands : (w v : Cluster) (point : Point) (i : ℕ) → v.member (slice_index mine i) ≡ w.member (slice_index mine i) → Stands w point i → Stands v point i
     still_stands w v (at_point.Opening place) i e is = (
       λ low. still_mirrored w v (opened_at size mine given i) e (is.0 low),
-      λ high. record { down = ap (λ (x : Member). x.life) e ∙ (is.1 high).down; stored = ap (λ (x : Member). store_of x.disk.store) e ∙ (is.1 high).stored },
+      λ high. record { down = ap (λ (x : Member). x.status) e ∙ (is.1 high).down; stored = ap (λ (x : Member). store_of x.disk.store) e ∙ (is.1 high).stored },
     )
     still_stands w v (at_point.Turning taken place) i e is =
         still_mirrored w v ((together_at size mine given taken place).running i)
@@ -144,10 +144,10 @@ module _ (marks : MarkLaws)
 
     -- the one at a place is opened, and then the others are as they were
     opened_here : (w : Cluster) → AreCalm w → size ≡ length w.ids → (place moment word : ℕ) → IsWaiting size mine given w place
-        → ((next w (Open (slice_index mine place) moment word)).member (slice_index mine place)).life ≡ Up (opening (slice_index mine place) size (store_of (given.stored place)) moment word)
+        → ((after_row w (Open (slice_index mine place) moment word)).member (slice_index mine place)).status ≡ Up (opening (slice_index mine place) size (store_of (given.stored place)) moment word)
     opened_here w calm is_size place moment word waits =
-        ap (λ (v : Cluster). (v.member id).life) (open_world w id moment word calm)
-        ∙ ap (λ (x : Member). x.life) (own_is w id (opened_member id (length w.ids) moment word (w.member id)))
+        ap (λ (v : Cluster). (v.member id).status) (open_world w id moment word calm)
+        ∙ ap (λ (x : Member). x.status) (own_is w id (opened_member id (length w.ids) moment word (w.member id)))
         ∙ (λ i. Up (opening id (back i) (stored i) moment word))
       where
         id : ℕ
@@ -172,7 +172,7 @@ module _ (marks : MarkLaws)
     ]
 
     opens_own : (w : Cluster) → AreCalm w → size ≡ length w.ids → (place : ℕ) → place < count
-        → let id = slice_index mine place in let event = Opens id (next_reading (readings_after place given.readings)) (word_at (moved id)) in
+        → let id = slice_index mine place in let event = Opens id (next_reading (readings_after place given.readings)) (word_at (next_state id)) in
         MayHappen event w → StandAt size mine given w (at_point.Opening place) → Own w event (at_point.Opening place)
     opens_own w calm is_size place within may all i low =
         by_number (λ (p : Point). Follows w v (at_point.Opening place) p (sent_then w event) i) (at_point.Turning 0 0) (at_point.Opening (suc place)) (suc place)
@@ -183,15 +183,15 @@ module _ (marks : MarkLaws)
         id = slice_index mine place
 
         event : Event
-        event = Opens id (next_reading (readings_after place given.readings)) (word_at (moved id))
+        event = Opens id (next_reading (readings_after place given.readings)) (word_at (next_state id))
 
         v : Cluster
         v = after w event
 
         here : i ≡ place → IsMirrored v (opened_at size mine given i)
         here e = subst (λ (j : ℕ). IsMirrored v (opened_at size mine given j)) (sym e) (record {
-          server = (opened_at size mine given place).timed;
-          runs = opened_here w calm is_size place (next_reading (readings_after place given.readings)) (word_at (moved id)) ((all place within).1 (omega arith));
+          server = (opened_at size mine given place).allocator;
+          runs = opened_here w calm is_size place (next_reading (readings_after place given.readings)) (word_at (next_state id)) ((all place within).1 (omega arith));
           same = refl;
         })
 
@@ -205,7 +205,7 @@ module _ (marks : MarkLaws)
         ]
 
     turns_own : (w : Cluster) → AreCalm w → (taken place : ℕ) (came : Came) → place < count
-        → let id = slice_index mine place in let all = together_at size mine given taken place in let event = Turns id (next_reading all.readings) (word_at (moved (all.running place).draws)) came in
+        → let id = slice_index mine place in let all = together_at size mine given taken place in let event = Turns id (next_reading all.readings) (word_at (next_state (all.running place).draws)) came in
         MayHappen event w → Carries w.frames (next_item (all.running place).coming) came
         → StandAt size mine given w (at_point.Turning taken place) → Own w event (at_point.Turning taken place)
     turns_own w calm taken place came within may carries stand i low =
@@ -217,19 +217,19 @@ module _ (marks : MarkLaws)
         id = slice_index mine place
 
         base : Together
-        base = all_turns count taken (opened size mine given)
+        base = all_turns count taken (together_at_opening size mine given)
 
         all : Together
         all = first_turns place base
 
         event : Event
-        event = Turns id (next_reading all.readings) (word_at (moved (all.running place).draws)) came
+        event = Turns id (next_reading all.readings) (word_at (next_state (all.running place).draws)) came
 
         v : Cluster
         v = after w event
 
         done : Turning
-        done = turned place all
+        done = turning_after place all
 
         To : Running → Type 0
         To r = IsMirrored v r × (r.sent ≡ (all.running i).sent ++ sent_then w event (slice_index mine i))
@@ -238,7 +238,7 @@ module _ (marks : MarkLaws)
         own = stand place within
 
         runs : Runs id w own.server
-        runs = record { member = may.0.member; up = ap (λ (n : ℕ). (w.member n).life) (sym (ids_at taken place place)) ∙ own.runs }
+        runs = record { member = may.0.member; up = ap (λ (n : ℕ). (w.member n).status) (sym (ids_at taken place place)) ∙ own.runs }
 
         told : Tells id w (rows_of event w) (all.running place) done.running
         told = turn_told marks deliveries id w (turning_at place all) (next_reading all.readings) came own.server calm runs own.same may.1 carries
@@ -246,7 +246,7 @@ module _ (marks : MarkLaws)
         mirrored : IsMirrored v done.running
         mirrored = record {
           server = told.goes.server;
-          runs = ap (λ (n : ℕ). (v.member n).life) (turn_id (next_reading all.readings) (turning_at place all) ∙ ids_at taken place place) ∙ told.goes.runs.up;
+          runs = ap (λ (n : ℕ). (v.member n).status) (turn_id (next_reading all.readings) (turning_at place all) ∙ ids_at taken place place) ∙ told.goes.runs.up;
           same = told.same;
         }
 
@@ -267,31 +267,31 @@ module _ (marks : MarkLaws)
 
     next_own : (w : Cluster) → AreCalm w → size ≡ length w.ids → (event : Event) (from : Point) → place_of from < count → MayHappen event w
         → ComesNext size mine given w event from → StandAt size mine given w from → Own w event from
-    next_own w calm is_size (Opens n moment word) (at_point.Opening place) within may next stand =
+    next_own w calm is_size (Opens n moment word) (at_point.Opening place) within may after_row stand =
         subst (λ (h : Event). Own w h (at_point.Opening place)) (sym same) (opens_own w calm is_size place within (subst (λ (h : Event). MayHappen h w) same may) stand)
       where
-        word_is : word ≡ word_at (moved (slice_index mine place))
-        word_is = next.2 ∙ ap (λ (m : ℕ). word_at (moved m)) next.0
+        word_is : word ≡ word_at (next_state (slice_index mine place))
+        word_is = after_row.2 ∙ ap (λ (m : ℕ). word_at (next_state m)) after_row.0
 
-        same : Opens n moment word ≡ Opens (slice_index mine place) (next_reading (readings_after place given.readings)) (word_at (moved (slice_index mine place)))
-        same = λ i. Opens (next.0 i) (next.1 i) (word_is i)
-    next_own w calm is_size (Turns n moment word came) (at_point.Turning taken place) within may next stand =
+        same : Opens n moment word ≡ Opens (slice_index mine place) (next_reading (readings_after place given.readings)) (word_at (next_state (slice_index mine place)))
+        same = λ i. Opens (after_row.0 i) (after_row.1 i) (word_is i)
+    next_own w calm is_size (Turns n moment word came) (at_point.Turning taken place) within may after_row stand =
         subst (λ (h : Event). Own w h (at_point.Turning taken place)) (sym same)
-        (turns_own w calm taken place came within (subst (λ (h : Event). MayHappen h w) same may) next.1.carries stand)
+        (turns_own w calm taken place came within (subst (λ (h : Event). MayHappen h w) same may) after_row.1.carries stand)
       where
         all : Together
         all = together_at size mine given taken place
 
-        same : Turns n moment word came ≡ Turns (slice_index mine place) (next_reading all.readings) (word_at (moved (all.running place).draws)) came
-        same = λ i. Turns (next.0 i) (next.1.moment_is i) (next.1.word_is i) came
-    next_own w calm is_size (Opens n moment word) (at_point.Turning taken place) within may next stand = absurd next
-    next_own w calm is_size (Turns n moment word came) (at_point.Opening place) within may next stand = absurd next
-    next_own w calm is_size (Stops n) (at_point.Opening place) within may next stand = absurd next
-    next_own w calm is_size (Stops n) (at_point.Turning taken place) within may next stand = absurd next
-    next_own w calm is_size (IsKilled n moment word came puts) (at_point.Opening place) within may next stand = absurd next
-    next_own w calm is_size (IsKilled n moment word came puts) (at_point.Turning taken place) within may next stand = absurd next
-    next_own w calm is_size (OfAllocatee row) (at_point.Opening place) within may next stand = absurd next
-    next_own w calm is_size (OfAllocatee row) (at_point.Turning taken place) within may next stand = absurd next
+        same : Turns n moment word came ≡ Turns (slice_index mine place) (next_reading all.readings) (word_at (next_state (all.running place).draws)) came
+        same = λ i. Turns (after_row.0 i) (after_row.1.moment_is i) (after_row.1.word_is i) came
+    next_own w calm is_size (Opens n moment word) (at_point.Turning taken place) within may after_row stand = absurd after_row
+    next_own w calm is_size (Turns n moment word came) (at_point.Opening place) within may after_row stand = absurd after_row
+    next_own w calm is_size (Stops n) (at_point.Opening place) within may after_row stand = absurd after_row
+    next_own w calm is_size (Stops n) (at_point.Turning taken place) within may after_row stand = absurd after_row
+    next_own w calm is_size (IsKilled n moment word came puts) (at_point.Opening place) within may after_row stand = absurd after_row
+    next_own w calm is_size (IsKilled n moment word came puts) (at_point.Turning taken place) within may after_row stand = absurd after_row
+    next_own w calm is_size (OfAllocatee row) (at_point.Opening place) within may after_row stand = absurd after_row
+    next_own w calm is_size (OfAllocatee row) (at_point.Turning taken place) within may after_row stand = absurd after_row
 
     not_last : (place : ℕ) → place ≤ count → (place ≡ count → ⊥) → place < count
     not_last place h n = let apart : place ≢ count = n in omega (arith, h)
@@ -304,7 +304,7 @@ module _ (marks : MarkLaws)
 
     same_size : (w : Cluster) (rows : List Row) → (after_rows w rows).ids ≡ w.ids
     same_size w [] = refl
-    same_size w (row ∷ rows) = same_size (next w row) rows ∙ same_ids w row
+    same_size w (row ∷ rows) = same_size (after_row w row) rows ∙ same_ids w row
 
     joined : (w v u : Cluster) (from mid to : Point) (first rest : ℕ → List RawFrame) (i : ℕ) → Follows w v from mid first i → Follows v u mid to rest i
         → Follows w u from to (λ n. first n ++ rest n) i

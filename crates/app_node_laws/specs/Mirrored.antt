@@ -9,7 +9,7 @@ use Rattle.replay_text.specs.declared.row.Row.TheVariants.{Send}
 use Rattle.alloc_step.specs.AllocatorState.{AllocatorState}
 use Rattle.transfer_tx.specs.Queue.{Queued}
 use Rattle.alloc_step_marks.specs.Unmarked.{unmarked_server}
-use Rattle.bus_spec.specs.Cluster.{Cluster, frame_at, in_list, next}
+use Rattle.bus_spec.specs.Cluster.{Cluster, frame_at, in_list, after_row}
 use Rattle.bus_spec.specs.Members.{MemberStatus, Member, next_frame}
 use Rattle.bus_spec.specs.Members.MemberStatus.{Down, Failed, Up}
 use Rattle.app_node.specs.Frames.{is_frame, raw_of}
@@ -26,7 +26,7 @@ HasWorked (Failed failure) = ⊥
 pub record IsCalm (x : Member) : Type 0 where
   pub calls : x.disk.calls ≡ nothing_set x.disk.calls.faults
   pub nothing_unsynced : x.disk.unsynced ≡ None
-  pub works : HasWorked x.life
+  pub works : HasWorked x.status
 
 abbrev pub AreCalm : Cluster → Type 0
 AreCalm w = (m : ℕ) → IsCalm (w.member m)
@@ -35,8 +35,8 @@ AreCalm w = (m : ℕ) → IsCalm (w.member m)
 
 pub record IsMirrored (w : Cluster) (r : Running) : Type 0 where
   pub server : AllocatorState
-  pub runs : (w.member r.id).life ≡ Up server
-  pub same : unmarked_server server ≡ unmarked_server r.timed
+  pub runs : (w.member r.id).status ≡ Up server
+  pub same : unmarked_server server ≡ unmarked_server r.allocator
 
 -- ---- frames
 
@@ -60,12 +60,12 @@ Carries frames Nothing (IsForeign frame) = ⊥
 
 -- the frames that a member sends in a row, and in all of these
 abbrev pub sent_in : ℕ → Cluster → Row → List Queued
-sent_in n w (Send m) = if m == n then in_list (next_frame (w.member m).life) else []
+sent_in n w (Send m) = if m == n then in_list (next_frame (w.member m).status) else []
 sent_in n w row = []
 
 abbrev pub sent_by : ℕ → Cluster → List Row → List Queued
 sent_by n w [] = []
-sent_by n w (row ∷ rows) = sent_in n w row ++ sent_by n (next w row) rows
+sent_by n w (row ∷ rows) = sent_in n w row ++ sent_by n (after_row w row) rows
 
 -- as its link is sent them
 abbrev pub raw_by : ℕ → Cluster → List Row → List RawFrame

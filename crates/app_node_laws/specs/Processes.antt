@@ -3,11 +3,11 @@
 use Rattle.std.specs.Prelude.{◌≡◌, ℕ, suc, ◌<◌, ◌≤◌, ◌==◌, Bool, true, false, List, [], ◌∷◌, length, Option, None, Some, slice_index, if◌then◌else◌}
 use Rattle.outside.specs.Readings.{next_reading}
 use Rattle.outside.specs.Traffic.{next_item}
-use Rattle.app_base.specs.Draws.{moved, word_at}
+use Rattle.app_base.specs.Draws.{next_state, word_at}
 use Rattle.raft_core.specs.StoredPuts.{store_of}
 use Rattle.bus_spec.specs.Cluster.{Cluster, after_rows, is_member}
 use Rattle.bus_spec.specs.Members.MemberStatus.{Down}
-use Rattle.app_node.specs.Opening.{Given, opened, opened_at, readings_after}
+use Rattle.app_node.specs.Opening.{Given, together_at_opening, opened_at, readings_after}
 use Rattle.app_node.specs.Turn.{Running}
 use Rattle.app_node.specs.Turns.{Together, all_turns, first_turns}
 use Rattle.app_node_laws.specs.Traces.{Came, Event, OfAllocatee, IsKilled, Opens, Stops, Turns, rows_of}
@@ -48,14 +48,14 @@ OneOf false A B = B
 -- this is the turn that the member at a place takes next, when all stand like this
 pub record TakesTurn (w : Cluster) (n moment word : ℕ) (came : Came) (all : Together) (place : ℕ) : Type 0 where
   pub moment_is : moment ≡ next_reading all.readings
-  pub word_is : word ≡ word_at (moved (all.running place).draws)
+  pub word_is : word ≡ word_at (next_state (all.running place).draws)
   pub carries : Carries w.frames (next_item (all.running place).coming) came
 
 -- of a process that runs these members, of a cluster of so many, with what was handed in
 module _ (size : ℕ) (mine : List ℕ) (given : Given) where
   -- the members of the process, when all have taken so many turns, and those before the place one more
   abbrev pub together_at : ℕ → ℕ → Together
-  together_at taken place = first_turns place (all_turns (length mine) taken (opened size mine given))
+  together_at taken place = first_turns place (all_turns (length mine) taken (together_at_opening size mine given))
 
   abbrev pub running_at : Point → ℕ → Running
   running_at (Opening place) i = opened_at size mine given i
@@ -64,7 +64,7 @@ module _ (size : ℕ) (mine : List ℕ) (given : Given) where
   -- the event is what it does next
   abbrev pub ComesNext : Cluster → Event → Point → Type 0
   ComesNext w (Opens n moment word) (Opening place) = (n ≡ slice_index mine place)
-      × (moment ≡ next_reading (readings_after place given.readings)) × (word ≡ word_at (moved n))
+      × (moment ≡ next_reading (readings_after place given.readings)) × (word ≡ word_at (next_state n))
   ComesNext w (Turns n moment word came) (Turning taken place) =
       (n ≡ slice_index mine place) × TakesTurn w n moment word came (together_at taken place) place
   ComesNext w event point = ⊥
@@ -78,7 +78,7 @@ module _ (size : ℕ) (mine : List ℕ) (given : Given) where
 
   -- a member that is not opened yet is stopped, and has stored what was handed in
   pub record IsWaiting (w : Cluster) (i : ℕ) : Type 0 where
-    pub down : (w.member (slice_index mine i)).life ≡ Down
+    pub down : (w.member (slice_index mine i)).status ≡ Down
     pub stored : store_of (w.member (slice_index mine i)).disk.store ≡ store_of (given.stored i)
 
   -- what the world has of the member at a place

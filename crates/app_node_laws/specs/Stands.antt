@@ -6,7 +6,7 @@ use Rattle.outside.specs.declared.received.RawFrame.{RawFrame}
 use Rattle.outside.specs.declared.received.Received.{Received}
 use Rattle.outside.specs.Readings.{next_reading}
 use Rattle.outside.specs.Traffic.{items_behind, next_item}
-use Rattle.app_base.specs.Draws.{moved, word_at}
+use Rattle.app_base.specs.Draws.{next_state, word_at}
 use Rattle.raft_core.specs.StoredPuts.{store_of}
 use Rattle.raft_log.specs.Rules.{StandsForState}
 use Rattle.raft_log.specs.Stored.{Stored}
@@ -37,7 +37,7 @@ pub record IsFollowed (size : ℕ) (mine : List ℕ) (given : Given) (w v : Clus
 
 -- a member is stopped, with what an image stands for
 pub record IsFound (image : List ℕ) (w : Cluster) (n : ℕ) : Type 0 where
-  pub down : (w.member n).life ≡ Down
+  pub down : (w.member n).status ≡ Down
   pub found : Stored
   pub stands : StandsForState image found
   pub same : store_of (w.member n).disk.store ≡ store_of found
@@ -68,7 +68,7 @@ pub record LeavesAsTold {L D : Type 0} (sent : L → Option (List RawFrame)) (di
 
 -- the event of its next turn, in which it is killed after so many puts
 abbrev pub kill_of : Running → ℕ → Came → ℕ → Event
-kill_of r moment came puts = IsKilled r.id moment (word_at (moved r.draws)) came puts
+kill_of r moment came puts = IsKilled r.id moment (word_at (next_state r.draws)) came puts
 
 -- for some number of puts it leaves the member with what the image stands for
 abbrev pub IsFoundKilled : List ℕ → Cluster → Running → ℕ → Came → Type 0

@@ -10,8 +10,8 @@ use Rattle.outside.specs.declared.pattern.Pattern.TheVariants.{Old}
 use Rattle.replay_text.specs.declared.row.Row.{Row}
 use Rattle.replay_text.specs.declared.row.Row.TheVariants.{Open, Tick, Rx, Send, Ext, Crash, AOpen, ATick, ARx, ASend, AEnd}
 use Rattle.transfer_tx.specs.Queue.{Queued}
-use Rattle.bus_spec.specs.Cluster.{Cluster, after_rows, arriving, frame_at, is_member, next}
-use Rattle.bus_spec.specs.Lawful.{cause, is_forged, judged, no_such_frame}
+use Rattle.bus_spec.specs.Cluster.{Cluster, after_rows, arrival_at, frame_at, is_member, after_row}
+use Rattle.bus_spec.specs.Lawful.{cause, is_forged, arrival_refusal, no_such_frame}
 use Rattle.bus_spec.specs.Members.{is_running, next_frame}
 
 -- what came on a member's link in a turn
@@ -48,14 +48,14 @@ is_of_allocatee row = false
 -- ---- the rows of an event
 
 -- rows as a function of the world before them
-abbrev pub Told : Type 0
-Told = Cluster → List Row
+abbrev pub RowsFrom : Type 0
+RowsFrom = Cluster → List Row
 
 -- the rows of one after those of another
-abbrev pub then_ : Told → Told → Told
-then_ first rest w = first w ++ rest (after_rows w (first w))
+abbrev pub rows_then : RowsFrom → RowsFrom → RowsFrom
+rows_then first rest w = first w ++ rest (after_rows w (first w))
 
-abbrev pub came_rows : ℕ → ℕ → Came → Told
+abbrev pub came_rows : ℕ → ℕ → Came → RowsFrom
 came_rows n moment Silence w = []
 came_rows n moment (WasSent k) w = Rx n k moment ∷ []
 came_rows n moment (IsForeign frame) w = Ext frame ∷ Rx n (length w.frames + 1) moment ∷ []
@@ -65,28 +65,28 @@ abbrev pub send_if : ℕ → Option Queued → List Row
 send_if n None = []
 send_if n (Some frame) = Send n ∷ []
 
-abbrev pub out_rows : ℕ → Told
-out_rows n w = send_if n (next_frame (w.member n).life)
+abbrev pub out_rows : ℕ → RowsFrom
+out_rows n w = send_if n (next_frame (w.member n).status)
 
 -- none, where the member has stopped by then
-abbrev pub while_running : ℕ → Told → Told
-while_running n rows w = if is_running (w.member n).life then rows w else []
+abbrev pub while_running : ℕ → RowsFrom → RowsFrom
+while_running n rows w = if is_running (w.member n).status then rows w else []
 
 -- A put is four calls of a disk. A stop in place of call 4 * puts + 1, counted over both steps of the turn, leaves the
 -- first `puts` of its puts done and no other.
-abbrev pub rows_of : Event → Told
+abbrev pub rows_of : Event → RowsFrom
 rows_of (Opens n moment word) w = Open n moment word ∷ []
 rows_of (Turns n moment word came) w =
-    then_ (λ w. Tick n moment word ∷ []) (then_ (came_rows n moment came) (out_rows n)) w
+    rows_then (λ w. Tick n moment word ∷ []) (rows_then (came_rows n moment came) (out_rows n)) w
 rows_of (Stops n) w = Crash n 0 Old ∷ []
 rows_of (IsKilled n moment word came puts) w =
-    then_ (λ w. Crash n (4 * puts + 1) Old ∷ Tick n moment word ∷ [])
-    (then_ (while_running n (came_rows n moment came)) (while_running n (λ w. Crash n 0 Old ∷ []))) w
+    rows_then (λ w. Crash n (4 * puts + 1) Old ∷ Tick n moment word ∷ [])
+    (rows_then (while_running n (came_rows n moment came)) (while_running n (λ w. Crash n 0 Old ∷ []))) w
 rows_of (OfAllocatee row) w = row ∷ []
 
-abbrev pub all_rows : List Event → Told
+abbrev pub all_rows : List Event → RowsFrom
 all_rows [] w = []
-all_rows (first ∷ rest) w = then_ (rows_of first) (all_rows rest) w
+all_rows (first ∷ rest) w = rows_then (rows_of first) (all_rows rest) w
 
 -- ---- the premises
 
@@ -97,20 +97,20 @@ all_rows (first ∷ rest) w = then_ (rows_of first) (all_rows rest) w
 abbrev pub MayOccur : ℕ → ℕ → Came → Cluster → Type 0
 MayOccur n moment Silence w = ⊤
 MayOccur n moment (WasSent k) w =
-    (no_such_frame w k ≡ None) × (judged (w.member n).life (arriving (frame_at w.frames k) moment) ≡ None)
+    (no_such_frame w k ≡ None) × (arrival_refusal (w.member n).status (arrival_at (frame_at w.frames k) moment) ≡ None)
 MayOccur n moment (IsForeign frame) w = is_forged w.ids (identifier_of frame.id) ≡ false
 
 pub record MayTurn (n : ℕ) (w : Cluster) : Type 0 where
   pub member : is_member w.ids n ≡ true
-  pub runs : is_running (w.member n).life ≡ true
+  pub runs : is_running (w.member n).status ≡ true
 
 abbrev pub MayHappen : Event → Cluster → Type 0
-MayHappen (Opens n moment word) w = (is_member w.ids n ≡ true) × (is_running (w.member n).life ≡ false)
-MayHappen (Turns n moment word came) w = MayTurn n w × MayOccur n moment came (next w (Tick n moment word))
+MayHappen (Opens n moment word) w = (is_member w.ids n ≡ true) × (is_running (w.member n).status ≡ false)
+MayHappen (Turns n moment word came) w = MayTurn n w × MayOccur n moment came (after_row w (Tick n moment word))
 MayHappen (Stops n) w = MayTurn n w
 MayHappen (IsKilled n moment word came puts) w =
     let ticked : Cluster = after_rows w (Crash n (4 * puts + 1) Old ∷ Tick n moment word ∷ []) in
-    MayTurn n w × (is_running (ticked.member n).life ≡ true → MayOccur n moment came ticked)
+    MayTurn n w × (is_running (ticked.member n).status ≡ true → MayOccur n moment came ticked)
 MayHappen (OfAllocatee row) w = (is_of_allocatee row ≡ true) × (cause w row ≡ None)
 
 abbrev pub MayAllHappen : List Event → Cluster → Type 0

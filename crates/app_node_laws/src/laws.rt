@@ -73,7 +73,7 @@ pub fn processes_are_followed()
 pub fn stores_are_followed()
     ensures { (ids : List ℕ) (trace : List Event) (r : Running) → AreMembers ids →
         MayAllHappen trace (cluster ids) → In r.id ids → let w = world_after ids trace in
-        IsMirrored w r → store_of (w.member r.id).disk.store ≡ r.timed.plain.store }
+        IsMirrored w r → store_of (w.member r.id).disk.store ≡ r.allocator.raft_server.store }
 {
     traces_are_lawful();
 }

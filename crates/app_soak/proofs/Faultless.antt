@@ -16,10 +16,10 @@ use Rattle.replay_text.specs.declared.row.Row.TheVariants.{Open, Tick, Rx, Send,
 use Rattle.alloc_step.specs.StepState.{StepState}
 use Rattle.alloc_step.specs.Step.{Event, step}
 use Rattle.alloc_step.specs.AllocatorState.{AllocatorState, opening}
-use Rattle.bus_spec.specs.Cluster.{Cluster, after_rows, cluster, is_member, next, receipt_of, tick_of, world_of}
-use Rattle.bus_spec.specs.Members.{MemberStatus, Member, after_sending, armed, crashed, cut_off, is_running, opened, puts_of, stepped, stopped_with, unopened, wrote}
+use Rattle.bus_spec.specs.Cluster.{Cluster, after_rows, cluster, is_member, after_row, receipt_of, tick_of, world_of}
+use Rattle.bus_spec.specs.Members.{MemberStatus, Member, after_sending, with_stop_armed, after_crash, after_cut_off, is_running, after_opening, puts_of, member_after_step, stopped_with, after_failed_opening, after_writing}
 use Rattle.bus_spec.specs.Members.MemberStatus.{Down, Up, Failed}
-use Rattle.bus_spec.specs.Report.{life_view, view_at}
+use Rattle.bus_spec.specs.Report.{running_view, view_at}
 use Rattle.app_soak.specs.Leading.{HasNoFault, is_fault}
 
 -- ---- tests
@@ -162,45 +162,45 @@ HasNotFailed (Failed failure) = ⊥
 
 record IsFaultless (x : Member) : Type 0 where
   pub unset : IsUnset x.disk.calls
-  pub works : HasNotFailed x.life
+  pub works : HasNotFailed x.status
 
 stopped_faultless : (pattern : Pattern) (disk : KeyDisk Stored) (x : Member) → IsFaultless (stopped_with pattern disk x)
 stopped_faultless pattern disk x = record { unset = refl; works = tt }
 
-opened_faultless : (n size moment word : ℕ) (x : Member) → IsFaultless x → IsFaultless (opened n size moment word x)
+opened_faultless : (n size moment word : ℕ) (x : Member) → IsFaultless x → IsFaultless (after_opening n size moment word x)
 opened_faultless n size moment word x is =
     let disk = opening_on x.disk in
     let unset = unset_opening x.disk is.unset in
-    let up : Member = record x { life = Up (opening n size (store_of disk.store) moment word); disk = disk } in
-    let down : Member = record x { life = Down; disk = disk } in
+    let up : Member = record x { status = Up (opening n size (store_of disk.store) moment word); disk = disk } in
+    let down : Member = record x { status = Down; disk = disk } in
     let is_up : IsFaultless up = record { unset = unset; works = tt } in
     let is_down : IsFaultless down = record { unset = unset; works = tt } in
-    pick IsFaultless (is_open_on x.disk) up (unopened x disk) is_up
+    pick IsFaultless (is_open_on x.disk) up (after_failed_opening x disk) is_up
     (pick IsFaultless disk.calls.stopped (stopped_with x.pattern disk x) down (stopped_faultless x.pattern disk x) is_down)
 
-wrote_faultless : (x : Member) (row : ℕ) (before : AllocatorState) (step_state : StepState) → IsFaultless x → IsFaultless (wrote x row before step_state)
+wrote_faultless : (x : Member) (row : ℕ) (before : AllocatorState) (step_state : StepState) → IsFaultless x → IsFaultless (after_writing x row before step_state)
 wrote_faultless x row before step_state is =
     let puts = puts_of x step_state in
     let after = puts_on puts x.disk in
     let unset = unset_puts puts x.disk is.unset in
-    pick_by IsFaultless (are_put puts x.disk.calls) (record x { life = Up step_state.timed; disk = after }) (cut_off x row before step_state after)
+    pick_by IsFaultless (are_put puts x.disk.calls) (record x { status = Up step_state.allocator; disk = after }) (after_cut_off x row before step_state after)
     (λ done. record { unset = unset; works = tt })
     (λ cut. pick_by IsFaultless after.calls.stopped (stopped_with x.pattern after x) _ (λ stop. stopped_faultless x.pattern after x)
     (λ on. absurd (cc (on, stops_puts puts x.disk is.unset cut))))
 
-stepped_faultless : (row : ℕ) (event : Event) (life : MemberStatus) (x : Member) → IsFaultless x → IsFaultless (stepped row event life x)
+stepped_faultless : (row : ℕ) (event : Event) (status : MemberStatus) (x : Member) → IsFaultless x → IsFaultless (member_after_step row event status x)
 stepped_faultless row event Down x is = is
 stepped_faultless row event (Up server) x is = wrote_faultless x row server (step server row event).step_state is
 stepped_faultless row event (Failed failure) x is = is
 
-sent_works : (life : MemberStatus) → HasNotFailed life → HasNotFailed (after_sending life)
+sent_works : (status : MemberStatus) → HasNotFailed status → HasNotFailed (after_sending status)
 sent_works Down is = tt
 sent_works (Up server) is = tt
 sent_works (Failed failure) is = is
 
-crashed_faultless : (calls : ℕ) (pattern : Pattern) (x : Member) → IsFaultless x → IsFaultless (crashed calls pattern x)
+crashed_faultless : (calls : ℕ) (pattern : Pattern) (x : Member) → IsFaultless x → IsFaultless (after_crash calls pattern x)
 crashed_faultless calls pattern x is =
-    pick IsFaultless (calls == 0) (stopped_with pattern x.disk x) (armed calls pattern x) (stopped_faultless pattern x.disk x)
+    pick IsFaultless (calls == 0) (stopped_with pattern x.disk x) (with_stop_armed calls pattern x) (stopped_faultless pattern x.disk x)
     (record { unset = is.unset; works = is.works })
 
 -- ---- rows
@@ -211,11 +211,11 @@ AllFaultless w = (n : ℕ) → IsFaultless (w.member n)
 at_one : (members : ℕ → Member) (n : ℕ) (x : Member) → ((m : ℕ) → IsFaultless (members m)) → IsFaultless x → (m : ℕ) → IsFaultless (at members n x m)
 at_one members n x all is m = pick IsFaultless (m == n) x (members m) is (all m)
 
-next_faultless : (w : Cluster) (row : Row) → is_fault row ≡ false → AllFaultless w → AllFaultless (next w row)
+next_faultless : (w : Cluster) (row : Row) → is_fault row ≡ false → AllFaultless w → AllFaultless (after_row w row)
 next_faultless w (Open n ms word) e all = at_one w.member n _ all (opened_faultless n _ ms word (w.member n) (all n))
-next_faultless w (Tick n ms word) e all = at_one w.member n _ all (stepped_faultless _ (tick_of ms word) (w.member n).life (w.member n) (all n))
-next_faultless w (Rx n k ms) e all = at_one w.member n _ all (stepped_faultless _ (receipt_of w k ms) (w.member n).life (w.member n) (all n))
-next_faultless w (Send n) e all = at_one w.member n _ all (record { unset = (all n).unset; works = sent_works (w.member n).life (all n).works })
+next_faultless w (Tick n ms word) e all = at_one w.member n _ all (stepped_faultless _ (tick_of ms word) (w.member n).status (w.member n) (all n))
+next_faultless w (Rx n k ms) e all = at_one w.member n _ all (stepped_faultless _ (receipt_of w k ms) (w.member n).status (w.member n) (all n))
+next_faultless w (Send n) e all = at_one w.member n _ all (record { unset = (all n).unset; works = sent_works (w.member n).status (all n).works })
 next_faultless w (Ext frame) e all = all
 next_faultless w (Crash n calls pattern) e all = at_one w.member n _ all (crashed_faultless calls pattern (w.member n) (all n))
 next_faultless w (Fault n call) e all = absurd (cc (e))
@@ -227,11 +227,11 @@ next_faultless w (AEnd a) e all = all
 
 rows_faultless : (w : Cluster) (rows : List Row) → HasNoFault rows → AllFaultless w → AllFaultless (after_rows w rows)
 rows_faultless w [] none all = all
-rows_faultless w (row ∷ rows) none all = rows_faultless (next w row) rows none.1 (next_faultless w row none.0 all)
+rows_faultless w (row ∷ rows) none all = rows_faultless (after_row w row) rows none.1 (next_faultless w row none.0 all)
 
 -- ---- what a member shows
 
-next_ids : (w : Cluster) (row : Row) → (next w row).ids ≡ w.ids
+next_ids : (w : Cluster) (row : Row) → (after_row w row).ids ≡ w.ids
 next_ids w (Open n ms word) = refl
 next_ids w (Tick n ms word) = refl
 next_ids w (Rx n k ms) = refl
@@ -247,7 +247,7 @@ next_ids w (AEnd a) = refl
 
 rows_ids : (w : Cluster) (rows : List Row) → (after_rows w rows).ids ≡ w.ids
 rows_ids w [] = refl
-rows_ids w (row ∷ rows) = rows_ids (next w row) rows ∙ next_ids w row
+rows_ids w (row ∷ rows) = rows_ids (after_row w row) rows ∙ next_ids w row
 
 or_true : (a : Bool) → (if a then true else true) ≡ true
 or_true true = refl
@@ -258,15 +258,15 @@ among n [] here = absurd here
 among n (id ∷ ids) (inl e) = ap (λ t. if t then true else any (λ i. i == n) ids) (eq-eqb id n (sym e))
 among n (id ∷ ids) (inr here) = ap (λ t. if (id == n) then true else t) (among n ids here) ∙ or_true (id == n)
 
-life_shown : (life : MemberStatus) → HasNotFailed life → is_some (life_view life) ≡ is_running life
-life_shown Down is = refl
-life_shown (Up server) is = refl
-life_shown (Failed failure) is = absurd is
+status_shown : (status : MemberStatus) → HasNotFailed status → is_some (running_view status) ≡ is_running status
+status_shown Down is = refl
+status_shown (Up server) is = refl
+status_shown (Failed failure) is = absurd is
 
 pub runs_as_shown : (ids : List ℕ) (rows : List Row) → HasNoFault rows → (n : ℕ) → In n ids →
-    is_some (view_at (world_of ids rows) n) ≡ is_running ((world_of ids rows).member n).life
+    is_some (view_at (world_of ids rows) n) ≡ is_running ((world_of ids rows).member n).status
 runs_as_shown ids rows none n here =
     let w = world_of ids rows in
     let member : is_member w.ids n ≡ true = ap (λ l. is_member l n) (rows_ids (cluster ids) rows) ∙ among n ids here in
-    ap (λ t. is_some (if t then life_view (w.member n).life else None)) member
-    ∙ life_shown (w.member n).life (rows_faultless (cluster ids) rows none (λ m. record { unset = refl; works = tt }) n).works
+    ap (λ t. is_some (if t then running_view (w.member n).status else None)) member
+    ∙ status_shown (w.member n).status (rows_faultless (cluster ids) rows none (λ m. record { unset = refl; works = tt }) n).works

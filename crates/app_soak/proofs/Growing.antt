@@ -6,10 +6,10 @@ use Rattle.replay_text.specs.declared.row.Row.{Row}
 use Rattle.replay_text.specs.declared.row.Row.TheVariants.{Open, Tick, Rx, Send, Ext, Crash, Fault, AOpen, ATick, ARx, ASend, AEnd}
 use Rattle.transfer_tx.specs.Queue.{Queued}
 use Rattle.bus_spec.specs.Allocatees.{next_from}
-use Rattle.bus_spec.specs.Cluster.{Cluster, in_list, next}
+use Rattle.bus_spec.specs.Cluster.{Cluster, in_list, after_row}
 use Rattle.bus_spec.specs.Members.{next_frame}
-use Rattle.bus_spec.specs.Report.{told}
-use Rattle.bus_spec.specs.Telling.{is_stop}
+use Rattle.bus_spec.specs.Report.{line_of_row}
+use Rattle.bus_spec.specs.ReportLine.{is_stop}
 use Rattle.app_soak.specs.Growth.{Fits, Grows, growth}
 use Rattle.app_soak.specs.Requests.{request}
 use Rattle.app_soak.specs.Rounds.{Soak, arms, arms_by_chance, asks_in_time, begins, draws, drawn, each, for_each, gives, has_heard, has_round, has_turn, hears, hears_all, is_refused, one_if, opens, repeats, sends, sends_some, shows, stop, takes, ticks, word}
@@ -82,11 +82,11 @@ one_at_most (Some frame) = omega arith
 one_frame : (frames more : List Queued) → length more ≤ 1 → length (frames ++ more) ≤ length frames + 1
 one_frame frames more h = omega (arith, length-append frames more)
 
-next_frames : (w : Cluster) (row : Row) → length (next w row).frames ≤ length w.frames + frames_of row
+next_frames : (w : Cluster) (row : Row) → length (after_row w row).frames ≤ length w.frames + frames_of row
 next_frames w (Open n ms word) = omega arith
 next_frames w (Tick n ms word) = omega arith
 next_frames w (Rx n k ms) = omega arith
-next_frames w (Send n) = one_frame w.frames (in_list (next_frame (w.member n).life)) (one_at_most (next_frame (w.member n).life))
+next_frames w (Send n) = one_frame w.frames (in_list (next_frame (w.member n).status)) (one_at_most (next_frame (w.member n).status))
 next_frames w (Ext frame) = one_frame w.frames _ (omega arith)
 next_frames w (Crash n calls pattern) = omega arith
 next_frames w (Fault n call) = omega arith
@@ -103,7 +103,7 @@ one_at_most_if false = omega arith
 pub takes_grows : (row : Row) (s : Soak) → Grows (frames_of row) 1 s (takes row s)
 unfolding takes
 takes_grows row s =
-    let one = one_at_most_if (is_stop (told s.world row)) in
+    let one = one_at_most_if (is_stop (line_of_row s.world row)) in
     record {
       frames = next_frames s.world row;
       rows = omega arith;

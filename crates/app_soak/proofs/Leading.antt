@@ -4,7 +4,7 @@ use Rattle.std.specs.Prelude.{◌==◌, ◌%◌, ◌/◌, ◌-◌, length, is_so
 use Rattle.replay_text.specs.declared.row.Row.{Row}
 use Rattle.replay_text.specs.declared.row.Row.TheVariants.{Open, Tick, Rx, Send, Ext}
 use Rattle.bus_spec.specs.declared.unlawful.Unlawful.{Unlawful}
-use Rattle.bus_spec.specs.Cluster.{Cluster, after_rows, cluster, next}
+use Rattle.bus_spec.specs.Cluster.{Cluster, after_rows, cluster, after_row}
 use Rattle.bus_spec.specs.Lawful.{Lawful, cause}
 use Rattle.app_soak.specs.Leading.{HasNoFault, IsLed, is_fault}
 use Rattle.app_soak.specs.Requests.{request}
@@ -14,13 +14,13 @@ use Rattle.app_soak.specs.declared.turn.Turn.TheVariants.{Open as Opening, Tick 
 
 -- ---- one row more
 
-after_more : (w : Cluster) (rows : List Row) (row : Row) → after_rows w (rows ++ row ∷ []) ≡ next (after_rows w rows) row
+after_more : (w : Cluster) (rows : List Row) (row : Row) → after_rows w (rows ++ row ∷ []) ≡ after_row (after_rows w rows) row
 after_more w [] row = refl
-after_more w (first ∷ rows) row = after_more (next w first) rows row
+after_more w (first ∷ rows) row = after_more (after_row w first) rows row
 
 lawful_more : (w : Cluster) (rows : List Row) (row : Row) → Lawful w rows → cause (after_rows w rows) row ≡ None → Lawful w (rows ++ row ∷ [])
 lawful_more w [] row each last = (last, tt)
-lawful_more w (first ∷ rows) row each last = (each.0, lawful_more (next w first) rows row each.1 last)
+lawful_more w (first ∷ rows) row each last = (each.0, lawful_more (after_row w first) rows row each.1 last)
 
 faultless_more : (rows : List Row) (row : Row) → HasNoFault rows → is_fault row ≡ false → HasNoFault (rows ++ row ∷ [])
 faultless_more [] row none last = (last, tt)
@@ -37,7 +37,7 @@ module _ (ids : List ℕ) where
       let now = led.leads in
       record {
         lawful = lawful_more (cluster ids) s.rows row led.lawful (ap (λ w. cause w row) now ∙ not_refused (cause s.world row) e);
-        leads = after_more (cluster ids) s.rows row ∙ ap (λ w. next w row) now;
+        leads = after_more (cluster ids) s.rows row ∙ ap (λ w. after_row w row) now;
         faultless = faultless_more s.rows row led.faultless kind;
       }
 

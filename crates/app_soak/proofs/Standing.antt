@@ -5,12 +5,12 @@ use Rattle.std.specs.Prelude.{◌==◌, ◌%◌, ◌/◌, if◌then◌else◌}
 use Rattle.bus_world.specs.World.{StandsFor as IsWorld, frame_room}
 use Rattle.bus_world.specs.declared.world.World.{World}
 use Rattle.outside.specs.declared.pattern.Pattern.TheVariants.{Bytes}
-use Rattle.app_base.specs.Draws.{moved, word_at}
+use Rattle.app_base.specs.Draws.{next_state, word_at}
 use Rattle.replay_text.specs.declared.row.Row.{Row}
 use Rattle.replay_text.specs.declared.row.Row.TheVariants.{Open, Tick, Rx, Send, Ext, Crash}
-use Rattle.bus_spec.specs.Cluster.{cluster, next}
-use Rattle.bus_spec.specs.Report.{told}
-use Rattle.bus_spec.specs.Telling.{is_stop}
+use Rattle.bus_spec.specs.Cluster.{cluster, after_row}
+use Rattle.bus_spec.specs.Report.{line_of_row}
+use Rattle.bus_spec.specs.ReportLine.{is_stop}
 use Rattle.app_soak.specs.Growth.{Fits, Grows, growth, room_for}
 use Rattle.app_soak.specs.Requests.{request}
 use Rattle.app_soak.specs.Rounds.{Soak, arms, arms_by_chance, asks_in_time, begins, draws, drawn, each, for_each, gives, has_heard, has_round, has_turn, hears, hears_all, is_refused, members, one_if, opens, repeats, seeded, sends, sends_some, shows, takes, ticks, word}
@@ -56,19 +56,19 @@ fits_first seed rounds size room most enough = record {
 module _ {F G : Type 0} where
   -- ---- a draw
 
-  pub drawn_stands : (old : Soaking F G) (s : Soak) (x : ℕ) → StandsFor old s → x ≡ moved old.chance → StandsFor (record old { chance = x }) (draws s)
+  pub drawn_stands : (old : Soaking F G) (s : Soak) (x : ℕ) → StandsFor old s → x ≡ next_state old.chance → StandsFor (record old { chance = x }) (draws s)
   drawn_stands old s x is e = record {
     world = is.world;
     room = is.room;
     narrow = is.narrow;
-    chance = e ∙ ap moved is.chance;
+    chance = e ∙ ap next_state is.chance;
     moment = is.moment;
     heard = is.heard;
     stops = is.stops;
     refused = is.refused;
   }
 
-  pub drawn_room : (sent given : ℕ) (old : Soaking F G) (x : ℕ) → HasRoom sent given old → x ≡ moved old.chance →
+  pub drawn_room : (sent given : ℕ) (old : Soaking F G) (x : ℕ) → HasRoom sent given old → x ≡ next_state old.chance →
       HasRoom sent given (record old { chance = x })
   drawn_room sent given old x room e = record {
     now = draws room.now;
@@ -77,11 +77,11 @@ module _ {F G : Type 0} where
   }
 
   -- the number that was drawn
-  pub drawn_word : (old : Soaking F G) (s : Soak) (x w : ℕ) → StandsFor old s → x ≡ moved old.chance → w ≡ word_at x → w ≡ word s
-  drawn_word old s x w is e f = f ∙ ap word_at (e ∙ ap moved is.chance)
+  pub drawn_word : (old : Soaking F G) (s : Soak) (x w : ℕ) → StandsFor old s → x ≡ next_state old.chance → w ≡ word_at x → w ≡ word s
+  drawn_word old s x w is e f = f ∙ ap word_at (e ∙ ap next_state is.chance)
 
-  pub drawn_below : (old : Soaking F G) (s : Soak) (bound x w : ℕ) → StandsFor old s → x ≡ moved old.chance → w ≡ word_at x % bound → w ≡ drawn bound s
-  drawn_below old s bound x w is e f = f ∙ ap (λ y. word_at y % bound) (e ∙ ap moved is.chance)
+  pub drawn_below : (old : Soaking F G) (s : Soak) (bound x w : ℕ) → StandsFor old s → x ≡ next_state old.chance → w ≡ word_at x % bound → w ≡ drawn bound s
+  drawn_below old s bound x w is e f = f ∙ ap (λ y. word_at y % bound) (e ∙ ap next_state is.chance)
 
   -- ---- room after some rows
 
@@ -110,8 +110,8 @@ module _ {F G : Type 0} where
 
   -- ---- a row
 
-  pub takes_stands : (old : Soaking F G) (world : World F G) (s : Soak) (row : Row) (more : ℕ) → StandsFor old s → IsWorld world (next s.world row) →
-      frame_room world ≡ frame_room old.world → more ≡ one_if (is_stop (told s.world row)) →
+  pub takes_stands : (old : Soaking F G) (world : World F G) (s : Soak) (row : Row) (more : ℕ) → StandsFor old s → IsWorld world (after_row s.world row) →
+      frame_room world ≡ frame_room old.world → more ≡ one_if (is_stop (line_of_row s.world row)) →
       StandsFor (record old { world = world; stops = old.stops + more }) (takes row s)
   unfolding takes
   takes_stands old world s row more is after room e = record {

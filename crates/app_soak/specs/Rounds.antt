@@ -1,13 +1,13 @@
 -- The rounds of a soak: the rows that a seed makes, and what they leave. A row that is refused changes nothing.
 use Rattle.std.specs.Prelude.{ℕ, zero, suc, ◌+◌, ◌-◌, ◌*◌, ◌/◌, ◌%◌, ◌==◌, Bool, List, [], ◌∷◌, ◌++◌, length, take, is_some, if◌then◌else◌}
 use Rattle.outside.specs.declared.pattern.Pattern.TheVariants.{Bytes}
-use Rattle.app_base.specs.Draws.{moved, word_at}
+use Rattle.app_base.specs.Draws.{next_state, word_at}
 use Rattle.replay_text.specs.declared.row.Row.{Row}
 use Rattle.replay_text.specs.declared.row.Row.TheVariants.{Open, Tick, Rx, Send, Ext, Crash}
-use Rattle.bus_spec.specs.Cluster.{Cluster, cluster, next}
+use Rattle.bus_spec.specs.Cluster.{Cluster, cluster, after_row}
 use Rattle.bus_spec.specs.Lawful.{cause}
-use Rattle.bus_spec.specs.Report.{told, view_at}
-use Rattle.bus_spec.specs.Telling.{is_stop}
+use Rattle.bus_spec.specs.Report.{line_of_row, view_at}
+use Rattle.bus_spec.specs.ReportLine.{is_stop}
 use Rattle.app_soak.specs.Requests.{request}
 use Rattle.app_soak.specs.declared.turn.Turn.{Turn}
 use Rattle.app_soak.specs.declared.turn.Turn.TheVariants.{Open as Opening, Tick as Ticking, Hear as Hearing, Send as Sending}
@@ -32,11 +32,11 @@ pub record Soak : Type 0 where
 
 -- one number is drawn
 abbrev pub draws : Soak → Soak
-draws s = record s { chance = moved s.chance }
+draws s = record s { chance = next_state s.chance }
 
 -- the next number, 0 to 2^31 - 1
 abbrev pub word : Soak → ℕ
-word s = word_at (moved s.chance)
+word s = word_at (next_state s.chance)
 
 -- or made one below a bound
 abbrev pub drawn : ℕ → Soak → ℕ
@@ -52,9 +52,9 @@ one_if test = if test then 1 else 0
 
 unfoldable pub takes : Row → Soak → Soak
 takes row s = record s {
-  world = next s.world row;
+  world = after_row s.world row;
   rows = s.rows ++ row ∷ [];
-  stops = s.stops + one_if (is_stop (told s.world row));
+  stops = s.stops + one_if (is_stop (line_of_row s.world row));
 }
 
 unfoldable pub gives : Row → Soak → Soak

@@ -20,5 +20,5 @@ pub fn rows_are_lawful()
 pub fn members_that_run_are_shown()
     ensures { (ids : List ℕ) (rows : List Row) → HasNoFault rows → (n : ℕ) → In n ids →
         is_some (view_at (world_of ids rows) n)
-        ≡ is_running ((world_of ids rows).member n).life }
+        ≡ is_running ((world_of ids rows).member n).status }
 {}

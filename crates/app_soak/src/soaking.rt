@@ -8,7 +8,7 @@ ghost use Rattle.allocatee.specs.Accepted as device;
 ghost use Rattle.alloc_step.specs.Accepted as accepted;
 ghost use Rattle.transfer_rx.specs.Acceptance.{AnswersByRows};
 ghost use Rattle.transfer_rx.specs.Memory.{ReceiverFitsInMemory};
-ghost use Rattle.bus_spec.specs.Telling.{is_stop as tells_of_stop, telling_of};
+ghost use Rattle.bus_spec.specs.ReportLine.{is_stop as tells_of_stop, report_line_of};
 ghost use Rattle.app_soak.specs.Counts.{counts_of};
 ghost use Rattle.app_soak.specs.Growth.{room_for};
 ghost use Rattle.app_soak.specs.Rounds.{Soak, arms, arms_by_chance, asks_in_time, each, for_each, gives, has_round, has_turn, hears, hears_all, opens, repeats, sends_some, shows as is_shown, ticks};
@@ -434,7 +434,7 @@ impl<F: Fn(Kind, u16) -> Option<u64> + Copy, G: Fn(Kind, u16) -> Option<u64> + C
 }
 
 fn is_stop(told: &Told) -> bool
-    ensures { result ≡ tells_of_stop (telling_of told.now) }
+    ensures { result ≡ tells_of_stop (report_line_of told.now) }
 {
     match told {
         Told::Stopped { .. } => true,

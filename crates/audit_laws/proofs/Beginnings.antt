@@ -17,7 +17,7 @@ use Rattle.replay_text.specs.declared.row.Row.{Row}
 use Rattle.store_audit.specs.Stores.{committed as committed_by, store_at}
 use Rattle.store_audit.specs.Verdict.{IsDifference}
 use Rattle.bus_agreement.specs.Headline.{HasHeadline, Headline, the_list}
-use Rattle.bus_spec.specs.Choices.{Fits}
+use Rattle.bus_spec.specs.Choices.{AgreesWithDisk}
 use Rattle.bus_spec.specs.Cluster.{Cluster, cluster, world_of}
 use Rattle.bus_spec.specs.Logs.{stored, stored_on}
 use Rattle.bus_spec.specs.Members.{MemberStatus}
@@ -49,7 +49,7 @@ committed_as_read : (store : Reading) (state : Stored) → Tells store state →
 committed_as_read store state tells = ap (λ n. take n store.entries.items) tells.commit ∙ ap (λ (l : List Entry). take state.commit l) tells.entries
 
 -- what a member has stored that did not fail is what its disk has
-calm_store : (choice : ℕ → Bool) (life : MemberStatus) (disk : KeyDisk Stored) → HasWorked life → stored_on choice life disk ≡ store_of disk.store
+calm_store : (choice : ℕ → Bool) (status : MemberStatus) (disk : KeyDisk Stored) → HasWorked status → stored_on choice status disk ≡ store_of disk.store
 calm_store choice Down disk works = refl
 calm_store choice (Up server) disk works = refl
 calm_store choice (Failed failure) disk works = absurd works
@@ -75,7 +75,7 @@ module _ (one : StandsForOne) (choice : ℕ → Bool) (w later : Cluster) (headl
   stored_begins calm n store is =
       let left = is.left in
       begins n store is.image is.member is.read
-      (ap store_of (one is.image is.read.state left.state is.read.stands left.stands) ∙ (sym left.same ∙ sym (calm_store choice (w.member n).life (w.member n).disk (calm n).works)))
+      (ap store_of (one is.image is.read.state left.state is.read.stands left.stands) ∙ (sym left.same ∙ sym (calm_store choice (w.member n).status (w.member n).disk (calm n).works)))
 
   pub left_agree : (nodes : List ℕ) (stores : List Reading) (place a b : ℕ) → AreLeftBy choice w nodes stores → IsDifference stores place a b → ⊥
   left_agree nodes stores place a b are = no_difference (the_list choice w) stores place a b (λ k below. left_begins (slice_index nodes k) (store_at stores k) (are k below))
@@ -84,5 +84,5 @@ module _ (one : StandsForOne) (choice : ℕ → Bool) (w later : Cluster) (headl
   stored_agree calm nodes stores place a b are = no_difference (the_list choice w) stores place a b (λ k below. stored_begins calm (slice_index nodes k) (store_at stores k) (are k below))
 
 -- the world of rows has the headline after all of them
-pub headline_at_end : (ids : List ℕ) (rows : List Row) (choice : ℕ → Bool) → HasHeadline ids rows → Fits choice (cluster ids) rows → Headline choice (world_of ids rows) (world_of ids (rows ++ []))
-headline_at_end ids rows choice has fits = has.holds rows [] [] choice (sym (append-nil rows)) (subst (Fits choice (cluster ids)) (sym (append-nil rows)) fits)
+pub headline_at_end : (ids : List ℕ) (rows : List Row) (choice : ℕ → Bool) → HasHeadline ids rows → AgreesWithDisk choice (cluster ids) rows → Headline choice (world_of ids rows) (world_of ids (rows ++ []))
+headline_at_end ids rows choice has fits = has.holds rows [] [] choice (sym (append-nil rows)) (subst (AgreesWithDisk choice (cluster ids)) (sym (append-nil rows)) fits)

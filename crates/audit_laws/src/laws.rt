@@ -7,7 +7,7 @@ ghost use Rattle.app_node_laws.specs.Traces.{Event, MayAllHappen};
 ghost use Rattle.raft_log.specs.declared.stored.Stored.{Stored};
 ghost use Rattle.replay_text.specs.declared.row.Row.{Row};
 ghost use Rattle.store_audit.specs.Verdict.{IsDifference};
-ghost use Rattle.bus_spec.specs.Choices.{Fits};
+ghost use Rattle.bus_spec.specs.Choices.{AgreesWithDisk};
 ghost use Rattle.bus_spec.specs.Cluster.{AreMembers, Cluster, cluster, world_of};
 ghost use Rattle.bus_spec.specs.Lawful.{Lawful};
 
@@ -21,7 +21,7 @@ use raft_log::laws::an_image_stands_for_one_state;
 pub fn stores_of_a_world_agree()
     ensures { (ids : List ℕ) (rows : List Row) (choice : ℕ → Bool) (nodes : List ℕ)
         (stores : List Stored) (place a b : ℕ) → AreMembers ids → Lawful (cluster ids) rows →
-        Fits choice (cluster ids) rows → AreLeftBy choice (world_of ids rows) nodes stores →
+        AgreesWithDisk choice (cluster ids) rows → AreLeftBy choice (world_of ids rows) nodes stores →
         IsDifference stores place a b → ⊥ }
 {
     an_image_stands_for_one_state();

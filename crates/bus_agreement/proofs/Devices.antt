@@ -3,10 +3,10 @@ use Rattle.std.proofs.Common.{◌≡◌, ◌⊎◌, ℕ, ◌+◌, ◌≤◌, Boo
 use Rattle.std.specs.Prelude.{All}
 use Rattle.std.proofs.lemmas.Bool.Decides.{eqb_tells}
 use Rattle.allocatee.specs.Accepted as device
-use Rattle.allocatee.specs.Allocatee.{Device, Event, answer_to, at_step, opening, popped, step}
+use Rattle.allocatee.specs.Allocatee.{Device, Event, answer_to, at_step, opening, after_pop, step}
 use Rattle.allocatee.specs.Allocatee.Event.{Rx, Tick}
 use Rattle.allocatee.specs.Given.{IsAnonymous, IsGivenBy}
-use Rattle.allocatee.specs.Judging.{judges}
+use Rattle.allocatee.specs.Judging.{arrival_judgement}
 use Rattle.can_frame.specs.declared.identifier.Ident.{Ident}
 use Rattle.can_frame.specs.declared.identifier.Kind.{Kind}
 use Rattle.can_frame.specs.declared.identifier.Kind.TheVariants.{Message, Anonymous, Request, Response}
@@ -26,20 +26,20 @@ use Rattle.transfer_rx.specs.Sessions.{Session}
 use Rattle.transfer_rx.specs.Sound.{IsDelivered}
 use Rattle.transfer_tx.specs.Queue.{Queued, next_out}
 use Rattle.alloc_step.specs.Transfers.{SentTransfer}
-use Rattle.bus_spec.specs.Allocatees.{after_sending_from, next_from, stepped_at}
-use Rattle.bus_spec.specs.Cluster.{AreMembers, Cluster, arriving, frame_at, in_list, next, receipt_at}
-use Rattle.bus_spec.specs.Lawful.{absent, cause, is_forged, is_forged_by, judged_at, no_allocatee, no_such_frame, nothing_to_send, or_else}
+use Rattle.bus_spec.specs.Allocatees.{after_sending_from, next_from, device_after_step}
+use Rattle.bus_spec.specs.Cluster.{AreMembers, Cluster, arrival_at, frame_at, in_list, after_row, receipt_at}
+use Rattle.bus_spec.specs.Lawful.{absent, cause, is_forged, is_forged_by, arrival_refusal_at, no_allocatee, no_such_frame, nothing_to_send, or_else}
 use Rattle.bus_agreement.specs.Asking.{IsAsking, IsGiven}
 use Rattle.bus_agreement.specs.Frames.{AreHeard, AreTransfers, CameFrom, IsForeign, IsOnBus, WasMade}
 use Rattle.bus_agreement.specs.Shows.{Shows}
 use Rattle.bus_agreement.specs.LawsBelow.{FrameLaws}
-use Rattle.bus_agreement.proofs.Delivering.{was_made}
+use Rattle.bus_agreement.proofs.DeliveredTransfers.{was_made}
 use Rattle.bus_agreement.proofs.Idents.{IsWanted, one_what, wanted_is}
-use Rattle.bus_agreement.proofs.Kept.{asking_more, heard_more}
+use Rattle.bus_agreement.proofs.StillShown.{asking_more, heard_more}
 use Rattle.bus_agreement.proofs.Lists.{in_append, never, of_each}
 use Rattle.bus_agreement.proofs.OneRow.{is_fine, stands}
-use Rattle.bus_agreement.proofs.Whole.{forged_allocation}
-use Rattle.bus_agreement.proofs.Quiet.{frame_shown, one_more, others_shown, out_of_queue, past_first}
+use Rattle.bus_agreement.proofs.WholeTransfers.{forged_allocation}
+use Rattle.bus_agreement.proofs.RowsWithoutEvents.{frame_shown, one_more, others_shown, out_of_queue, past_first}
 
 -- what is known of each step of a device, as its laws say it
 pub record DeviceLaws : Type 0 where
@@ -48,11 +48,11 @@ pub record DeviceLaws : Type 0 where
   pub uid : (d : Device) (number : ℕ) (event : Event) → (step d number event).device.asking.uid ≡ d.asking.uid
   pub quiet : (uid : List ℕ) (preferred now word : ℕ) → All IsAnonymous (opening uid preferred now word).asking.queue
   pub stepped : (d : Device) (number : ℕ) (event : Event) → All IsAnonymous d.asking.queue → All IsAnonymous (step d number event).device.asking.queue
-  pub sent : (d : Device) → All IsAnonymous d.asking.queue → All IsAnonymous (popped d).asking.queue
+  pub sent : (d : Device) → All IsAnonymous d.asking.queue → All IsAnonymous (after_pop d).asking.queue
   pub frame : (d : Device) (number word : ℕ) (arrival : Arrival)
       → (step d number (Rx arrival word)).device.sessions ≡ sessions_after device.setting d.sessions (at_step d arrival)
   pub tick : (d : Device) (number now word : ℕ) → (step d number (Tick now word)).device.sessions ≡ d.sessions
-  pub untorn : (d : Device) (arrival : Arrival) (delivery : Delivery) → judges d arrival ≡ Fine → answer_to d arrival ≡ Gives delivery
+  pub untorn : (d : Device) (arrival : Arrival) (delivery : Delivery) → arrival_judgement d arrival ≡ Fine → answer_to d arrival ≡ Gives delivery
       → delivery.whole ≡ false → arrival.mark.step ≡ 0
   pub kept : (setting : Setting) (before arrivals : List Arrival) (sessions : List Session) → All (CameWithKey setting before) sessions
       → All (CameWithKey setting (before ++ arrivals)) (rx_run.run setting sessions arrivals)
@@ -70,7 +70,7 @@ only_allocations Response number s e known = absurd (cc (e))
 -- a clock reading, or a frame of the bus that it may take
 pub record MayAsk (frames : List Queued) (x : Device) (event : Event) : Type 0 where
   pub came : (arrival : Arrival) (word : ℕ) → event ≡ Rx arrival word → CameFrom frames arrival
-  pub fine : (arrival : Arrival) (word : ℕ) → event ≡ Rx arrival word → judges x arrival ≡ Fine
+  pub fine : (arrival : Arrival) (word : ℕ) → event ≡ Rx arrival word → arrival_judgement x arrival ≡ Fine
 
 one_frame : (a b : Arrival) (v w : ℕ) → Rx a v ≡ Rx b w → a ≡ b
 one_frame a b v w e = cc (e)
@@ -160,11 +160,11 @@ module _ (choice : ℕ → Bool) (made : List SentTransfer) (w : Cluster) (run :
   one_device x y e = cc (e)
 
   -- a place that is empty then
-  pub left_shown : Shows choice made (next w (AEnd a)) run
+  pub left_shown : Shows choice made (after_row w (AEnd a)) run
   left_shown = others_shown choice made w run shows (at w.allocatee a None) (with_one None w.frames (λ x e. absurd (cc (e))) shows.asking)
 
   module _ (laws : DeviceLaws) where
-    pub came_shown : (uid : List ℕ) (pref ms word : ℕ) → Shows choice made (next w (AOpen a uid pref ms word)) run
+    pub came_shown : (uid : List ℕ) (pref ms word : ℕ) → Shows choice made (after_row w (AOpen a uid pref ms word)) run
     came_shown uid pref ms word = others_shown choice made w run shows (at w.allocatee a (Some begun))
         (with_one (Some begun) w.frames (λ x e. subst (λ (y : Device). IsAsking made w.frames y) (one_device begun x e) fresh) shows.asking)
       where
@@ -180,30 +180,30 @@ module _ (choice : ℕ → Bool) (made : List SentTransfer) (w : Cluster) (run :
 
     module _ (frame_laws : FrameLaws) (members : AreMembers w.ids) where
       step_shown : (event : Event) → ((x : Device) → w.allocatee a ≡ Some x → MayAsk w.frames x event)
-          → Shows choice made (record w { allocatee = at w.allocatee a (stepped_at (w.rows + 1) event (w.allocatee a)); rows = w.rows + 1 }) run
-      step_shown event may = others_shown choice made w run shows (at w.allocatee a (stepped_at (w.rows + 1) event (w.allocatee a)))
-          (with_one (stepped_at (w.rows + 1) event (w.allocatee a)) w.frames (by (w.allocatee a) refl) shows.asking)
+          → Shows choice made (record w { allocatee = at w.allocatee a (device_after_step (w.rows + 1) event (w.allocatee a)); rows = w.rows + 1 }) run
+      step_shown event may = others_shown choice made w run shows (at w.allocatee a (device_after_step (w.rows + 1) event (w.allocatee a)))
+          (with_one (device_after_step (w.rows + 1) event (w.allocatee a)) w.frames (by (w.allocatee a) refl) shows.asking)
         where
-          by : (o : Option Device) → w.allocatee a ≡ o → (x : Device) → stepped_at (w.rows + 1) event o ≡ Some x → IsAsking made w.frames x
+          by : (o : Option Device) → w.allocatee a ≡ o → (x : Device) → device_after_step (w.rows + 1) event o ≡ Some x → IsAsking made w.frames x
           by None there x e = absurd (cc (e))
           by (Some y) there x e = subst (λ (z : Device). IsAsking made w.frames z) (one_device (step y (w.rows + 1) event).device x e)
               (stepped_asking laws frame_laws w.ids (λ n i. (members.nodes n i).0) (λ n i. (members.nodes n i).1) made shows.holds.transfers w.frames shows.bus
               y (shows.asking a y there) (w.rows + 1) event (may y there))
 
-      pub ticked_shown : (ms word : ℕ) → Shows choice made (next w (ATick a ms word)) run
+      pub ticked_shown : (ms word : ℕ) → Shows choice made (after_row w (ATick a ms word)) run
       ticked_shown ms word = step_shown (Tick ms word) (λ x there. record { came = λ arrival v e. absurd (cc (e)); fine = λ arrival v e. absurd (cc (e)) })
 
-      pub received_shown : (k ms word : ℕ) → cause w (ARx a k ms word) ≡ None → Shows choice made (next w (ARx a k ms word)) run
+      pub received_shown : (k ms word : ℕ) → cause w (ARx a k ms word) ≡ None → Shows choice made (after_row w (ARx a k ms word)) run
       received_shown k ms word lawful =
-          let coming_to : Arrival = arriving (frame_at w.frames k) ms in
-          let first = past_first (no_allocatee a) (or_else (absent w a) (or_else (no_such_frame w k) (judged_at (w.allocatee a) coming_to))) lawful in
-          let second = past_first (absent w a) (or_else (no_such_frame w k) (judged_at (w.allocatee a) coming_to)) first.1 in
-          let third = past_first (no_such_frame w k) (judged_at (w.allocatee a) coming_to) second.1 in
+          let coming_to : Arrival = arrival_at (frame_at w.frames k) ms in
+          let first = past_first (no_allocatee a) (or_else (absent w a) (or_else (no_such_frame w k) (arrival_refusal_at (w.allocatee a) coming_to))) lawful in
+          let second = past_first (absent w a) (or_else (no_such_frame w k) (arrival_refusal_at (w.allocatee a) coming_to)) first.1 in
+          let third = past_first (no_such_frame w k) (arrival_refusal_at (w.allocatee a) coming_to) second.1 in
           step_shown (receipt_at w k ms word) (λ x there. record {
             came = λ arrival v e. subst (λ (b : Arrival). CameFrom w.frames b) (one_frame coming_to arrival word v e)
                 (record { frame = frame_at w.frames k; there = stands w k third.0; id = refl; bytes = refl; mark = refl });
-            fine = λ arrival v e. subst (λ (b : Arrival). judges x b ≡ Fine) (one_frame coming_to arrival word v e)
-                (is_fine (judges x coming_to) (subst (λ (o : Option Device). judged_at o coming_to ≡ None) there third.1));
+            fine = λ arrival v e. subst (λ (b : Arrival). arrival_judgement x b ≡ Fine) (one_frame coming_to arrival word v e)
+                (is_fine (arrival_judgement x coming_to) (subst (λ (o : Option Device). arrival_refusal_at o coming_to ≡ None) there third.1));
           })
 
     -- ---- a frame that it sends
@@ -212,10 +212,10 @@ module _ (choice : ℕ → Bool) (made : List SentTransfer) (w : Cluster) (run :
     foreign frame is = ap (λ (o : Option Ident). is_forged w.ids o) is.read ∙ ap (λ (k : Kind). is_forged_by w.ids k is.ident) is.kind
 
     sent_by : (x : Device) → w.allocatee a ≡ Some x → (o : Option Queued) → next_out x.asking.queue ≡ o → nothing_to_send o ≡ None
-        → Shows choice made (record w { allocatee = at w.allocatee a (Some (popped x)); frames = w.frames ++ in_list o; rows = w.rows + 1 }) run
+        → Shows choice made (record w { allocatee = at w.allocatee a (Some (after_pop x)); frames = w.frames ++ in_list o; rows = w.rows + 1 }) run
     sent_by x there None out something = absurd (cc (something))
-    sent_by x there (Some frame) out something = frame_shown choice made w run shows frame (at w.allocatee a (Some (popped x))) (foreign frame anonymous) anonymous.narrow
-        (with_one (Some (popped x)) (w.frames ++ frame ∷ []) (λ y e. subst (λ (z : Device). IsAsking made (w.frames ++ frame ∷ []) z) (one_device (popped x) y e) after)
+    sent_by x there (Some frame) out something = frame_shown choice made w run shows frame (at w.allocatee a (Some (after_pop x))) (foreign frame anonymous) anonymous.narrow
+        (with_one (Some (after_pop x)) (w.frames ++ frame ∷ []) (λ y e. subst (λ (z : Device). IsAsking made (w.frames ++ frame ∷ []) z) (one_device (after_pop x) y e) after)
         (λ b y e. asking_more made made (λ z i. i) w.frames (w.frames ++ frame ∷ []) (one_more w.frames frame) y (shows.asking b y e)))
       where
         is : IsAsking made w.frames x
@@ -224,7 +224,7 @@ module _ (choice : ℕ → Bool) (made : List SentTransfer) (w : Cluster) (run :
         anonymous : IsAnonymous frame
         anonymous = of_each IsAnonymous x.asking.queue is.queue frame (out_of_queue x.asking.queue frame out)
 
-        after : IsAsking made (w.frames ++ frame ∷ []) (popped x)
+        after : IsAsking made (w.frames ++ frame ∷ []) (after_pop x)
         after = record {
           queue = laws.sent x is.queue;
           heard = heard_more w.frames (w.frames ++ frame ∷ []) (one_more w.frames frame) device.setting x.sessions is.heard;
@@ -236,7 +236,7 @@ module _ (choice : ℕ → Bool) (made : List SentTransfer) (w : Cluster) (run :
     sent_at None there something = absurd (cc (something))
     sent_at (Some x) there something = sent_by x there (next_out x.asking.queue) refl something
 
-    pub put_shown : cause w (ASend a) ≡ None → Shows choice made (next w (ASend a)) run
+    pub put_shown : cause w (ASend a) ≡ None → Shows choice made (after_row w (ASend a)) run
     put_shown lawful =
         let first = past_first (no_allocatee a) (or_else (absent w a) (nothing_to_send (next_from (w.allocatee a)))) lawful in
         let second = past_first (absent w a) (nothing_to_send (next_from (w.allocatee a))) first.1 in

@@ -17,71 +17,71 @@ use Rattle.replay_text.specs.declared.row.Row.TheVariants.{AEnd, AOpen, ARx, ASe
 use Rattle.alloc_step_laws.specs.Sound.{IsOnTheBus}
 use Rattle.alloc_step.specs.StepState.{messages}
 use Rattle.alloc_step.specs.Step.{Event, step}
-use Rattle.alloc_step.specs.Judging.{judges}
+use Rattle.alloc_step.specs.Judging.{arrival_judgement}
 use Rattle.alloc_step.specs.AllocatorState.{AllocatorState}
 use Rattle.alloc_step.specs.Transfers.{SentTransfer}
 use Rattle.transfer_rx.specs.Reassembly.{Arrival}
 use Rattle.bus_spec.specs.declared.unlawful.Unlawful.TheVariants.{NoFrame}
-use Rattle.bus_spec.specs.Cluster.{AreMembers, Cluster, arriving, frame_at, next, no_frame, receipt_of, steps, tick_of}
-use Rattle.bus_spec.specs.Lawful.{already_running, cause, judged, no_node, no_such_frame, not_running, of_judged, or_else}
-use Rattle.bus_spec.specs.Members.{Failure, MemberStatus, Member, is_running, puts_of, stepped}
+use Rattle.bus_spec.specs.Cluster.{AreMembers, Cluster, arrival_at, frame_at, after_row, no_frame, receipt_of, with_step, tick_of}
+use Rattle.bus_spec.specs.Lawful.{already_running, cause, arrival_refusal, no_node, no_such_frame, not_running, cause_of_judgement, or_else}
+use Rattle.bus_spec.specs.Members.{Failure, MemberStatus, Member, is_running, puts_of, member_after_step}
 use Rattle.bus_spec.specs.Members.MemberStatus.{Down, Failed, Up}
-use Rattle.bus_spec.specs.Choices.{FitsRow}
-use Rattle.bus_spec.specs.Refinement.{cut_events, made_by, made_in, made_of, row_events, step_events, stop_events}
+use Rattle.bus_spec.specs.Choices.{RowAgreesWithDisk}
+use Rattle.bus_spec.specs.Refinement.{cut_events, transfers_of_step, transfers_of_row, transfers_of_offers, row_events, step_events, stop_events}
 use Rattle.bus_agreement.specs.Continues.{Continues}
 use Rattle.bus_agreement.specs.Events.{MayHappen}
 use Rattle.bus_agreement.specs.Frames.{CameFrom}
 use Rattle.bus_agreement.specs.Said.{IsRunWritable}
 use Rattle.bus_agreement.specs.Shows.{Shows}
 use Rattle.bus_agreement.proofs.Lists.{in_at, tell}
-use Rattle.bus_agreement.proofs.Quiet.{changed_shown, eqb_is, is_down, is_one, is_up, not_because, past_first}
-use Rattle.bus_agreement.proofs.Stepping.{one_arrival}
+use Rattle.bus_agreement.proofs.RowsWithoutEvents.{changed_shown, eqb_is, is_down, is_one, is_up, not_because, past_first}
+use Rattle.bus_agreement.proofs.StepEffects.{one_arrival}
 
 -- what is known of each kind of row, as its law says it
 pub record RowLaws : Type 0 where
   pub outside : (choice : ℕ → Bool) (made : List SentTransfer) (w : Cluster) (run : machine.World) → Shows choice made w run
-      → (frame : Frame) → cause w (Ext frame) ≡ None → Shows choice made (next w (Ext frame)) run
+      → (frame : Frame) → cause w (Ext frame) ≡ None → Shows choice made (after_row w (Ext frame)) run
   pub sent : (choice : ℕ → Bool) (made : List SentTransfer) (w : Cluster) (run : machine.World) → AreMembers w.ids → Shows choice made w run
-      → (n : ℕ) → cause w (Send n) ≡ None → Shows choice made (next w (Send n)) run
+      → (n : ℕ) → cause w (Send n) ≡ None → Shows choice made (after_row w (Send n)) run
   pub stop_armed : (choice : ℕ → Bool) (made : List SentTransfer) (w : Cluster) (run : machine.World) → Shows choice made w run
-      → (n calls : ℕ) (pattern : Pattern) → (calls == 0) ≡ false → Shows choice made (next w (Crash n calls pattern)) run
+      → (n calls : ℕ) (pattern : Pattern) → (calls == 0) ≡ false → Shows choice made (after_row w (Crash n calls pattern)) run
   pub failure_armed : (choice : ℕ → Bool) (made : List SentTransfer) (w : Cluster) (run : machine.World) → Shows choice made w run
-      → (n call : ℕ) → Shows choice made (next w (Fault n call)) run
+      → (n call : ℕ) → Shows choice made (after_row w (Fault n call)) run
   pub stopped : (choice : ℕ → Bool) (made : List SentTransfer) (w : Cluster) (run : machine.World) → Shows choice made w run → IsRunWritable w.ids run
-      → (n : ℕ) (pattern : Pattern) → In n w.ids → (t : AllocatorState) → (w.member n).life ≡ Up t → let stop = Stops n (w.rows + 1) [] in
-      MayOccur run stop × IsRunWritable w.ids (after run stop) × Shows choice made (next w (Crash n 0 pattern)) (after run stop)
+      → (n : ℕ) (pattern : Pattern) → In n w.ids → (t : AllocatorState) → (w.member n).status ≡ Up t → let stop = Stops n (w.rows + 1) [] in
+      MayOccur run stop × IsRunWritable w.ids (after run stop) × Shows choice made (after_row w (Crash n 0 pattern)) (after run stop)
   pub failed_stopped : (choice : ℕ → Bool) (made : List SentTransfer) (w : Cluster) (run : machine.World) → Shows choice made w run
-      → (n : ℕ) (pattern : Pattern) → In n w.ids → (failure : Failure) → (w.member n).life ≡ Failed failure
-      → FitsRow choice w (Crash n 0 pattern) → Shows choice made (next w (Crash n 0 pattern)) run
+      → (n : ℕ) (pattern : Pattern) → In n w.ids → (failure : Failure) → (w.member n).status ≡ Failed failure
+      → RowAgreesWithDisk choice w (Crash n 0 pattern) → Shows choice made (after_row w (Crash n 0 pattern)) run
   pub opened : (choice : ℕ → Bool) (made : List SentTransfer) (w : Cluster) (run : machine.World) → AreMembers w.ids → Shows choice made w run
-      → IsRunWritable w.ids run → (n ms word : ℕ) → In n w.ids → (w.member n).life ≡ Down → is_open_on (w.member n).disk ≡ true
-      → MayOccur run (Opens n) × IsRunWritable w.ids (after run (Opens n)) × Shows choice made (next w (Open n ms word)) (after run (Opens n))
+      → IsRunWritable w.ids run → (n ms word : ℕ) → In n w.ids → (w.member n).status ≡ Down → is_open_on (w.member n).disk ≡ true
+      → MayOccur run (Opens n) × IsRunWritable w.ids (after run (Opens n)) × Shows choice made (after_row w (Open n ms word)) (after run (Opens n))
   pub not_opened : (choice : ℕ → Bool) (made : List SentTransfer) (w : Cluster) (run : machine.World) → AreMembers w.ids → Shows choice made w run
-      → (n ms word : ℕ) → In n w.ids → (w.member n).life ≡ Down → is_open_on (w.member n).disk ≡ false
-      → Shows choice made (next w (Open n ms word)) run
+      → (n ms word : ℕ) → In n w.ids → (w.member n).status ≡ Down → is_open_on (w.member n).disk ≡ false
+      → Shows choice made (after_row w (Open n ms word)) run
   pub finished : (choice : ℕ → Bool) (made : List SentTransfer) (w : Cluster) (run : machine.World) → AreMembers w.ids → Shows choice made w run
-      → Invariants run → IsRunWritable w.ids run → (n : ℕ) (t : AllocatorState) (event : Event) → In n w.ids → (w.member n).life ≡ Up t
+      → Invariants run → IsRunWritable w.ids run → (n : ℕ) (t : AllocatorState) (event : Event) → In n w.ids → (w.member n).status ≡ Up t
       → MayHappen w.frames t event → IsOnTheBus event → let number = w.rows + 1 in let step_state = (step t number event).step_state in
       are_put (puts_of (w.member n) step_state) (w.member n).disk.calls ≡ true
       → let whole = Steps n number step_state.moves (messages number step_state) in MayOccur run whole × IsRunWritable w.ids (after run whole)
-      × Shows choice (made_of number n step_state.offers made) (record (steps w n event) { rows = number }) (after run whole)
+      × Shows choice (transfers_of_offers number n step_state.offers made) (record (with_step w n event) { rows = number }) (after run whole)
   pub cut_off : (choice : ℕ → Bool) (made : List SentTransfer) (w : Cluster) (run : machine.World) → AreMembers w.ids → Shows choice made w run
-      → Invariants run → IsRunWritable w.ids run → (n : ℕ) (t : AllocatorState) (event : Event) → In n w.ids → (w.member n).life ≡ Up t
+      → Invariants run → IsRunWritable w.ids run → (n : ℕ) (t : AllocatorState) (event : Event) → In n w.ids → (w.member n).status ≡ Up t
       → MayHappen w.frames t event → IsOnTheBus event → let number = w.rows + 1 in let step_state = (step t number event).step_state in
       are_put (puts_of (w.member n) step_state) (w.member n).disk.calls ≡ false
       → (stop : machine.Event) × (cut_events choice w.ids n number (w.member n) t step_state ≡ stop ∷ []) × MayOccur run stop
-      × IsRunWritable w.ids (after run stop) × Shows choice made (record (steps w n event) { rows = number }) (after run stop)
+      × IsRunWritable w.ids (after run stop) × Shows choice made (record (with_step w n event) { rows = number }) (after run stop)
   -- of allocatees
   pub came : (choice : ℕ → Bool) (made : List SentTransfer) (w : Cluster) (run : machine.World) → Shows choice made w run
-      → (a : ℕ) (uid : List ℕ) (pref ms word : ℕ) → Shows choice made (next w (AOpen a uid pref ms word)) run
+      → (a : ℕ) (uid : List ℕ) (pref ms word : ℕ) → Shows choice made (after_row w (AOpen a uid pref ms word)) run
   pub ticked : (choice : ℕ → Bool) (made : List SentTransfer) (w : Cluster) (run : machine.World) → AreMembers w.ids → Shows choice made w run
-      → (a ms word : ℕ) → Shows choice made (next w (ATick a ms word)) run
+      → (a ms word : ℕ) → Shows choice made (after_row w (ATick a ms word)) run
   pub received : (choice : ℕ → Bool) (made : List SentTransfer) (w : Cluster) (run : machine.World) → AreMembers w.ids → Shows choice made w run
-      → (a k ms word : ℕ) → cause w (ARx a k ms word) ≡ None → Shows choice made (next w (ARx a k ms word)) run
+      → (a k ms word : ℕ) → cause w (ARx a k ms word) ≡ None → Shows choice made (after_row w (ARx a k ms word)) run
   pub put : (choice : ℕ → Bool) (made : List SentTransfer) (w : Cluster) (run : machine.World) → Shows choice made w run
-      → (a : ℕ) → cause w (ASend a) ≡ None → Shows choice made (next w (ASend a)) run
+      → (a : ℕ) → cause w (ASend a) ≡ None → Shows choice made (after_row w (ASend a)) run
   pub left : (choice : ℕ → Bool) (made : List SentTransfer) (w : Cluster) (run : machine.World) → Shows choice made w run
-      → (a : ℕ) → Shows choice made (next w (AEnd a)) run
+      → (a : ℕ) → Shows choice made (after_row w (AEnd a)) run
 
 -- ---- a frame that may be received
 
@@ -98,7 +98,7 @@ stands w k e =
     let r = none_of (k == 0) (nat_lt (length w.frames) k) (not_because NoFrame ((k == 0) || nat_lt (length w.frames) k) e) in
     in_at w.frames (k - 1) no_frame (omega (arith, above_zero k r.0, ltb-false (length w.frames) k r.1))
 
-pub is_fine : (judgement : Judged) → of_judged judgement ≡ None → judgement ≡ Fine
+pub is_fine : (judgement : Judged) → cause_of_judgement judgement ≡ None → judgement ≡ Fine
 is_fine Fine e = refl
 is_fine Torn e = absurd (cc (e))
 is_fine Stale e = absurd (cc (e))
@@ -107,12 +107,12 @@ pub may_tick : (w : Cluster) (t : AllocatorState) (moment word : ℕ) → MayHap
 may_tick w t moment word = record { came = λ arrival e. absurd (cc (e)); fine = λ arrival e. absurd (cc (e)) }
 
 pub may_receive : (w : Cluster) (t : AllocatorState) (k moment : ℕ) → In (frame_at w.frames k) w.frames
-    → of_judged (judges t (arriving (frame_at w.frames k) moment)) ≡ None → MayHappen w.frames t (receipt_of w k moment)
+    → cause_of_judgement (arrival_judgement t (arrival_at (frame_at w.frames k) moment)) ≡ None → MayHappen w.frames t (receipt_of w k moment)
 may_receive w t k moment there passes = record {
-  came = λ arrival e. subst (λ (a : Arrival). CameFrom w.frames a) (one_arrival (arriving (frame_at w.frames k) moment) arrival e)
+  came = λ arrival e. subst (λ (a : Arrival). CameFrom w.frames a) (one_arrival (arrival_at (frame_at w.frames k) moment) arrival e)
       (record { frame = frame_at w.frames k; there = there; id = refl; bytes = refl; mark = refl });
-  fine = λ arrival e. subst (λ (a : Arrival). judges t a ≡ Fine) (one_arrival (arriving (frame_at w.frames k) moment) arrival e)
-      (is_fine (judges t (arriving (frame_at w.frames k) moment)) passes);
+  fine = λ arrival e. subst (λ (a : Arrival). arrival_judgement t a ≡ Fine) (one_arrival (arrival_at (frame_at w.frames k) moment) arrival e)
+      (is_fine (arrival_judgement t (arrival_at (frame_at w.frames k) moment)) passes);
 }
 
 -- ---- rows
@@ -136,12 +136,12 @@ module _ (laws : RowLaws) (choice : ℕ → Bool) (made : List SentTransfer) (w 
 
     -- ---- a step
 
-    module _ (event : Event) (on_bus : IsOnTheBus event) (may : (t : AllocatorState) → x.life ≡ Up t → MayHappen w.frames t event) where
+    module _ (event : Event) (on_bus : IsOnTheBus event) (may : (t : AllocatorState) → x.status ≡ Up t → MayHappen w.frames t event) where
       abbrev later : Cluster
-      later = record (steps w n event) { rows = number }
+      later = record (with_step w n event) { rows = number }
 
-      by_puts : (t : AllocatorState) → x.life ≡ Up t → (b : Bool) → let step_state = (step t number event).step_state in are_put (puts_of x step_state) x.disk.calls ≡ b
-          → Continues choice (if b then made_of number n step_state.offers made else made) later run
+      by_puts : (t : AllocatorState) → x.status ≡ Up t → (b : Bool) → let step_state = (step t number event).step_state in are_put (puts_of x step_state) x.disk.calls ≡ b
+          → Continues choice (if b then transfers_of_offers number n step_state.offers made else made) later run
           (if b then Steps n number step_state.moves (messages number step_state) ∷ [] else cut_events choice w.ids n number x t step_state)
       by_puts t runs true done =
           let r = laws.finished choice made w run members shows sound written n t event listed runs (may t runs) on_bus done in
@@ -152,80 +152,80 @@ module _ (laws : RowLaws) (choice : ℕ → Bool) (made : List SentTransfer) (w 
           (record { lawful = (r.2, tt); shows = r.4; writable = r.3 })
 
       -- a member that failed takes no step
-      by_life : (life : MemberStatus) → x.life ≡ life → is_running life ≡ true
-          → Continues choice (made_by number n event life x made) later run (step_events choice w.ids n number event life x)
-      by_life Down e running = absurd (cc (running))
-      by_life (Up t) e running = by_puts t e (are_put (puts_of x (step t number event).step_state) x.disk.calls) refl
-      by_life (Failed failure) e running = quiet later
+      by_member_status : (status : MemberStatus) → x.status ≡ status → is_running status ≡ true
+          → Continues choice (transfers_of_step number n event status x made) later run (step_events choice w.ids n number event status x)
+      by_member_status Down e running = absurd (cc (running))
+      by_member_status (Up t) e running = by_puts t e (are_put (puts_of x (step t number event).step_state) x.disk.calls) refl
+      by_member_status (Failed failure) e running = quiet later
           (subst (λ (y : Member). Shows choice made (record w { member = at w.member n y; rows = number }) run)
-          (sym (ap (λ (life : MemberStatus). stepped number event life x) e)) (changed_shown choice made w run shows n x (shows.lives n)))
+          (sym (ap (λ (status : MemberStatus). member_after_step number event status x) e)) (changed_shown choice made w run shows n x (shows.lives n)))
 
-      step_row : is_running x.life ≡ true
-          → Continues choice (made_by number n event x.life x made) later run (step_events choice w.ids n number event x.life x)
-      step_row running = by_life x.life refl running
+      step_row : is_running x.status ≡ true
+          → Continues choice (transfers_of_step number n event x.status x made) later run (step_events choice w.ids n number event x.status x)
+      step_row running = by_member_status x.status refl running
 
     -- ---- an opening
 
-    open_row : (ms word : ℕ) → x.life ≡ Down → (b : Bool) → is_open_on x.disk ≡ b
-        → Continues choice made (next w (Open n ms word)) run (if b then Opens n ∷ [] else [])
+    open_row : (ms word : ℕ) → x.status ≡ Down → (b : Bool) → is_open_on x.disk ≡ b
+        → Continues choice made (after_row w (Open n ms word)) run (if b then Opens n ∷ [] else [])
     open_row ms word down true opens = let r = laws.opened choice made w run members shows written n ms word listed down opens in
         record { lawful = (r.0, tt); shows = r.2; writable = r.1 }
-    open_row ms word down false fails = quiet (next w (Open n ms word)) (laws.not_opened choice made w run members shows n ms word listed down fails)
+    open_row ms word down false fails = quiet (after_row w (Open n ms word)) (laws.not_opened choice made w run members shows n ms word listed down fails)
 
     -- ---- a stop at once
 
-    stop_row : (pattern : Pattern) → FitsRow choice w (Crash n 0 pattern) → (life : MemberStatus) → x.life ≡ life → is_running life ≡ true
-        → Continues choice made (next w (Crash n 0 pattern)) run (stop_events n number life)
+    stop_row : (pattern : Pattern) → RowAgreesWithDisk choice w (Crash n 0 pattern) → (status : MemberStatus) → x.status ≡ status → is_running status ≡ true
+        → Continues choice made (after_row w (Crash n 0 pattern)) run (stop_events n number status)
     stop_row pattern fits Down e running = absurd (cc (running))
     stop_row pattern fits (Up t) e running = let r = laws.stopped choice made w run shows written n pattern listed t e in
         record { lawful = (r.0, tt); shows = r.2; writable = r.1 }
-    stop_row pattern fits (Failed failure) e running = quiet (next w (Crash n 0 pattern))
+    stop_row pattern fits (Failed failure) e running = quiet (after_row w (Crash n 0 pattern))
         (laws.failed_stopped choice made w run shows n pattern listed failure e fits)
 
   abbrev Goes : Row → Type 0
-  Goes row = Continues choice (made_in w row made) (next w row) run (row_events choice w row)
+  Goes row = Continues choice (transfers_of_row w row made) (after_row w row) run (row_events choice w row)
 
   tick_row : (n ms word : ℕ) → cause w (Tick n ms word) ≡ None → Goes (Tick n ms word)
   tick_row n ms word lawful =
       let first = past_first (no_node w n) (not_running w n) lawful in
-      step_row n (is_one w n first.0) (tick_of ms word) tt (λ t runs. may_tick w t ms word) (is_up (w.member n).life first.1)
+      step_row n (is_one w n first.0) (tick_of ms word) tt (λ t runs. may_tick w t ms word) (is_up (w.member n).status first.1)
 
   rx_row : (n k ms : ℕ) → cause w (Rx n k ms) ≡ None → Goes (Rx n k ms)
   rx_row n k ms lawful =
-      let last = judged (w.member n).life (arriving (frame_at w.frames k) ms) in
+      let last = arrival_refusal (w.member n).status (arrival_at (frame_at w.frames k) ms) in
       let first = past_first (no_node w n) (or_else (not_running w n) (or_else (no_such_frame w k) last)) lawful in
       let second = past_first (not_running w n) (or_else (no_such_frame w k) last) first.1 in
       let third = past_first (no_such_frame w k) last second.1 in
       let there = stands w k third.0 in
       step_row n (is_one w n first.0) (receipt_of w k ms) (shows.narrow (frame_at w.frames k) there)
       (λ t runs. may_receive w t k ms there
-      (subst (λ (life : MemberStatus). judged life (arriving (frame_at w.frames k) ms) ≡ None) runs third.1))
-      (is_up (w.member n).life second.0)
+      (subst (λ (status : MemberStatus). arrival_refusal status (arrival_at (frame_at w.frames k) ms) ≡ None) runs third.1))
+      (is_up (w.member n).status second.0)
 
-  crash_row : (n calls : ℕ) (pattern : Pattern) → cause w (Crash n calls pattern) ≡ None → FitsRow choice w (Crash n calls pattern)
+  crash_row : (n calls : ℕ) (pattern : Pattern) → cause w (Crash n calls pattern) ≡ None → RowAgreesWithDisk choice w (Crash n calls pattern)
       → Goes (Crash n calls pattern)
   crash_row n calls pattern lawful fits = elim (tell (calls == 0)) [
-    | inl e ↦ subst (λ (c : ℕ). cause w (Crash n c pattern) ≡ None → FitsRow choice w (Crash n c pattern) → Goes (Crash n c pattern))
+    | inl e ↦ subst (λ (c : ℕ). cause w (Crash n c pattern) ≡ None → RowAgreesWithDisk choice w (Crash n c pattern) → Goes (Crash n c pattern))
         (sym (eqb_is calls 0 e)) at_once lawful fits
-    | inr e ↦ subst (λ (b : Bool). Continues choice made (next w (Crash n calls pattern)) run (if b then stop_events n number (w.member n).life else []))
-        (sym e) (quiet (next w (Crash n calls pattern)) (laws.stop_armed choice made w run shows n calls pattern e))
+    | inr e ↦ subst (λ (b : Bool). Continues choice made (after_row w (Crash n calls pattern)) run (if b then stop_events n number (w.member n).status else []))
+        (sym e) (quiet (after_row w (Crash n calls pattern)) (laws.stop_armed choice made w run shows n calls pattern e))
   ]
     where
-      at_once : cause w (Crash n 0 pattern) ≡ None → FitsRow choice w (Crash n 0 pattern) → Goes (Crash n 0 pattern)
+      at_once : cause w (Crash n 0 pattern) ≡ None → RowAgreesWithDisk choice w (Crash n 0 pattern) → Goes (Crash n 0 pattern)
       at_once lawful fits = let first = past_first (no_node w n) (not_running w n) lawful in
-          stop_row n (is_one w n first.0) pattern fits (w.member n).life refl (is_up (w.member n).life first.1)
+          stop_row n (is_one w n first.0) pattern fits (w.member n).status refl (is_up (w.member n).status first.1)
 
-  pub row_shown : (row : Row) → cause w row ≡ None → FitsRow choice w row → Goes row
+  pub row_shown : (row : Row) → cause w row ≡ None → RowAgreesWithDisk choice w row → Goes row
   row_shown (Open n ms word) lawful fits = let first = past_first (no_node w n) (already_running w n) lawful in
-      open_row n (is_one w n first.0) ms word (is_down (w.member n).life first.1) (is_open_on (w.member n).disk) refl
+      open_row n (is_one w n first.0) ms word (is_down (w.member n).status first.1) (is_open_on (w.member n).disk) refl
   row_shown (Tick n ms word) lawful fits = tick_row n ms word lawful
   row_shown (Rx n k ms) lawful fits = rx_row n k ms lawful
-  row_shown (Send n) lawful fits = quiet (next w (Send n)) (laws.sent choice made w run members shows n lawful)
-  row_shown (Ext frame) lawful fits = quiet (next w (Ext frame)) (laws.outside choice made w run shows frame lawful)
+  row_shown (Send n) lawful fits = quiet (after_row w (Send n)) (laws.sent choice made w run members shows n lawful)
+  row_shown (Ext frame) lawful fits = quiet (after_row w (Ext frame)) (laws.outside choice made w run shows frame lawful)
   row_shown (Crash n calls pattern) lawful fits = crash_row n calls pattern lawful fits
-  row_shown (Fault n call) lawful fits = quiet (next w (Fault n call)) (laws.failure_armed choice made w run shows n call)
-  row_shown (AOpen a uid pref ms word) lawful fits = quiet (next w (AOpen a uid pref ms word)) (laws.came choice made w run shows a uid pref ms word)
-  row_shown (ATick a ms word) lawful fits = quiet (next w (ATick a ms word)) (laws.ticked choice made w run members shows a ms word)
-  row_shown (ARx a k ms word) lawful fits = quiet (next w (ARx a k ms word)) (laws.received choice made w run members shows a k ms word lawful)
-  row_shown (ASend a) lawful fits = quiet (next w (ASend a)) (laws.put choice made w run shows a lawful)
-  row_shown (AEnd a) lawful fits = quiet (next w (AEnd a)) (laws.left choice made w run shows a)
+  row_shown (Fault n call) lawful fits = quiet (after_row w (Fault n call)) (laws.failure_armed choice made w run shows n call)
+  row_shown (AOpen a uid pref ms word) lawful fits = quiet (after_row w (AOpen a uid pref ms word)) (laws.came choice made w run shows a uid pref ms word)
+  row_shown (ATick a ms word) lawful fits = quiet (after_row w (ATick a ms word)) (laws.ticked choice made w run members shows a ms word)
+  row_shown (ARx a k ms word) lawful fits = quiet (after_row w (ARx a k ms word)) (laws.received choice made w run members shows a k ms word lawful)
+  row_shown (ASend a) lawful fits = quiet (after_row w (ASend a)) (laws.put choice made w run shows a lawful)
+  row_shown (AEnd a) lawful fits = quiet (after_row w (AEnd a)) (laws.left choice made w run shows a)

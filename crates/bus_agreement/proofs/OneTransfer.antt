@@ -8,25 +8,25 @@ use Rattle.raft_model.specs.Lists.{In}
 use Rattle.raft_model.specs.Runs as machine
 use Rattle.replay_text.specs.declared.row.Row.TheVariants.{Rx}
 use Rattle.alloc_step.specs.Accepted.{rows, setting_for}
-use Rattle.alloc_step.specs.Judging.{judges}
+use Rattle.alloc_step.specs.Judging.{arrival_judgement}
 use Rattle.alloc_step.specs.Step.{at_moment, at_step}
 use Rattle.alloc_step.specs.AllocatorState.{AllocatorState}
 use Rattle.alloc_step.specs.Transfers.{SentTransfer}
 use Rattle.transfer_rx.specs.Acceptance.{is_for, is_service}
 use Rattle.transfer_rx.specs.Reassembly.{Arrival, Delivery}
 use Rattle.transfer_rx.specs.Sound.{IsDelivered}
-use Rattle.bus_spec.specs.Cluster.{AreMembers, Cluster, arriving, frame_at}
-use Rattle.bus_spec.specs.Lawful.{cause, judged, no_node, no_such_frame, not_running, or_else}
+use Rattle.bus_spec.specs.Cluster.{AreMembers, Cluster, arrival_at, frame_at}
+use Rattle.bus_spec.specs.Lawful.{cause, arrival_refusal, no_node, no_such_frame, not_running, or_else}
 use Rattle.bus_spec.specs.Members.{MemberStatus}
 use Rattle.bus_agreement.specs.Frames.{WasMade}
 use Rattle.bus_agreement.specs.Safe.{IsDeliveredTo, IsOneTransfer}
-use Rattle.bus_agreement.specs.Shows.{Shows, ShowsLife, ShowsUp}
+use Rattle.bus_agreement.specs.Shows.{Shows, ShowsMember, ShowsUp}
 use Rattle.bus_agreement.specs.LawsBelow.{FrameLaws}
-use Rattle.bus_agreement.proofs.Delivering.{was_made}
-use Rattle.bus_agreement.proofs.Hearing.{IsFine, judged_fine, judges_fine}
+use Rattle.bus_agreement.proofs.DeliveredTransfers.{was_made}
+use Rattle.bus_agreement.proofs.Deliveries.{IsFine, judged_fine, judges_fine}
 use Rattle.bus_agreement.proofs.Idents.{one_what, service_is, wanted_is}
 use Rattle.bus_agreement.proofs.OneRow.{is_fine, stands}
-use Rattle.bus_agreement.proofs.Quiet.{is_one, past_first}
+use Rattle.bus_agreement.proofs.RowsWithoutEvents.{is_one, past_first}
 
 module _ (laws : FrameLaws) (choice : ℕ → Bool) (made : List SentTransfer) (w : Cluster) (run : machine.World) (members : AreMembers w.ids)
     (shows : Shows choice made w run) (n k ms : ℕ) (d : Delivery) (lawful : cause w (Rx n k ms) ≡ None) (is : IsDeliveredTo w n k ms d) where
@@ -34,22 +34,22 @@ module _ (laws : FrameLaws) (choice : ℕ → Bool) (made : List SentTransfer) (
   t = is.server
 
   abbrev frame : Arrival
-  frame = arriving (frame_at w.frames k) ms
+  frame = arrival_at (frame_at w.frames k) ms
 
   abbrev coming : Arrival
   coming = at_step (at_moment ms t) frame
 
   listed : In n w.ids
-  listed = is_one w n (past_first (no_node w n) (or_else (not_running w n) (or_else (no_such_frame w k) (judged (w.member n).life frame))) lawful).0
+  listed = is_one w n (past_first (no_node w n) (or_else (not_running w n) (or_else (no_such_frame w k) (arrival_refusal (w.member n).status frame))) lawful).0
 
-  third : (no_such_frame w k ≡ None) × (judged (w.member n).life frame ≡ None)
+  third : (no_such_frame w k ≡ None) × (arrival_refusal (w.member n).status frame ≡ None)
   third =
-      let first = past_first (no_node w n) (or_else (not_running w n) (or_else (no_such_frame w k) (judged (w.member n).life frame))) lawful in
-      let second = past_first (not_running w n) (or_else (no_such_frame w k) (judged (w.member n).life frame)) first.1 in
-      past_first (no_such_frame w k) (judged (w.member n).life frame) second.1
+      let first = past_first (no_node w n) (or_else (not_running w n) (or_else (no_such_frame w k) (arrival_refusal (w.member n).status frame))) lawful in
+      let second = past_first (not_running w n) (or_else (no_such_frame w k) (arrival_refusal (w.member n).status frame)) first.1 in
+      past_first (no_such_frame w k) (arrival_refusal (w.member n).status frame) second.1
 
   there : ShowsUp made w.ids w.frames run n t (w.member n).disk
-  there = subst (λ (life : MemberStatus). ShowsLife choice made w.ids w.frames run n life (w.member n).disk) is.runs (shows.lives n listed)
+  there = subst (λ (status : MemberStatus). ShowsMember choice made w.ids w.frames run n status (w.member n).disk) is.runs (shows.lives n listed)
 
   own : ShowsUp made w.ids w.frames run t.me t (w.member t.me).disk
   own = subst (λ (m : ℕ). ShowsUp made w.ids w.frames run m t (w.member m).disk) (sym there.runs.me) there
@@ -60,8 +60,8 @@ module _ (laws : FrameLaws) (choice : ℕ → Bool) (made : List SentTransfer) (
   its : IsDelivered (setting_for t.me) t.sessions coming d
   its = laws.delivered (setting_for t.me) t.sessions coming d is.gives
 
-  fine : judges t frame ≡ Fine
-  fine = is_fine (judges t frame) (subst (λ (life : MemberStatus). judged life frame ≡ None) is.runs third.1)
+  fine : arrival_judgement t frame ≡ Fine
+  fine = is_fine (arrival_judgement t frame) (subst (λ (status : MemberStatus). arrival_refusal status frame ≡ None) is.runs third.1)
 
   may_come : IsFine t coming.moment d
   may_come = judged_fine t frame.mark.step coming.moment _ d is.gives (judges_fine t frame fine) (ap (λ (m : Mark). m.step) its.mark)

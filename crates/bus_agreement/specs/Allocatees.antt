@@ -10,7 +10,7 @@ use Rattle.allocatee.specs.Allocatee.{Device}
 use Rattle.can_frame.specs.Log.{HasPair}
 use Rattle.replay_text.specs.declared.row.Row.{Row}
 use Rattle.bus_spec.specs.Cluster.{Cluster, cluster, world_of}
-use Rattle.bus_spec.specs.Choices.{Fits}
+use Rattle.bus_spec.specs.Choices.{AgreesWithDisk}
 use Rattle.bus_agreement.specs.Headline.{the_list}
 
 -- at place a there is an allocatee with this unique ID, and it holds this node ID
@@ -35,5 +35,5 @@ pub record Allocatees (choice : ℕ → Bool) (now later : Cluster) : Type 0 whe
 -- one. That there is such a choice is said by `HasHeadline`.
 abbrev pub HasAllocatees : List ℕ → List Row → Type 0
 HasAllocatees ids rows = (first more rest : List Row) (choice : ℕ → Bool) → rows ≡ first ++ (more ++ rest)
-    → Fits choice (cluster ids) (first ++ more)
+    → AgreesWithDisk choice (cluster ids) (first ++ more)
     → Allocatees choice (world_of ids first) (world_of ids (first ++ more))

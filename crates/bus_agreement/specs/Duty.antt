@@ -21,18 +21,19 @@ pub record DoesItsDuty (members : List ℕ) (t : AllocatorState) (number : ℕ) 
   -- the event is seen; a leader commits, then it tells; then the calls are left
   pub phases : (step t number event).step_state ≡ call_phase number (when_told t number event)
   -- a leader commits as far as a quorum of the members lets it
-  pub commit : (when_seen t number event).timed.plain.memory.role ≡ Leader
-      → CommitDuty members t.me (when_seen t number event).timed.plain (when_committed t number event).timed.plain
+  pub commit : (when_seen t number event).allocator.raft_server.memory.role ≡ Leader
+      → CommitDuty members t.me (when_seen t number event).allocator.raft_server
+      (when_committed t number event).allocator.raft_server
   -- a leader tells the next place, where there is room for it
   pub tell : TellsDuly number (when_committed t number event) (when_told t number event)
   -- whoever has waited when it reads its clock, knows all members and does not lead stands for election, where there is
   -- a next term
   pub stand : (now word : ℕ) → event ≡ Tick now word → knows_all t ≡ true
       → has_waited t.times (max t.now now) ≡ true
-      → t.plain.memory.role ≢ Leader → t.plain.store.term < term_limit
-      → TickDuty t.plain (step t number event).step_state.timed.plain
+      → t.raft_server.memory.role ≢ Leader → t.raft_server.store.term < term_limit
+      → TickDuty t.raft_server (step t number event).step_state.allocator.raft_server
   -- whoever counts the votes of a quorum leads when the step is over
-  pub win : WinDuty members (step t number event).step_state.timed.plain
+  pub win : WinDuty members (step t number event).step_state.allocator.raft_server
 
 -- a stopped member takes no step, nor does one that failed
 abbrev pub DoDutyIn : List ℕ → ℕ → Event → MemberStatus → Type 0
@@ -41,8 +42,8 @@ DoDutyIn members number event (Up t) = DoesItsDuty members t number event
 DoDutyIn members number event (Failed failure) = Unit {0}
 
 abbrev pub IsDutiful : Cluster → Row → Type 0
-IsDutiful w (TickRow n ms word) = DoDutyIn w.ids (w.rows + 1) (tick_of ms word) (w.member n).life
-IsDutiful w (Rx n k ms) = DoDutyIn w.ids (w.rows + 1) (receipt_of w k ms) (w.member n).life
+IsDutiful w (TickRow n ms word) = DoDutyIn w.ids (w.rows + 1) (tick_of ms word) (w.member n).status
+IsDutiful w (Rx n k ms) = DoDutyIn w.ids (w.rows + 1) (receipt_of w k ms) (w.member n).status
 IsDutiful w row = Unit {0}
 
 -- of a list of rows: each of them, in the world that it comes to

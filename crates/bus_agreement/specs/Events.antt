@@ -7,7 +7,7 @@ use Rattle.dsdl_codec.specs.Discovery.{discovery_of}
 use Rattle.raft_model.specs.Lists.{In}
 use Rattle.transfer_rx.specs.Reassembly.{Arrival}
 use Rattle.transfer_tx.specs.Queue.{Queued}
-use Rattle.alloc_step.specs.Judging.{judges}
+use Rattle.alloc_step.specs.Judging.{arrival_judgement}
 use Rattle.alloc_step.specs.Step.{Event}
 use Rattle.alloc_step.specs.Step.Event.{Rx}
 use Rattle.alloc_step.specs.AllocatorState.{AllocatorState, members_of}
@@ -17,7 +17,7 @@ use Rattle.bus_agreement.specs.Frames.{CameFrom}
 -- a tick, or a frame of the bus that the server may take
 pub record MayHappen (frames : List Queued) (t : AllocatorState) (event : Event) : Type 0 where
   pub came : (arrival : Arrival) → event ≡ Rx arrival → CameFrom frames arrival
-  pub fine : (arrival : Arrival) → event ≡ Rx arrival → judges t arrival ≡ Fine
+  pub fine : (arrival : Arrival) → event ≡ Rx arrival → arrival_judgement t arrival ≡ Fine
 
 -- a Discovery lists members that the server knows
 abbrev pub TellsMembers : AllocatorState → List Offer → Type 0

@@ -21,8 +21,8 @@ use Rattle.transfer_tx.specs.Queue.{Queued}
 use Rattle.bus_spec.specs.Cluster.{Cluster, cluster, world_of}
 use Rattle.bus_spec.specs.Logs.{IsFound, IsGivenFrom, IsOfAllocation, IsOffered, committed, stored}
 use Rattle.bus_spec.specs.Members.MemberStatus.{Up}
-use Rattle.bus_spec.specs.Choices.{Fits}
-use Rattle.bus_spec.specs.Refinement.{made}
+use Rattle.bus_spec.specs.Choices.{AgreesWithDisk}
+use Rattle.bus_spec.specs.Refinement.{transfers_of_rows}
 
 -- the one list: the longest that a member has committed. All of them are prefixes of one list (`prefix`), so any two
 -- of one length are equal
@@ -38,20 +38,20 @@ the_list choice w = longest choice w w.ids
 
 -- the member runs as Leader
 pub record Leads (w : Cluster) (n : ℕ) (server : AllocatorState) : Type 0 where
-  pub runs : (w.member n).life ≡ Up server
-  pub role : server.plain.memory.role ≡ Leader
+  pub runs : (w.member n).status ≡ Up server
+  pub role : server.raft_server.memory.role ≡ Leader
 
 pub record Headline (choice : ℕ → Bool) (now later : Cluster) : Type 0 where
   -- each committed log is a prefix of the list, and of each that its member has later, through stops and openings
   pub prefix : (n : ℕ) → In n now.ids → IsPrefix (committed choice now n) (the_list choice now)
   pub kept : (n : ℕ) → In n now.ids → IsPrefix (committed choice now n) (committed choice later n)
   -- a running member goes by what it has stored
-  pub shown : (n : ℕ) (server : AllocatorState) → In n now.ids → (now.member n).life ≡ Up server
-      → server.plain.store ≡ stored choice now n
+  pub shown : (n : ℕ) (server : AllocatorState) → In n now.ids → (now.member n).status ≡ Up server
+      → server.raft_server.store ≡ stored choice now n
   -- whatever image a stop now would leave of a member's disk, it stands for what is stored; of a failed step it stands
   -- for one of the two that choices may say
   pub found : (n : ℕ) (pattern : Pattern) → In n now.ids
-      → IsFound (now.member n).life (now.member n).disk (store_of (restarted_on pattern (now.member n).disk).store)
+      → IsFound (now.member n).status (now.member n).disk (store_of (restarted_on pattern (now.member n).disk).store)
   -- the list has pairs, reservations and blanks, each with a unique ID of 16 bytes
   pub formed : (place : ℕ) → place < length (the_list choice now)
       → IsWellFormed (slice_index_or (the_list choice now) place (blank 0))
@@ -66,7 +66,7 @@ pub record Headline (choice : ℕ → Bool) (now later : Cluster) : Type 0 where
   -- an Allocation with a node ID that waits in a running member's queue is a pair of the member's committed log, and so
   -- of the list; each Allocation that fits waits whole when its row is over (`queue_of_a_step` of `alloc_step_laws`)
   pub offered : (n : ℕ) (server : AllocatorState) (answer : Allocation) → In n now.ids
-      → (now.member n).life ≡ Up server
+      → (now.member n).status ≡ Up server
       → IsOffered server.queue n answer → answer.node ≢ 0
       → HasPair (committed choice now n) answer.uid.items answer.node
   -- what a member has committed now begins the log of every Leader later whose term is at least the one that the member
@@ -74,20 +74,21 @@ pub record Headline (choice : ℕ → Bool) (now later : Cluster) : Type 0 where
   -- committed it
   pub leaders : (n leader : ℕ) (server : AllocatorState) → In n now.ids → In leader now.ids
       → Leads later leader server
-      → (stored choice now n).term ≤ server.plain.store.term
-      → IsPrefix (committed choice now n) server.plain.store.log
+      → (stored choice now n).term ≤ server.raft_server.store.term
+      → IsPrefix (committed choice now n) server.raft_server.store.log
 
 -- Of a list of rows: the headline holds from each of its moments to each later one, for every choice that fits the rows
 -- up to the later one; and there is a choice that fits all of it, and so up to every moment.
 pub record HasHeadline (ids : List ℕ) (rows : List Row) : Type 0 where
-  pub some : (choice : ℕ → Bool) × Fits choice (cluster ids) rows
+  pub some : (choice : ℕ → Bool) × AgreesWithDisk choice (cluster ids) rows
   pub holds : (first more rest : List Row) (choice : ℕ → Bool) → rows ≡ first ++ (more ++ rest)
-      → Fits choice (cluster ids) (first ++ more)
+      → AgreesWithDisk choice (cluster ids) (first ++ more)
       → Headline choice (world_of ids first) (world_of ids (first ++ more))
   -- On the bus there are no other Allocations: at each moment each frame whose identifier reads as an Allocation of a
   -- node is that member's, of an Allocation that it made in a step by then, and what this one gives is a pair of the
   -- member's committed log.
   pub bus : (first rest : List Row) (choice : ℕ → Bool) → rows ≡ first ++ rest
-      → Fits choice (cluster ids) first
+      → AgreesWithDisk choice (cluster ids) first
       → (frame : Queued) (n : ℕ) → In frame (world_of ids first).frames → IsOfAllocation frame n
-      → In n ids × IsGivenFrom (committed choice (world_of ids first) n) (made (cluster ids) first []) frame n
+      → In n ids
+      × IsGivenFrom (committed choice (world_of ids first) n) (transfers_of_rows (cluster ids) first []) frame n

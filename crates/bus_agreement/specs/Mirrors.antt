@@ -22,7 +22,7 @@ use Rattle.bus_agreement.specs.Said.{IsProper}
 -- an allocation that waits in a queue, and gives a node ID, is an answer in the bag of the run, from this member
 abbrev pub OffersAreMade : Cluster → machine.World → Type 0
 OffersAreMade w run = (n : ℕ) (server : AllocatorState) (answer : Allocation) → In n w.ids →
-    (w.member n).life ≡ Up server
+    (w.member n).status ≡ Up server
     → IsOffered server.queue n answer → answer.node ≢ 0
     → (step : ℕ)
     × In (Pairs (record { step = step; from = n; uid = answer.uid.items; node = answer.node })) run.bag
@@ -46,11 +46,11 @@ pub record Mirrors (choice : ℕ → Bool) (w : Cluster) (run : machine.World) :
   -- each member has stored what its server in the run has
   pub stored : (n : ℕ) → In n w.ids → (run.server n).store ≡ stored choice w n
   -- a member that runs is its server in the run
-  pub serves : (n : ℕ) (server : AllocatorState) → In n w.ids → (w.member n).life ≡ Up server →
-      run.server n ≡ server.plain
+  pub serves : (n : ℕ) (server : AllocatorState) → In n w.ids → (w.member n).status ≡ Up server →
+      run.server n ≡ server.raft_server
   -- a stop would find what is stored, or what a choice may say of a failed step
   pub found : (n : ℕ) (pattern : Pattern) → In n w.ids →
-      IsFound (w.member n).life (w.member n).disk (store_of (restarted_on pattern (w.member n).disk).store)
+      IsFound (w.member n).status (w.member n).disk (store_of (restarted_on pattern (w.member n).disk).store)
   -- each entry of a log has bytes, and no member's node ID
   pub entries : (n : ℕ) (entry : Entry) → In entry (run.server n).store.log → IsProper w.ids entry
   pub offers : OffersAreMade w run

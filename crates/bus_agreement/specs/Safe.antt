@@ -2,7 +2,7 @@
 use Rattle.std.specs.Prelude.{◌≡◌, ℕ, Bool, true, List, [], ◌∷◌, ◌++◌, Some}
 use Rattle.raft_model.specs.Lists.{In}
 use Rattle.raft_model.specs.Messages.{Message}
-use Rattle.raft_model.specs.Runs.{beginning, run}
+use Rattle.raft_model.specs.Runs.{initial_world, run}
 use Rattle.raft_model.specs.Safety.{IsSafe}
 use Rattle.replay_text.specs.declared.row.Row.{Row}
 use Rattle.replay_text.specs.declared.row.Row.TheVariants.{Rx}
@@ -12,11 +12,11 @@ use Rattle.alloc_step.specs.AllocatorState.{AllocatorState}
 use Rattle.alloc_step.specs.Transfers.{SentTransfer, message_of}
 use Rattle.transfer_rx.specs.Acceptance.{is_service}
 use Rattle.transfer_rx.specs.Reassembly.{Delivery, Gives, answer}
-use Rattle.bus_spec.specs.Choices.{Fits}
-use Rattle.bus_spec.specs.Cluster.{Cluster, arriving, cluster, frame_at, world_of}
+use Rattle.bus_spec.specs.Choices.{AgreesWithDisk}
+use Rattle.bus_spec.specs.Cluster.{Cluster, arrival_at, cluster, frame_at, world_of}
 use Rattle.bus_spec.specs.Lawful.{is_forged}
 use Rattle.bus_spec.specs.Members.MemberStatus.{Up}
-use Rattle.bus_spec.specs.Refinement.{events, made}
+use Rattle.bus_spec.specs.Refinement.{events, transfers_of_rows}
 use Rattle.bus_agreement.specs.Continues.{Continues}
 use Rattle.bus_agreement.specs.Frames.{IsTransferOf}
 
@@ -24,9 +24,9 @@ use Rattle.bus_agreement.specs.Frames.{IsTransferOf}
 -- a data type that members alone send
 pub record IsDeliveredTo (w : Cluster) (n k ms : ℕ) (d : Delivery) : Type 0 where
   pub server : AllocatorState
-  pub runs : (w.member n).life ≡ Up server
+  pub runs : (w.member n).status ≡ Up server
   pub gives : answer (setting_for server.me) server.sessions
-      (at_step (at_moment ms server) (arriving (frame_at w.frames k) ms)) ≡ Gives d
+      (at_step (at_moment ms server) (arrival_at (frame_at w.frames k) ms)) ≡ Gives d
   pub member : is_forged w.ids (Some d.ident) ≡ true
 
 -- what is delivered to member n is one transfer that was made, and no other; a request or a response is for n; and what
@@ -43,12 +43,13 @@ pub record IsOneTransfer (made : List SentTransfer) (bag : List Message) (n : �
 -- it is safe; and whatever transfer of a member a row delivers, a member made it by then, for this receiver, and what
 -- it says is in the bag of that run.
 pub record AreSafe (ids : List ℕ) (rows : List Row) : Type 0 where
-  pub shown : (choice : ℕ → Bool) → Fits choice (cluster ids) rows
-      → Continues choice (made (cluster ids) rows []) (world_of ids rows) (beginning ids)
+  pub shown : (choice : ℕ → Bool) → AgreesWithDisk choice (cluster ids) rows
+      → Continues choice (transfers_of_rows (cluster ids) rows []) (world_of ids rows) (initial_world ids)
       (events choice (cluster ids) rows)
   pub delivered : (first rest : List Row) (n k ms : ℕ) (choice : ℕ → Bool)
       → rows ≡ first ++ (Rx n k ms ∷ rest)
-      → Fits choice (cluster ids) first → (d : Delivery) → IsDeliveredTo (world_of ids first) n k ms d
-      → IsOneTransfer (made (cluster ids) first []) (run (beginning ids) (events choice (cluster ids) first)).bag n d
-  pub safe : (choice : ℕ → Bool) → Fits choice (cluster ids) rows
-      → IsSafe (run (beginning ids) (events choice (cluster ids) rows))
+      → AgreesWithDisk choice (cluster ids) first → (d : Delivery) → IsDeliveredTo (world_of ids first) n k ms d
+      → IsOneTransfer (transfers_of_rows (cluster ids) first [])
+      (run (initial_world ids) (events choice (cluster ids) first)).bag n d
+  pub safe : (choice : ℕ → Bool) → AgreesWithDisk choice (cluster ids) rows
+      → IsSafe (run (initial_world ids) (events choice (cluster ids) rows))

@@ -81,7 +81,7 @@ carrier false = VoteQ
 
 -- each pending call was made
 abbrev pub AreCalled : List SentTransfer → AllocatorState → Type 0
-AreCalled made server = (peer : ℕ) (request : Request) → server.plain.memory.pending peer ≡ Some request
+AreCalled made server = (peer : ℕ) (request : Request) → server.raft_server.memory.pending peer ≡ Some request
     → (sending : Sending) × (server.times.sending peer ≡ Some sending)
     × IsCalled made server peer request sending (carrier request.append)
 

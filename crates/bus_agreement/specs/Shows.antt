@@ -14,7 +14,7 @@ use Rattle.raft_log.specs.Stored.{Stored}
 use Rattle.raft_model.specs.Lists.{In}
 use Rattle.raft_model.specs.Messages.{Message}
 use Rattle.raft_model.specs.Runs as machine
-use Rattle.raft_model.specs.Server.{lost}
+use Rattle.raft_model.specs.Server.{memory_when_down}
 use Rattle.transfer_tx.specs.Queue.{Queued}
 use Rattle.allocatee.specs.Allocatee.{Device}
 use Rattle.alloc_step_laws.specs.Coming.{KeepsOrder}
@@ -38,9 +38,9 @@ pub record IsInRun (ids : List ℕ) (run : machine.World) (m : ℕ) (server : Al
     (disk : KeyDisk Stored) : Type 0 where
   pub me : server.me ≡ m
   pub size : server.size ≡ length ids
-  pub plain : run.server m ≡ server.plain
-  pub up : server.plain.memory.up ≡ true
-  pub stored : store_of disk.store ≡ server.plain.store
+  pub raft_server : run.server m ≡ server.raft_server
+  pub up : server.raft_server.memory.up ≡ true
+  pub stored : store_of disk.store ≡ server.raft_server.store
   -- nothing that it wrote waits for a sync
   pub nothing_unsynced : disk.unsynced ≡ None
   pub sound : IsSound server
@@ -65,23 +65,23 @@ pub record ShowsUp (made : List SentTransfer) (ids : List ℕ) (frames : List Qu
 -- done for sure, or one more
 pub record ShowsFailed (choice : ℕ → Bool) (run : machine.World) (m : ℕ) (failure : Failure)
     (disk : KeyDisk Stored) : Type 0 where
-  pub down : (run.server m).memory ≡ lost
+  pub down : (run.server m).memory ≡ memory_when_down
   pub stored : (run.server m).store ≡ chosen_store choice failure
   pub found : (pattern : Pattern) →
       store_of (restarted_on pattern disk).store ≡ stored_after failure (found_by pattern disk)
 
 -- a member that is stopped: a selector that waits for a sync makes no difference to what is stored
 pub record ShowsDown (run : machine.World) (m : ℕ) (disk : KeyDisk Stored) : Type 0 where
-  pub down : (run.server m).memory ≡ lost
+  pub down : (run.server m).memory ≡ memory_when_down
   pub stored : (run.server m).store ≡ store_of disk.store
   pub nothing_unsynced : (unsynced : Unsynced Stored) → disk.unsynced ≡ Some unsynced
       → store_of unsynced.before ≡ store_of disk.store
 
-abbrev pub ShowsLife : (ℕ → Bool) → List SentTransfer → List ℕ → List Queued → machine.World → ℕ →
+abbrev pub ShowsMember : (ℕ → Bool) → List SentTransfer → List ℕ → List Queued → machine.World → ℕ →
     MemberStatus → KeyDisk Stored → Type 0
-ShowsLife choice made ids frames run m Down disk = ShowsDown run m disk
-ShowsLife choice made ids frames run m (Up server) disk = ShowsUp made ids frames run m server disk
-ShowsLife choice made ids frames run m (Failed failure) disk = ShowsFailed choice run m failure disk
+ShowsMember choice made ids frames run m Down disk = ShowsDown run m disk
+ShowsMember choice made ids frames run m (Up server) disk = ShowsUp made ids frames run m server disk
+ShowsMember choice made ids frames run m (Failed failure) disk = ShowsFailed choice run m failure disk
 
 -- ---- transfers and messages
 
@@ -104,7 +104,7 @@ pub record Shows (choice : ℕ → Bool) (made : List SentTransfer) (w : Cluster
   pub members : run.members ≡ w.ids
   pub steps : run.steps ≤ w.rows
   pub lives : (m : ℕ) → In m w.ids →
-      ShowsLife choice made w.ids w.frames run m (w.member m).life (w.member m).disk
+      ShowsMember choice made w.ids w.frames run m (w.member m).status (w.member m).disk
   pub asking : (a : ℕ) (x : Device) → w.allocatee a ≡ Some x → IsAsking made w.frames x
   pub bus : (frame : Queued) → In frame w.frames → IsOnBus made w.ids frame
   -- identifiers of 29 bits

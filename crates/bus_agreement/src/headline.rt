@@ -1,7 +1,7 @@
 //! Laws toward the headline, each the contract of a function that does nothing.
 
 ghost use Rattle.std.specs.Prelude.{◌≡◌, ◌++◌, ◌∷◌, [], ℕ, Bool, List, None};
-ghost use Rattle.raft_model.specs.Runs.{Event, World, beginning, run};
+ghost use Rattle.raft_model.specs.Runs.{Event, World, initial_world, run};
 ghost use Rattle.raft_model.specs.Runs.{Lawful as RunsLawfully};
 ghost use Rattle.replay_text.specs.declared.row.Row.{Row};
 ghost use Rattle.bus_agreement.specs.Continues.{Continues};
@@ -11,10 +11,10 @@ ghost use Rattle.bus_agreement.specs.Mirrors.{BusIsMade, Mirrors, OffersAreMade}
 ghost use Rattle.bus_agreement.specs.Safe.{AreSafe};
 ghost use Rattle.bus_agreement.specs.Shows.{Shows};
 ghost use Rattle.bus_spec.specs.Cluster.{AreMembers, Cluster, cluster};
-ghost use Rattle.bus_spec.specs.Cluster.{after_rows, next, world_of};
+ghost use Rattle.bus_spec.specs.Cluster.{after_rows, after_row, world_of};
 ghost use Rattle.bus_spec.specs.Lawful.{Lawful, cause};
-ghost use Rattle.bus_spec.specs.Choices.{Fits, FitsRow};
-ghost use Rattle.bus_spec.specs.Refinement.{events, made, made_in, row_events};
+ghost use Rattle.bus_spec.specs.Choices.{AgreesWithDisk, RowAgreesWithDisk};
+ghost use Rattle.bus_spec.specs.Refinement.{events, transfers_of_rows, transfers_of_row, row_events};
 ghost use Rattle.alloc_step.specs.Transfers.{SentTransfer};
 
 use crate::below::what_is_said_of_frames;
@@ -27,17 +27,18 @@ use raft_model::laws::{law_commit, law_duty, law_every_run};
 pub fn rows_grow_by_one()
     ensures members { (w : Cluster) (rows : List Row) → (after_rows w rows).ids ≡ w.ids }
     ensures world { (w : Cluster) (rows : List Row) (row : Row) →
-        after_rows w (rows ++ row ∷ []) ≡ next (after_rows w rows) row }
+        after_rows w (rows ++ row ∷ []) ≡ after_row (after_rows w rows) row }
     ensures lawful { (w : Cluster) (rows : List Row) (row : Row) → Lawful w rows →
         cause (after_rows w rows) row ≡ None → Lawful w (rows ++ row ∷ []) }
     ensures events { (choice : ℕ → Bool) (w : Cluster) (rows : List Row) (row : Row) →
         events choice w (rows ++ row ∷ [])
         ≡ events choice w rows ++ row_events choice (after_rows w rows) row }
     ensures fits { (choice : ℕ → Bool) (w : Cluster) (rows : List Row) (row : Row) →
-        Fits choice w rows → FitsRow choice (after_rows w rows) row →
-        Fits choice w (rows ++ row ∷ []) }
+        AgreesWithDisk choice w rows → RowAgreesWithDisk choice (after_rows w rows) row →
+        AgreesWithDisk choice w (rows ++ row ∷ []) }
     ensures made { (w : Cluster) (rows : List Row) (row : Row) (earlier : List SentTransfer) →
-        made w (rows ++ row ∷ []) earlier ≡ made_in (after_rows w rows) row (made w rows earlier) }
+        transfers_of_rows w (rows ++ row ∷ []) earlier
+        ≡ transfers_of_row (after_rows w rows) row (transfers_of_rows w rows earlier) }
 {}
 
 /// An Allocation with a node ID that waits in a running member's queue, its frames one after another, is a
@@ -58,10 +59,10 @@ pub fn offers_are_pairs()
 pub fn what_is_mirrored_has_the_headline()
     ensures { (choice : ℕ → Bool) (members : List ℕ) (first rest : List Event)
         (now later : Cluster) →
-        RunsLawfully (beginning members) first →
-        RunsLawfully (run (beginning members) first) rest → later.ids ≡ now.ids →
-        Mirrors choice now (run (beginning members) first) →
-        Mirrors choice later (run (run (beginning members) first) rest) →
+        RunsLawfully (initial_world members) first →
+        RunsLawfully (run (initial_world members) first) rest → later.ids ≡ now.ids →
+        Mirrors choice now (run (initial_world members) first) →
+        Mirrors choice later (run (run (initial_world members) first) rest) →
         Headline choice now later }
 {
     law_commit();
@@ -72,8 +73,8 @@ pub fn what_is_mirrored_has_the_headline()
 /// fits what the stops find.
 pub fn rows_are_shown()
     ensures { (choice : ℕ → Bool) (ids : List ℕ) (rows : List Row) → AreMembers ids →
-        Lawful (cluster ids) rows → Fits choice (cluster ids) rows →
-        Continues choice (made (cluster ids) rows []) (world_of ids rows) (beginning ids)
+        Lawful (cluster ids) rows → AgreesWithDisk choice (cluster ids) rows →
+        Continues choice (transfers_of_rows (cluster ids) rows []) (world_of ids rows) (initial_world ids)
         (events choice (cluster ids) rows) }
 {
     a_row_is_shown();
@@ -109,7 +110,7 @@ pub fn rows_are_dutiful()
 /// what the disk of its member gives once the member stops.
 pub fn a_choice_fits()
     ensures { (ids : List ℕ) (rows : List Row) → AreMembers ids → Lawful (cluster ids) rows →
-        (choice : ℕ → Bool) × Fits choice (cluster ids) rows }
+        (choice : ℕ → Bool) × AgreesWithDisk choice (cluster ids) rows }
 {
     rows_are_shown();
 }

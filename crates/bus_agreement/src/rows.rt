@@ -8,7 +8,7 @@ ghost use Rattle.raft_log.specs.KeyDisk.{are_put, is_open_on};
 ghost use Rattle.raft_model.specs.Duty.{WinDuty};
 ghost use Rattle.raft_model.specs.Invariants.{Invariants};
 ghost use Rattle.raft_model.specs.Lists.{In};
-ghost use Rattle.raft_model.specs.Runs.{MayOccur, World, after, beginning};
+ghost use Rattle.raft_model.specs.Runs.{MayOccur, World, after, initial_world};
 ghost use Rattle.raft_model.specs.Runs.{Event as RunEvent};
 ghost use Rattle.raft_model.specs.Runs.Event.{Opens, Steps, Stops};
 ghost use Rattle.replay_text.specs.declared.row.Row.{Row};
@@ -23,12 +23,12 @@ ghost use Rattle.bus_agreement.specs.Duty.{DoesItsDuty};
 ghost use Rattle.bus_agreement.specs.Events.{MayHappen};
 ghost use Rattle.bus_agreement.specs.Said.{IsRunWritable};
 ghost use Rattle.bus_agreement.specs.Shows.{Shows};
-ghost use Rattle.bus_spec.specs.Cluster.{AreMembers, Cluster, cluster, next, steps};
+ghost use Rattle.bus_spec.specs.Cluster.{AreMembers, Cluster, cluster, after_row, with_step};
 ghost use Rattle.bus_spec.specs.Lawful.{cause};
 ghost use Rattle.bus_spec.specs.Members.{Failure, puts_of};
 ghost use Rattle.bus_spec.specs.Members.MemberStatus.{Down, Failed, Up};
-ghost use Rattle.bus_spec.specs.Choices.{FitsRow};
-ghost use Rattle.bus_spec.specs.Refinement.{cut_events, made_in, made_of, row_events};
+ghost use Rattle.bus_spec.specs.Choices.{RowAgreesWithDisk};
+ghost use Rattle.bus_spec.specs.Refinement.{cut_events, transfers_of_row, transfers_of_offers, row_events};
 
 use crate::below::{
     what_a_step_keeps, what_is_said_of_a_step, what_is_said_of_frames, what_is_said_of_messages,
@@ -48,15 +48,15 @@ use transfer_rx::laws::frames_are_kept_under_their_key;
 pub fn rows_without_events_are_shown()
     ensures outside { (choice : ℕ → Bool) (made : List SentTransfer) (w : Cluster) (run : World) →
         Shows choice made w run → (frame : Frame) → cause w (Ext frame) ≡ None →
-        Shows choice made (next w (Ext frame)) run }
+        Shows choice made (after_row w (Ext frame)) run }
     ensures sent { (choice : ℕ → Bool) (made : List SentTransfer) (w : Cluster) (run : World) →
         AreMembers w.ids → Shows choice made w run → (n : ℕ) → cause w (Send n) ≡ None →
-        Shows choice made (next w (Send n)) run }
+        Shows choice made (after_row w (Send n)) run }
     ensures stop_armed { (choice : ℕ → Bool) (made : List SentTransfer) (w : Cluster) (run : World) →
         Shows choice made w run → (n calls : ℕ) (pattern : Pattern) → (calls == 0) ≡ false →
-        Shows choice made (next w (Crash n calls pattern)) run }
+        Shows choice made (after_row w (Crash n calls pattern)) run }
     ensures failure_armed { (choice : ℕ → Bool) (made : List SentTransfer) (w : Cluster) (run : World) →
-        Shows choice made w run → (n call : ℕ) → Shows choice made (next w (Fault n call)) run }
+        Shows choice made w run → (n call : ℕ) → Shows choice made (after_row w (Fault n call)) run }
 {
     moves_of_a_step();
     steps_stay_in_range();
@@ -69,18 +69,18 @@ pub fn rows_without_events_are_shown()
 pub fn rows_of_allocatees_are_shown()
     ensures came { (choice : ℕ → Bool) (made : List SentTransfer) (w : Cluster) (run : World) →
         Shows choice made w run → (a : ℕ) (uid : List ℕ) (pref ms word : ℕ) →
-        Shows choice made (next w (AOpen a uid pref ms word)) run }
+        Shows choice made (after_row w (AOpen a uid pref ms word)) run }
     ensures ticked { (choice : ℕ → Bool) (made : List SentTransfer) (w : Cluster) (run : World) →
         AreMembers w.ids → Shows choice made w run → (a ms word : ℕ) →
-        Shows choice made (next w (ATick a ms word)) run }
+        Shows choice made (after_row w (ATick a ms word)) run }
     ensures received { (choice : ℕ → Bool) (made : List SentTransfer) (w : Cluster) (run : World) →
         AreMembers w.ids → Shows choice made w run → (a k ms word : ℕ) →
-        cause w (ARx a k ms word) ≡ None → Shows choice made (next w (ARx a k ms word)) run }
+        cause w (ARx a k ms word) ≡ None → Shows choice made (after_row w (ARx a k ms word)) run }
     ensures sent { (choice : ℕ → Bool) (made : List SentTransfer) (w : Cluster) (run : World) →
         Shows choice made w run → (a : ℕ) → cause w (ASend a) ≡ None →
-        Shows choice made (next w (ASend a)) run }
+        Shows choice made (after_row w (ASend a)) run }
     ensures left { (choice : ℕ → Bool) (made : List SentTransfer) (w : Cluster) (run : World) →
-        Shows choice made w run → (a : ℕ) → Shows choice made (next w (AEnd a)) run }
+        Shows choice made w run → (a : ℕ) → Shows choice made (after_row w (AEnd a)) run }
 {
     a_node_id_is_given_for_good();
     frames_are_kept_under_their_key();
@@ -92,7 +92,7 @@ pub fn rows_of_allocatees_are_shown()
 
 /// The world without rows shows the beginning of a run.
 pub fn the_beginning_is_shown()
-    ensures { (choice : ℕ → Bool) (ids : List ℕ) → Shows choice [] (cluster ids) (beginning ids) }
+    ensures { (choice : ℕ → Bool) (ids : List ℕ) → Shows choice [] (cluster ids) (initial_world ids) }
 {}
 
 /// A stop of a running member between two steps is one event of the run, which may come; what the run says
@@ -101,13 +101,13 @@ pub fn the_beginning_is_shown()
 pub fn stops_are_shown()
     ensures running { (choice : ℕ → Bool) (made : List SentTransfer) (w : Cluster) (run : World) →
         Shows choice made w run → IsRunWritable w.ids run → (n : ℕ) (pattern : Pattern) →
-        In n w.ids → (t : AllocatorState) → (w.member n).life ≡ Up t → let event = Stops n (w.rows + 1) [] in
+        In n w.ids → (t : AllocatorState) → (w.member n).status ≡ Up t → let event = Stops n (w.rows + 1) [] in
         MayOccur run event × IsRunWritable w.ids (after run event) ×
-        Shows choice made (next w (Crash n 0 pattern)) (after run event) }
+        Shows choice made (after_row w (Crash n 0 pattern)) (after run event) }
     ensures failed { (choice : ℕ → Bool) (made : List SentTransfer) (w : Cluster) (run : World) →
         Shows choice made w run → (n : ℕ) (pattern : Pattern) → In n w.ids → (failure : Failure) →
-        (w.member n).life ≡ Failed failure → FitsRow choice w (Crash n 0 pattern) →
-        Shows choice made (next w (Crash n 0 pattern)) run }
+        (w.member n).status ≡ Failed failure → RowAgreesWithDisk choice w (Crash n 0 pattern) →
+        Shows choice made (after_row w (Crash n 0 pattern)) run }
 {}
 
 /// An opening that succeeds is one event of the run, which may come; what it puts changes nothing of what the
@@ -116,13 +116,13 @@ pub fn stops_are_shown()
 pub fn openings_are_shown()
     ensures opened { (choice : ℕ → Bool) (made : List SentTransfer) (w : Cluster) (run : World) →
         AreMembers w.ids → Shows choice made w run → IsRunWritable w.ids run → (n ms word : ℕ) →
-        In n w.ids → (w.member n).life ≡ Down → is_open_on (w.member n).disk ≡ true →
+        In n w.ids → (w.member n).status ≡ Down → is_open_on (w.member n).disk ≡ true →
         MayOccur run (Opens n) × IsRunWritable w.ids (after run (Opens n)) ×
-        Shows choice made (next w (Open n ms word)) (after run (Opens n)) }
+        Shows choice made (after_row w (Open n ms word)) (after run (Opens n)) }
     ensures failed { (choice : ℕ → Bool) (made : List SentTransfer) (w : Cluster) (run : World) →
         AreMembers w.ids → Shows choice made w run → (n ms word : ℕ) → In n w.ids →
-        (w.member n).life ≡ Down → is_open_on (w.member n).disk ≡ false →
-        Shows choice made (next w (Open n ms word)) run }
+        (w.member n).status ≡ Down → is_open_on (w.member n).disk ≡ false →
+        Shows choice made (after_row w (Open n ms word)) run }
 {
     an_opening_keeps_the_store();
     moves_of_a_step();
@@ -136,14 +136,14 @@ pub fn openings_are_shown()
 pub fn finished_steps_are_shown()
     ensures { (choice : ℕ → Bool) (made : List SentTransfer) (w : Cluster) (run : World) →
         AreMembers w.ids → Shows choice made w run → Invariants run → IsRunWritable w.ids run →
-        (n : ℕ) (t : AllocatorState) (event : Event) → In n w.ids → (w.member n).life ≡ Up t →
+        (n : ℕ) (t : AllocatorState) (event : Event) → In n w.ids → (w.member n).status ≡ Up t →
         MayHappen w.frames t event → IsOnTheBus event →
         let number = w.rows + 1 in let step_state = (step t number event).step_state in
         are_put (puts_of (w.member n) step_state) (w.member n).disk.calls ≡ true →
         let finished = Steps n number step_state.moves (messages number step_state) in
         MayOccur run finished × IsRunWritable w.ids (after run finished) ×
-        Shows choice (made_of number n step_state.offers made)
-        (record (steps w n event) { rows = number }) (after run finished) }
+        Shows choice (transfers_of_offers number n step_state.offers made)
+        (record (with_step w n event) { rows = number }) (after run finished) }
 {
     what_a_step_keeps();
     what_is_said_of_a_step();
@@ -157,8 +157,8 @@ pub fn finished_steps_are_shown()
 pub fn steps_are_dutiful()
     ensures { (choice : ℕ → Bool) (made : List SentTransfer) (w : Cluster) (run : World) →
         AreMembers w.ids → Shows choice made w run → Invariants run → IsRunWritable w.ids run →
-        (n : ℕ) (t : AllocatorState) (event : Event) → In n w.ids → (w.member n).life ≡ Up t →
-        MayHappen w.frames t event → IsOnTheBus event → WinDuty w.ids t.plain →
+        (n : ℕ) (t : AllocatorState) (event : Event) → In n w.ids → (w.member n).status ≡ Up t →
+        MayHappen w.frames t event → IsOnTheBus event → WinDuty w.ids t.raft_server →
         DoesItsDuty w.ids t (w.rows + 1) event }
 {
     duty_of_a_step();
@@ -174,14 +174,14 @@ pub fn steps_are_dutiful()
 pub fn cut_steps_are_shown()
     ensures { (choice : ℕ → Bool) (made : List SentTransfer) (w : Cluster) (run : World) →
         AreMembers w.ids → Shows choice made w run → Invariants run → IsRunWritable w.ids run →
-        (n : ℕ) (t : AllocatorState) (event : Event) → In n w.ids → (w.member n).life ≡ Up t →
+        (n : ℕ) (t : AllocatorState) (event : Event) → In n w.ids → (w.member n).status ≡ Up t →
         MayHappen w.frames t event → IsOnTheBus event →
         let number = w.rows + 1 in let step_state = (step t number event).step_state in
         are_put (puts_of (w.member n) step_state) (w.member n).disk.calls ≡ false →
         (stop : RunEvent) ×
         (cut_events choice w.ids n number (w.member n) t step_state ≡ stop ∷ []) × MayOccur run stop ×
         IsRunWritable w.ids (after run stop) ×
-        Shows choice made (record (steps w n event) { rows = number }) (after run stop) }
+        Shows choice made (record (with_step w n event) { rows = number }) (after run stop) }
 {
     law_joined();
     puts_are_stored();
@@ -198,8 +198,8 @@ pub fn cut_steps_are_shown()
 pub fn a_row_is_shown()
     ensures { (choice : ℕ → Bool) (made : List SentTransfer) (w : Cluster) (run : World) →
         AreMembers w.ids → Shows choice made w run → Invariants run → IsRunWritable w.ids run →
-        (row : Row) → cause w row ≡ None → FitsRow choice w row →
-        Continues choice (made_in w row made) (next w row) run (row_events choice w row) }
+        (row : Row) → cause w row ≡ None → RowAgreesWithDisk choice w row →
+        Continues choice (transfers_of_row w row made) (after_row w row) run (row_events choice w row) }
 {
     cut_steps_are_shown();
     finished_steps_are_shown();

@@ -8,7 +8,7 @@ ghost use Rattle.raft_model.specs.Messages.{Message};
 ghost use Rattle.raft_model.specs.Runs.{World};
 ghost use Rattle.replay_text.specs.declared.row.Row.TheVariants.{Rx as RxRow};
 ghost use Rattle.alloc_step_laws.specs.Coming.{TakesFrom};
-ghost use Rattle.alloc_step.specs.Judging.{judges};
+ghost use Rattle.alloc_step.specs.Judging.{arrival_judgement};
 ghost use Rattle.alloc_step.specs.Step.Event.{Rx};
 ghost use Rattle.alloc_step.specs.AllocatorState.{AllocatorState};
 ghost use Rattle.alloc_step.specs.Transfers.{SentTransfer};
@@ -59,7 +59,7 @@ pub fn what_a_member_takes_was_said()
         AreMembers ids → In server.me ids → HoldsOfMade made ids bag →
         ((frame : Queued) → In frame frames → IsOnBus made ids frame) →
         IsAtWork made ids frames server.me server → CameFrom frames arrival →
-        judges server arrival ≡ Fine → TakesFrom number bag server (Rx arrival) }
+        arrival_judgement server arrival ≡ Fine → TakesFrom number bag server (Rx arrival) }
 {
     what_is_said_of_frames();
     what_is_said_of_messages();

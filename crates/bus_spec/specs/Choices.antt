@@ -8,7 +8,7 @@ use Rattle.raft_log.specs.Stored.{Stored}
 use Rattle.raft_model.specs.Server.{Store}
 use Rattle.replay_text.specs.declared.row.Row.{Row}
 use Rattle.replay_text.specs.declared.row.Row.TheVariants.{Crash}
-use Rattle.bus_spec.specs.Cluster.{Cluster, next}
+use Rattle.bus_spec.specs.Cluster.{Cluster, after_row}
 use Rattle.bus_spec.specs.Members.{Failure, MemberStatus, stored_after}
 use Rattle.bus_spec.specs.Members.MemberStatus.{Down, Up, Failed}
 
@@ -21,21 +21,21 @@ abbrev pub chosen_store : (ℕ → Bool) → Failure → Store
 chosen_store choice failure = stored_after failure (one_if (choice failure.row))
 
 -- what the choice says of a failed step is what is found once its member stops
-abbrev pub FitsStop : (ℕ → Bool) → MemberStatus → Stored → Type 0
-FitsStop choice Down found = ⊤
-FitsStop choice (Up server) found = ⊤
-FitsStop choice (Failed failure) found = chosen_store choice failure ≡ store_of found
+abbrev pub StopAgreesWithDisk : (ℕ → Bool) → MemberStatus → Stored → Type 0
+StopAgreesWithDisk choice Down found = ⊤
+StopAgreesWithDisk choice (Up server) found = ⊤
+StopAgreesWithDisk choice (Failed failure) found = chosen_store choice failure ≡ store_of found
 
 -- only a stop at once finds anything
-abbrev pub FitsCrash : Bool → (ℕ → Bool) → MemberStatus → Stored → Type 0
-FitsCrash true choice life found = FitsStop choice life found
-FitsCrash false choice life found = ⊤
+abbrev pub CrashAgreesWithDisk : Bool → (ℕ → Bool) → MemberStatus → Stored → Type 0
+CrashAgreesWithDisk true choice status found = StopAgreesWithDisk choice status found
+CrashAgreesWithDisk false choice status found = ⊤
 
-abbrev pub FitsRow : (ℕ → Bool) → Cluster → Row → Type 0
-FitsRow choice w (Crash n calls pattern) =
-    FitsCrash (calls == 0) choice (w.member n).life (restarted_on pattern (w.member n).disk).store
-FitsRow choice w row = ⊤
+abbrev pub RowAgreesWithDisk : (ℕ → Bool) → Cluster → Row → Type 0
+RowAgreesWithDisk choice w (Crash n calls pattern) =
+    CrashAgreesWithDisk (calls == 0) choice (w.member n).status (restarted_on pattern (w.member n).disk).store
+RowAgreesWithDisk choice w row = ⊤
 
-abbrev pub Fits : (ℕ → Bool) → Cluster → List Row → Type 0
-Fits choice w [] = ⊤
-Fits choice w (row ∷ rows) = FitsRow choice w row × Fits choice (next w row) rows
+abbrev pub AgreesWithDisk : (ℕ → Bool) → Cluster → List Row → Type 0
+AgreesWithDisk choice w [] = ⊤
+AgreesWithDisk choice w (row ∷ rows) = RowAgreesWithDisk choice w row × AgreesWithDisk choice (after_row w row) rows

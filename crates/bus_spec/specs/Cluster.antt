@@ -10,8 +10,8 @@ use Rattle.allocatee.specs.Allocatee as device
 use Rattle.transfer_rx.specs.Reassembly.{Arrival}
 use Rattle.transfer_tx.specs.Queue.{Queued}
 use Rattle.alloc_step.specs.Step.{Event}
-use Rattle.bus_spec.specs.Allocatees.{after_sending_from, next_from, stepped_at}
-use Rattle.bus_spec.specs.Members.{Member, after_sending, crashed, failing, fresh, next_frame, opened, stepped}
+use Rattle.bus_spec.specs.Allocatees.{after_sending_from, next_from, device_after_step}
+use Rattle.bus_spec.specs.Members.{Member, after_sending, after_crash, with_failure_armed, fresh_member, next_frame, after_opening, member_after_step}
 
 -- node IDs of 1 to 125
 abbrev pub AreNodes : List ℕ → Type 0
@@ -36,7 +36,7 @@ pub record Cluster : Type 0 where
 
 -- all members stopped, on disks of zeros, no allocatees, and nothing on the bus
 abbrev pub cluster : List ℕ → Cluster
-cluster ids = record { ids = ids; member = λ n. fresh; allocatee = λ a. None; frames = []; rows = 0 }
+cluster ids = record { ids = ids; member = λ n. fresh_member; allocatee = λ a. None; frames = []; rows = 0 }
 
 abbrev pub is_member : List ℕ → ℕ → Bool
 is_member ids n = any (λ id. id == n) ids
@@ -55,8 +55,8 @@ abbrev pub frame_at : List Queued → ℕ → Queued
 frame_at frames k = slice_index_or frames (k - 1) no_frame
 
 -- a frame as it comes to a receiver
-abbrev pub arriving : Queued → ℕ → Arrival
-arriving frame moment = record { id = frame.id; bytes = frame.bytes; mark = frame.mark; moment = moment }
+abbrev pub arrival_at : Queued → ℕ → Arrival
+arrival_at frame moment = record { id = frame.id; bytes = frame.bytes; mark = frame.mark; moment = moment }
 
 abbrev pub in_list : Option Queued → List Queued
 in_list None = []
@@ -69,15 +69,15 @@ abbrev pub with_member : Cluster → ℕ → Member → Cluster
 with_member w n x = record w { member = at w.member n x }
 
 -- member n takes an event, in the step with the number of the next row
-abbrev pub steps : Cluster → ℕ → Event → Cluster
-steps w n event = with_member w n (stepped (w.rows + 1) event (w.member n).life (w.member n))
+abbrev pub with_step : Cluster → ℕ → Event → Cluster
+with_step w n event = with_member w n (member_after_step (w.rows + 1) event (w.member n).status (w.member n))
 
 abbrev pub tick_of : ℕ → ℕ → Event
 tick_of moment word = Event.Tick moment word
 
 -- frame k is received
 abbrev pub receipt_of : Cluster → ℕ → ℕ → Event
-receipt_of w k moment = Event.Rx (arriving (frame_at w.frames k) moment)
+receipt_of w k moment = Event.Rx (arrival_at (frame_at w.frames k) moment)
 
 -- the step that a row is, if it is one of a member: whose, and at which event
 abbrev pub step_of : Cluster → Row → Option (ℕ × Event)
@@ -86,9 +86,9 @@ step_of w (Rx n k ms) = Some (n, receipt_of w k ms)
 step_of w row = None
 
 -- the member's next frame goes from its queue to the bus
-abbrev pub sends : Cluster → ℕ → Cluster
-sends w n = record (with_member w n (record (w.member n) { life = after_sending (w.member n).life }))
-    { frames = w.frames ++ in_list (next_frame (w.member n).life) }
+abbrev pub with_send : Cluster → ℕ → Cluster
+with_send w n = record (with_member w n (record (w.member n) { status = after_sending (w.member n).status }))
+    { frames = w.frames ++ in_list (next_frame (w.member n).status) }
 
 -- ---- rows of allocatees
 
@@ -97,40 +97,40 @@ abbrev pub with_allocatee : Cluster → ℕ → Option Device → Cluster
 with_allocatee w a x = record w { allocatee = at w.allocatee a x }
 
 -- allocatee a takes an event, in the step with the number of the next row
-abbrev pub steps_at : Cluster → ℕ → device.Event → Cluster
-steps_at w a event = with_allocatee w a (stepped_at (w.rows + 1) event (w.allocatee a))
+abbrev pub with_step_at : Cluster → ℕ → device.Event → Cluster
+with_step_at w a event = with_allocatee w a (device_after_step (w.rows + 1) event (w.allocatee a))
 
 -- an allocatee receives frame k
 abbrev pub receipt_at : Cluster → ℕ → ℕ → ℕ → device.Event
-receipt_at w k moment word = device.Rx (arriving (frame_at w.frames k) moment) word
+receipt_at w k moment word = device.Rx (arrival_at (frame_at w.frames k) moment) word
 
 -- the next frame of allocatee a goes from its queue to the bus
-abbrev pub sends_from : Cluster → ℕ → Cluster
-sends_from w a = record (with_allocatee w a (after_sending_from (w.allocatee a)))
+abbrev pub with_send_from : Cluster → ℕ → Cluster
+with_send_from w a = record (with_allocatee w a (after_sending_from (w.allocatee a)))
     { frames = w.frames ++ in_list (next_from (w.allocatee a)) }
 
 -- what a lawful row leaves, but for the count of rows
-abbrev pub changed : Cluster → Row → Cluster
-changed w (Open n ms word) = with_member w n (opened n (length w.ids) ms word (w.member n))
-changed w (Tick n ms word) = steps w n (tick_of ms word)
-changed w (Rx n k ms) = steps w n (receipt_of w k ms)
-changed w (Send n) = sends w n
-changed w (Ext frame) = record w { frames = w.frames ++ from_outside frame.id frame.bytes.items ∷ [] }
-changed w (Crash n calls pattern) = with_member w n (crashed calls pattern (w.member n))
-changed w (Fault n call) = with_member w n (failing call (w.member n))
-changed w (AOpen a uid pref ms word) = with_allocatee w a (Some (opening uid pref ms word))
-changed w (ATick a ms word) = steps_at w a (device.Tick ms word)
-changed w (ARx a k ms word) = steps_at w a (receipt_at w k ms word)
-changed w (ASend a) = sends_from w a
-changed w (AEnd a) = with_allocatee w a None
+abbrev pub effect_of : Cluster → Row → Cluster
+effect_of w (Open n ms word) = with_member w n (after_opening n (length w.ids) ms word (w.member n))
+effect_of w (Tick n ms word) = with_step w n (tick_of ms word)
+effect_of w (Rx n k ms) = with_step w n (receipt_of w k ms)
+effect_of w (Send n) = with_send w n
+effect_of w (Ext frame) = record w { frames = w.frames ++ from_outside frame.id frame.bytes.items ∷ [] }
+effect_of w (Crash n calls pattern) = with_member w n (after_crash calls pattern (w.member n))
+effect_of w (Fault n call) = with_member w n (with_failure_armed call (w.member n))
+effect_of w (AOpen a uid pref ms word) = with_allocatee w a (Some (opening uid pref ms word))
+effect_of w (ATick a ms word) = with_step_at w a (device.Tick ms word)
+effect_of w (ARx a k ms word) = with_step_at w a (receipt_at w k ms word)
+effect_of w (ASend a) = with_send_from w a
+effect_of w (AEnd a) = with_allocatee w a None
 
-abbrev pub next : Cluster → Row → Cluster
-next w row = record (changed w row) { rows = w.rows + 1 }
+abbrev pub after_row : Cluster → Row → Cluster
+after_row w row = record (effect_of w row) { rows = w.rows + 1 }
 
 -- the world after these rows
 abbrev pub after_rows : Cluster → List Row → Cluster
 after_rows w [] = w
-after_rows w (row ∷ rows) = after_rows (next w row) rows
+after_rows w (row ∷ rows) = after_rows (after_row w row) rows
 
 abbrev pub world_of : List ℕ → List Row → Cluster
 world_of ids rows = after_rows (cluster ids) rows

@@ -12,11 +12,11 @@ use Rattle.transfer_rx.specs.Reassembly.{Arrival}
 use Rattle.transfer_tx.specs.Queue.{Queued}
 use Rattle.allocatee.specs.Allocatee.{Device}
 use Rattle.allocatee.specs.Judging as device
-use Rattle.alloc_step.specs.Judging.{judges}
+use Rattle.alloc_step.specs.Judging.{arrival_judgement}
 use Rattle.bus_spec.specs.declared.unlawful.Unlawful.{Unlawful}
 use Rattle.bus_spec.specs.declared.unlawful.Unlawful.TheVariants.{NoNode, Stopped, Running, NoFrame, NothingQueued, Forged, Torn as IsTorn, Stale as IsStale, NoAllocatee, Absent, Present}
 use Rattle.bus_spec.specs.Allocatees.{is_place, next_from}
-use Rattle.bus_spec.specs.Cluster.{Cluster, arriving, frame_at, is_member, next}
+use Rattle.bus_spec.specs.Cluster.{Cluster, arrival_at, frame_at, is_member, after_row}
 use Rattle.bus_spec.specs.Members.{MemberStatus, is_running, next_frame}
 use Rattle.bus_spec.specs.Members.MemberStatus.{Down, Up, Failed}
 
@@ -48,10 +48,10 @@ abbrev pub no_node : Cluster → ℕ → Option Unlawful
 no_node w n = because NoNode (not (is_member w.ids n))
 
 abbrev pub not_running : Cluster → ℕ → Option Unlawful
-not_running w n = because Stopped (not (is_running (w.member n).life))
+not_running w n = because Stopped (not (is_running (w.member n).status))
 
 abbrev pub already_running : Cluster → ℕ → Option Unlawful
-already_running w n = because Running (is_running (w.member n).life)
+already_running w n = because Running (is_running (w.member n).status)
 
 -- the number is 0, or above those of the frames on the bus
 abbrev pub no_such_frame : Cluster → ℕ → Option Unlawful
@@ -79,15 +79,15 @@ is_forged ids (Some ident) = is_forged_by ids ident.kind ident
 
 -- ---- frames that a server would take: judged by what they would deliver; a server that failed takes none
 
-abbrev pub of_judged : Judged → Option Unlawful
-of_judged Fine = None
-of_judged Torn = Some IsTorn
-of_judged Stale = Some IsStale
+abbrev pub cause_of_judgement : Judged → Option Unlawful
+cause_of_judgement Fine = None
+cause_of_judgement Torn = Some IsTorn
+cause_of_judgement Stale = Some IsStale
 
-abbrev pub judged : MemberStatus → Arrival → Option Unlawful
-judged Down arrival = None
-judged (Up server) arrival = of_judged (judges server arrival)
-judged (Failed failure) arrival = None
+abbrev pub arrival_refusal : MemberStatus → Arrival → Option Unlawful
+arrival_refusal Down arrival = None
+arrival_refusal (Up server) arrival = cause_of_judgement (arrival_judgement server arrival)
+arrival_refusal (Failed failure) arrival = None
 
 -- ---- allocatees
 
@@ -101,9 +101,9 @@ abbrev pub present : Cluster → ℕ → Option Unlawful
 present w a = because Present (is_some (w.allocatee a))
 
 -- what it would deliver to the allocatee
-abbrev pub judged_at : Option Device → Arrival → Option Unlawful
-judged_at None arrival = None
-judged_at (Some x) arrival = of_judged (device.judges x arrival)
+abbrev pub arrival_refusal_at : Option Device → Arrival → Option Unlawful
+arrival_refusal_at None arrival = None
+arrival_refusal_at (Some x) arrival = cause_of_judgement (device.arrival_judgement x arrival)
 
 -- ---- rows
 
@@ -116,19 +116,19 @@ abbrev pub cause : Cluster → Row → Option Unlawful
 cause w (Open n ms word) = or_else (no_node w n) (already_running w n)
 cause w (Tick n ms word) = or_else (no_node w n) (not_running w n)
 cause w (Rx n k ms) = or_else (no_node w n) (or_else (not_running w n)
-    (or_else (no_such_frame w k) (judged (w.member n).life (arriving (frame_at w.frames k) ms))))
-cause w (Send n) = or_else (no_node w n) (or_else (not_running w n) (nothing_to_send (next_frame (w.member n).life)))
+    (or_else (no_such_frame w k) (arrival_refusal (w.member n).status (arrival_at (frame_at w.frames k) ms))))
+cause w (Send n) = or_else (no_node w n) (or_else (not_running w n) (nothing_to_send (next_frame (w.member n).status)))
 cause w (Ext frame) = because Forged (is_forged w.ids (identifier_of frame.id))
 cause w (Crash n calls pattern) = or_else (no_node w n) (no_stop w n calls)
 cause w (Fault n call) = no_node w n
 cause w (AOpen a uid pref ms word) = or_else (no_allocatee a) (present w a)
 cause w (ATick a ms word) = or_else (no_allocatee a) (absent w a)
 cause w (ARx a k ms word) = or_else (no_allocatee a) (or_else (absent w a)
-    (or_else (no_such_frame w k) (judged_at (w.allocatee a) (arriving (frame_at w.frames k) ms))))
+    (or_else (no_such_frame w k) (arrival_refusal_at (w.allocatee a) (arrival_at (frame_at w.frames k) ms))))
 cause w (ASend a) = or_else (no_allocatee a) (or_else (absent w a) (nothing_to_send (next_from (w.allocatee a))))
 cause w (AEnd a) = or_else (no_allocatee a) (absent w a)
 
 -- each row is lawful when its turn is there
 abbrev pub Lawful : Cluster → List Row → Type 0
 Lawful w [] = Unit {0}
-Lawful w (row ∷ rows) = (cause w row ≡ None) × Lawful (next w row) rows
+Lawful w (row ∷ rows) = (cause w row ≡ None) × Lawful (after_row w row) rows

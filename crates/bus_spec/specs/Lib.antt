@@ -7,4 +7,4 @@ pub mod Members
 pub mod Promise
 pub mod Refinement
 pub mod Report
-pub mod Telling
+pub mod ReportLine

@@ -29,7 +29,7 @@ stored_on choice (Up server) disk = store_of disk.store
 stored_on choice (Failed failure) disk = chosen_store choice failure
 
 abbrev pub stored : (ℕ → Bool) → Cluster → ℕ → Store
-stored choice w n = stored_on choice (w.member n).life (w.member n).disk
+stored choice w n = stored_on choice (w.member n).status (w.member n).disk
 
 abbrev pub committed : (ℕ → Bool) → Cluster → ℕ → List Entry
 committed choice w n = machine.committed (stored choice w n)

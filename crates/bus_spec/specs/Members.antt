@@ -14,7 +14,7 @@ use Rattle.raft_log.specs.Stored.{Put, Stored}
 use Rattle.raft_model.specs.Server.{Store, put_all}
 use Rattle.transfer_tx.specs.Queue.{Queued, next_out}
 use Rattle.alloc_step.specs.StepState.{StepState}
-use Rattle.alloc_step.specs.Step.{Event, popped, step}
+use Rattle.alloc_step.specs.Step.{Event, after_pop, step}
 use Rattle.alloc_step.specs.AllocatorState.{AllocatorState, opening}
 
 -- A step that failed, as it is known until its member stops: its row, the server before it, what it set out to do,
@@ -32,7 +32,7 @@ pub data MemberStatus : Type 0 where
   Failed : (failure : Failure) → MemberStatus
 
 pub record Member : Type 0 where
-  pub life : MemberStatus
+  pub status : MemberStatus
   pub disk : KeyDisk Stored
   -- of the stop that was armed last
   pub pattern : Pattern
@@ -51,7 +51,7 @@ server_of (Failed failure) = None
 -- what is stored after a failed step, where so many more of its puts are done as are for sure
 abbrev pub stored_after : Failure → ℕ → Store
 stored_after failure more =
-    put_all failure.before.plain.store (take (failure.done + more) (puts_alone failure.step_state.puts))
+    put_all failure.before.raft_server.store (take (failure.done + more) (puts_alone failure.step_state.puts))
 
 -- ---- a member at the beginning: stopped, on a disk of zeros
 
@@ -61,29 +61,30 @@ zeros_stored = record { term = 0; vote = 0; log = []; commit = 0; origins = []; 
 abbrev pub fresh_disk : KeyDisk Stored
 fresh_disk = record { store = zeros_stored; copies = λ key. 0; unsynced = None; calls = nothing_set 0 }
 
-abbrev pub fresh : Member
-fresh = record { life = Down; disk = fresh_disk; pattern = Old }
+abbrev pub fresh_member : Member
+fresh_member = record { status = Down; disk = fresh_disk; pattern = Old }
 
 -- ---- a stop: what the server knew is lost, and the disk starts again
 
 abbrev pub stopped_with : Pattern → KeyDisk Stored → Member → Member
-stopped_with pattern disk x = record { life = Down; disk = restarted_on pattern disk; pattern = pattern }
+stopped_with pattern disk x = record { status = Down; disk = restarted_on pattern disk; pattern = pattern }
 
 -- ---- an opening
 
 -- an opening that failed leaves the member stopped; where its disk stopped, it starts again
-abbrev pub unopened : Member → KeyDisk Stored → Member
-unopened x disk = if disk.calls.stopped then stopped_with x.pattern disk x else record x { life = Down; disk = disk }
+abbrev pub after_failed_opening : Member → KeyDisk Stored → Member
+after_failed_opening x disk =
+    if disk.calls.stopped then stopped_with x.pattern disk x else record x { status = Down; disk = disk }
 
 -- as node n of a cluster of this size
-abbrev pub opened : ℕ → ℕ → ℕ → ℕ → Member → Member
-opened n size moment word x =
+abbrev pub after_opening : ℕ → ℕ → ℕ → ℕ → Member → Member
+after_opening n size moment word x =
     if is_open_on x.disk
     then record x {
-      life = Up (opening n size (store_of (opening_on x.disk).store) moment word);
+      status = Up (opening n size (store_of (opening_on x.disk).store) moment word);
       disk = opening_on x.disk;
     }
-    else unopened x (opening_on x.disk)
+    else after_failed_opening x (opening_on x.disk)
 
 -- ---- a step
 
@@ -92,12 +93,12 @@ abbrev pub puts_of : Member → StepState → List Put
 puts_of x step_state = stored_puts step_state.puts x.disk.store
 
 -- a step was cut off by the disk: the member stops with it, or stays as one that failed
-abbrev pub cut_off : Member → ℕ → AllocatorState → StepState → KeyDisk Stored → Member
-cut_off x row before step_state disk =
+abbrev pub after_cut_off : Member → ℕ → AllocatorState → StepState → KeyDisk Stored → Member
+after_cut_off x row before step_state disk =
     if disk.calls.stopped
     then stopped_with x.pattern disk x
     else record x {
-      life = Failed
+      status = Failed
           (record {
             row = row;
             before = before;
@@ -108,40 +109,40 @@ cut_off x row before step_state disk =
       disk = disk;
     }
 
-abbrev pub wrote : Member → ℕ → AllocatorState → StepState → Member
-wrote x row before step_state =
+abbrev pub after_writing : Member → ℕ → AllocatorState → StepState → Member
+after_writing x row before step_state =
     if are_put (puts_of x step_state) x.disk.calls
-    then record x { life = Up step_state.timed; disk = puts_on (puts_of x step_state) x.disk }
-    else cut_off x row before step_state (puts_on (puts_of x step_state) x.disk)
+    then record x { status = Up step_state.allocator; disk = puts_on (puts_of x step_state) x.disk }
+    else after_cut_off x row before step_state (puts_on (puts_of x step_state) x.disk)
 
 -- a stopped member takes no step, nor does one that failed
-abbrev pub stepped : ℕ → Event → MemberStatus → Member → Member
-stepped row event Down x = x
-stepped row event (Up server) x = wrote x row server (step server row event).step_state
-stepped row event (Failed failure) x = x
+abbrev pub member_after_step : ℕ → Event → MemberStatus → Member → Member
+member_after_step row event Down x = x
+member_after_step row event (Up server) x = after_writing x row server (step server row event).step_state
+member_after_step row event (Failed failure) x = x
 
 -- ---- its queue
 
 -- the frame that goes out next
 abbrev pub next_frame : MemberStatus → Option Queued
-next_frame life = option_and_then (λ server. next_out server.queue) (server_of life)
+next_frame status = option_and_then (λ server. next_out server.queue) (server_of status)
 
 abbrev pub after_sending : MemberStatus → MemberStatus
 after_sending Down = Down
-after_sending (Up server) = Up (popped server)
+after_sending (Up server) = Up (after_pop server)
 after_sending (Failed failure) = Failed failure
 
 -- ---- what is armed: calls of the disk are counted from here on
 
 -- a stop in place of that call; it takes the place of an earlier one
-abbrev pub armed : ℕ → Pattern → Member → Member
-armed call pattern x =
+abbrev pub with_stop_armed : ℕ → Pattern → Member → Member
+with_stop_armed call pattern x =
     record x { disk = record x.disk { calls = record x.disk.calls { stop_in = call } }; pattern = pattern }
 
 -- a failure of that call; it takes the place of an earlier one
-abbrev pub failing : ℕ → Member → Member
-failing call x = record x { disk = record x.disk { calls = record x.disk.calls { fail_in = call } } }
+abbrev pub with_failure_armed : ℕ → Member → Member
+with_failure_armed call x = record x { disk = record x.disk { calls = record x.disk.calls { fail_in = call } } }
 
 -- a stop at once, where the number is 0, or in place of that later call
-abbrev pub crashed : ℕ → Pattern → Member → Member
-crashed calls pattern x = if calls == 0 then stopped_with pattern x.disk x else armed calls pattern x
+abbrev pub after_crash : ℕ → Pattern → Member → Member
+after_crash calls pattern x = if calls == 0 then stopped_with pattern x.disk x else with_stop_armed calls pattern x

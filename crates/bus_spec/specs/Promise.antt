@@ -14,48 +14,48 @@ use Rattle.alloc_step.specs.Delivered.{StepResult}
 use Rattle.alloc_step.specs.StepState.{pairs}
 use Rattle.alloc_step.specs.Step.{Event, step}
 use Rattle.alloc_step.specs.Transfers.{Given}
-use Rattle.bus_spec.specs.Cluster.{Cluster, next, step_of}
+use Rattle.bus_spec.specs.Cluster.{Cluster, after_row, step_of}
 use Rattle.bus_spec.specs.Members.{MemberStatus, Member, puts_of, server_of}
 use Rattle.bus_spec.specs.Members.MemberStatus.{Down, Up, Failed}
 
 -- ---- the pairs that a row offers: those of the Allocations that a finished step puts into its queue, read from
 -- their payload
 
-abbrev pub sight_given : Member → StepResult → List Given
-sight_given x step_result =
+abbrev pub pairs_of_result : Member → StepResult → List Given
+pairs_of_result x step_result =
     if are_put (puts_of x step_result.step_state) x.disk.calls then pairs step_result.step_state else []
 
-abbrev pub step_given : ℕ → Event → MemberStatus → Member → List Given
-step_given row event Down x = []
-step_given row event (Up server) x = sight_given x (step server row event)
-step_given row event (Failed failure) x = []
+abbrev pub pairs_of_step : ℕ → Event → MemberStatus → Member → List Given
+pairs_of_step row event Down x = []
+pairs_of_step row event (Up server) x = pairs_of_result x (step server row event)
+pairs_of_step row event (Failed failure) x = []
 
 -- the committed log of a member that runs
 abbrev pub committed_by : MemberStatus → List Entry
-committed_by life = option_map_or (λ server. committed server.plain.store) (server_of life) []
+committed_by status = option_map_or (λ server. committed server.raft_server.store) (server_of status) []
 
 abbrev pub AreOwn : List Given → MemberStatus → Type 0
-AreOwn givens life = (given : Given) → In given givens → HasPair (committed_by life) given.0 given.1
+AreOwn givens status = (given : Given) → In given givens → HasPair (committed_by status) given.0 given.1
 
 -- whatever pair a lawful row offers, it is committed when the row is done
 abbrev pub OffersItsOwn : Cluster → Row → Type 0
 OffersItsOwn w row = IfSome (step_of w row) (λ taken.
-    AreOwn (step_given (w.rows + 1) taken.1 (w.member taken.0).life (w.member taken.0))
-    ((next w row).member taken.0).life)
+    AreOwn (pairs_of_step (w.rows + 1) taken.1 (w.member taken.0).status (w.member taken.0))
+    ((after_row w row).member taken.0).status)
 
 -- ---- each log
 
 -- of a member that runs, or as its disk has it
 abbrev pub log_on : MemberStatus → KeyDisk Stored → List Entry
 log_on Down disk = disk.store.log
-log_on (Up server) disk = server.plain.store.log
+log_on (Up server) disk = server.raft_server.store.log
 log_on (Failed failure) disk = disk.store.log
 
 -- no log gives one node ID to two devices, or two to one
 abbrev pub GivesOnce : Cluster → Type 0
-GivesOnce w = (n : ℕ) → In n w.ids → IsInjective (log_on (w.member n).life (w.member n).disk)
+GivesOnce w = (n : ℕ) → In n w.ids → IsInjective (log_on (w.member n).status (w.member n).disk)
 
 -- along the rows
 abbrev pub KeepsItsWord : Cluster → List Row → Type 0
 KeepsItsWord w [] = GivesOnce w
-KeepsItsWord w (row ∷ rows) = GivesOnce w × OffersItsOwn w row × KeepsItsWord (next w row) rows
+KeepsItsWord w (row ∷ rows) = GivesOnce w × OffersItsOwn w row × KeepsItsWord (after_row w row) rows

@@ -2,7 +2,7 @@
 //!
 //! `specs/` says it: members on disks (`Members`), their bus and what each row leaves (`Cluster`),
 //! which rows are refused and why (`Lawful`), what a row tells, and the report of a list of rows
-//! (`Telling`, `Report`), what is stored of a step that failed (`Choices`), the run of the message
+//! (`ReportLine`, `Report`), what is stored of a step that failed (`Choices`), the run of the message
 //! machine that a world shows (`Refinement`), what members have committed and offer (`Logs`), and
 //! that each keeps its word (`Promise`). `bus_world` shows that its code is this very world.
 //!

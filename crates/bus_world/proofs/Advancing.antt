@@ -21,8 +21,8 @@ use Rattle.alloc_step.specs.Delivered.{StepResult}
 use Rattle.alloc_step.specs.AllocatorState.{AllocatorState}
 use Rattle.alloc_server.specs.declared.server.Server.{Server}
 use Rattle.alloc_server.specs.Server.{StepsTo, disk_of, durable_of, fault_of}
-use Rattle.bus_spec.specs.Report.{failure_told}
-use Rattle.bus_spec.specs.Telling.Telling.{HasFailed, HasStepped, HasStopped}
+use Rattle.bus_spec.specs.Report.{line_of_failure}
+use Rattle.bus_spec.specs.ReportLine.ReportLine.{HasFailed, HasStepped, HasStopped}
 use Rattle.bus_world.specs.OnDisk.{IsCutOn, IsUpOn}
 
 abbrev pub LawOfMemberPuts : Ghosts MemoryDisk → Type 0
@@ -48,7 +48,7 @@ module _ {F : Type 0} {disk : Ghosts MemoryDisk} (server new : Server MemoryDisk
   follows_err : (why : Fault) → StepsTo server new step_result (Err why) → Follows false
   follows_err why steps = law puts (durable_of server) (durable_of new) key_disk false up.keeps (makes (Err why) steps) (λ ok. absurd (cc (ok)))
 
-  pub up_after : (outcome : Outcome) → StepsTo server new step_result (Ok outcome) → IsUpOn new step_result.step_state.timed (puts_on puts key_disk)
+  pub up_after : (outcome : Outcome) → StepsTo server new step_result (Ok outcome) → IsUpOn new step_result.step_state.allocator (puts_on puts key_disk)
   up_after outcome steps = record { stands = steps.stands; keeps = (follows_ok outcome steps).2 refl }
 
   pub all_put : (outcome : Outcome) → StepsTo server new step_result (Ok outcome) → are_put puts key_disk.calls ≡ false → ⊥
@@ -61,7 +61,7 @@ module _ {F : Type 0} {disk : Ghosts MemoryDisk} (server new : Server MemoryDisk
   cut_after why steps closed = record { why = why; closed = closed; on = (follows_err why steps).0 }
 
   pub failure_after : (why : Fault) (n : ℕ) (b : Bool) → StepsTo server new step_result (Err why) → (memory_calls (disk_of new)).stopped ≡ b →
-      (if b then HasStopped n else HasFailed n) ≡ failure_told n (puts_on puts key_disk)
+      (if b then HasStopped n else HasFailed n) ≡ line_of_failure n (puts_on puts key_disk)
   failure_after why n b steps e =
       ap (λ (z : Bool). if z then HasStopped n else HasFailed n)
       (sym e ∙ ap (λ (calls : Calls). calls.stopped) (follows_err why steps).0.on.calls)

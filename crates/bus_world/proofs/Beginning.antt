@@ -3,7 +3,7 @@ use Rattle.std.proofs.Common.{◌≡◌, ℕ, zero, suc, ◌+◌, ◌<◌, List,
 use Rattle.std.specs.Prelude.{slice_index_or}
 use Rattle.std.proofs.lemmas.List.{length-map, map-append}
 use Rattle.raft_model.specs.Lists.{In}
-use Rattle.bus_spec.specs.Members.{fresh}
+use Rattle.bus_spec.specs.Members.{fresh_member}
 use Rattle.bus_world.specs.Fresh.{AreFresh}
 use Rattle.bus_world.specs.Places.{Accepts}
 use Rattle.bus_world.specs.Stands.{StandsFor}
@@ -29,7 +29,7 @@ each_and_last (y ∷ ys) x P all own (suc i) d h =
 
 -- one member more
 pub one_more : {F : Type 0} (ids : List ℕ) (i : ℕ) (members more : List (Member F)) (m : Member F) → i < length ids → AreFresh (take i ids) members
-    → StandsFor m fresh → ((accept : F) → Accepts m.place accept) → m.id ≡ slice_index_or ids i 0 → more ≡ members ++ m ∷ []
+    → StandsFor m fresh_member → ((accept : F) → Accepts m.place accept) → m.id ≡ slice_index_or ids i 0 → more ≡ members ++ m ∷ []
     → AreFresh (take (i + 1) ids) more
 one_more {F} ids i members more m h so_far stands accepts id is =
     subst (λ (l : List (Member F)). AreFresh (take (i + 1) ids) l) (sym is) (record {
@@ -37,7 +37,7 @@ one_more {F} ids i members more m h so_far stands accepts id is =
           ∙ (ap (λ (l : List ℕ). l ++ m.id ∷ []) so_far.same
           ∙ (ap (λ (k : ℕ). take i ids ++ k ∷ []) id
           ∙ (sym (take_one_more ids i h) ∙ ap (λ (k : ℕ). take k ids) (sym (add-one i)))));
-      begun = each_and_last members m (λ (member : Member F). StandsFor member fresh) so_far.begun stands;
+      begun = each_and_last members m (λ (member : Member F). StandsFor member fresh_member) so_far.begun stands;
       alike = λ j d accept k.
           each_and_last members m (λ (member : Member F). Accepts member.place accept) (λ l e q. so_far.alike l e accept q) (accepts accept) j d k;
     })

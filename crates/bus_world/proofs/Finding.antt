@@ -12,12 +12,12 @@ use Rattle.raft_model.specs.Lists.{In, at}
 use Rattle.transfer_tx.specs.declared.marked.Marked.{Marked}
 use Rattle.bus_spec.specs.declared.unlawful.Unlawful.{Unlawful}
 use Rattle.bus_spec.specs.declared.unlawful.Unlawful.TheVariants.{NoNode, Running, Stopped}
-use Rattle.bus_spec.specs.Cluster.{Cluster, arriving, frame_at, is_member, no_frame, with_member}
+use Rattle.bus_spec.specs.Cluster.{Cluster, arrival_at, frame_at, is_member, no_frame, with_member}
 use Rattle.bus_spec.specs.Members.{Member as MemberState, is_running}
 use Rattle.transfer_rx.specs.Reassembly.{Arrival, arrival_of}
 use Rattle.transfer_tx.specs.Queue.{Queued}
 use Rattle.transfer_tx.specs.Views.{queued_of}
-use Rattle.bus_spec.specs.Lawful.{already_running, because, judged, no_such_frame, no_node, not_running, or_else}
+use Rattle.bus_spec.specs.Lawful.{already_running, because, arrival_refusal, no_such_frame, no_node, not_running, or_else}
 use Rattle.bus_world.specs.Stands.{StandsFor}
 use Rattle.raft_model.specs.Members.{HasNoneTwice}
 use Rattle.bus_world.specs.Members.{Holds, ids_of, place_of}
@@ -97,16 +97,16 @@ module _ {F : Type 0} where
       pub stands_there : StandsFor (slice_index_or xs i d) (c.member n)
       stands_there = subst (λ (k : ℕ). StandsFor (slice_index_or xs i d) (c.member k)) its_id (holds.members i d there.0)
 
-      pub running_already : is_running (c.member n).life ≡ true → or_else (no_node c n) (already_running c n) ≡ Some Running
+      pub running_already : is_running (c.member n).status ≡ true → or_else (no_node c n) (already_running c n) ≡ Some Running
       running_already e = rw (is_listed, e) refl
 
-      pub may_open : is_running (c.member n).life ≡ false → or_else (no_node c n) (already_running c n) ≡ None
+      pub may_open : is_running (c.member n).status ≡ false → or_else (no_node c n) (already_running c n) ≡ None
       may_open e = rw (is_listed, e) refl
 
-      pub stopped : is_running (c.member n).life ≡ false → or_else (no_node c n) (not_running c n) ≡ Some Stopped
+      pub stopped : is_running (c.member n).status ≡ false → or_else (no_node c n) (not_running c n) ≡ Some Stopped
       stopped e = rw (is_listed, e) refl
 
-      pub lawful : is_running (c.member n).life ≡ true → or_else (no_node c n) (not_running c n) ≡ None
+      pub lawful : is_running (c.member n).status ≡ true → or_else (no_node c n) (not_running c n) ≡ None
       lawful e = rw (is_listed, e) refl
 
 -- what is lawful runs
@@ -198,20 +198,20 @@ module _ (c : Cluster) (bus : List Marked) (k : ℕ) (e : map queued_of bus ≡ 
   on_bus : no_such_frame c k ≡ None
   on_bus = rw (is_not_zero k apart, no_more) refl
 
-  its_arrival : (moment : ℕ) (m : Marked) → m ≡ slice_index_or bus (k - 1) m → arrival_of m.frame m.mark moment ≡ arriving (frame_at c.frames k) moment
+  its_arrival : (moment : ℕ) (m : Marked) → m ≡ slice_index_or bus (k - 1) m → arrival_of m.frame m.mark moment ≡ arrival_at (frame_at c.frames k) moment
   its_arrival moment m is =
       ap (λ (y : Marked). arrival_of y.frame y.mark moment) is
-      ∙ (ap (λ (q : Queued). arriving q moment) (sym (get_or-map queued_of bus (k - 1) m no_frame (omega (arith, h, apart))))
-      ∙ ap (λ (l : List Queued). arriving (frame_at l k) moment) e)
+      ∙ (ap (λ (q : Queued). arrival_at q moment) (sym (get_or-map queued_of bus (k - 1) m no_frame (omega (arith, h, apart))))
+      ∙ ap (λ (l : List Queued). arrival_at (frame_at l k) moment) e)
 
   -- what a row that gives a frame to a running member is refused for
   pub judged_row : (n moment : ℕ) (m : Marked) → m ≡ slice_index_or bus (k - 1) m → or_else (no_node c n) (not_running c n) ≡ None
-      → (why : Option Unlawful) → why ≡ judged (c.member n).life (arrival_of m.frame m.mark moment)
-      → or_else (no_node c n) (or_else (not_running c n) (or_else (no_such_frame c k) (judged (c.member n).life (arriving (frame_at c.frames k) moment)))) ≡ why
+      → (why : Option Unlawful) → why ≡ arrival_refusal (c.member n).status (arrival_of m.frame m.mark moment)
+      → or_else (no_node c n) (or_else (not_running c n) (or_else (no_such_frame c k) (arrival_refusal (c.member n).status (arrival_at (frame_at c.frames k) moment)))) ≡ why
   judged_row n moment m is lawful why judge =
-      past_two (no_node c n) (not_running c n) (or_else (no_such_frame c k) (judged (c.member n).life (arriving (frame_at c.frames k) moment))) lawful
-      ∙ (ap (λ (x : Option Unlawful). or_else x (judged (c.member n).life (arriving (frame_at c.frames k) moment))) on_bus
-      ∙ (ap (λ (a : Arrival). judged (c.member n).life a) (sym (its_arrival moment m is)) ∙ sym judge))
+      past_two (no_node c n) (not_running c n) (or_else (no_such_frame c k) (arrival_refusal (c.member n).status (arrival_at (frame_at c.frames k) moment))) lawful
+      ∙ (ap (λ (x : Option Unlawful). or_else x (arrival_refusal (c.member n).status (arrival_at (frame_at c.frames k) moment))) on_bus
+      ∙ (ap (λ (a : Arrival). arrival_refusal (c.member n).status a) (sym (its_arrival moment m is)) ∙ sym judge))
 
 -- the closures of members, of which one is set
 module _ {F : Type 0} where

@@ -22,13 +22,13 @@ use Rattle.alloc_step.specs.Transfers.{Given}
 use Rattle.alloc_server.specs.declared.server.Server.{Server}
 use Rattle.bus_spec.specs.declared.unlawful.Unlawful.{Unlawful}
 use Rattle.bus_spec.specs.declared.unlawful.Unlawful.TheVariants.{NoNode}
-use Rattle.bus_spec.specs.Cluster.{Cluster, changed, is_member, receipt_of, tick_of}
+use Rattle.bus_spec.specs.Cluster.{Cluster, effect_of, is_member, receipt_of, tick_of}
 use Rattle.bus_spec.specs.Lawful.{because, cause, or_else}
-use Rattle.bus_spec.specs.Members.{MemberStatus, Member as MemberState, cut_off, puts_of, stepped}
+use Rattle.bus_spec.specs.Members.{MemberStatus, Member as MemberState, after_cut_off, puts_of, member_after_step}
 use Rattle.bus_spec.specs.Members.MemberStatus.{Down, Up, Failed}
-use Rattle.bus_spec.specs.Promise.{AreOwn, OffersItsOwn, step_given}
+use Rattle.bus_spec.specs.Promise.{AreOwn, OffersItsOwn, pairs_of_step}
 use Rattle.bus_world.specs.OnDisk.{IsUpOn, RunsAs}
-use Rattle.bus_world.specs.Places.{IsLife}
+use Rattle.bus_world.specs.Places.{HasStatus}
 use Rattle.bus_world.specs.Stands.{StandsFor as StandsForMember}
 use Rattle.bus_world.specs.Members.{AreMembersOf, StandsFor, ids_of}
 use Rattle.bus_world.specs.declared.member.Member.{Member}
@@ -38,9 +38,9 @@ use Rattle.bus_world.specs.declared.members.Members.{Members}
 use Rattle.bus_world.proofs.Promising.{one_of, same_log}
 
 abbrev pub LawOfPairs : Type 0
-LawOfPairs = (t : AllocatorState) (number : ℕ) (event : Event) → t.plain.store.commit ≤ length t.plain.store.log →
+LawOfPairs = (t : AllocatorState) (number : ℕ) (event : Event) → t.raft_server.store.commit ≤ length t.raft_server.store.log →
     (given : Given) → In given (pairs (step t number event).step_state) →
-    law.IsGivenIn (committed (step t number event).step_state.timed.plain.store) given
+    law.IsGivenIn (committed (step t number event).step_state.allocator.raft_server.store) given
 
 -- ---- the commit index lies in the log
 
@@ -49,32 +49,32 @@ IsInside store = store.commit ≤ length store.log
 
 abbrev AreInside : MemberStatus → Type 0
 AreInside Down = ⊤
-AreInside (Up t) = IsInside t.plain.store
+AreInside (Up t) = IsInside t.raft_server.store
 AreInside (Failed failure) = ⊤
 
 inside_up : {F : Type 0} {ghosts : Ghosts MemoryDisk} (server : Server MemoryDisk F ghosts) (t : AllocatorState) (key_disk : KeyDisk Stored) → IsUpOn server t key_disk
-    → IsInside t.plain.store
+    → IsInside t.raft_server.store
 inside_up server t key_disk is =
     subst IsInside (sym (is.stands.member.raft.store ∙ ap store_of is.keeps.state)) is.keeps.disk.on.stores.storable.commit
 
-inside_running : {F : Type 0} {ghosts : Ghosts MemoryDisk} (server : Server MemoryDisk F ghosts) (life : MemberStatus) (key_disk : KeyDisk Stored) → RunsAs server life key_disk
-    → AreInside life
+inside_running : {F : Type 0} {ghosts : Ghosts MemoryDisk} (server : Server MemoryDisk F ghosts) (status : MemberStatus) (key_disk : KeyDisk Stored) → RunsAs server status key_disk
+    → AreInside status
 inside_running server Down key_disk is = tt
 inside_running server (Up t) key_disk is = inside_up server t key_disk is
 inside_running server (Failed failure) key_disk is = tt
 
-inside_life : {F : Type 0} (place : Place F) (life : MemberStatus) (key_disk : KeyDisk Stored) → IsLife place life key_disk → AreInside life
-inside_life place Down key_disk is = tt
-inside_life place (Failed failure) key_disk is = tt
-inside_life (DownAt disk) (Up t) key_disk is = absurd is
-inside_life (UpAt server) (Up t) key_disk is = inside_running server (Up t) key_disk is
-inside_life Absent (Up t) key_disk is = absurd is
+inside_status : {F : Type 0} (place : Place F) (status : MemberStatus) (key_disk : KeyDisk Stored) → HasStatus place status key_disk → AreInside status
+inside_status place Down key_disk is = tt
+inside_status place (Failed failure) key_disk is = tt
+inside_status (DownAt disk) (Up t) key_disk is = absurd is
+inside_status (UpAt server) (Up t) key_disk is = inside_running server (Up t) key_disk is
+inside_status Absent (Up t) key_disk is = absurd is
 
 -- ---- each entry of a log is well formed
 
 abbrev AreFormed : MemberStatus → Type 0
 AreFormed Down = ⊤
-AreFormed (Up t) = (place : ℕ) → place < length t.plain.store.log → IsWellFormed (slice_index_or t.plain.store.log place (blank 0))
+AreFormed (Up t) = (place : ℕ) → place < length t.raft_server.store.log → IsWellFormed (slice_index_or t.raft_server.store.log place (blank 0))
 AreFormed (Failed failure) = ⊤
 
 formed_up : {F : Type 0} {ghosts : Ghosts MemoryDisk} (server : Server MemoryDisk F ghosts) (t : AllocatorState) (key_disk : KeyDisk Stored) → IsUpOn server t key_disk
@@ -83,26 +83,26 @@ formed_up server t key_disk is =
     subst (λ (log : List Entry). (place : ℕ) → place < length log → IsWellFormed (slice_index_or log place (blank 0))) (sym (same_log server t key_disk is))
     (λ place h. (is.keeps.disk.on.stores.storable.follows place h).formed)
 
-formed_running : {F : Type 0} {ghosts : Ghosts MemoryDisk} (server : Server MemoryDisk F ghosts) (life : MemberStatus) (key_disk : KeyDisk Stored) → RunsAs server life key_disk
-    → AreFormed life
+formed_running : {F : Type 0} {ghosts : Ghosts MemoryDisk} (server : Server MemoryDisk F ghosts) (status : MemberStatus) (key_disk : KeyDisk Stored) → RunsAs server status key_disk
+    → AreFormed status
 formed_running server Down key_disk is = tt
 formed_running server (Up t) key_disk is = formed_up server t key_disk is
 formed_running server (Failed failure) key_disk is = tt
 
-formed_life : {F : Type 0} (place : Place F) (life : MemberStatus) (key_disk : KeyDisk Stored) → IsLife place life key_disk → AreFormed life
-formed_life place Down key_disk is = tt
-formed_life place (Failed failure) key_disk is = tt
-formed_life (DownAt disk) (Up t) key_disk is = absurd is
-formed_life (UpAt server) (Up t) key_disk is = formed_running server (Up t) key_disk is
-formed_life Absent (Up t) key_disk is = absurd is
+formed_status : {F : Type 0} (place : Place F) (status : MemberStatus) (key_disk : KeyDisk Stored) → HasStatus place status key_disk → AreFormed status
+formed_status place Down key_disk is = tt
+formed_status place (Failed failure) key_disk is = tt
+formed_status (DownAt disk) (Up t) key_disk is = absurd is
+formed_status (UpAt server) (Up t) key_disk is = formed_running server (Up t) key_disk is
+formed_status Absent (Up t) key_disk is = absurd is
 
 -- of members that stand for those of a cluster
 pub formed_at : {F : Type 0} (own : List (Member F)) (c : Cluster) → AreMembersOf own c.member → ids_of own ≡ c.ids
-    → (n : ℕ) → In n c.ids → AreFormed (c.member n).life
+    → (n : ℕ) → In n c.ids → AreFormed (c.member n).status
 formed_at {F} own c are ids n there =
     let found = one_of own (λ (m : Member F). StandsForMember m (c.member m.id)) are n (subst (λ (l : List ℕ). In n l) (sym ids) there) in
-    subst (λ (k : ℕ). AreFormed (c.member k).life) found.1
-    (formed_life found.0.place (c.member found.0.id).life (c.member found.0.id).disk found.2.life)
+    subst (λ (k : ℕ). AreFormed (c.member k).status) found.1
+    (formed_status found.0.place (c.member found.0.id).status (c.member found.0.id).disk found.2.status)
 
 -- ---- a step
 
@@ -120,16 +120,16 @@ own_pair store given formed is =
       its_node = is.node;
     }
 
-own_by : LawOfPairs → (row : ℕ) (event : Event) (x : MemberState) (t : AllocatorState) → IsInside t.plain.store → (b : Bool) →
+own_by : LawOfPairs → (row : ℕ) (event : Event) (x : MemberState) (t : AllocatorState) → IsInside t.raft_server.store → (b : Bool) →
     let step_state : StepState = (step t row event).step_state in
-    let after = (if b then record x { life = Up step_state.timed; disk = puts_on (puts_of x step_state) x.disk } else cut_off x row t step_state (puts_on (puts_of x step_state) x.disk)).life in
+    let after = (if b then record x { status = Up step_state.allocator; disk = puts_on (puts_of x step_state) x.disk } else after_cut_off x row t step_state (puts_on (puts_of x step_state) x.disk)).status in
     AreFormed after → AreOwn (if b then pairs step_state else []) after
 own_by pairs_law row event x t inside true formed given there =
-    own_pair (step t row event).step_state.timed.plain.store given formed (pairs_law t row event inside given there)
+    own_pair (step t row event).step_state.allocator.raft_server.store given formed (pairs_law t row event inside given there)
 own_by pairs_law row event x t inside false formed given there = absurd there
 
-own_step : LawOfPairs → (row : ℕ) (event : Event) (life : MemberStatus) (x : MemberState) → AreInside life → AreFormed (stepped row event life x).life
-    → AreOwn (step_given row event life x) (stepped row event life x).life
+own_step : LawOfPairs → (row : ℕ) (event : Event) (status : MemberStatus) (x : MemberState) → AreInside status → AreFormed (member_after_step row event status x).status
+    → AreOwn (pairs_of_step row event status x) (member_after_step row event status x).status
 own_step pairs_law row event Down x inside formed = λ given there. absurd there
 own_step pairs_law row event (Up t) x inside formed =
     own_by pairs_law row event x t inside (are_put (puts_of x (step t row event).step_state) x.disk.calls) formed
@@ -149,24 +149,24 @@ listed_by true other e = refl
 listed_by false other e = absurd (cc (e))
 
 module _ {F : Type 0} (world : Members F) (c : Cluster) (stands : StandsFor world c) (pairs_law : LawOfPairs) where
-  inside_at : (n : ℕ) → In n c.ids → AreInside (c.member n).life
+  inside_at : (n : ℕ) → In n c.ids → AreInside (c.member n).status
   inside_at n there =
       let found = one_of world.members.items (λ (m : Member F). StandsForMember m (c.member m.id)) stands.holds.members n
       (subst (λ (ids : List ℕ). In n ids) (sym stands.holds.ids) there) in
-      subst (λ (k : ℕ). AreInside (c.member k).life) found.1
-      (inside_life found.0.place (c.member found.0.id).life (c.member found.0.id).disk found.2.life)
+      subst (λ (k : ℕ). AreInside (c.member k).status) found.1
+      (inside_status found.0.place (c.member found.0.id).status (c.member found.0.id).disk found.2.status)
 
   own_at : (n : ℕ) (event : Event) → In n c.ids →
-      AreFormed (at c.member n (stepped (c.rows + 1) event (c.member n).life (c.member n)) n).life →
-      AreOwn (step_given (c.rows + 1) event (c.member n).life (c.member n))
-      (at c.member n (stepped (c.rows + 1) event (c.member n).life (c.member n)) n).life
+      AreFormed (at c.member n (member_after_step (c.rows + 1) event (c.member n).status (c.member n)) n).status →
+      AreOwn (pairs_of_step (c.rows + 1) event (c.member n).status (c.member n))
+      (at c.member n (member_after_step (c.rows + 1) event (c.member n).status (c.member n)) n).status
   own_at n event there =
-      subst (λ (x : MemberState). AreFormed x.life → AreOwn (step_given (c.rows + 1) event (c.member n).life (c.member n)) x.life)
-      (sym (at_here c.member n n (stepped (c.rows + 1) event (c.member n).life (c.member n)) refl))
-      (own_step pairs_law (c.rows + 1) event (c.member n).life (c.member n) (inside_at n there))
+      subst (λ (x : MemberState). AreFormed x.status → AreOwn (pairs_of_step (c.rows + 1) event (c.member n).status (c.member n)) x.status)
+      (sym (at_here c.member n n (member_after_step (c.rows + 1) event (c.member n).status (c.member n)) refl))
+      (own_step pairs_law (c.rows + 1) event (c.member n).status (c.member n) (inside_at n there))
 
   -- the logs after the row are well formed
-  pub offers_own : (row : Row) → ((n : ℕ) → In n (changed c row).ids → AreFormed ((changed c row).member n).life) → cause c row ≡ None
+  pub offers_own : (row : Row) → ((n : ℕ) → In n (effect_of c row).ids → AreFormed ((effect_of c row).member n).status) → cause c row ≡ None
       → OffersItsOwn c row
   offers_own (Open n ms word) formed lawful = tt
   offers_own (Tick n ms word) formed lawful =

@@ -12,11 +12,11 @@ use Rattle.transfer_rx.specs.Reassembly.{Arrival}
 use Rattle.transfer_tx.specs.declared.marked.Marked.{Marked}
 use Rattle.transfer_tx.specs.Queue.{next_out}
 use Rattle.transfer_tx.specs.Views.{queued_of}
-use Rattle.alloc_step.specs.Judging.{judges}
+use Rattle.alloc_step.specs.Judging.{arrival_judgement}
 use Rattle.alloc_step.specs.AllocatorState.{AllocatorState}
 use Rattle.alloc_server.specs.declared.server.Server.{Server}
 use Rattle.alloc_server.specs.Server.{StandsFor, fault_of, queued}
-use Rattle.bus_spec.specs.Lawful.{judged, of_judged}
+use Rattle.bus_spec.specs.Lawful.{arrival_refusal, cause_of_judgement}
 use Rattle.bus_spec.specs.Members.{MemberStatus, next_frame}
 use Rattle.bus_spec.specs.Members.MemberStatus.{Down, Up, Failed}
 use Rattle.std.proofs.Props.{props}
@@ -54,21 +54,21 @@ same_but_place member place filled least most e = λ i. record {
 }
 
 module _ {F : Type 0} {ghosts : Ghosts MemoryDisk} (server : Server MemoryDisk F ghosts) where
-  pub judged_as : (life : MemberStatus) (key_disk : KeyDisk Stored) (arrival : Arrival) (result : Judged) → RunsAs server life key_disk
-      → ((t : AllocatorState) → StandsFor server t → result ≡ judges t arrival) → (IsSome (fault_of server) → result ≡ Fine)
-      → of_judged result ≡ judged life arrival
+  pub judged_as : (status : MemberStatus) (key_disk : KeyDisk Stored) (arrival : Arrival) (result : Judged) → RunsAs server status key_disk
+      → ((t : AllocatorState) → StandsFor server t → result ≡ arrival_judgement t arrival) → (IsSome (fault_of server) → result ≡ Fine)
+      → cause_of_judgement result ≡ arrival_refusal status arrival
   judged_as Down key_disk arrival result is by_state by_fault = absurd is
-  judged_as (Up t) key_disk arrival result is by_state by_fault = ap of_judged (by_state t is.stands)
+  judged_as (Up t) key_disk arrival result is by_state by_fault = ap cause_of_judgement (by_state t is.stands)
   judged_as (Failed failure) key_disk arrival result is by_state by_fault =
-      ap of_judged (by_fault (is_some (fault_of server) is.cut.why is.cut.closed))
+      ap cause_of_judgement (by_fault (is_some (fault_of server) is.cut.why is.cut.closed))
 
   nothing_in : (o : Option Marked) → IsNone o → option_map queued_of o ≡ None
   nothing_in None is = refl
   nothing_in (Some marked) is = absurd (search (rules, is))
 
-  pub next_as : (life : MemberStatus) (key_disk : KeyDisk Stored) (result : Option Marked) → RunsAs server life key_disk
+  pub next_as : (status : MemberStatus) (key_disk : KeyDisk Stored) (result : Option Marked) → RunsAs server status key_disk
       → option_map queued_of result ≡ next_out (queued server) → (IsSome (fault_of server) → IsNone result)
-      → option_map queued_of result ≡ next_frame life
+      → option_map queued_of result ≡ next_frame status
   next_as Down key_disk result is next closed = absurd is
   next_as (Up t) key_disk result is next closed = next ∙ ap (λ outbox. next_out outbox.queue) is.stands.member.outbox
   next_as (Failed failure) key_disk result is next closed = nothing_in result (closed (is_some (fault_of server) is.cut.why is.cut.closed))

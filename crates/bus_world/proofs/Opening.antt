@@ -15,15 +15,15 @@ use Rattle.alloc_step.specs.declared.event.View.{View}
 use Rattle.alloc_step.specs.AllocatorState.{opening}
 use Rattle.alloc_server.specs.declared.server.Server.{Server}
 use Rattle.alloc_server.specs.Server.{StandsFor, durable_of}
-use Rattle.bus_spec.specs.Members.{Member as MemberState, opened, stopped_with, unopened}
+use Rattle.bus_spec.specs.Members.{Member as MemberState, after_opening, stopped_with, after_failed_opening}
 use Rattle.bus_spec.specs.Members.MemberStatus.{Down}
-use Rattle.bus_spec.specs.Report.{failure_told, opening_told, stored_told}
-use Rattle.bus_spec.specs.Telling.{Telling}
-use Rattle.bus_spec.specs.Telling.Telling.{HasOpened}
+use Rattle.bus_spec.specs.Report.{line_of_failure, line_of_opening, line_of_stored}
+use Rattle.bus_spec.specs.ReportLine.{ReportLine}
+use Rattle.bus_spec.specs.ReportLine.ReportLine.{HasOpened}
 use Rattle.bus_world.specs.OnDisk.{IsUpOn}
-use Rattle.bus_world.specs.Places.{IsDownOn, IsLife}
+use Rattle.bus_world.specs.Places.{IsDownOn, HasStatus}
 use Rattle.bus_world.specs.declared.place.Place.{Place}
-use Rattle.bus_world.proofs.Stepping.{is_life_down}
+use Rattle.bus_world.proofs.Stepping.{is_status_down}
 
 -- ---- an opening that succeeded
 
@@ -33,14 +33,14 @@ module _ {F : Type 0} {ghosts : Ghosts MemoryDisk} (server : Server MemoryDisk F
   state = durable_state (durable_of server)
 
   pub opened_told : (view : View) → view.term ≡ state.term → view.vote ≡ state.vote → view.last ≡ length state.log → view.commit ≡ state.commit
-      → HasOpened id view.term view.vote view.last view.commit ≡ opening_told id key_disk
+      → HasOpened id view.term view.vote view.last view.commit ≡ line_of_opening id key_disk
   opened_told view term vote last commit =
       ap (λ (t : ℕ). HasOpened id t view.vote view.last view.commit) term
       ∙ (ap (λ (v : ℕ). HasOpened id state.term v view.last view.commit) vote
       ∙ (ap (λ (l : ℕ). HasOpened id state.term state.vote l view.commit) last
       ∙ (ap (λ (c : ℕ). HasOpened id state.term state.vote (length state.log) c) commit
-      ∙ (ap (stored_told id) on.state
-      ∙ sym (ap (λ (b : Bool). if b then stored_told id (opening_on key_disk).store else failure_told id (opening_on key_disk)) open_on)))))
+      ∙ (ap (line_of_stored id) on.state
+      ∙ sym (ap (λ (b : Bool). if b then line_of_stored id (opening_on key_disk).store else line_of_failure id (opening_on key_disk)) open_on)))))
 
   pub is_up : StandsFor server (opening id size (store_of state) now word)
       → IsUpOn server (opening id size (store_of (opening_on key_disk).store) now word) (opening_on key_disk)
@@ -49,25 +49,25 @@ module _ {F : Type 0} {ghosts : Ghosts MemoryDisk} (server : Server MemoryDisk F
 -- ---- the place and the pattern of a member after an opening
 
 module _ {F : Type 0} (place : Place F) where
-  pub opened_by : (b : Bool) (a c : MemberState) → IsLife place a.life a.disk → b ≡ true → IsLife place (if b then a else c).life (if b then a else c).disk
+  pub opened_by : (b : Bool) (a c : MemberState) → HasStatus place a.status a.disk → b ≡ true → HasStatus place (if b then a else c).status (if b then a else c).disk
   opened_by true a c is e = is
   opened_by false a c is e = absurd (cc (e))
 
-  unopened_by : (b : Bool) (a c : MemberState) → IsLife place c.life c.disk → b ≡ false → IsLife place (if b then a else c).life (if b then a else c).disk
+  unopened_by : (b : Bool) (a c : MemberState) → HasStatus place c.status c.disk → b ≡ false → HasStatus place (if b then a else c).status (if b then a else c).disk
   unopened_by true a c is e = absurd (cc (e))
   unopened_by false a c is e = is
 
   module _ (x : MemberState) where
     down_by : (disk : KeyDisk Stored) → (b : Bool) → IsDownOn place (if b then restarted_on x.pattern disk else disk) →
-        let after = if b then stopped_with x.pattern disk x else record x { life = Down; disk = disk } in IsLife place after.life after.disk
-    down_by disk true on = is_life_down place (restarted_on x.pattern disk) on
-    down_by disk false on = is_life_down place disk on
+        let after = if b then stopped_with x.pattern disk x else record x { status = Down; disk = disk } in HasStatus place after.status after.disk
+    down_by disk true on = is_status_down place (restarted_on x.pattern disk) on
+    down_by disk false on = is_status_down place disk on
 
     pub is_down : (id size now word : ℕ) → is_open_on x.disk ≡ false →
         IsDownOn place (if (opening_on x.disk).calls.stopped then restarted_on x.pattern (opening_on x.disk) else opening_on x.disk) →
-        IsLife place (opened id size now word x).life (opened id size now word x).disk
+        HasStatus place (after_opening id size now word x).status (after_opening id size now word x).disk
     is_down id size now word e on =
-        unopened_by (is_open_on x.disk) _ (unopened x (opening_on x.disk)) (down_by (opening_on x.disk) ((opening_on x.disk).calls.stopped) on) e
+        unopened_by (is_open_on x.disk) _ (after_failed_opening x (opening_on x.disk)) (down_by (opening_on x.disk) ((opening_on x.disk).calls.stopped) on) e
 
 pattern_by : (b c : Bool) (x a d e : MemberState) → a.pattern ≡ x.pattern → d.pattern ≡ x.pattern → e.pattern ≡ x.pattern
     → (if b then a else (if c then d else e)).pattern ≡ x.pattern
@@ -75,7 +75,7 @@ pattern_by true c x a d e p q r = p
 pattern_by false true x a d e p q r = q
 pattern_by false false x a d e p q r = r
 
-pub pattern_kept : (id size now word : ℕ) (x : MemberState) → (opened id size now word x).pattern ≡ x.pattern
+pub pattern_kept : (id size now word : ℕ) (x : MemberState) → (after_opening id size now word x).pattern ≡ x.pattern
 pattern_kept id size now word x = pattern_by (is_open_on x.disk) ((opening_on x.disk).calls.stopped) x _ _ _ refl refl refl
 
 -- ---- an opening that failed
@@ -85,6 +85,6 @@ pub not_damaged : (Fails : Type 0) (why : OpenFault) → ((fault : Fault) → wh
 not_damaged Fails (DiskFault fault) fails sound = fails fault refl
 not_damaged Fails (Damaged key) fails sound = absurd (sound key refl)
 
-pub refused_told : (id : ℕ) (key_disk : KeyDisk Stored) (told : Telling) → is_open_on key_disk ≡ false → told ≡ failure_told id (opening_on key_disk) → told ≡ opening_told id key_disk
+pub refused_told : (id : ℕ) (key_disk : KeyDisk Stored) (told : ReportLine) → is_open_on key_disk ≡ false → told ≡ line_of_failure id (opening_on key_disk) → told ≡ line_of_opening id key_disk
 refused_told id key_disk told e f =
-    f ∙ sym (ap (λ (b : Bool). if b then stored_told id (opening_on key_disk).store else failure_told id (opening_on key_disk)) e)
+    f ∙ sym (ap (λ (b : Bool). if b then line_of_stored id (opening_on key_disk).store else line_of_failure id (opening_on key_disk)) e)

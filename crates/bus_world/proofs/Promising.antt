@@ -16,7 +16,7 @@ use Rattle.bus_spec.specs.Members.{MemberStatus}
 use Rattle.bus_spec.specs.Members.MemberStatus.{Down, Up, Failed}
 use Rattle.bus_spec.specs.Promise.{GivesOnce, log_on}
 use Rattle.bus_world.specs.OnDisk.{IsUpOn, RunsAs}
-use Rattle.bus_world.specs.Places.{IsLife}
+use Rattle.bus_world.specs.Places.{HasStatus}
 use Rattle.bus_world.specs.Stands.{StandsFor as StandsForMember}
 use Rattle.bus_world.specs.Members.{StandsFor, ids_of}
 use Rattle.bus_world.specs.declared.member.Member.{Member}
@@ -35,29 +35,29 @@ one_of (x ∷ xs) P all n (inr there) = one_of xs P (λ i d h. all (suc i) d (om
 
 -- a server that runs has in memory what its disk has stored
 pub same_log : {F : Type 0} {ghosts : Ghosts MemoryDisk} (server : Server MemoryDisk F ghosts) (t : AllocatorState) (key_disk : KeyDisk Stored) → IsUpOn server t key_disk
-    → t.plain.store.log ≡ key_disk.store.log
+    → t.raft_server.store.log ≡ key_disk.store.log
 same_log server t key_disk is = ap (λ (s : Store). s.log) is.stands.member.raft.store ∙ ap (λ (s : Stored). s.log) is.keeps.state
 
-runs_once : {F : Type 0} {ghosts : Ghosts MemoryDisk} (server : Server MemoryDisk F ghosts) (life : MemberStatus) (key_disk : KeyDisk Stored) → RunsAs server life key_disk
-    → IsInjective (log_on life key_disk)
+runs_once : {F : Type 0} {ghosts : Ghosts MemoryDisk} (server : Server MemoryDisk F ghosts) (status : MemberStatus) (key_disk : KeyDisk Stored) → RunsAs server status key_disk
+    → IsInjective (log_on status key_disk)
 runs_once server Down key_disk is = absurd is
 runs_once server (Up t) key_disk is =
     subst (λ (log : List Entry). IsInjective log) (sym (same_log server t key_disk is)) is.keeps.disk.on.stores.storable.injective
 runs_once server (Failed failure) key_disk is = is.cut.on.stores.storable.injective
 
-is_once : {F : Type 0} (place : Place F) (life : MemberStatus) (key_disk : KeyDisk Stored) → IsLife place life key_disk → IsInjective (log_on life key_disk)
+is_once : {F : Type 0} (place : Place F) (status : MemberStatus) (key_disk : KeyDisk Stored) → HasStatus place status key_disk → IsInjective (log_on status key_disk)
 is_once (DownAt disk) Down key_disk is = is.stores.storable.injective
 is_once (DownAt disk) (Up t) key_disk is = absurd is
 is_once (DownAt disk) (Failed failure) key_disk is = absurd is
-is_once (UpAt server) life key_disk is = runs_once server life key_disk is
-is_once Absent life key_disk is = absurd is
+is_once (UpAt server) status key_disk is = runs_once server status key_disk is
+is_once Absent status key_disk is = absurd is
 
 gives_once : {F : Type 0} (world : Members F) (c : Cluster) → StandsFor world c → GivesOnce c
 gives_once {F} world c stands n there =
     let found = one_of world.members.items (λ (m : Member F). StandsForMember m (c.member m.id)) stands.holds.members n
     (subst (λ (ids : List ℕ). In n ids) (sym stands.holds.ids) there) in
-    subst (λ (k : ℕ). IsInjective (log_on (c.member k).life (c.member k).disk)) found.1
-    (is_once found.0.place (c.member found.0.id).life (c.member found.0.id).disk found.2.life)
+    subst (λ (k : ℕ). IsInjective (log_on (c.member k).status (c.member k).disk)) found.1
+    (is_once found.0.place (c.member found.0.id).status (c.member found.0.id).disk found.2.status)
 
 pub world_gives_once : {F G : Type 0} (world : World F G) (c : Cluster) → StandsForWorld world c → GivesOnce c
 world_gives_once world c stands = gives_once world.members c stands.members

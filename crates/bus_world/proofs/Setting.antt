@@ -32,7 +32,7 @@ module _ {F : Type 0} {disk : Ghosts MemoryDisk} (server new : Server MemoryDisk
     (stands : (t : AllocatorState) → StandsFor server t → StandsFor new t) (fault : fault_of new ≡ fault_of server)
     (state : durable_state (durable_of new) ≡ durable_state (durable_of server)) (copies : durable_copies (durable_of new) ≡ durable_copies (durable_of server))
     (runs : (calls : Calls) → (setting calls).stopped ≡ calls.stopped) where
-  pub runs_set : (life : MemberStatus) (key_disk : KeyDisk Stored) → RunsAs server life key_disk → RunsAs new life (record key_disk { calls = setting key_disk.calls })
+  pub runs_set : (status : MemberStatus) (key_disk : KeyDisk Stored) → RunsAs server status key_disk → RunsAs new status (record key_disk { calls = setting key_disk.calls })
   runs_set Down key_disk is = absurd is
   runs_set (Up t) key_disk is = record {
     stands = stands t is.stands;

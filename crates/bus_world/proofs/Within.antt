@@ -9,7 +9,7 @@ use Rattle.transfer_tx.specs.declared.marked.Marked.{Marked}
 use Rattle.transfer_tx.specs.Queue.{Queued}
 use Rattle.transfer_tx.specs.Views.{queued_of}
 use Rattle.bus_spec.specs.declared.unlawful.Unlawful.{Unlawful}
-use Rattle.bus_spec.specs.Cluster.{Cluster, changed, in_list}
+use Rattle.bus_spec.specs.Cluster.{Cluster, effect_of, in_list}
 use Rattle.bus_world.specs.MemberRows as members
 use Rattle.bus_world.specs.Members.{Holds}
 use Rattle.bus_world.specs.Rows.{Refuses, Tells}
@@ -31,9 +31,9 @@ module _ {F G : Type 0} (world : World F G) where
   -- it leaves the allocatees
   abbrev pub LeavesThem : Members F → Row → Type 0
   LeavesThem new row = (c : Cluster) → StandsFor world c
-      → (Holds new.members.items new.frames.items (changed c row)) × AreSeatsOf world.seats.items (changed c row).allocatee
+      → (Holds new.members.items new.frames.items (effect_of c row)) × AreSeatsOf world.seats.items (effect_of c row).allocatee
 
-  pub leaves_too : (new : Members F) (row : Row) → ((c : Cluster) → (changed c row).allocatee ≡ c.allocatee)
+  pub leaves_too : (new : Members F) (row : Row) → ((c : Cluster) → (effect_of c row).allocatee ≡ c.allocatee)
       → (result : Result Told Unlawful) → OnOk result (members.Leaves world.members new row) → OnOk result (LeavesThem new row)
   leaves_too new row stay (Ok told) is = λ c stands.
       (is c stands.members, subst (λ (f : ℕ → Option Device). AreSeatsOf world.seats.items f) (sym (stay c)) stands.allocatees)

@@ -1,6 +1,6 @@
 -- Members at the beginning.
 use Rattle.std.specs.Prelude.{◌≡◌, ℕ, ◌<◌, List, length, map, slice_index_or}
-use Rattle.bus_spec.specs.Members.{fresh}
+use Rattle.bus_spec.specs.Members.{fresh_member}
 use Rattle.bus_world.specs.Places.{Accepts}
 use Rattle.bus_world.specs.Stands.{StandsFor}
 use Rattle.bus_world.specs.declared.member.Member.{Member}
@@ -8,6 +8,6 @@ use Rattle.bus_world.specs.declared.member.Member.{Member}
 -- a stopped member for each node ID, on a disk of zeros
 pub record AreFresh {F : Type 0} (ids : List ℕ) (members : List (Member F)) : Type 0 where
   pub same : map (λ member. member.id) members ≡ ids
-  pub begun : (i : ℕ) (d : Member F) → i < length members → StandsFor (slice_index_or members i d) fresh
+  pub begun : (i : ℕ) (d : Member F) → i < length members → StandsFor (slice_index_or members i d) fresh_member
   pub alike : (i : ℕ) (d : Member F) (accept : F) → i < length members →
       Accepts (slice_index_or members i d).place accept

@@ -3,10 +3,10 @@ use Rattle.std.specs.Prelude.{◌≡◌, ◌≤◌, ◌+◌, None, Some, length}
 use Rattle.replay_text.specs.declared.row.Row.{Row}
 use Rattle.replay_text.specs.declared.told.Told.{Told}
 use Rattle.bus_spec.specs.declared.unlawful.Unlawful.{Unlawful}
-use Rattle.bus_spec.specs.Cluster.{Cluster, changed}
+use Rattle.bus_spec.specs.Cluster.{Cluster, effect_of}
 use Rattle.bus_spec.specs.Lawful.{cause}
-use Rattle.bus_spec.specs.Report.{told as told_by}
-use Rattle.bus_spec.specs.Telling.{telling_of}
+use Rattle.bus_spec.specs.Report.{line_of_row as told_by}
+use Rattle.bus_spec.specs.ReportLine.{report_line_of}
 use Rattle.bus_world.specs.Members.{Holds, StandsFor}
 use Rattle.bus_world.specs.declared.members.Members.{Members}
 
@@ -18,11 +18,11 @@ module _ {F : Type 0} where
   -- the row is lawful, and tells this
   abbrev pub Tells : Members F → Row → Told → Type 0
   Tells world row told = (c : Cluster) → StandsFor world c → (cause c row ≡ None)
-      × (telling_of told ≡ told_by c row)
+      × (report_line_of told ≡ told_by c row)
 
   -- the row leaves this, but for the count of rows
   abbrev pub Leaves : Members F → Members F → Row → Type 0
-  Leaves old new row = (c : Cluster) → StandsFor old c → Holds new.members.items new.frames.items (changed c row)
+  Leaves old new row = (c : Cluster) → StandsFor old c → Holds new.members.items new.frames.items (effect_of c row)
 
   -- all but the members and the bus stays, and the bus has one frame more at most
   pub record Keeps (old new : Members F) : Type 0 where

@@ -11,10 +11,10 @@ use Rattle.bus_world.specs.declared.place.Place.TheVariants.{Down as DownAt, Up 
 
 module _ {F : Type 0} where
   -- a disk is a stopped member, a server a running one
-  abbrev pub IsLife : Place F → MemberStatus → KeyDisk Stored → Type 0
-  IsLife (DownAt disk) life key_disk = IsDownAs disk life key_disk
-  IsLife (UpAt server) life key_disk = RunsAs server life key_disk
-  IsLife Absent life key_disk = ⊥
+  abbrev pub HasStatus : Place F → MemberStatus → KeyDisk Stored → Type 0
+  HasStatus (DownAt disk) status key_disk = IsDownAs disk status key_disk
+  HasStatus (UpAt server) status key_disk = RunsAs server status key_disk
+  HasStatus Absent status key_disk = ⊥
 
   -- what a place has, as a disk: that of a server that runs, or the bare one of a stopped member
   abbrev pub IsRunningOn : Place F → KeyDisk Stored → Type 0

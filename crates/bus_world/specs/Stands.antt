@@ -1,9 +1,9 @@
 -- What a member of the code stands for.
 use Rattle.std.specs.Prelude.{◌≡◌}
 use Rattle.bus_spec.specs.Members.{Member as MemberState}
-use Rattle.bus_world.specs.Places.{IsLife}
+use Rattle.bus_world.specs.Places.{HasStatus}
 use Rattle.bus_world.specs.declared.member.Member.{Member}
 
 pub record StandsFor {F : Type 0} (member : Member F) (state : MemberState) : Type 0 where
-  pub life : IsLife member.place state.life state.disk
+  pub status : HasStatus member.place state.status state.disk
   pub pattern : member.pattern ≡ state.pattern

@@ -8,12 +8,12 @@ ghost use Rattle.transfer_rx.specs.Reassembly.{arrival_of};
 ghost use Rattle.transfer_tx.specs.Views.{queued_of};
 ghost use Rattle.alloc_step.specs.Accepted as accepted;
 ghost use Rattle.alloc_server.specs.Server.{event_of};
-ghost use Rattle.bus_spec.specs.Lawful.{judged, of_judged};
-ghost use Rattle.bus_spec.specs.Members.{Member as MemberState, after_sending, armed, failing, fresh, is_running, next_frame, opened as opened_member, stepped as stepped_member, stopped_with};
+ghost use Rattle.bus_spec.specs.Lawful.{arrival_refusal, cause_of_judgement};
+ghost use Rattle.bus_spec.specs.Members.{Member as MemberState, after_sending, with_stop_armed, with_failure_armed, fresh_member, is_running, next_frame, after_opening as opened_member, member_after_step as stepped_member, stopped_with};
 ghost use Rattle.bus_spec.specs.Members.MemberStatus.{Down};
-ghost use Rattle.bus_spec.specs.Report.{failure_told, life_entry, life_view, opening_told, step_told};
-ghost use Rattle.bus_spec.specs.Telling.{is_stop, telling_of};
-ghost use Rattle.bus_spec.specs.Telling.Telling.{HasOpened, HasStopped, IsArmed};
+ghost use Rattle.bus_spec.specs.Report.{line_of_failure, running_entry, running_view, line_of_opening, line_of_step};
+ghost use Rattle.bus_spec.specs.ReportLine.{is_stop, report_line_of};
+ghost use Rattle.bus_spec.specs.ReportLine.ReportLine.{HasOpened, HasStopped, IsArmed};
 ghost use Rattle.bus_world.specs.Patterns.{IsFilled};
 
 use crate::patterns::copy_of;
@@ -54,7 +54,7 @@ impl<F: Fn(Kind, u16) -> Option<u64> + Copy> Member<F> {
     pub fn new(id: u8) -> Member<F>
         requires least { 1 ≤ id }
         requires most { id ≤ 125 }
-        ensures stands { StandsFor result fresh }
+        ensures stands { StandsFor result fresh_member }
         ensures id { result.id ≡ id }
         ensures accepts { (accept : F) → Accepts result.place accept }
     {
@@ -68,7 +68,7 @@ impl<F: Fn(Kind, u16) -> Option<u64> + Copy> Member<F> {
     }
 
     pub fn is_running(&self) -> bool
-        ensures { (x : MemberState) → StandsFor self.now x → result ≡ is_running x.life }
+        ensures { (x : MemberState) → StandsFor self.now x → result ≡ is_running x.status }
     {
         match &self.place {
             Place::Up(_) => true,
@@ -91,9 +91,9 @@ impl<F: Fn(Kind, u16) -> Option<u64> + Copy> Member<F> {
         requires memory { ReceiverFitsInMemory F.row 160 128 }
         requires callable { F.IsAlwaysCallable accept }
         requires answers { AnswersByRows (F.post accept) rows.items }
-        ensures told { (x : MemberState) → StandsFor self.old x → is_running x.life ≡ false →
-            telling_of result ≡ opening_told self.old.id x.disk }
-        ensures stands { (x : MemberState) → StandsFor self.old x → is_running x.life ≡ false →
+        ensures told { (x : MemberState) → StandsFor self.old x → is_running x.status ≡ false →
+            report_line_of result ≡ line_of_opening self.old.id x.disk }
+        ensures stands { (x : MemberState) → StandsFor self.old x → is_running x.status ≡ false →
             StandsFor self.new (opened_member self.old.id size moment word x) }
         ensures id { self.new.id ≡ self.old.id }
         ensures accepts { Accepts self.old.place accept → Accepts self.new.place accept }
@@ -123,9 +123,9 @@ impl<F: Fn(Kind, u16) -> Option<u64> + Copy> Member<F> {
         requires callable { F.IsAlwaysCallable accept }
         requires answers { AnswersByRows (F.post accept) rows.items }
         ensures told { (key_disk : KeyDisk Stored) → IsOn disk key_disk →
-            telling_of result ≡ opening_told self.old.id key_disk }
+            report_line_of result ≡ line_of_opening self.old.id key_disk }
         ensures stands { (x : MemberState) → IsOn disk x.disk → self.old.pattern ≡ x.pattern →
-            x.life ≡ Down →
+            x.status ≡ Down →
             StandsFor self.new (opened_member self.old.id size moment word x) }
         ensures id { self.new.id ≡ self.old.id }
         ensures accepts { Accepts self.new.place accept }
@@ -147,7 +147,7 @@ impl<F: Fn(Kind, u16) -> Option<u64> + Copy> Member<F> {
     /// An opening failed: the member stays stopped. Where its disk stopped, it is started again.
     fn stay_stopped(&mut self, disk: MemoryDisk) -> Told
         ensures told { (key_disk : KeyDisk Stored) → IsOn disk key_disk →
-            telling_of result ≡ failure_told self.old.id key_disk }
+            report_line_of result ≡ line_of_failure self.old.id key_disk }
         ensures down { (key_disk : KeyDisk Stored) → IsOn disk key_disk → IsDownOn self.new.place
             (if key_disk.calls.stopped then restarted_on self.old.pattern key_disk else key_disk) }
         ensures pattern { self.new.pattern ≡ self.old.pattern }
@@ -171,10 +171,10 @@ impl<F: Fn(Kind, u16) -> Option<u64> + Copy> Member<F> {
         requires callable { Serves (λ accept. F.IsAlwaysCallable accept) self.old.place }
         requires answers { Serves (λ accept. AnswersByRows (F.post accept) accepted.rows)
             self.old.place }
-        ensures told { (x : MemberState) → StandsFor self.old x → is_running x.life ≡ true →
-            telling_of result ≡ step_told self.old.id number (event_of event) x.life x }
-        ensures stands { (x : MemberState) → StandsFor self.old x → is_running x.life ≡ true →
-            StandsFor self.new (stepped_member number (event_of event) x.life x) }
+        ensures told { (x : MemberState) → StandsFor self.old x → is_running x.status ≡ true →
+            report_line_of result ≡ line_of_step self.old.id number (event_of event) x.status x }
+        ensures stands { (x : MemberState) → StandsFor self.old x → is_running x.status ≡ true →
+            StandsFor self.new (stepped_member number (event_of event) x.status x) }
         ensures id { self.new.id ≡ self.old.id }
         ensures accepts { (accept : F) → Accepts self.old.place accept →
             Accepts self.new.place accept }
@@ -193,9 +193,9 @@ impl<F: Fn(Kind, u16) -> Option<u64> + Copy> Member<F> {
     /// The next frame for the bus.
     pub fn pop(&mut self) -> Option<Marked>
         ensures next { (x : MemberState) → StandsFor self.old x →
-            option_map queued_of result ≡ next_frame x.life }
+            option_map queued_of result ≡ next_frame x.status }
         ensures stands { (x : MemberState) → StandsFor self.old x →
-            StandsFor self.new (record x { life = after_sending x.life }) }
+            StandsFor self.new (record x { status = after_sending x.status }) }
         ensures none { IsNone result → self.new ≡ self.old }
         ensures id { self.new.id ≡ self.old.id }
         ensures accepts { (accept : F) → Accepts self.old.place accept →
@@ -214,7 +214,7 @@ impl<F: Fn(Kind, u16) -> Option<u64> + Copy> Member<F> {
         requires answers { Serves (λ accept. AnswersByRows (F.post accept) accepted.rows)
             self.now.place }
         ensures { (x : MemberState) → StandsFor self.now x →
-            of_judged result ≡ judged x.life (arrival_of frame.now mark moment) }
+            cause_of_judgement result ≡ arrival_refusal x.status (arrival_of frame.now mark moment) }
     {
         match &self.place {
             Place::Up(server) => server.judge(frame, mark, moment),
@@ -226,8 +226,8 @@ impl<F: Fn(Kind, u16) -> Option<u64> + Copy> Member<F> {
     /// synced.
     pub fn stop(&mut self, pattern: &Pattern) -> Told
         requires { IsFilled pattern.now }
-        ensures told { telling_of result ≡ HasStopped self.old.id }
-        ensures stands { (x : MemberState) → StandsFor self.old x → is_running x.life ≡ true →
+        ensures told { report_line_of result ≡ HasStopped self.old.id }
+        ensures stands { (x : MemberState) → StandsFor self.old x → is_running x.status ≡ true →
             StandsFor self.new (stopped_with pattern.now x.disk x) }
         ensures id { self.new.id ≡ self.old.id }
         ensures accepts { (accept : F) → Accepts self.old.place accept →
@@ -241,9 +241,9 @@ impl<F: Fn(Kind, u16) -> Option<u64> + Copy> Member<F> {
     /// Its disk stops in place of that call of it.
     pub fn stop_at(&mut self, call: u32, pattern: &Pattern) -> Told
         requires { IsFilled pattern.now }
-        ensures told { telling_of result ≡ IsArmed self.old.id }
+        ensures told { report_line_of result ≡ IsArmed self.old.id }
         ensures stands { (x : MemberState) → StandsFor self.old x →
-            StandsFor self.new (armed call pattern.now x) }
+            StandsFor self.new (with_stop_armed call pattern.now x) }
         ensures id { self.new.id ≡ self.old.id }
         ensures accepts { (accept : F) → Accepts self.old.place accept →
             Accepts self.new.place accept }
@@ -255,9 +255,9 @@ impl<F: Fn(Kind, u16) -> Option<u64> + Copy> Member<F> {
 
     /// That call of its disk fails.
     pub fn fail_at(&mut self, call: u32) -> Told
-        ensures told { telling_of result ≡ IsArmed self.old.id }
+        ensures told { report_line_of result ≡ IsArmed self.old.id }
         ensures stands { (x : MemberState) → StandsFor self.old x →
-            StandsFor self.new (failing call x) }
+            StandsFor self.new (with_failure_armed call x) }
         ensures id { self.new.id ≡ self.old.id }
         ensures accepts { (accept : F) → Accepts self.old.place accept →
             Accepts self.new.place accept }
@@ -268,7 +268,7 @@ impl<F: Fn(Kind, u16) -> Option<u64> + Copy> Member<F> {
 
     /// The numbers of a member that runs and has not failed.
     pub fn view(&self) -> Option<View>
-        ensures { (x : MemberState) → StandsFor self.now x → result ≡ life_view x.life }
+        ensures { (x : MemberState) → StandsFor self.now x → result ≡ running_view x.status }
     {
         match &self.place {
             Place::Up(server) => {
@@ -283,7 +283,7 @@ impl<F: Fn(Kind, u16) -> Option<u64> + Copy> Member<F> {
 
     /// The entry at a place of a member that runs and has not failed, up to its last.
     pub fn entry(&self, place: u8) -> Option<Entry>
-        ensures { (x : MemberState) → StandsFor self.now x → result ≡ life_entry x.life place }
+        ensures { (x : MemberState) → StandsFor self.now x → result ≡ running_entry x.status place }
     {
         match &self.place {
             Place::Up(server) => {
@@ -321,7 +321,7 @@ impl<F: Fn(Kind, u16) -> Option<u64> + Copy> Member<F> {
 
 /// What an opening tells.
 fn opened(n: u8, view: View) -> Told
-    ensures { telling_of result ≡ HasOpened n view.term view.vote view.last view.commit }
+    ensures { report_line_of result ≡ HasOpened n view.term view.vote view.last view.commit }
 {
     Told::Opened {
         n,
@@ -333,7 +333,7 @@ fn opened(n: u8, view: View) -> Told
 }
 
 fn has_stopped(told: &Told) -> bool
-    ensures { result ≡ is_stop (telling_of told.now) }
+    ensures { result ≡ is_stop (report_line_of told.now) }
 {
     matches!(told, Told::Stopped { n: _ })
 }

@@ -18,12 +18,12 @@ pub(crate) enum Place<F> {
 }
 
 impl<F: Fn(Kind, u16) -> Option<u64> + Copy> Place<F> {
-    ghost use Rattle.bus_world.specs.Places.{Accepts, IsLife};
+    ghost use Rattle.bus_world.specs.Places.{Accepts, HasStatus};
 
     /// The disk stops in place of that call of it.
     pub fn stop_at(&mut self, call: u64)
-        ensures life { (life : MemberStatus) (key_disk : KeyDisk Stored) → IsLife self.old life key_disk →
-            IsLife self.new life
+        ensures status { (status : MemberStatus) (key_disk : KeyDisk Stored) → HasStatus self.old status key_disk →
+            HasStatus self.new status
             (record key_disk { calls = record key_disk.calls { stop_in = call } }) }
         ensures accepts { (accept : F) → Accepts self.old accept → Accepts self.new accept }
     {
@@ -38,8 +38,8 @@ impl<F: Fn(Kind, u16) -> Option<u64> + Copy> Place<F> {
 
     /// That call of the disk fails.
     pub fn fail_at(&mut self, call: u64)
-        ensures life { (life : MemberStatus) (key_disk : KeyDisk Stored) → IsLife self.old life key_disk →
-            IsLife self.new life
+        ensures status { (status : MemberStatus) (key_disk : KeyDisk Stored) → HasStatus self.old status key_disk →
+            HasStatus self.new status
             (record key_disk { calls = record key_disk.calls { fail_in = call } }) }
         ensures accepts { (accept : F) → Accepts self.old accept → Accepts self.new accept }
     {

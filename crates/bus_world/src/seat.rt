@@ -6,11 +6,11 @@ ghost use Rattle.transfer_tx.specs.Views.{queued_of};
 ghost use Rattle.allocatee.specs.Accepted as accepted;
 ghost use Rattle.allocatee.specs.Allocatee.{Device, opening};
 ghost use Rattle.allocatee.specs.Stands.{event_of};
-ghost use Rattle.bus_spec.specs.Allocatees.{after_sending_from, next_from, stepped_at};
-ghost use Rattle.bus_spec.specs.Lawful.{judged_at, of_judged};
-ghost use Rattle.bus_spec.specs.Report.{step_told_at};
-ghost use Rattle.bus_spec.specs.Telling.{telling_of};
-ghost use Rattle.bus_spec.specs.Telling.Telling.{HasCome, HasLeft};
+ghost use Rattle.bus_spec.specs.Allocatees.{after_sending_from, next_from, device_after_step};
+ghost use Rattle.bus_spec.specs.Lawful.{arrival_refusal_at, cause_of_judgement};
+ghost use Rattle.bus_spec.specs.Report.{line_of_step_at};
+ghost use Rattle.bus_spec.specs.ReportLine.{report_line_of};
+ghost use Rattle.bus_spec.specs.ReportLine.ReportLine.{HasCome, HasLeft};
 
 use allocatee::{AEvent, Allocatee};
 use arrayvec::ArrayVec;
@@ -58,7 +58,7 @@ impl<G: Fn(Kind, u16) -> Option<u64> + Copy> Seat<G> {
         requires memory { ReceiverFitsInMemory G.row 8 8 }
         requires callable { G.IsAlwaysCallable accept }
         requires answers { AnswersByRows (G.post accept) rows.items }
-        ensures told { telling_of result ≡ HasCome a }
+        ensures told { report_line_of result ≡ HasCome a }
         ensures stands { StandsFor self.new (Some (opening uid preferred moment word)) }
         ensures accepts { Accepts self.new accept }
     {
@@ -73,9 +73,9 @@ impl<G: Fn(Kind, u16) -> Option<u64> + Copy> Seat<G> {
         requires answers { Serves (λ accept. AnswersByRows (G.post accept) accepted.rows)
             self.old }
         ensures told { (x : Option Device) → StandsFor self.old x →
-            telling_of result ≡ step_told_at a number (event_of event) x }
+            report_line_of result ≡ line_of_step_at a number (event_of event) x }
         ensures stands { (x : Option Device) → StandsFor self.old x →
-            StandsFor self.new (stepped_at number (event_of event) x) }
+            StandsFor self.new (device_after_step number (event_of event) x) }
         ensures accepts { (accept : G) → Accepts self.old accept → Accepts self.new accept }
     {
         match &mut self.device {
@@ -100,7 +100,7 @@ impl<G: Fn(Kind, u16) -> Option<u64> + Copy> Seat<G> {
         requires answers { Serves (λ accept. AnswersByRows (G.post accept) accepted.rows)
             self.now }
         ensures { (x : Option Device) → StandsFor self.now x →
-            of_judged result ≡ judged_at x (arrival_of frame.now mark moment) }
+            cause_of_judgement result ≡ arrival_refusal_at x (arrival_of frame.now mark moment) }
     {
         match &self.device {
             Some(device) => device.judge(frame, mark, moment),
@@ -125,7 +125,7 @@ impl<G: Fn(Kind, u16) -> Option<u64> + Copy> Seat<G> {
 
     /// The allocatee leaves.
     pub fn end(&mut self, a: u8) -> Told
-        ensures told { telling_of result ≡ HasLeft a }
+        ensures told { report_line_of result ≡ HasLeft a }
         ensures stands { StandsFor self.new None }
         ensures accepts { (accept : G) → Accepts self.new accept }
     {

@@ -9,9 +9,9 @@ ghost use Rattle.alloc_step.specs.Accepted as accepted;
 ghost use Rattle.alloc_step.specs.Step.{step as step_of};
 ghost use Rattle.alloc_step.specs.AllocatorState.{AllocatorState, view_of};
 ghost use Rattle.alloc_server.specs.Server.{accepts, event_of};
-ghost use Rattle.bus_spec.specs.Report.{failure_told, view_told};
-ghost use Rattle.bus_spec.specs.Telling.{telling_of};
-ghost use Rattle.bus_spec.specs.Telling.Telling.{HasFailed, HasStepped};
+ghost use Rattle.bus_spec.specs.Report.{line_of_failure, line_of_view};
+ghost use Rattle.bus_spec.specs.ReportLine.{report_line_of};
+ghost use Rattle.bus_spec.specs.ReportLine.ReportLine.{HasFailed, HasStepped};
 ghost use Rattle.bus_world.specs.OnDisk.{HasFailedOn, IsCutOn, IsUpOn};
 
 use alloc_server::{Event, Outcome, Server, View};
@@ -33,15 +33,15 @@ pub(crate) fn advance<F: Fn(Kind, u16) -> Option<u64> + Copy>(
     ensures finished { (t : AllocatorState) (key_disk : KeyDisk Stored) → IsUpOn server.old t key_disk →
         let step_result = step_of t number (event_of event) in
         let puts = stored_puts step_result.step_state.puts key_disk.store in are_put puts key_disk.calls ≡ true →
-        (telling_of result ≡ view_told n (view_of step_result.step_state.timed) step_result) ×
-        IsUpOn server.new step_result.step_state.timed (puts_on puts key_disk) }
+        (report_line_of result ≡ line_of_view n (view_of step_result.step_state.allocator) step_result) ×
+        IsUpOn server.new step_result.step_state.allocator (puts_on puts key_disk) }
     ensures cut { (t : AllocatorState) (key_disk : KeyDisk Stored) → IsUpOn server.old t key_disk →
         let step_result = step_of t number (event_of event) in
         let puts = stored_puts step_result.step_state.puts key_disk.store in are_put puts key_disk.calls ≡ false →
-        (telling_of result ≡ failure_told n (puts_on puts key_disk)) ×
+        (report_line_of result ≡ line_of_failure n (puts_on puts key_disk)) ×
         IsCutOn server.new (puts_on puts key_disk) }
     ensures again { (key_disk : KeyDisk Stored) → HasFailedOn server.old key_disk →
-        (telling_of result ≡ HasFailed n) × (server.new ≡ server.old) }
+        (report_line_of result ≡ HasFailed n) × (server.new ≡ server.old) }
     ensures accepts { accepts server.new ≡ accepts server.old }
 {
     a_member_on_the_disk_by_states();
@@ -59,7 +59,7 @@ pub(crate) fn advance<F: Fn(Kind, u16) -> Option<u64> + Copy>(
 
 /// What a step tells, with the numbers after it.
 fn stepped(n: u8, view: View, outcome: Outcome) -> Told
-    ensures { telling_of result ≡ HasStepped n view.role view.term view.last view.commit
+    ensures { report_line_of result ≡ HasStepped n view.role view.term view.last view.commit
         view.queued outcome.seen outcome.sent.items }
 {
     Told::Stepped {

@@ -11,11 +11,11 @@ ghost use Rattle.bus_agreement.specs.Allocatees.{HasAllocatees};
 ghost use Rattle.bus_agreement.specs.Duty.{AreDutiful};
 ghost use Rattle.bus_agreement.specs.Headline.{HasHeadline};
 ghost use Rattle.bus_agreement.specs.Safe.{AreSafe};
-ghost use Rattle.bus_spec.specs.Cluster.{AreMembers, Cluster, cluster, next, world_of};
+ghost use Rattle.bus_spec.specs.Cluster.{AreMembers, Cluster, cluster, after_row, world_of};
 ghost use Rattle.bus_spec.specs.Lawful.{Lawful, cause};
 ghost use Rattle.bus_spec.specs.Promise.{OffersItsOwn};
-ghost use Rattle.bus_spec.specs.Report.{entry_of, told as told_by, view_at};
-ghost use Rattle.bus_spec.specs.Telling.{telling_of};
+ghost use Rattle.bus_spec.specs.Report.{entry_of, line_of_row as told_by, view_at};
+ghost use Rattle.bus_spec.specs.ReportLine.{report_line_of};
 ghost use Rattle.bus_spec.specs.declared.unlawful.WorldFault.TheVariants.{BadIds};
 ghost use Rattle.bus_world.specs.Seats.{Accepts, AreEmpty};
 ghost use Rattle.bus_world.specs.declared.seat.Seat.{Seat};
@@ -128,9 +128,9 @@ impl<F: Fn(Kind, u16) -> Option<u64> + Copy, G: Fn(Kind, u16) -> Option<u64> + C
         ensures refused { IfErr result (λ why. (c : Cluster) → StandsFor self.old c →
             cause c row.now ≡ Some why) }
         ensures told { IfOk result (λ told. (c : Cluster) → StandsFor self.old c →
-            (cause c row.now ≡ None) × (telling_of told ≡ told_by c row.now)) }
+            (cause c row.now ≡ None) × (report_line_of told ≡ told_by c row.now)) }
         ensures accepted { OnOk result ((c : Cluster) → StandsFor self.old c →
-            StandsFor self.new (next c row.now)) }
+            StandsFor self.new (after_row c row.now)) }
         ensures kept { OnOk result ((c : Cluster) → StandsFor self.old c →
             OffersItsOwn c row.now) }
         ensures headline { OnOk result ((ids : List ℕ) (rows : List Row) →

@@ -6,7 +6,7 @@ use Rattle.std.proofs.lemmas.List.{get_or_append_left, get_or_push, length-appen
 use Rattle.std.proofs.lemmas.List.Elements.{Contains-append_cases, Contains-append_right, Contains-push_cases}
 use Rattle.std.proofs.lemmas.List.Folds.{list_any_at}
 use Rattle.dsdl_codec.specs.declared.discovery.Discovery.{Discovery}
-use Rattle.cluster_discovery.specs.Members.{Event, Heard, Sent, IsMemberList, IsStart, Names, Start, all_joined, counts, is_complete, joined, learns, lists, may_join, members}
+use Rattle.cluster_discovery.specs.Members.{Event, Heard, Sent, IsMemberList, IsStart, Names, Start, members_with_all, counts, is_complete, members_with, learns, is_on_list, may_join, members}
 
 -- ---- one node more
 
@@ -15,7 +15,7 @@ record Joins (size : ℕ) (list : List ℕ) (node : ℕ) : Type 0 where
   numbered : 1 ≤ node
   device : node ≤ 125
   room : length list < size
-  fresh : lists list node ≡ false
+  fresh : is_on_list list node ≡ false
 
 not_true : (b : Bool) → not b ≡ true → b ≡ false
 not_true true e = cc
@@ -23,14 +23,14 @@ not_true false e = refl
 
 joins : (size : ℕ) (list : List ℕ) (node : ℕ) → may_join size list node ≡ true → Joins size list node
 joins size list node e =
-    let parts = and_parts (nat_le 1 node && nat_le node 125) (nat_lt (length list) size && not (lists list node)) e in
+    let parts = and_parts (nat_le 1 node && nat_le node 125) (nat_lt (length list) size && not (is_on_list list node)) e in
     let device = and_parts (nat_le 1 node) (nat_le node 125) parts.0 in
-    let place = and_parts (nat_lt (length list) size) (not (lists list node)) parts.1 in
+    let place = and_parts (nat_lt (length list) size) (not (is_on_list list node)) parts.1 in
     record {
       numbered = leb-true 1 node device.0;
       device = leb-true node 125 device.1;
       room = ltb-true (length list) size place.0;
-      fresh = not_true (lists list node) place.1;
+      fresh = not_true (is_on_list list node) place.1;
     }
 
 clash : (b : Bool) → b ≡ true → b ≡ false → ⊥
@@ -47,9 +47,9 @@ module _ (me size : ℕ) (list : List ℕ) (node : ℕ) where
     | inr above ↦ subst P (sym (get_or_push list node 0 i (omega (arith, above, within, longer)))) here
   ]
 
-  unlike : lists list node ≡ false → (i : ℕ) → i < length list → get_or list i 0 ≢ node
+  unlike : is_on_list list node ≡ false → (i : ℕ) → i < length list → get_or list i 0 ≢ node
   unlike fresh i below e =
-      clash (lists list node) (list_any_at (λ member. nat_eq member node) list i 0 below (eq-eqb (get_or list i 0) node e)) fresh
+      clash (is_on_list list node) (list_any_at (λ member. nat_eq member node) list i 0 below (eq-eqb (get_or list i 0) node e)) fresh
 
   one_more : IsMemberList me size list → Joins size list node → IsMemberList me size (list ++ node ∷ [])
   one_more is new = record {
@@ -72,10 +72,10 @@ module _ (me size : ℕ) (list : List ℕ) (node : ℕ) where
   one_joined true e is = one_more is (joins size list node e)
   one_joined false e is = is
 
-all_are : (me size : ℕ) (nodes list : List ℕ) → IsMemberList me size list → IsMemberList me size (all_joined size list nodes)
+all_are : (me size : ℕ) (nodes list : List ℕ) → IsMemberList me size list → IsMemberList me size (members_with_all size list nodes)
 all_are me size [] list is = is
 all_are me size (node ∷ nodes) list is =
-    all_are me size nodes (joined size list node) (one_joined me size list node (may_join size list node) refl is)
+    all_are me size nodes (members_with size list node) (one_joined me size list node (may_join size list node) refl is)
 
 -- ---- the member list
 
@@ -94,7 +94,7 @@ alone start is = record {
     only P here (suc i) within = absurd (omega (arith, within))
 
 heard_are : (counts_now : Bool) (me size : ℕ) (list nodes : List ℕ) → IsMemberList me size list
-    → IsMemberList me size (if counts_now then all_joined size list nodes else list)
+    → IsMemberList me size (if counts_now then members_with_all size list nodes else list)
 heard_are true me size list nodes is = all_are me size nodes list is
 heard_are false me size list nodes is = is
 
@@ -111,9 +111,9 @@ one_new : (joins_now : Bool) (list : List ℕ) (node other : ℕ) → Contains (
 one_new true list node other h = Contains-push_cases list node other h
 one_new false list node other h = inl h
 
-all_new : (size : ℕ) (nodes list : List ℕ) (other : ℕ) → Contains (all_joined size list nodes) other → Contains list other ⊎ Contains nodes other
+all_new : (size : ℕ) (nodes list : List ℕ) (other : ℕ) → Contains (members_with_all size list nodes) other → Contains list other ⊎ Contains nodes other
 all_new size [] list other h = inl h
-all_new size (node ∷ nodes) list other h = elim (all_new size nodes (joined size list node) other h) [
+all_new size (node ∷ nodes) list other h = elim (all_new size nodes (members_with size list node) other h) [
   | inl earlier ↦ elim (one_new (may_join size list node) list node other earlier) [
     | inl old ↦ inl old
     | inr here ↦ inr (0, omega arith, here)
@@ -133,7 +133,7 @@ named start events from message node h = by_test (counts start from message) ref
     source (suc k, within, same) = absurd (omega (arith, within))
 
     by_test : (counts_now : Bool) → counts start from message ≡ counts_now
-        → Contains (if counts_now then all_joined start.size (members start events) (from ∷ message.known.items) else members start events) node
+        → Contains (if counts_now then members_with_all start.size (members start events) (from ∷ message.known.items) else members start events) node
         → Contains (members start events) node ⊎ Names start from message node
     by_test false e h = inl h
     by_test true e h = elim (all_new start.size (from ∷ message.known.items) (members start events) node h) [
@@ -147,20 +147,20 @@ named start events from message node h = by_test (counts start from message) ref
 -- ---- a complete list
 
 full : (size : ℕ) (list : List ℕ) (node : ℕ) → length list ≡ size → may_join size list node ≡ false
-full size list node e = no_room (nat_le 1 node && nat_le node 125) (nat_lt (length list) size) (not (lists list node)) (le-ltb (length list) size (omega (arith, e)))
+full size list node e = no_room (nat_le 1 node && nat_le node 125) (nat_lt (length list) size) (not (is_on_list list node)) (le-ltb (length list) size (omega (arith, e)))
   where
     no_room : (a b c : Bool) → b ≡ false → a && (b && c) ≡ false
     no_room true true c e = cc
     no_room true false c e = refl
     no_room false b c e = refl
 
-pub all_stay : (size : ℕ) (nodes list : List ℕ) → length list ≡ size → all_joined size list nodes ≡ list
+pub all_stay : (size : ℕ) (nodes list : List ℕ) → length list ≡ size → members_with_all size list nodes ≡ list
 all_stay size [] list e = refl
 all_stay size (node ∷ nodes) list e =
-    let stays : joined size list node ≡ list = rw (full size list node e) refl in
+    let stays : members_with size list node ≡ list = rw (full size list node e) refl in
     rw stays (all_stay size nodes list e)
 
-heard_stays : (counts_now : Bool) (size : ℕ) (list nodes : List ℕ) → length list ≡ size → (if counts_now then all_joined size list nodes else list) ≡ list
+heard_stays : (counts_now : Bool) (size : ℕ) (list nodes : List ℕ) → length list ≡ size → (if counts_now then members_with_all size list nodes else list) ≡ list
 heard_stays true size list nodes e = all_stay size nodes list e
 heard_stays false size list nodes e = refl
 

@@ -27,22 +27,22 @@ pub data Event : Type 0 where
 
 -- ---- the member list
 
-abbrev pub lists : List ℕ → ℕ → Bool
-lists members node = list_any (λ member. nat_eq member node) members
+abbrev pub is_on_list : List ℕ → ℕ → Bool
+is_on_list members node = list_any (λ member. nat_eq member node) members
 
 -- a node joins where it is 1 to 125, is new, and the list is shorter than the size
 abbrev pub may_join : ℕ → List ℕ → ℕ → Bool
 may_join size members node =
-    (nat_le 1 node && nat_le node 125) && (nat_lt (length members) size && not (lists members node))
+    (nat_le 1 node && nat_le node 125) && (nat_lt (length members) size && not (is_on_list members node))
 
 -- at the end of the list
-abbrev pub joined : ℕ → List ℕ → ℕ → List ℕ
-joined size members node = if may_join size members node then members ++ node ∷ [] else members
+abbrev pub members_with : ℕ → List ℕ → ℕ → List ℕ
+members_with size members node = if may_join size members node then members ++ node ∷ [] else members
 
 -- each in turn
-abbrev pub all_joined : ℕ → List ℕ → List ℕ → List ℕ
-all_joined size members [] = members
-all_joined size members (node ∷ nodes) = all_joined size (joined size members node) nodes
+abbrev pub members_with_all : ℕ → List ℕ → List ℕ → List ℕ
+members_with_all size members [] = members
+members_with_all size members (node ∷ nodes) = members_with_all size (members_with size members node) nodes
 
 -- a message of another cluster size, or from the member itself, does not count
 abbrev pub counts : Start → ℕ → Discovery → Bool
@@ -51,7 +51,7 @@ counts start from message = nat_eq message.size start.size && not (nat_eq from s
 -- the source, and then the nodes that it lists
 abbrev pub with_heard : Start → List ℕ → ℕ → Discovery → List ℕ
 with_heard start members from message =
-    if counts start from message then all_joined start.size members (from ∷ message.known.items) else members
+    if counts start from message then members_with_all start.size members (from ∷ message.known.items) else members
 
 -- the members that are known; at first the member itself
 abbrev pub members : Start → List Event → List ℕ

@@ -34,7 +34,7 @@ pub struct Cluster {
 
 impl Cluster {
     ghost use Rattle.cluster_discovery.specs.Members as members;
-    ghost use Rattle.cluster_discovery.specs.Members.{Event, Heard, Sent, IsMemberList, IsStart, Start, all_joined, is_complete, is_due, joined, learns, quorum};
+    ghost use Rattle.cluster_discovery.specs.Members.{Event, Heard, Sent, IsMemberList, IsStart, Start, members_with_all, is_complete, is_due, members_with, learns, quorum};
     ghost use Rattle.cluster_discovery.specs.Stands.{StandsFor};
     ghost use Rattle.cluster_discovery.specs.Views.{cluster_size, member_list, own_id};
 
@@ -165,7 +165,7 @@ impl Cluster {
     /// Adds a node at the end of the list, where it is one of 1 to 125, is new, and has room.
     fn join(&mut self, node: u8)
         ensures members { self.new.members.items
-            ≡ joined self.old.size self.old.members.items node }
+            ≡ members_with self.old.size self.old.members.items node }
         ensures longer { length self.old.members.items ≤ length self.new.members.items }
         ensures me { self.new.me ≡ self.old.me }
         ensures size { self.new.size ≡ self.old.size }
@@ -182,7 +182,7 @@ impl Cluster {
 
     fn join_all(&mut self, nodes: &[u8])
         ensures members { self.new.members.items
-            ≡ all_joined self.old.size self.old.members.items nodes.now }
+            ≡ members_with_all self.old.size self.old.members.items nodes.now }
         ensures me { self.new.me ≡ self.old.me }
         ensures size { self.new.size ≡ self.old.size }
         ensures owes { self.new.owes ≡ self.old.owes }

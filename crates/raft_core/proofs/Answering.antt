@@ -13,7 +13,7 @@ use Rattle.raft_log.specs.Stored.{Stored}
 use Rattle.raft_model.specs.Messages.{Answer}
 use Rattle.raft_model.specs.Moves.{memory_after, puts}
 use Rattle.raft_model.specs.Moves.Appending.{matched_memory}
-use Rattle.raft_model.specs.Moves.Elections.{counted, counts, ended, has_quorum, is_leader, term_memory, term_puts, win_memory, win_puts, with_term}
+use Rattle.raft_model.specs.Moves.Elections.{votes_with, counts, memory_without_call, has_quorum, is_leader, term_memory, term_puts, win_memory, win_puts, with_term}
 use Rattle.raft_model.specs.Moves.Move.{TakeAppendAnswer, TakeVoteAnswer}
 use Rattle.raft_model.specs.Server.{Memory, RaftServer, Put, Store, put_all, Role as MachineRole}
 use Rattle.raft_model.specs.Server.Put.{PutTerm, PutVote}
@@ -72,13 +72,13 @@ leader_stays raft raft2 stays leads = sym (stays (λ h. no_follower (sym leads �
 
 module _ {D : Type 0} {disk : Ghosts D} (members : List ℕ) (m n : ℕ) (given : Given) (p : RaftServer) (t : Times) (a : Answer) (old new : Durable D disk) (raft2 : Raft) where
   abbrev p1 : RaftServer
-  p1 = record p { memory = ended p.memory a.from }
+  p1 = record p { memory = memory_without_call p.memory a.from }
 
   abbrev higher : Bool
   higher = nat_lt p.store.term a.term
 
   abbrev pub Raised : Times → Type 0
-  Raised t1 = StandsFor raft2 members (durable_state new) (record { store = with_term p.store a.term; memory = term_memory (record p { memory = ended p.memory a.from }) a.term }) (raise given.now a.term (record p { memory = ended p.memory a.from }) t1)
+  Raised t1 = StandsFor raft2 members (durable_state new) (record { store = with_term p.store a.term; memory = term_memory (record p { memory = memory_without_call p.memory a.from }) a.term }) (raise given.now a.term (record p { memory = memory_without_call p.memory a.from }) t1)
 
   -- a vote that does not count
   pub no_vote_counted : (nat_lt p.store.term a.term ≡ false → counts p a ≡ false) → CallWrites (with_origin WIN (term_puts p.store a.term)) old new None → Raised (end_vote_call a.from t)
@@ -86,23 +86,23 @@ module _ {D : Type 0} {disk : Ghosts D} (members : List ℕ) (m n : ℕ) (given 
   no_vote_counted none made after = one_move members m n given (TakeVoteAnswer a) p t old new raft2
       (subst (λ (l : List Put). CallWrites (with_origin WIN l) old new None) same_puts made)
       (subst (λ (x : Times). StandsFor raft2 members (durable_state new) (record { store = put_all p.store (puts members m p (TakeVoteAnswer a)); memory = memory_after members m n p (TakeVoteAnswer a) }) x)
-      (skip higher (counts p a && has_quorum members (counted p.memory a)) (step_down given.now p.memory.role (end_vote_call a.from t)) (win (end_vote_call a.from t)) (end_vote_call a.from t) (λ low. and_false (counts p a) _ (none low)))
+      (skip higher (counts p a && has_quorum members (votes_with p.memory a)) (step_down given.now p.memory.role (end_vote_call a.from t)) (win (end_vote_call a.from t)) (end_vote_call a.from t) (λ low. and_false (counts p a) _ (none low)))
       (subst (λ (x : Memory). StandsFor raft2 members (durable_state new) (record { store = put_all p.store (puts members m p (TakeVoteAnswer a)); memory = x }) (raise given.now a.term p1 (end_vote_call a.from t)))
-      (skip higher (counts p a) (record (ended p.memory a.from) { role = MachineRole.Follower }) _ (ended p.memory a.from) none)
+      (skip higher (counts p a) (record (memory_without_call p.memory a.from) { role = MachineRole.Follower }) _ (memory_without_call p.memory a.from) none)
       (subst (λ (l : List Put). StandsFor raft2 members (durable_state new) (record { store = put_all p.store l; memory = term_memory p1 a.term }) (raise given.now a.term p1 (end_vote_call a.from t))) same_puts after)))
     where
       same_puts : term_puts p.store a.term ≡ puts members m p (TakeVoteAnswer a)
-      same_puts = twice higher _ [] ∙ skip higher (counts p a) (term_puts p.store a.term) (if has_quorum members (counted p.memory a) then win_puts p.store else []) [] none
+      same_puts = twice higher _ [] ∙ skip higher (counts p a) (term_puts p.store a.term) (if has_quorum members (votes_with p.memory a) then win_puts p.store else []) [] none
 
   -- one that counts
-  pub vote_counted : nat_lt p.store.term a.term ≡ false → counts p a ≡ true → CallWrites (with_origin WIN (votes_puts members p1 t (counted p.memory a) old new raft2)) old new None
-      → CountsVotes members p1 (end_vote_call a.from t) (counted p.memory a) old new raft2
+  pub vote_counted : nat_lt p.store.term a.term ≡ false → counts p a ≡ true → CallWrites (with_origin WIN (votes_puts members p1 t (votes_with p.memory a) old new raft2)) old new None
+      → CountsVotes members p1 (end_vote_call a.from t) (votes_with p.memory a) old new raft2
       → MakesMoves members m n given (TakeVoteAnswer a ∷ []) p t old new raft2 None
-  vote_counted low so made after = one_move members m n given (TakeVoteAnswer a) p t old new raft2 (rw (low, so) made) (rw (low, so) (by_quorum (has_quorum members (counted p.memory a)) after))
+  vote_counted low so made after = one_move members m n given (TakeVoteAnswer a) p t old new raft2 (rw (low, so) made) (rw (low, so) (by_quorum (has_quorum members (votes_with p.memory a)) after))
     where
       by_quorum : (q : Bool)
-          → (StandsFor raft2 members (durable_state new) (if q then record { store = put_all p.store (win_puts p.store); memory = win_memory p.store (record p1.memory { votes = counted p.memory a }) } else record p1 { memory = record p1.memory { votes = counted p.memory a } }) (if q then win (end_vote_call a.from t) else end_vote_call a.from t))
-          → (StandsFor raft2 members (durable_state new) (record { store = put_all p.store (if q then win_puts p.store else []); memory = if q then win_memory p.store (record p1.memory { votes = counted p.memory a }) else record p1.memory { votes = counted p.memory a } }) (if q then win (end_vote_call a.from t) else end_vote_call a.from t))
+          → (StandsFor raft2 members (durable_state new) (if q then record { store = put_all p.store (win_puts p.store); memory = win_memory p.store (record p1.memory { votes = votes_with p.memory a }) } else record p1 { memory = record p1.memory { votes = votes_with p.memory a } }) (if q then win (end_vote_call a.from t) else end_vote_call a.from t))
+          → (StandsFor raft2 members (durable_state new) (record { store = put_all p.store (if q then win_puts p.store else []); memory = if q then win_memory p.store (record p1.memory { votes = votes_with p.memory a }) else record p1.memory { votes = votes_with p.memory a } }) (if q then win (end_vote_call a.from t) else end_vote_call a.from t))
       by_quorum true h = h
       by_quorum false h = h
 
@@ -111,7 +111,7 @@ module _ {D : Type 0} {disk : Ghosts D} (members : List ℕ) (m n : ℕ) (given 
       → MakesMoves members m n given (TakeAppendAnswer a ∷ []) p t old new raft2 None
   not_matched none made after = one_move members m n given (TakeAppendAnswer a) p t old new raft2 made
       (subst (λ (x : Memory). StandsFor raft2 members (durable_state new) (record { store = with_term p.store a.term; memory = x }) (raise given.now a.term p1 (end_call a.from t)))
-      (skip higher (is_leader p.memory.role && (a.term == p.store.term)) (record (ended p.memory a.from) { role = MachineRole.Follower }) (matched_memory p.memory a) (ended p.memory a.from) none) after)
+      (skip higher (is_leader p.memory.role && (a.term == p.store.term)) (record (memory_without_call p.memory a.from) { role = MachineRole.Follower }) (matched_memory p.memory a) (memory_without_call p.memory a.from) none) after)
 
   -- one that counts
   pub matched : nat_lt p.store.term a.term ≡ false → (is_leader p.memory.role && (a.term == p.store.term)) ≡ true → CallWrites (with_origin LEADER (term_puts p.store a.term)) old new None
@@ -120,13 +120,13 @@ module _ {D : Type 0} {disk : Ghosts D} (members : List ℕ) (m n : ℕ) (given 
   matched low so made after = one_move members m n given (TakeAppendAnswer a) p t old new raft2 made (rw (low, so) after)
 
   -- the votes were not stored
-  pub count_failed : {T : Type 0} (result : Result T Fault) (fault : Fault) → result ≡ Err fault → nat_lt p.store.term a.term ≡ false → counts p a ≡ true → CallWrites (with_origin WIN (votes_puts members p1 t (counted p.memory a) old new raft2)) old new (Some fault)
+  pub count_failed : {T : Type 0} (result : Result T Fault) (fault : Fault) → result ≡ Err fault → nat_lt p.store.term a.term ≡ false → counts p a ≡ true → CallWrites (with_origin WIN (votes_puts members p1 t (votes_with p.memory a) old new raft2)) old new (Some fault)
       → MakesMoves members m n given (TakeVoteAnswer a ∷ []) p t old new raft2 (result_err result)
   count_failed result fault failed low so made = one_move_failed members m n given (TakeVoteAnswer a) p t old new raft2 result fault failed (rw (low, so) made)
 
   -- what is put besides the term
   abbrev pub rest : List Put
-  rest = if nat_lt p.store.term a.term then [] else (if counts p a then (if has_quorum members (counted p.memory a) then win_puts p.store else []) else [])
+  rest = if nat_lt p.store.term a.term then [] else (if counts p a then (if has_quorum members (votes_with p.memory a) then win_puts p.store else []) else [])
 
   -- the term was not stored
   pub term_failed : {T : Type 0} (result : Result T Fault) (fault : Fault) → result ≡ Err fault → CallWrites (with_origin WIN (term_puts p.store a.term ++ rest)) old new (Some fault) → MakesMoves members m n given (TakeVoteAnswer a ∷ []) p t old new raft2 (result_err result)

@@ -4,7 +4,7 @@ use Rattle.std.specs.Prelude.{slice_index_or, slice_set}
 use Rattle.can_frame.specs.declared.entry.Entry.{Entry}
 use Rattle.can_frame.specs.declared.step.Role.TheVariants.{Leader}
 use Rattle.raft_log.specs.Stored.{Stored}
-use Rattle.raft_model.specs.Handlers.{plain_after}
+use Rattle.raft_model.specs.Handlers.{server_after}
 use Rattle.raft_model.specs.Lists.{at}
 use Rattle.raft_model.specs.Messages.{Request, items, reach}
 use Rattle.raft_model.specs.Moves.{Move}
@@ -119,11 +119,11 @@ module _ (raft raft2 : Raft) (state : Stored) (q : ℕ) (below : q < 128) (kept 
 
     -- after the move that was owed
     pub called_stands : (m : ℕ) (what : Call) → IsMade what old kept call.asked call.sent → (said : Move) × (owed p t q call.sent ≡ Some said) × Says m call.step p q what said
-        → (move : Move) → owed p t q call.sent ≡ Some move → StandsFor raft2 members state (plain_after members m call.step p move) (times_after members m (given_call call.sent call.id) p move t)
+        → (move : Move) → owed p t q call.sent ≡ Some move → StandsFor raft2 members state (server_after members m call.step p move) (times_after members m (given_call call.sent call.id) p move t)
     called_stands m (Vote request) made owes move due =
         let is : move ≡ CallForVote q = same_move (owed p t q call.sent) move owes.0 due owes.1 ∙ owes.2.0 in
         let r : Request = vote_request m call.step p.store q in
-        subst (λ (x : Move). StandsFor raft2 members state (plain_after members m call.step p x) (times_after members m (given_call call.sent call.id) p x t)) (sym is)
+        subst (λ (x : Move). StandsFor raft2 members state (server_after members m call.step p x) (times_after members m (given_call call.sent call.id) p x t)) (sym is)
         (with_call_stands r t.appended (but_appended old.appended made.0) (subst (λ (a : Asked). Asks a r) (sym made.1) refl) refl
         (λ leader. (st.peers q (fresh 0) below).appended leader ∙ sym (ap (λ (x : Peer). x.appended) made.0)) (λ i differs. refl))
     called_stands m (Append request) made owes move due =
@@ -131,7 +131,7 @@ module _ (raft raft2 : Raft) (state : Stored) (q : ℕ) (below : q < 128) (kept 
         let is : move ≡ CallToAppend q says.0 true = same_move (owed p t q call.sent) move owes.0 due owes.1 ∙ says.1 in
         let r : Request = append_request m call.step p.store q says.0 true in
         let reaches : reach r ≡ request.prev_index + items request.entry = ap (λ (k : ℕ). k + items r.entry) (sym says.2.previous) ∙ ap (λ (o : Option Entry). request.prev_index + items o) (sym says.2.entry) in
-        subst (λ (x : Move). StandsFor raft2 members state (plain_after members m call.step p x) (times_after members m (given_call call.sent call.id) p x t)) (sym is)
+        subst (λ (x : Move). StandsFor raft2 members state (server_after members m call.step p x) (times_after members m (given_call call.sent call.id) p x t)) (sym is)
         (with_call_stands r (at t.appended q (Some call.sent)) (but_appended (Some call.sent) made.0) (subst (λ (a : Asked). Asks a r) (sym made.1) (refl, reaches)) refl
         (λ leader. at_here t.appended q q (Some call.sent) refl ∙ sym (ap (λ (x : Peer). x.appended) made.0)) (λ i differs. at_other t.appended q i (Some call.sent) differs))
 

@@ -4,7 +4,7 @@ use Rattle.std.proofs.lemmas.Bool.{cases_Bool}
 use Rattle.std.proofs.lemmas.Bool.Decides.{eqb_tells}
 use Rattle.std.specs.Prelude.{nat_le, slice_index_or, if◌then◌else◌}
 use Rattle.raft_log.specs.Stored.{Stored}
-use Rattle.raft_model.specs.Handlers.{plain_after_all}
+use Rattle.raft_model.specs.Handlers.{server_after_all}
 use Rattle.raft_model.specs.Lists.{In, at}
 use Rattle.raft_model.specs.Messages.{Request}
 use Rattle.raft_model.specs.Server.{Memory, RaftServer}
@@ -85,7 +85,7 @@ first_ended node qs p p2 t t2 rest = record {
 
 module _ (members : List ℕ) (m n : ℕ) (given : Given) where
   given_up : (qs : List ℕ) (p : RaftServer) (t : Times)
-      → HaveEnded qs p (plain_after_all members m n p (moves_of_expire qs)) t (times_after_all members m n given p (moves_of_expire qs) t)
+      → HaveEnded qs p (server_after_all members m n p (moves_of_expire qs)) t (times_after_all members m n given p (moves_of_expire qs) t)
   given_up [] p t = record { store = refl; memory = refl; times = refl; free = λ q h. h; ended = λ q h. absurd h; others = λ q h. (refl, refl) }
   given_up (node ∷ qs) p t =
       first_ended node qs p _ t _ (given_up qs (record { store = p.store; memory = record p.memory { pending = at p.memory.pending node None } }) (record t { sending = at t.sending node None }))
@@ -147,5 +147,5 @@ module _ (members : List ℕ) (now : ℕ) (state : Stored) (p : RaftServer) (t :
   }
 
   pub expired_stands : (m n : ℕ) (given : Given)
-      → StandsFor raft2 members state (plain_after_all members m n p (moves_of_expire (overdue t now nodes))) (times_after_all members m n given p (moves_of_expire (overdue t now nodes)) t)
+      → StandsFor raft2 members state (server_after_all members m n p (moves_of_expire (overdue t now nodes))) (times_after_all members m n given p (moves_of_expire (overdue t now nodes)) t)
   expired_stands m n given = ended_stands _ _ (given_up members m n given (overdue t now nodes) p t)

@@ -8,7 +8,7 @@ use Rattle.raft_log.specs.declared.durable.Durable.{Durable}
 use Rattle.raft_log.specs.Calls.{FaultIsSticky, WritesInOrder}
 use Rattle.raft_log.specs.DurableViews.{durable_state}
 use Rattle.raft_log.specs.Stored.{Stored, Put as StoredPut}
-use Rattle.raft_model.specs.Handlers.{plain_after}
+use Rattle.raft_model.specs.Handlers.{server_after}
 use Rattle.raft_model.specs.Messages.{Request, reach}
 use Rattle.raft_model.specs.Moves.Appending.{IsCurrent, IsJudged, IsOutdated, IsRuled, Verdict, append_memory, append_puts}
 use Rattle.raft_model.specs.Moves.Elections.{term_memory, term_puts, with_term}
@@ -165,11 +165,11 @@ pub taken_stands : (members : List ℕ) (m n : ℕ) (given : Given) (p : RaftSer
     → IsRuled (with_term p.store r.term) r v
     → store_of new ≡ put_all p.store (term_puts p.store r.term ++ append_puts (with_term p.store r.term) r v)
     → raft2.role ≡ Follower → given.now ≡ raft2.since → raft2.told ≡ raft.told → raft2.word ≡ raft.word → raft2.peers ≡ raft.peers
-    → StandsFor raft2 members new (plain_after members m n p (TakeAppendRequest r v)) (times_after members m given p (TakeAppendRequest r v) t)
+    → StandsFor raft2 members new (server_after members m n p (TakeAppendRequest r v)) (times_after members m given p (TakeAppendRequest r v) t)
 taken_stands members m n given p t r v raft raft2 mid new st ruled store role since told word peers =
     let p1 : RaftServer = record { store = with_term p.store r.term; memory = term_memory p r.term } in
     let t1 = raise given.now r.term p t in
-    let p2 = plain_after members m n p (TakeAppendRequest r v) in
+    let p2 = server_after members m n p (TakeAppendRequest r v) in
     let t2 : Times = record t { since = given.now } in
     subst (λ (x : Times). StandsFor raft2 members new p2 x) (sym (append_times members m given p t r (with_term p.store r.term) v ruled))
     (follower_stands raft raft2 members mid new p1 p2 t1 t2 st

@@ -9,7 +9,7 @@ use Rattle.kv_store.specs.declared.fault.Fault.{Fault}
 use Rattle.raft_log.specs.declared.durable.Durable.{Durable}
 use Rattle.raft_log.specs.DurableViews.{durable_state}
 use Rattle.raft_log.specs.Stored.{Stored, after_put, after_puts}
-use Rattle.raft_model.specs.Handlers.{plain_after}
+use Rattle.raft_model.specs.Handlers.{server_after}
 use Rattle.raft_model.specs.Moves.{Move, puts}
 use Rattle.raft_model.specs.Server.{RaftServer, Put, Store, put, put_all, Role as MachineRole}
 use Rattle.raft_model.specs.Server.Put.{PutTerm, PutVote, PutEntry, PutLonger, PutShorter, PutCommit}
@@ -19,7 +19,7 @@ use Rattle.raft_core.specs.Handled.{LeavesMoves, MakesMoves, origin_of}
 use Rattle.raft_core.specs.Stands.{StandsFor, Tells, Waits, role_of}
 use Rattle.raft_core.specs.StoredPuts.{CallWrites, PutWithOrigin, VoteForNodes, VotesForNode, with_origin, puts_alone, put_from, store_of, stored_put, stored_puts}
 use Rattle.raft_core.specs.Times.{Given, Times, begin_wait, times_after}
-use Rattle.raft_core.proofs.Origins.{plain_of_moves}
+use Rattle.raft_core.proofs.Origins.{raft_server_of_moves}
 
 -- ---- what is stored
 
@@ -62,10 +62,10 @@ module _ {D : Type 0} {disk : Ghosts D} (members : List ℕ) (m n : ℕ) (given 
   own = with_origin (origin_of given move) (puts members m p move)
 
   pub one_move : CallWrites (with_origin (origin_of given move) (puts members m p move)) old new None
-      → StandsFor raft members (durable_state new) (plain_after members m n p move) (times_after members m given p move t)
+      → StandsFor raft members (durable_state new) (server_after members m n p move) (times_after members m given p move t)
       → MakesMoves members m n given (move ∷ []) p t old new raft None
   one_move made after = record {
-    plain = plain_of_moves members m n given p (move ∷ []);
+    raft_server = raft_server_of_moves members m n given p (move ∷ []);
     puts = subst (λ (l : List PutWithOrigin). CallWrites l old new None) (sym (nothing_more own)) made;
     after = after;
   }
@@ -74,7 +74,7 @@ module _ {D : Type 0} {disk : Ghosts D} (members : List ℕ) (m n : ℕ) (given 
       → MakesMoves members m n given (move ∷ []) p t old new raft (result_err result)
   one_move_failed result fault is made = subst (λ (r : Result _ Fault). MakesMoves members m n given (move ∷ []) p t old new raft (result_err r)) (sym is)
       (record {
-        plain = plain_of_moves members m n given p (move ∷ []);
+        raft_server = raft_server_of_moves members m n given p (move ∷ []);
         puts = subst (λ (l : List PutWithOrigin). CallWrites l old new (Some fault)) (sym (nothing_more own)) made;
         after = tt;
       })
@@ -146,4 +146,4 @@ storing_stands raft members s new p t store st stored = record {
 -- a call that makes no move
 module _ {D : Type 0} {disk : Ghosts D} (members : List ℕ) (m n : ℕ) (p : RaftServer) (t : Times) (durable : Durable D disk) (raft : Raft) where
   pub no_move : CallWrites [] durable durable None → StandsFor raft members (durable_state durable) p t → LeavesMoves members m n [] p [] t durable durable raft None
-  no_move made st = record { plain = refl; puts = made; after = st }
+  no_move made st = record { raft_server = refl; puts = made; after = st }

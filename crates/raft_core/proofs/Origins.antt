@@ -3,7 +3,7 @@ use Rattle.std.proofs.Common.{◌≡◌, ℕ, zero, suc, ◌+◌, List, [], ◌�
 use Rattle.std.specs.Prelude.{Bool, true, false, if◌then◌else◌, ◌==◌}
 use Rattle.can_frame.specs.declared.entry.Entry.{Entry}
 use Rattle.raft_log.specs.Stored.{Put as StoredPut, Stored, after_put, after_puts, opening_puts, origin_puts}
-use Rattle.raft_model.specs.Handlers.{plain_after, plain_after_all, puts_of_all}
+use Rattle.raft_model.specs.Handlers.{server_after, server_after_all, puts_of_all}
 use Rattle.raft_model.specs.Moves.{Move, puts}
 use Rattle.raft_model.specs.Server.{RaftServer, Put}
 use Rattle.raft_core.specs.Handled.{puts_with_origins, origin_of}
@@ -16,28 +16,28 @@ noted_then : (origin : ℕ) (xs : List Put) (ys : List PutWithOrigin) → puts_a
 noted_then origin [] ys = refl
 noted_then origin (x ∷ xs) ys = ap (λ (rest : List Put). x ∷ rest) (noted_then origin xs ys)
 
-pub plain_both : (xs ys : List PutWithOrigin) → puts_alone (xs ++ ys) ≡ puts_alone xs ++ puts_alone ys
-plain_both [] ys = refl
-plain_both (x ∷ xs) ys = ap (λ (rest : List Put). x.put ∷ rest) (plain_both xs ys)
+pub raft_server_both : (xs ys : List PutWithOrigin) → puts_alone (xs ++ ys) ≡ puts_alone xs ++ puts_alone ys
+raft_server_both [] ys = refl
+raft_server_both (x ∷ xs) ys = ap (λ (rest : List Put). x.put ∷ rest) (raft_server_both xs ys)
 
-pub plain_front : (xs : List PutWithOrigin) (count : ℕ) → puts_alone (take count xs) ≡ take count (puts_alone xs)
-plain_front [] zero = refl
-plain_front [] (suc count) = refl
-plain_front (x ∷ xs) zero = refl
-plain_front (x ∷ xs) (suc count) = ap (λ (rest : List Put). x.put ∷ rest) (plain_front xs count)
+pub raft_server_front : (xs : List PutWithOrigin) (count : ℕ) → puts_alone (take count xs) ≡ take count (puts_alone xs)
+raft_server_front [] zero = refl
+raft_server_front [] (suc count) = refl
+raft_server_front (x ∷ xs) zero = refl
+raft_server_front (x ∷ xs) (suc count) = ap (λ (rest : List Put). x.put ∷ rest) (raft_server_front xs count)
 
 module _ (members : List ℕ) (m n : ℕ) (given : Given) where
-  pub plain_of_moves : (p : RaftServer) (moves : List Move) → puts_alone (puts_with_origins members m n given p moves) ≡ puts_of_all members m n p moves
-  plain_of_moves p [] = refl
-  plain_of_moves p (move ∷ moves) = noted_then (origin_of given move) (puts members m p move) (puts_with_origins members m n given (plain_after members m n p move) moves)
-      ∙ ap (λ (rest : List Put). puts members m p move ++ rest) (plain_of_moves (plain_after members m n p move) moves)
+  pub raft_server_of_moves : (p : RaftServer) (moves : List Move) → puts_alone (puts_with_origins members m n given p moves) ≡ puts_of_all members m n p moves
+  raft_server_of_moves p [] = refl
+  raft_server_of_moves p (move ∷ moves) = noted_then (origin_of given move) (puts members m p move) (puts_with_origins members m n given (server_after members m n p move) moves)
+      ∙ ap (λ (rest : List Put). puts members m p move ++ rest) (raft_server_of_moves (server_after members m n p move) moves)
 
   pub noted_in_turn : (xs ys : List Move) (p : RaftServer)
-      → puts_with_origins members m n given p (xs ++ ys) ≡ puts_with_origins members m n given p xs ++ puts_with_origins members m n given (plain_after_all members m n p xs) ys
+      → puts_with_origins members m n given p (xs ++ ys) ≡ puts_with_origins members m n given p xs ++ puts_with_origins members m n given (server_after_all members m n p xs) ys
   noted_in_turn [] ys p = refl
-  noted_in_turn (x ∷ xs) ys p = let p1 = plain_after members m n p x in
+  noted_in_turn (x ∷ xs) ys p = let p1 = server_after members m n p x in
       ap (λ (rest : List PutWithOrigin). with_origin (origin_of given x) (puts members m p x) ++ rest) (noted_in_turn xs ys p1)
-      ∙ sym (append_assoc (with_origin (origin_of given x) (puts members m p x)) (puts_with_origins members m n given p1 xs) (puts_with_origins members m n given (plain_after_all members m n p1 xs) ys))
+      ∙ sym (append_assoc (with_origin (origin_of given x) (puts members m p x)) (puts_with_origins members m n given p1 xs) (puts_with_origins members m n given (server_after_all members m n p1 xs) ys))
 
 -- ---- an opening
 

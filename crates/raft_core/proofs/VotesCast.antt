@@ -2,16 +2,16 @@
 use Rattle.std.proofs.Common.{◌≡◌, ℕ, zero, suc, ◌≤◌, Bool, true, false, List, [], ◌∷◌, ◌++◌, take, None, refl, sym, ap, subst, ◌∙◌}
 use Rattle.std.specs.Prelude.{if◌then◌else◌, nat_lt}
 use Rattle.raft_log.specs.Stored.{Stored, after_put, after_puts, Put as StoredPut}
-use Rattle.raft_model.specs.Handlers.{plain_after, puts_of_all}
+use Rattle.raft_model.specs.Handlers.{server_after, puts_of_all}
 use Rattle.raft_model.specs.Messages.{Request}
 use Rattle.raft_model.specs.Moves.{Move, puts}
-use Rattle.raft_model.specs.Moves.Elections.{counted, counting_puts, counts, grant_puts, has_quorum, own_vote, stand_puts, term_puts, win_puts, with_term}
+use Rattle.raft_model.specs.Moves.Elections.{votes_with, counting_puts, counts, grant_puts, has_quorum, own_vote, stand_puts, term_puts, win_puts, with_term}
 use Rattle.raft_model.specs.Moves.Move.{TimeOut, TakeVoteRequest, TakeVoteAnswer, TakeAppendRequest, TakeAppendAnswer, ProposeEntry, CommitTo, TellPair, TellNothing, CallForVote, CallToAppend, AnswerAgain, GiveUp}
 use Rattle.raft_model.specs.Server.{RaftServer, Put, Store, put_all}
 use Rattle.raft_model.specs.Server.Put.{PutTerm, PutVote}
 use Rattle.raft_core.specs.StoredPuts.{AreOfNodes, IsOfNode, PutWithOrigin, VoteForNodes, puts_alone, store_of, stored_put, stored_puts}
 use Rattle.raft_core.proofs.Judged.{append_counts}
-use Rattle.raft_core.proofs.Origins.{plain_front}
+use Rattle.raft_core.proofs.Origins.{raft_server_front}
 use Rattle.raft_core.proofs.Moving.{stored_after}
 use Rattle.raft_core.proofs.VoteRequest.{vote_counts}
 use Rattle.raft_core.proofs.Winning.{win_counts}
@@ -39,7 +39,7 @@ module _ (members : List ℕ) (m : ℕ) (least : 1 ≤ m) where
       (either (has_quorum members (own_vote m)) (win_puts (put_all p.store (stand_puts m p.store))) [] (win_counts (put_all p.store (stand_puts m p.store))) tt)
   of_move p (TakeVoteRequest r granted) h = both (term_puts p.store r.term) _ (term_counts p.store r.term) (grant_counts (with_term p.store r.term) r granted h)
   of_move p (TakeVoteAnswer a) h = either (nat_lt p.store.term a.term) (term_puts p.store a.term) _ (term_counts p.store a.term)
-      (either (counts p a) (counting_puts members p a) [] (either (has_quorum members (counted p.memory a)) (win_puts p.store) [] (win_counts p.store) tt) tt)
+      (either (counts p a) (counting_puts members p a) [] (either (has_quorum members (votes_with p.memory a)) (win_puts p.store) [] (win_counts p.store) tt) tt)
   of_move p (TakeAppendRequest r v) h = both (term_puts p.store r.term) _ (term_counts p.store r.term) (append_counts (with_term p.store r.term) r v)
   of_move p (TakeAppendAnswer a) h = term_counts p.store a.term
   of_move p (ProposeEntry e) h = (tt, (tt, tt))
@@ -53,7 +53,7 @@ module _ (members : List ℕ) (m : ℕ) (least : 1 ≤ m) where
 
   pub of_moves : (n : ℕ) (p : RaftServer) (moves : List Move) → AreOfNodes moves → VoteForNodes (puts_of_all members m n p moves)
   of_moves n p [] h = tt
-  of_moves n p (move ∷ moves) h = both (puts members m p move) _ (of_move p move h.0) (of_moves n (plain_after members m n p move) moves h.1)
+  of_moves n p (move ∷ moves) h = both (puts members m p move) _ (of_move p move h.0) (of_moves n (server_after members m n p move) moves h.1)
 
 -- ---- some of the first of them
 
@@ -71,4 +71,4 @@ front_stored (x ∷ xs) (suc k) s = ap (λ (rest : List StoredPut). stored_put x
 
 pub front_after : (xs : List PutWithOrigin) (s : Stored) (k : ℕ) → VoteForNodes (puts_alone xs) → store_of (after_puts (take k (stored_puts xs s)) s) ≡ put_all (store_of s) (take k (puts_alone xs))
 front_after xs s k h = ap (λ (l : List StoredPut). store_of (after_puts l s)) (front_stored xs k s)
-    ∙ (stored_after (take k xs) s (subst VoteForNodes (sym (plain_front xs k)) (front_votes (puts_alone xs) k h)) ∙ ap (put_all (store_of s)) (plain_front xs k))
+    ∙ (stored_after (take k xs) s (subst VoteForNodes (sym (raft_server_front xs k)) (front_votes (puts_alone xs) k h)) ∙ ap (put_all (store_of s)) (raft_server_front xs k))

@@ -12,7 +12,7 @@ use Rattle.raft_log.specs.declared.durable.Durable.{Durable}
 use Rattle.raft_log.specs.DurableViews.{durable_state}
 use Rattle.raft_log.specs.Stored.{Stored}
 use Rattle.raft_model.specs.Moves.Elections.{adds_blank, win_memory, win_puts}
-use Rattle.raft_model.specs.Server.{RaftServer, Store, opened, put_all, Role as MachineRole}
+use Rattle.raft_model.specs.Server.{RaftServer, Store, memory_when_opened, put_all, Role as MachineRole}
 use Rattle.raft_model.specs.Server.Put.{PutEntry, PutLonger}
 use Rattle.raft_core.specs.declared.peer.Peer.{Peer}
 use Rattle.raft_core.specs.declared.raft.Raft.{Raft}
@@ -83,7 +83,7 @@ module _ {D : Type 0} {disk : Ghosts D} (old new : Durable D disk) where
 
 -- a member that opens
 pub opened_stands : (raft : Raft) (members : List ℕ) (s : Stored) (now word : ℕ) → raft.role ≡ Follower → raft.told ≡ 0 → raft.since ≡ now → raft.word ≡ word → raft.peers ≡ replicate 128 (fresh 1)
-    → StandsFor raft members s (record { store = store_of s; memory = opened }) (opened_times now word)
+    → StandsFor raft members s (record { store = store_of s; memory = memory_when_opened }) (opened_times now word)
 opened_stands raft members s now word role told since is_word peers = record {
   store = refl;
   role = ap role_of (sym role);
@@ -91,7 +91,7 @@ opened_stands raft members s now word role told since is_word peers = record {
   known = λ other. absurd (other role);
   since = sym since;
   word = sym is_word;
-  peers = λ q d below. subst (λ (x : Peer). Tells x (record { store = store_of s; memory = opened }) (opened_times now word) q) (sym (new_peer raft.peers 1 q d peers below)) (record {
+  peers = λ q d below. subst (λ (x : Peer). Tells x (record { store = store_of s; memory = memory_when_opened }) (opened_times now word) q) (sym (new_peer raft.peers 1 q d peers below)) (record {
     call = tt;
     voted = λ h. refl;
     answered = λ h. refl;

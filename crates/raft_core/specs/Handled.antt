@@ -7,7 +7,7 @@ use Rattle.dsdl_codec.specs.declared.vote_request.VoteRequest.{VoteRequest}
 use Rattle.raft_log.specs.declared.origin.TheConstants.{LEADER, WIN}
 use Rattle.raft_log.specs.declared.durable.Durable.{Durable}
 use Rattle.raft_log.specs.DurableViews.{durable_state}
-use Rattle.raft_model.specs.Handlers.{plain_after, plain_after_all, puts_of_all}
+use Rattle.raft_model.specs.Handlers.{server_after, server_after_all, puts_of_all}
 use Rattle.raft_model.specs.Messages.{Answer, Request}
 use Rattle.raft_model.specs.Duty.{tick_phase}
 use Rattle.raft_model.specs.Moves.{Move, puts}
@@ -31,17 +31,17 @@ abbrev pub puts_with_origins : List ℕ → ℕ → ℕ → Given → RaftServer
 puts_with_origins members member step given server [] = []
 puts_with_origins members member step given server (move ∷ moves) =
     with_origin (origin_of given move) (puts members member server move)
-    ++ puts_with_origins members member step given (plain_after members member step server move) moves
+    ++ puts_with_origins members member step given (server_after members member step server move) moves
 
 -- the member makes these moves in a step: their puts with these origins in order, up to the first that fails; and
 -- where none does, it stands for the server after them, and for these times
 pub record LeavesMoves {D : Type 0} {disk : Ghosts D} (members : List ℕ) (member step : ℕ) (moves : List Move)
     (server : RaftServer) (with_origin : List PutWithOrigin) (times_then : Times)
     (old new : Durable D disk) (raft : Raft) (failed : Option Fault) : Type 0 where
-  pub plain : puts_alone with_origin ≡ puts_of_all members member step server moves
+  pub raft_server : puts_alone with_origin ≡ puts_of_all members member step server moves
   pub puts : CallWrites with_origin old new failed
   pub after : IfNone failed
-      (StandsFor raft members (durable_state new) (plain_after_all members member step server moves) times_then)
+      (StandsFor raft members (durable_state new) (server_after_all members member step server moves) times_then)
 
 -- they are given this: the origins are as it says, and they leave the times after them
 abbrev pub MakesMoves : {D : Type 0} {disk : Ghosts D} → List ℕ → ℕ → ℕ → Given → List Move →

@@ -5,9 +5,9 @@ use Rattle.raft_model.specs.Lists.{at}
 use Rattle.raft_model.specs.Messages.{Request}
 use Rattle.raft_model.specs.Server.{RaftServer, Role}
 use Rattle.raft_model.specs.Server.Role.{Follower, Candidate, Leader}
-use Rattle.raft_model.specs.Handlers.{plain_after}
+use Rattle.raft_model.specs.Handlers.{server_after}
 use Rattle.raft_model.specs.Moves.{Move}
-use Rattle.raft_model.specs.Moves.Elections.{counted, counts, has_quorum, own_vote}
+use Rattle.raft_model.specs.Moves.Elections.{votes_with, counts, has_quorum, own_vote}
 use Rattle.raft_model.specs.Moves.Move.{TimeOut, TakeVoteRequest, TakeVoteAnswer, TakeAppendRequest, TakeAppendAnswer, ProposeEntry, CommitTo, TellPair, TellNothing, CallForVote, CallToAppend, AnswerAgain, GiveUp}
 use Rattle.raft_model.specs.Moves.Appending.Verdict.{Outdated, Refused, Held, Added}
 
@@ -133,7 +133,7 @@ times_after members member given server (TakeVoteRequest request granted) times 
 times_after members member given server (TakeVoteAnswer answer) times =
     if nat_lt server.store.term answer.term
     then step_down given.now server.memory.role (end_vote_call answer.from times)
-    else (if counts server answer && has_quorum members (counted server.memory answer)
+    else (if counts server answer && has_quorum members (votes_with server.memory answer)
     then win (end_vote_call answer.from times) else end_vote_call answer.from times)
 times_after members member given server (TakeAppendRequest request Outdated) times = times
 times_after members member given server (TakeAppendRequest request Refused) times = begin_wait given.now times
@@ -155,5 +155,5 @@ times_after members member given server (GiveUp node) times = end_call node time
 abbrev pub times_after_all : List ℕ → ℕ → ℕ → Given → RaftServer → List Move → Times → Times
 times_after_all members member step given server [] times = times
 times_after_all members member step given server (move ∷ moves) times =
-    times_after_all members member step given (plain_after members member step server move) moves
+    times_after_all members member step given (server_after members member step server move) moves
     (times_after members member given server move times)

@@ -9,7 +9,7 @@ ghost use Rattle.raft_log.specs.Stored.{Stored};
 ghost use Rattle.raft_model.specs.Log.{term_at};
 ghost use Rattle.raft_model.specs.Moves.Appending.{IsRuled, Verdict, append_puts, is_accepted, matched_after, next_after};
 ghost use Rattle.raft_model.specs.Moves.Elections.{is_leader, with_term};
-ghost use Rattle.raft_model.specs.Decisions.{judges};
+ghost use Rattle.raft_model.specs.Decisions.{verdict_on};
 ghost use Rattle.raft_model.specs.Messages.{Answer, Request};
 ghost use Rattle.raft_model.specs.Messages as messages;
 ghost use Rattle.raft_model.specs.Lists.{at};
@@ -53,7 +53,7 @@ impl Raft {
             StandsFor self.old members (durable_state d.old) server times →
             (made_in : ℕ) →
             let request = append_request_of req.now made_in from (raft_me self.old) in
-            let verdict = judges server request in
+            let verdict = verdict_on server request in
             MakesMoves members (raft_me self.old) step (given_at now)
             (TakeAppendRequest request verdict ∷ []) server times
             d.old d.new self.new (result_err result) ×

@@ -3,11 +3,11 @@ ghost use Rattle.raft_log.specs.DurableViews.{durable_state};
 ghost use Rattle.raft_log.specs.Stored.{Stored};
 ghost use Rattle.raft_core.specs.Requests.{append_call, vote_call};
 ghost use Rattle.raft_core.specs.Handled.{moves_of_expire};
-ghost use Rattle.raft_model.specs.Handlers.{plain_after_all};
+ghost use Rattle.raft_model.specs.Handlers.{server_after_all};
 ghost use Rattle.raft_model.specs.Lists.{In};
 ghost use Rattle.raft_model.specs.Messages.{Request, items, reach};
 ghost use Rattle.raft_model.specs.Moves.{Move};
-ghost use Rattle.raft_model.specs.Moves.Elections.{ended};
+ghost use Rattle.raft_model.specs.Moves.Elections.{memory_without_call};
 ghost use Rattle.raft_model.specs.Server.{RaftServer};
 ghost use Rattle.raft_core.specs.Peers.{WaitSince};
 ghost use Rattle.raft_core.specs.Times as clock;
@@ -60,7 +60,7 @@ impl Raft {
             (nodes : List ℕ) → ((node : ℕ) → node < 128 → server.memory.pending node ≢ None →
             In node nodes) → let moves = moves_of_expire (overdue times now nodes) in
             StandsFor self.new members state
-            (plain_after_all members (raft_me self.old) step server moves)
+            (server_after_all members (raft_me self.old) step server moves)
             (times_after_all members (raft_me self.old) step (given_at now) server moves times) }
         ensures fits { (state : Stored) → Fits self.old state → Fits self.new state }
         ensures me { raft_me self.new ≡ raft_me self.old }
@@ -116,7 +116,7 @@ impl Raft {
             StandsFor self.old members (durable_state d.now) server times →
             (move : Move) → owed server times peer now ≡ Some move →
             StandsFor self.new members (durable_state d.now)
-            (plain_after_all members (raft_me self.old) step server (move ∷ []))
+            (server_after_all members (raft_me self.old) step server (move ∷ []))
             (times_after_all members (raft_me self.old) step
             (given_call now id) server (move ∷ []) times) }
         ensures fits { Fits self.new (durable_state d.now) }
@@ -202,7 +202,7 @@ impl Raft {
         requires { from ≤ 125 }
         ensures stands { (members : List ℕ) (state : Stored) (server : RaftServer) (times : Times) →
             StandsFor self.old members state server times →
-            StandsFor self.new members state (record server { memory = ended server.memory from })
+            StandsFor self.new members state (record server { memory = memory_without_call server.memory from })
             (clock.end_call from times) }
         ensures fits { (state : Stored) → Fits self.old state → Fits self.new state }
         ensures me { raft_me self.new ≡ raft_me self.old }

@@ -5,7 +5,7 @@ ghost use Rattle.kv_store.specs.declared.fault.Fault.{Fault};
 ghost use Rattle.raft_log.specs.declared.durable.Durable.{Durable};
 ghost use Rattle.raft_log.specs.DurableViews.{durable_state};
 ghost use Rattle.raft_log.specs.Stored.{Stored, after_puts, opening_puts};
-ghost use Rattle.raft_model.specs.Handlers.{plain_after_all, puts_of_all};
+ghost use Rattle.raft_model.specs.Handlers.{server_after_all, puts_of_all};
 ghost use Rattle.raft_model.specs.Moves.{Move};
 ghost use Rattle.raft_model.specs.Server.{RaftServer, put_all};
 ghost use Rattle.raft_core.specs.declared.raft.Raft.{Raft};
@@ -45,7 +45,7 @@ pub fn moves_in_turn<D: Disk>()
         (one two : List PutWithOrigin) (first second : Times)
         (old mid new : Durable D D.Disk) (before after : Raft) (failed : Option Fault) →
         LeavesMoves members member step xs server one first old mid before None →
-        LeavesMoves members member step ys (plain_after_all members member step server xs)
+        LeavesMoves members member step ys (server_after_all members member step server xs)
         two second mid new after failed →
         LeavesMoves members member step (xs ++ ys) server (one ++ two) second old new after failed }
     ensures cut_off { (members : List ℕ) (member step : ℕ) (xs ys : List Move) (server : RaftServer)
@@ -53,14 +53,14 @@ pub fn moves_in_turn<D: Disk>()
         (old new : Durable D D.Disk) (raft after : Raft) (fault : Fault) →
         LeavesMoves members member step xs server one first old new raft (Some fault) →
         puts_alone two
-        ≡ puts_of_all members member step (plain_after_all members member step server xs) ys →
+        ≡ puts_of_all members member step (server_after_all members member step server xs) ys →
         LeavesMoves members member step (xs ++ ys) server (one ++ two) second
         old new after (Some fault) }
     ensures times { (members : List ℕ) (member step : ℕ) (given : Given) (xs ys : List Move)
         (server : RaftServer) (times : Times) →
         times_after_all members member step given server (xs ++ ys) times
         ≡ times_after_all members member step given
-        (plain_after_all members member step server xs) ys
+        (server_after_all members member step server xs) ys
         (times_after_all members member step given server xs times) }
 {
     puts_in_turn::<D>();
@@ -70,7 +70,7 @@ pub fn moves_in_turn<D: Disk>()
 /// Puts that are noted with their origins are the puts of the machine, of moves and of moves one after the
 /// other.
 pub fn noted_puts_are_the_puts()
-    ensures plain { (members : List ℕ) (member step : ℕ) (given : Given)
+    ensures raft_server { (members : List ℕ) (member step : ℕ) (given : Given)
         (server : RaftServer) (moves : List Move) →
         puts_alone (puts_with_origins members member step given server moves)
         ≡ puts_of_all members member step server moves }
@@ -81,7 +81,7 @@ pub fn noted_puts_are_the_puts()
         (server : RaftServer) (xs ys : List Move) →
         puts_with_origins members member step given server (xs ++ ys)
         ≡ puts_with_origins members member step given server xs ++ puts_with_origins members member step given
-        (plain_after_all members member step server xs) ys }
+        (server_after_all members member step server xs) ys }
 {}
 
 /// What is stored after the puts of a member is what the machine's server has after them, and so after

@@ -6,7 +6,7 @@ ghost use Rattle.raft_log.specs.DurableViews.{durable_state};
 ghost use Rattle.raft_log.specs.Stored.{Stored};
 ghost use Rattle.raft_model.specs.Lists.{how_many};
 ghost use Rattle.raft_model.specs.Moves.Elections.{term_memory, term_puts, with_term};
-ghost use Rattle.raft_model.specs.Server.{RaftServer, quorum, opened};
+ghost use Rattle.raft_model.specs.Server.{RaftServer, quorum, memory_when_opened};
 ghost use Rattle.raft_core.specs.Peers.{WaitSince};
 
 use crate::laws::puts_in_turn;
@@ -84,7 +84,7 @@ impl Raft {
         requires some { 1 ≤ size }
         requires five { size ≤ 5 }
         ensures stands { (members : List ℕ) (state : Stored) →
-            StandsFor result members state (record { store = store_of state; memory = opened })
+            StandsFor result members state (record { store = store_of state; memory = memory_when_opened })
             (opened_times now word) }
         ensures fits { (state : Stored) → Fits result state }
         ensures me { raft_me result ≡ me }

@@ -1,7 +1,7 @@
 ghost use Rattle.std.specs.Prelude.{◌≡◌, ◌<◌, ◌+◌, ◌∷◌, [], ℕ, List};
 ghost use Rattle.raft_log.specs.DurableViews.{durable_state};
 ghost use Rattle.raft_log.specs.Stored.{Stored};
-ghost use Rattle.raft_model.specs.Handlers.{plain_after_all};
+ghost use Rattle.raft_model.specs.Handlers.{server_after_all};
 ghost use Rattle.raft_model.specs.Moves.{Move};
 ghost use Rattle.raft_model.specs.Server.{RaftServer};
 ghost use Rattle.raft_core.specs.Times.{Given, Times, times_after_all};
@@ -58,7 +58,7 @@ impl Raft {
             StandsFor self.old members state server times →
             (given : Given) (move : Move) → IsTelling move →
             StandsFor self.new members state
-            (plain_after_all members (raft_me self.old) step server (move ∷ []))
+            (server_after_all members (raft_me self.old) step server (move ∷ []))
             (times_after_all members (raft_me self.old) step given server (move ∷ []) times) }
         ensures fits { (state : Stored) → Fits self.old state → raft_told self.old < state.commit →
             Fits self.new state }

@@ -4,8 +4,8 @@ use Rattle.raft_model.specs.Lists.{In, at}
 use Rattle.raft_model.specs.Messages.{Message}
 use Rattle.raft_model.specs.Messages.Message.{Requests, Answers, Pairs}
 use Rattle.raft_model.specs.Server.{RaftServer}
-use Rattle.raft_model.specs.Stops.{LocalState, stopped_within, stopped, all_moved}
-use Rattle.raft_model.specs.Runs.{World, Event, beginning, site_of, with_site, posted, after, MayOccur, Lawful, run as run_events}
+use Rattle.raft_model.specs.Stops.{LocalState, state_after_stop_within, state_after_stop, state_after_moves}
+use Rattle.raft_model.specs.Runs.{World, Event, initial_world, local_state_of, with_local_state, bag_with, after, MayOccur, Lawful, run as run_events}
 use Rattle.raft_model.specs.Runs.Event.{Opens, Steps, Stops, StopsWithin}
 use Rattle.raft_model.proofs.Micro.{State, Micro, did, IsSaid, start, run, Lawful as LawfulMicro}
 use Rattle.raft_model.proofs.Micro.Micro.{Open, Post}
@@ -19,53 +19,53 @@ use Rattle.raft_model.proofs.Reached.{Reached, reach_stop, reach_stop_within, re
 abbrev pub world_of : State → ℕ → World
 world_of z k = record {
   members = z.members;
-  server = λ i. (focus_of z i).plain;
+  server = λ i. (focus_of z i).raft_server;
   bag = z.bag;
   history = record { led = z.led; leader = z.leader; list = z.list; candidacies = z.candidacies; kept = z.kept };
   ledger = record { entries = z.ledger; stamps = z.stamps };
   steps = k;
 }
 
-pub server_at : (z : State) (m : ℕ) (f : Focus) → at (λ i. (focus_of z i).plain) m f.plain ≡ (λ i. (focus_of (at_focus z m f) i).plain)
+pub server_at : (z : State) (m : ℕ) (f : Focus) → at (λ i. (focus_of z i).raft_server) m f.raft_server ≡ (λ i. (focus_of (at_focus z m f) i).raft_server)
 server_at z m f = sym (λ j i. record {
   store = record {
-    term = at_field (λ (p : RaftServer). p.store.term) (λ k. (focus_of z k).plain) m f.plain j i;
-    vote = at_field (λ (p : RaftServer). p.store.vote) (λ k. (focus_of z k).plain) m f.plain j i;
-    log = at_field (λ (p : RaftServer). p.store.log) (λ k. (focus_of z k).plain) m f.plain j i;
-    commit = at_field (λ (p : RaftServer). p.store.commit) (λ k. (focus_of z k).plain) m f.plain j i;
+    term = at_field (λ (p : RaftServer). p.store.term) (λ k. (focus_of z k).raft_server) m f.raft_server j i;
+    vote = at_field (λ (p : RaftServer). p.store.vote) (λ k. (focus_of z k).raft_server) m f.raft_server j i;
+    log = at_field (λ (p : RaftServer). p.store.log) (λ k. (focus_of z k).raft_server) m f.raft_server j i;
+    commit = at_field (λ (p : RaftServer). p.store.commit) (λ k. (focus_of z k).raft_server) m f.raft_server j i;
   };
   memory = record {
-    up = at_field (λ (p : RaftServer). p.memory.up) (λ k. (focus_of z k).plain) m f.plain j i;
-    role = at_field (λ (p : RaftServer). p.memory.role) (λ k. (focus_of z k).plain) m f.plain j i;
-    told = at_field (λ (p : RaftServer). p.memory.told) (λ k. (focus_of z k).plain) m f.plain j i;
-    votes = at_field (λ (p : RaftServer). p.memory.votes) (λ k. (focus_of z k).plain) m f.plain j i;
-    next = at_field (λ (p : RaftServer). p.memory.next) (λ k. (focus_of z k).plain) m f.plain j i;
-    matched = at_field (λ (p : RaftServer). p.memory.matched) (λ k. (focus_of z k).plain) m f.plain j i;
-    pending = at_field (λ (p : RaftServer). p.memory.pending) (λ k. (focus_of z k).plain) m f.plain j i;
+    up = at_field (λ (p : RaftServer). p.memory.up) (λ k. (focus_of z k).raft_server) m f.raft_server j i;
+    role = at_field (λ (p : RaftServer). p.memory.role) (λ k. (focus_of z k).raft_server) m f.raft_server j i;
+    told = at_field (λ (p : RaftServer). p.memory.told) (λ k. (focus_of z k).raft_server) m f.raft_server j i;
+    votes = at_field (λ (p : RaftServer). p.memory.votes) (λ k. (focus_of z k).raft_server) m f.raft_server j i;
+    next = at_field (λ (p : RaftServer). p.memory.next) (λ k. (focus_of z k).raft_server) m f.raft_server j i;
+    matched = at_field (λ (p : RaftServer). p.memory.matched) (λ k. (focus_of z k).raft_server) m f.raft_server j i;
+    pending = at_field (λ (p : RaftServer). p.memory.pending) (λ k. (focus_of z k).raft_server) m f.raft_server j i;
   };
 })
 
 -- a step begins where the server is
-pub reach_start : (z : State) (k m : ℕ) → Reached z m (site_of (world_of z k) m)
+pub reach_start : (z : State) (k m : ℕ) → Reached z m (local_state_of (world_of z k) m)
 reach_start z k m = record {
   es = [];
   lawful = tt;
   focus = focus_of z m;
   ends = sym (settled z m);
-  plain = refl;
+  raft_server = refl;
   history = refl;
   ledger = refl;
   bag = refl;
   said = λ g i. absurd i;
 }
 
-pub site_back : (z : State) (k m : ℕ) (x : LocalState) (r : Reached z m x) → with_site (world_of z k) m x ≡ world_of (run z r.es) k
-site_back z k m x r = there ∙ sym (ap (λ (u : State). world_of u k) r.ends)
+pub local_state_back : (z : State) (k m : ℕ) (x : LocalState) (r : Reached z m x) → with_local_state (world_of z k) m x ≡ world_of (run z r.es) k
+local_state_back z k m x r = there ∙ sym (ap (λ (u : State). world_of u k) r.ends)
   where
-    server : at (λ i. (focus_of z i).plain) m x.plain ≡ (λ i. (focus_of (at_focus z m r.focus) i).plain)
-    server = ap (at (λ i. (focus_of z i).plain) m) r.plain ∙ server_at z m r.focus
+    server : at (λ i. (focus_of z i).raft_server) m x.raft_server ≡ (λ i. (focus_of (at_focus z m r.focus) i).raft_server)
+    server = ap (at (λ i. (focus_of z i).raft_server) m) r.raft_server ∙ server_at z m r.focus
 
-    there : with_site (world_of z k) m x ≡ world_of (at_focus z m r.focus) k
+    there : with_local_state (world_of z k) m x ≡ world_of (at_focus z m r.focus) k
     there = λ i. record { members = z.members; server = server i; bag = sym r.bag i; history = r.history i; ledger = r.ledger i; steps = k }
 
 -- the messages that fitted are posted
@@ -79,7 +79,7 @@ said_anyway z bag (Answers a) h = h
 said_anyway z bag (Pairs p) h = h
 
 pub posts_lawful : (gs : List Message) (z : State) → ((g : Message) → In g gs → IsSaid z g)
-    → LawfulMicro z (posts gs) × (run z (posts gs) ≡ record z { bag = posted gs z.bag })
+    → LawfulMicro z (posts gs) × (run z (posts gs) ≡ record z { bag = bag_with gs z.bag })
 posts_lawful [] z h = (tt, refl)
 posts_lawful (g ∷ gs) z h =
     let r = posts_lawful gs (did z (Post g)) (λ x i. said_anyway z (g ∷ z.bag) x (h x (inr i))) in
@@ -111,30 +111,30 @@ event_lawful z k (Opens m) f h = (Open m ∷ [], ((h.1, h.0), tt), k, opens)
     opens : after (world_of z k) (Opens m) ≡ world_of (did z (Open m)) k
     opens = there ∙ sym (ap (λ (u : State). world_of u k) (did_here z m (Open m)))
 event_lawful z k (Steps m n mvs fitted) f h =
-    let r = (reach_moves z m n mvs (site_of (world_of z k) m) f (reach_start z k m) h.0 h.2).0 in
+    let r = (reach_moves z m n mvs (local_state_of (world_of z k) m) f (reach_start z k m) h.0 h.2).0 in
     let p
-    = posts_lawful fitted (run z r.es) (λ g i. said_reached z m (all_moved z.members m n (site_of (world_of z k) m) mvs) r g (h.3 g i))
+    = posts_lawful fitted (run z r.es) (λ g i. said_reached z m (state_after_moves z.members m n (local_state_of (world_of z k) m) mvs) r g (h.3 g i))
     in
     let bag : (run z r.es).bag ≡ z.bag = ap (λ (u : State). u.bag) r.ends ∙ r.bag in
-    let back : with_site (world_of z k) m (all_moved z.members m n (site_of (world_of z k) m) mvs) ≡ world_of (run z r.es) k
-    = site_back z k m (all_moved z.members m n (site_of (world_of z k) m) mvs) r in (
+    let back : with_local_state (world_of z k) m (state_after_moves z.members m n (local_state_of (world_of z k) m) mvs) ≡ world_of (run z r.es) k
+    = local_state_back z k m (state_after_moves z.members m n (local_state_of (world_of z k) m) mvs) r in (
       r.es ++ posts fitted,
       lawful_then r.es (posts fitted) z r.lawful p.0,
       n,
-      ap (λ (w : World). record w { bag = posted fitted z.bag; steps = n }) back
+      ap (λ (w : World). record w { bag = bag_with fitted z.bag; steps = n }) back
           ∙ (ap (λ (b : List Message). record (world_of (run z r.es) k) {
-            bag = posted fitted b;
+            bag = bag_with fitted b;
             steps = n;
           }) (sym bag) ∙ sym (ap (λ (u : State). world_of u n) (run_then r.es (posts fitted) z ∙ p.1))),
     )
 event_lawful z k (Stops m n mvs) f h =
-    let r = (reach_moves z m n mvs (site_of (world_of z k) m) f (reach_start z k m) h.0 h.1).0 in
-    let s = reach_stop z m (all_moved z.members m n (site_of (world_of z k) m) mvs) r in
-    (s.es, s.lawful, k, site_back z k m (stopped (all_moved z.members m n (site_of (world_of z k) m) mvs)) s)
+    let r = (reach_moves z m n mvs (local_state_of (world_of z k) m) f (reach_start z k m) h.0 h.1).0 in
+    let s = reach_stop z m (state_after_moves z.members m n (local_state_of (world_of z k) m) mvs) r in
+    (s.es, s.lawful, k, local_state_back z k m (state_after_stop (state_after_moves z.members m n (local_state_of (world_of z k) m) mvs)) s)
 event_lawful z k (StopsWithin m n mvs next i) f h =
-    let q = reach_moves z m n mvs (site_of (world_of z k) m) f (reach_start z k m) h.0 h.1 in
-    let s = reach_stop_within z m n i (all_moved z.members m n (site_of (world_of z k) m) mvs) next f q.0 q.1 h.2 in
-    (s.es, s.lawful, k, site_back z k m (stopped_within z.members m i (all_moved z.members m n (site_of (world_of z k) m) mvs) next) s)
+    let q = reach_moves z m n mvs (local_state_of (world_of z k) m) f (reach_start z k m) h.0 h.1 in
+    let s = reach_stop_within z m n i (state_after_moves z.members m n (local_state_of (world_of z k) m) mvs) next f q.0 q.1 h.2 in
+    (s.es, s.lawful, k, local_state_back z k m (state_after_stop_within z.members m i (state_after_moves z.members m n (local_state_of (world_of z k) m) mvs) next) s)
 
 -- so is every run
 pub run_lawful : (es : List Event) (z : State) (k : ℕ) → Facts z → Lawful (world_of z k) es
@@ -151,5 +151,5 @@ run_lawful (e ∷ es) z k f l =
           ∙ (b.3 ∙ sym (ap (λ (u : State). world_of u b.2) (run_then a.0 b.0 z))),
     )
 
-pub begins : (members : List ℕ) → beginning members ≡ world_of (start members) 0
+pub begins : (members : List ℕ) → initial_world members ≡ world_of (start members) 0
 begins members = refl

@@ -14,7 +14,7 @@ use Rattle.raft_model.specs.Server.{Role, Store, RaftServer, quorum}
 use Rattle.raft_model.specs.Server.Role.{Follower, Candidate, Leader}
 use Rattle.raft_model.specs.Moves.{Verdict, MayGrant, IsGranted, HasPrevious, Adds, IsThere, IsRuled, IsCurrent, IsOutdated, IsJudged, with_term, MayPropose, CanCommit, IsCommitIndex, has_matched, is_leader}
 use Rattle.raft_model.specs.Moves.Verdict.{Outdated, Refused, Held, Added}
-use Rattle.raft_model.specs.Decisions.{is_blank, is_pair, is_reservation, is_well_formed, are_distinct, is_distinct_from_all, is_injective, is_free, grants, has_previous, is_there, may_add, rule_on_entry, is_current, judges, may_propose, can_commit, greatest_to, commit_index}
+use Rattle.raft_model.specs.Decisions.{is_blank, is_pair, is_reservation, is_well_formed, are_distinct, is_distinct_from_all, is_injective, is_free, grants, has_previous, is_there, may_add, rule_on_entry, is_current, verdict_on, may_propose, can_commit, greatest_to, commit_index}
 use Rattle.raft_model.proofs.Apart.{some_same}
 use Rattle.raft_model.proofs.Quorum.{tell}
 use Rattle.raft_model.proofs.Whole.{lt_tells, le_tells}
@@ -267,7 +267,7 @@ outdated server request n = elim (lt_tells request.term server.store.term) [
     is_leader_if Candidate h = absurd (h (λ e. cc))
     is_leader_if Leader h = refl
 
-pub judged : (server : RaftServer) (request : Request) → IsJudged server request (judges server request)
+pub judged : (server : RaftServer) (request : Request) → IsJudged server request (verdict_on server request)
 judged server request = elim (tell (is_current server request)) [
   | inr a ↦ rw (a) (outdated server request (refuted (current_decided server request) a))
   | inl a ↦ rw (a) (elim (tell (has_previous (with_term server.store request.term) request)) [

@@ -9,12 +9,12 @@ use Rattle.can_frame.specs.Zeros.{zeros}
 use Rattle.raft_model.specs.Messages.{Message}
 use Rattle.raft_model.specs.Server.{Role, Store, RaftServer, put_all}
 use Rattle.raft_model.specs.Server.Role.{Follower, Candidate, Leader}
-use Rattle.raft_model.specs.Moves.{Move, IsEnabled, MayPropose, has_quorum, own_vote, counts, counted, is_leader, term_limit, adds_blank, win_puts, stand_puts}
+use Rattle.raft_model.specs.Moves.{Move, IsEnabled, MayPropose, has_quorum, own_vote, counts, votes_with, is_leader, term_limit, adds_blank, win_puts, stand_puts}
 use Rattle.raft_model.specs.Moves.Move.{TimeOut, TakeVoteRequest, TakeVoteAnswer, TakeAppendRequest, TakeAppendAnswer, TellPair}
 use Rattle.raft_model.specs.Moves.Verdict.{Outdated, Refused, Held, Added}
 use Rattle.raft_model.specs.Stops.{LocalState, AllEnabled}
 use Rattle.raft_model.specs.Decisions.{commit_index}
-use Rattle.raft_model.specs.Handlers.{plain_after, plain_after_all, offers_of_all}
+use Rattle.raft_model.specs.Handlers.{server_after, server_after_all, offers_of_all}
 use Rattle.raft_model.specs.Duty.{tick_phase, commit_moves, commit_phase, tell_phase, TickDuty, CommitDuty, TellDuty, WinDuty}
 use Rattle.raft_model.proofs.Complete.{and_left, and_right}
 use Rattle.raft_model.proofs.Decisions.{commit, no_commit, refuted}
@@ -29,28 +29,28 @@ no_leader Follower h e = cc
 no_leader Candidate h e = cc
 no_leader Leader h e = cc
 
-pub tick_comes : (members : List ℕ) (member step : ℕ) (bag : List Message) (waited : Bool) (site : LocalState)
-    → AllEnabled members member step bag site (tick_phase waited site.plain)
-tick_comes members member step bag false site = tt
-tick_comes members member step bag true site = elim (tell (not (is_leader site.plain.memory.role) && nat_lt site.plain.store.term term_limit)) [
-  | inl h ↦ rw (h) ((no_leader site.plain.memory.role (and_left _ _ h), low (and_right _ _ h)), tt)
+pub tick_comes : (members : List ℕ) (member step : ℕ) (bag : List Message) (waited : Bool) (local_state : LocalState)
+    → AllEnabled members member step bag local_state (tick_phase waited local_state.raft_server)
+tick_comes members member step bag false local_state = tt
+tick_comes members member step bag true local_state = elim (tell (not (is_leader local_state.raft_server.memory.role) && nat_lt local_state.raft_server.store.term term_limit)) [
+  | inl h ↦ rw (h) ((no_leader local_state.raft_server.memory.role (and_left _ _ h), low (and_right _ _ h)), tt)
   | inr h ↦ rw (h) tt
 ]
   where
-    low : nat_lt site.plain.store.term term_limit ≡ true → site.plain.store.term < term_limit
-    low e = elim (lt_tells site.plain.store.term term_limit) [ inl z ↦ z.1 | inr z ↦ absurd (cc (e, z.0)) ]
+    low : nat_lt local_state.raft_server.store.term term_limit ≡ true → local_state.raft_server.store.term < term_limit
+    low e = elim (lt_tells local_state.raft_server.store.term term_limit) [ inl z ↦ z.1 | inr z ↦ absurd (cc (e, z.0)) ]
 
 win_term : (store : Store) → (put_all store (win_puts store)).term ≡ store.term
 win_term store = elim (tell (adds_blank store)) [ inl h ↦ rw (h) refl | inr h ↦ rw (h) refl ]
 
-time_out : (members : List ℕ) (member step : ℕ) (server : RaftServer) → TickDuty server (plain_after members member step server TimeOut)
+time_out : (members : List ℕ) (member step : ℕ) (server : RaftServer) → TickDuty server (server_after members member step server TimeOut)
 time_out members member step server = elim (tell (has_quorum members (own_vote member))) [
   | inl h ↦ rw (h) (record { stands = λ e. cc; next = win_term (put_all server.store (stand_puts member server.store)) })
   | inr h ↦ rw (h) (record { stands = λ e. cc; next = refl })
 ]
 
 pub tick_duty : (members : List ℕ) (member step : ℕ) (server : RaftServer) → server.memory.role ≢ Leader → server.store.term < term_limit
-    → TickDuty server (plain_after_all members member step server (tick_phase true server))
+    → TickDuty server (server_after_all members member step server (tick_phase true server))
 tick_duty members member step server role low = elim (lt_tells server.store.term term_limit) [
   | inl z ↦ rw (is_not server.memory.role role) (rw (z.0) (time_out members member step server))
   | inr z ↦ absurd (omega (arith, z.1, low))
@@ -63,61 +63,61 @@ tick_duty members member step server role low = elim (lt_tells server.store.term
 
 -- Commits.
 
-pub commit_comes : (members : List ℕ) (member step : ℕ) (bag : List Message) (site : LocalState)
-    → AllEnabled members member step bag site (commit_phase members member site.plain)
-commit_comes members member step bag site = elim (tell (is_leader site.plain.memory.role)) [
+pub commit_comes : (members : List ℕ) (member step : ℕ) (bag : List Message) (local_state : LocalState)
+    → AllEnabled members member step bag local_state (commit_phase members member local_state.raft_server)
+commit_comes members member step bag local_state = elim (tell (is_leader local_state.raft_server.memory.role)) [
   | inr h ↦ rw (h) tt
-  | inl h ↦ rw (h) (go (commit_index members member site.plain) refl (leader_is site.plain.memory.role h))
+  | inl h ↦ rw (h) (go (commit_index members member local_state.raft_server) refl (leader_is local_state.raft_server.memory.role h))
 ]
   where
-    go : (found : Option ℕ) → commit_index members member site.plain ≡ found → site.plain.memory.role ≡ Leader
-        → AllEnabled members member step bag site (commit_moves found)
+    go : (found : Option ℕ) → commit_index members member local_state.raft_server ≡ found → local_state.raft_server.memory.role ≡ Leader
+        → AllEnabled members member step bag local_state (commit_moves found)
     go None e leads = tt
-    go (Some index) e leads = ((leads, commit members member site.plain index e), tt)
+    go (Some index) e leads = ((leads, commit members member local_state.raft_server index e), tt)
 
 pub commit_duty : (members : List ℕ) (member step : ℕ) (server : RaftServer) → server.memory.role ≡ Leader
-    → CommitDuty members member server (plain_after_all members member step server (commit_phase members member server))
+    → CommitDuty members member server (server_after_all members member step server (commit_phase members member server))
 commit_duty members member step server leads = rw (ap is_leader leads) (go (commit_index members member server) refl)
   where
     go : (found : Option ℕ) → commit_index members member server ≡ found
-        → CommitDuty members member server (plain_after_all members member step server (commit_moves found))
+        → CommitDuty members member server (server_after_all members member step server (commit_moves found))
     go None e = record { greatest = λ index can. absurd (no_commit members member server e index can); only = inl refl }
     go (Some index) e = let is = commit members member server index e in record { greatest = is.greatest; only = inr is.can }
 
 -- Pairs.
 
-pub tell_comes : (members : List ℕ) (member step : ℕ) (bag : List Message) (room : Bool) (site : LocalState)
-    → AllEnabled members member step bag site (tell_phase room site.plain)
-tell_comes members member step bag room site = elim (lt_tells site.plain.memory.told site.plain.store.commit) [
-  | inr z ↦ rw (z.0) (elim (tell (is_leader site.plain.memory.role)) [ inl h ↦ rw (h) tt | inr h ↦ rw (h) tt ])
-  | inl z ↦ rw (z.0) (elim (tell (is_leader site.plain.memory.role)) [
+pub tell_comes : (members : List ℕ) (member step : ℕ) (bag : List Message) (room : Bool) (local_state : LocalState)
+    → AllEnabled members member step bag local_state (tell_phase room local_state.raft_server)
+tell_comes members member step bag room local_state = elim (lt_tells local_state.raft_server.memory.told local_state.raft_server.store.commit) [
+  | inr z ↦ rw (z.0) (elim (tell (is_leader local_state.raft_server.memory.role)) [ inl h ↦ rw (h) tt | inr h ↦ rw (h) tt ])
+  | inl z ↦ rw (z.0) (elim (tell (is_leader local_state.raft_server.memory.role)) [
     | inr h ↦ rw (h) tt
-    | inl h ↦ rw (h) (elim (tell (bytes_eq (get_or site.plain.store.log site.plain.memory.told (blank 0)).uid zeros)) [
+    | inl h ↦ rw (h) (elim (tell (bytes_eq (get_or local_state.raft_server.store.log local_state.raft_server.memory.told (blank 0)).uid zeros)) [
       | inl b ↦
           rw (b) (
             (
-              leader_is site.plain.memory.role h,
+              leader_is local_state.raft_server.memory.role h,
               z.1,
-              (bytes_eq-Decides (get_or site.plain.store.log site.plain.memory.told (blank 0)).uid zeros).0 b,
+              (bytes_eq-Decides (get_or local_state.raft_server.store.log local_state.raft_server.memory.told (blank 0)).uid zeros).0 b,
             ),
             tt,
           )
       | inr b ↦
           rw (b)
-          (go room (leader_is site.plain.memory.role h) z.1
-          (refuted (bytes_eq-Decides (get_or site.plain.store.log site.plain.memory.told (blank 0)).uid zeros) b))
+          (go room (leader_is local_state.raft_server.memory.role h) z.1
+          (refuted (bytes_eq-Decides (get_or local_state.raft_server.store.log local_state.raft_server.memory.told (blank 0)).uid zeros) b))
     ])
   ])
 ]
   where
-    go : (fits : Bool) → site.plain.memory.role ≡ Leader → site.plain.memory.told < site.plain.store.commit
-        → (get_or site.plain.store.log site.plain.memory.told (blank 0)).uid ≢ zeros →
-        AllEnabled members member step bag site (if fits then TellPair ∷ [] else [])
+    go : (fits : Bool) → local_state.raft_server.memory.role ≡ Leader → local_state.raft_server.memory.told < local_state.raft_server.store.commit
+        → (get_or local_state.raft_server.store.log local_state.raft_server.memory.told (blank 0)).uid ≢ zeros →
+        AllEnabled members member step bag local_state (if fits then TellPair ∷ [] else [])
     go true leads below uid = ((leads, below, uid), tt)
     go false leads below uid = tt
 
 pub tell_duty : (members : List ℕ) (member step : ℕ) (room : Bool) (server : RaftServer) → server.memory.role ≡ Leader →
-    TellDuty member step room server (plain_after_all members member step server (tell_phase room server))
+    TellDuty member step room server (server_after_all members member step server (tell_phase room server))
     (offers_of_all members member step server (tell_phase room server))
 tell_duty members member step room server leads = rw (ap is_leader leads) (elim (lt_tells server.memory.told server.store.commit) [
   | inr z ↦
@@ -141,7 +141,7 @@ tell_duty members member step room server leads = rw (ap is_leader leads) (elim 
   where
     go : (fits : Bool) → server.memory.told < server.store.commit
         → ((get_or server.store.log server.memory.told (blank 0)).uid ≡ zeros → ⊥) →
-        TellDuty member step fits server (plain_after_all members member step server (if fits then TellPair ∷ [] else []))
+        TellDuty member step fits server (server_after_all members member step server (if fits then TellPair ∷ [] else []))
         (offers_of_all members member step server (if fits then TellPair ∷ [] else []))
     go true below n = record {
       passed = λ b u. absurd (n u);
@@ -164,7 +164,7 @@ full_duty server entry full may = omega (arith, full, may.room)
 -- Quorums.
 
 pub win_duty : (members : List ℕ) (member step : ℕ) (bag : List Message) (called : List ℕ) (server : RaftServer) (move : Move)
-    → IsEnabled members member bag called server move → WinDuty members server → WinDuty members (plain_after members member step server move)
+    → IsEnabled members member bag called server move → WinDuty members server → WinDuty members (server_after members member step server move)
 win_duty members member step bag called server TimeOut comes h = elim (tell (has_quorum members (own_vote member)))
     [ inl q ↦ rw (q) (λ e. absurd (cc)) | inr q ↦ rw (q) (λ e. q) ]
 win_duty members member step bag called server (TakeVoteRequest request granted) comes h = elim (lt_tells server.store.term request.term)
@@ -174,7 +174,7 @@ win_duty members member step bag called server (TakeVoteAnswer answer) comes h =
   | inr z ↦ rw (z.0) (elim (tell (counts server answer)) [
     | inl k ↦
         rw (k)
-        (elim (tell (has_quorum members (counted server.memory answer)))
+        (elim (tell (has_quorum members (votes_with server.memory answer)))
         [ inl q ↦ rw (q) (λ e. absurd (cc)) | inr q ↦ rw (q) (λ e. q) ])
     | inr k ↦ rw (k) h
   ])

@@ -9,9 +9,9 @@ use Rattle.raft_model.specs.Messages.Message.{Answers}
 use Rattle.raft_model.specs.Server.{Role, Store, Put, put, put_all}
 use Rattle.raft_model.specs.Server.Role.{Follower, Candidate, Leader}
 use Rattle.raft_model.specs.Server.Put.{PutTerm, PutVote}
-use Rattle.raft_model.specs.History.{voted}
+use Rattle.raft_model.specs.History.{with_vote_kept}
 use Rattle.raft_model.specs.Ledger.{ledger_with}
-use Rattle.raft_model.specs.Moves.{Move, IsEnabled, has_quorum, own_vote, stand_puts, is_candidate, counts, counted, vote_puts, vote_history, answer_to}
+use Rattle.raft_model.specs.Moves.{Move, IsEnabled, has_quorum, own_vote, stand_puts, is_candidate, counts, votes_with, vote_puts, vote_history, answer_to}
 use Rattle.raft_model.specs.Moves.Move.{TimeOut, TakeVoteRequest, TakeVoteAnswer}
 use Rattle.raft_model.proofs.Micro.Micro.{Raise, Clear, Stand, Grant, Deny, Count, Drop}
 use Rattle.raft_model.proofs.Focus.{Focus, focused}
@@ -26,43 +26,43 @@ use Rattle.raft_model.proofs.Complete.{and_left, and_right}
 
 -- the focus after standing
 abbrev pub stood_focus : ℕ → Focus → Focus
-stood_focus m f = focused m (focused m (focused m f (Raise m (f.plain.store.term + 1))) (Clear m)) (Stand m)
+stood_focus m f = focused m (focused m (focused m f (Raise m (f.raft_server.store.term + 1))) (Clear m)) (Stand m)
 
-pub leg_stand : (members : List ℕ) (m : ℕ) (f : Focus) → f.plain.memory.up ≡ true → Covered f.ledger f.plain.store
-    → Leg members m TimeOut f (stood_focus m f) (stand_puts m f.plain.store)
+pub leg_stand : (members : List ℕ) (m : ℕ) (f : Focus) → f.raft_server.memory.up ≡ true → Covered f.ledger f.raft_server.store
+    → Leg members m TimeOut f (stood_focus m f) (stand_puts m f.raft_server.store)
 leg_stand members m f up c = record {
-  marks = Puts (PutTerm (f.plain.store.term + 1)) (Raise m (f.plain.store.term + 1)) ∷ Puts (PutVote None) (Clear m) ∷ Puts
+  marks = Puts (PutTerm (f.raft_server.store.term + 1)) (Raise m (f.raft_server.store.term + 1)) ∷ Puts (PutVote None) (Clear m) ∷ Puts
       (PutVote (Some m)) (Stand m) ∷ [];
   walk = (
     (up, omega arith),
     refl,
     refl,
     refl,
-    stays (put f.plain.store (PutTerm (f.plain.store.term + 1))) refl,
+    stays (put f.raft_server.store (PutTerm (f.raft_server.store.term + 1))) refl,
     (
       refl,
       refl,
       refl,
       refl,
-      stays (put (put f.plain.store (PutTerm (f.plain.store.term + 1))) (PutVote None)) refl,
-      ((refl, up), refl, refl, refl, stays (put_all f.plain.store (stand_puts m f.plain.store)) refl, tt),
+      stays (put (put f.raft_server.store (PutTerm (f.raft_server.store.term + 1))) (PutVote None)) refl,
+      ((refl, up), refl, refl, refl, stays (put_all f.raft_server.store (stand_puts m f.raft_server.store)) refl, tt),
     ),
   );
   puts = refl;
   ends = refl;
 }
   where
-    stays : (u : Store) → u.commit ≡ f.plain.store.commit → f.ledger ≡ ledger_with f.ledger u
-    stays u e = sym (ledger_stays f.ledger u (same_commit f.ledger f.plain.store u c e))
+    stays : (u : Store) → u.commit ≡ f.raft_server.store.commit → f.ledger ≡ ledger_with f.ledger u
+    stays u e = sym (ledger_stays f.ledger u (same_commit f.ledger f.raft_server.store u c e))
 
-pub time_out : (members : List ℕ) (m n : ℕ) (f : Focus) → f.plain.memory.up ≡ true → Covered f.ledger f.plain.store
+pub time_out : (members : List ℕ) (m n : ℕ) (f : Focus) → f.raft_server.memory.up ≡ true → Covered f.ledger f.raft_server.store
     → Whole members m n f TimeOut
 time_out members m n f up c = elim (tell (has_quorum members (own_vote m))) [
   | inl h ↦
       let g : Focus = stood_focus m f in
       let won : Won members m TimeOut (stood_focus m f)
       = win_of members m TimeOut (stood_focus m f) (record { entry = λ s e x. refl; longer = λ s e x. refl }) up refl h
-      (same_commit f.ledger f.plain.store (stood_focus m f).plain.store c refl) in
+      (same_commit f.ledger f.raft_server.store (stood_focus m f).raft_server.store c refl) in
       rw (h) (record {
         between = won.between;
         leg = join members m TimeOut f (stood_focus m f) won.between _ _ (leg_stand members m f up c) won.leg;
@@ -77,7 +77,7 @@ time_out members m n f up c = elim (tell (has_quorum members (own_vote m))) [
       })
   | inr h ↦ rw (h) (record {
     between = stood_focus m f;
-    leg = subst (λ (l : List Put). Leg members m TimeOut f (stood_focus m f) l) (sym (append-nil (stand_puts m f.plain.store)))
+    leg = subst (λ (l : List Put). Leg members m TimeOut f (stood_focus m f) l) (sym (append-nil (stand_puts m f.raft_server.store)))
         (leg_stand members m f up c);
     rest = [];
     lawful = tt;
@@ -94,27 +94,27 @@ time_out members m n f up c = elim (tell (has_quorum members (own_vote m))) [
 pub only_said : (g : Focus) (x : Message) → SaidHere g x → (y : Message) → In y (x ∷ []) → SaidHere g y
 only_said g x h y i = elim i [ inl e ↦ subst (SaidHere g) (sym e) h | inr z ↦ absurd z ]
 
-pub covered_term : (f : Focus) (t : ℕ) → Covered f.ledger f.plain.store → Covered f.ledger (term_focus f t).plain.store
-covered_term f t c = same_commit f.ledger f.plain.store (term_focus f t).plain.store c (term_log f.plain.store t).1
+pub covered_term : (f : Focus) (t : ℕ) → Covered f.ledger f.raft_server.store → Covered f.ledger (term_focus f t).raft_server.store
+covered_term f t c = same_commit f.ledger f.raft_server.store (term_focus f t).raft_server.store c (term_log f.raft_server.store t).1
 
-pub vote_request_lawful : (members : List ℕ) (m n : ℕ) (f : Focus) (r : Request) (granted : Bool) → f.plain.memory.up ≡ true
-    → Covered f.ledger f.plain.store → IsEnabled members m f.bag [] f.plain (TakeVoteRequest r granted)
+pub vote_request_lawful : (members : List ℕ) (m n : ℕ) (f : Focus) (r : Request) (granted : Bool) → f.raft_server.memory.up ≡ true
+    → Covered f.ledger f.raft_server.store → IsEnabled members m f.bag [] f.raft_server (TakeVoteRequest r granted)
     → Whole members m n f (TakeVoteRequest r granted)
 vote_request_lawful members m n f r false up c h = record {
   between = term_focus f r.term;
   leg = join members m (TakeVoteRequest r false) f (term_focus f r.term) (term_focus f r.term) _ []
       (leg_term members m (TakeVoteRequest r false) f r.term up c) (record { marks = []; walk = tt; puts = refl; ends = refl });
   rest = Deny m n r ∷ [];
-  lawful = ((term_up f.plain r.term ∙ up, h.0, h.1), tt);
+  lawful = ((term_up f.raft_server r.term ∙ up, h.0, h.1), tt);
   store = refl;
   ledger = refl;
   history = refl;
   memory = refl;
   bag = refl;
-  said = only_said (focused m (term_focus f r.term) (Deny m n r)) (Answers (answer_to m n (term_focus f r.term).plain.store r false))
+  said = only_said (focused m (term_focus f r.term) (Deny m n r)) (Answers (answer_to m n (term_focus f r.term).raft_server.store r false))
       (inl refl);
 }
-vote_request_lawful members m n f r true up c h = by_vote (term_focus f r.term).plain.store.vote refl
+vote_request_lawful members m n f r true up c h = by_vote (term_focus f r.term).raft_server.store.vote refl
   where
     mv : Move
     mv = TakeVoteRequest r true
@@ -124,7 +124,7 @@ vote_request_lawful members m n f r true up c h = by_vote (term_focus f r.term).
 
     may : MayHere members m (term_focus f r.term) (Grant m n r)
     may = record {
-      up = term_up f.plain r.term ∙ up;
+      up = term_up f.raft_server r.term ∙ up;
       in_bag = h.0;
       kind = h.2;
       mine = h.1;
@@ -136,7 +136,7 @@ vote_request_lawful members m n f r true up c h = by_vote (term_focus f r.term).
     none_some : (k : ℕ) → None ≡ Some k → ⊥
     none_some k e = cc
 
-    by_vote : (v : Option ℕ) → (term_focus f r.term).plain.store.vote ≡ v → Whole members m n f (TakeVoteRequest r true)
+    by_vote : (v : Option ℕ) → (term_focus f r.term).raft_server.store.vote ≡ v → Whole members m n f (TakeVoteRequest r true)
     by_vote None e = record {
       between = focused m (term_focus f r.term) (Grant m n r);
       leg = join members m (TakeVoteRequest r true) f (term_focus f r.term) (focused m (term_focus f r.term) (Grant m n r)) _ _
@@ -151,8 +151,8 @@ vote_request_lawful members m n f r true up c h = by_vote (term_focus f r.term).
               refl,
               refl,
               refl,
-              sym (ledger_stays f.ledger (put (term_focus f r.term).plain.store (PutVote (Some r.from)))
-                  (same_commit f.ledger (term_focus f r.term).plain.store (put (term_focus f r.term).plain.store (PutVote (Some r.from)))
+              sym (ledger_stays f.ledger (put (term_focus f r.term).raft_server.store (PutVote (Some r.from)))
+                  (same_commit f.ledger (term_focus f r.term).raft_server.store (put (term_focus f r.term).raft_server.store (PutVote (Some r.from)))
                   (covered_term f r.term c) refl)),
               tt,
             );
@@ -164,12 +164,12 @@ vote_request_lawful members m n f r true up c h = by_vote (term_focus f r.term).
       store = refl;
       ledger = refl;
       history = subst
-          (λ (v : Option ℕ). voted f.history m r.from r.term (term_focus f r.term).plain.store.log
-          ≡ vote_history m (term_focus f r.term).plain.store r v (voted f.history m r.from r.term (term_focus f r.term).plain.store.log))
+          (λ (v : Option ℕ). with_vote_kept f.history m r.from r.term (term_focus f r.term).raft_server.store.log
+          ≡ vote_history m (term_focus f r.term).raft_server.store r v (with_vote_kept f.history m r.from r.term (term_focus f r.term).raft_server.store.log))
           (sym e) refl;
       memory = refl;
       bag = refl;
-      said = only_said (focused m (term_focus f r.term) (Grant m n r)) (Answers (answer_to m n (term_focus f r.term).plain.store r true))
+      said = only_said (focused m (term_focus f r.term) (Grant m n r)) (Answers (answer_to m n (term_focus f r.term).raft_server.store r true))
           (inl refl);
     }
     by_vote (Some v) e = record {
@@ -181,16 +181,16 @@ vote_request_lawful members m n f r true up c h = by_vote (term_focus f r.term).
       rest = Grant m n r ∷ [];
       lawful = (may, tt);
       store = let q : Some r.from
-          ≡ (term_focus f r.term).plain.store.vote = elim h.3.free [ inl z ↦ absurd (none_some v (sym z ∙ e)) | inr z ↦ sym z ] in
-          λ i. record (term_focus f r.term).plain.store { vote = q i };
+          ≡ (term_focus f r.term).raft_server.store.vote = elim h.3.free [ inl z ↦ absurd (none_some v (sym z ∙ e)) | inr z ↦ sym z ] in
+          λ i. record (term_focus f r.term).raft_server.store { vote = q i };
       ledger = refl;
       history = subst
-          (λ (w : Option ℕ). voted f.history m r.from r.term (term_focus f r.term).plain.store.log
-          ≡ vote_history m (term_focus f r.term).plain.store r w f.history)
+          (λ (w : Option ℕ). with_vote_kept f.history m r.from r.term (term_focus f r.term).raft_server.store.log
+          ≡ vote_history m (term_focus f r.term).raft_server.store r w f.history)
           (sym e) refl;
       memory = refl;
       bag = refl;
-      said = only_said (focused m (term_focus f r.term) (Grant m n r)) (Answers (answer_to m n (term_focus f r.term).plain.store r true))
+      said = only_said (focused m (term_focus f r.term) (Grant m n r)) (Answers (answer_to m n (term_focus f r.term).raft_server.store r true))
           (inl refl);
     }
 
@@ -199,9 +199,9 @@ candidate_is Follower h = absurd (cc)
 candidate_is Candidate h = refl
 candidate_is Leader h = absurd (cc)
 
-pub vote_answer_lawful : (members : List ℕ) (m n : ℕ) (f : Focus) (a : Answer) → f.plain.memory.up ≡ true → Covered f.ledger f.plain.store
-    → IsEnabled members m f.bag [] f.plain (TakeVoteAnswer a) → Whole members m n f (TakeVoteAnswer a)
-vote_answer_lawful members m n f a up c h = elim (lt_tells f.plain.store.term a.term) [
+pub vote_answer_lawful : (members : List ℕ) (m n : ℕ) (f : Focus) (a : Answer) → f.raft_server.memory.up ≡ true → Covered f.ledger f.raft_server.store
+    → IsEnabled members m f.bag [] f.raft_server (TakeVoteAnswer a) → Whole members m n f (TakeVoteAnswer a)
+vote_answer_lawful members m n f a up c h = elim (lt_tells f.raft_server.store.term a.term) [
   | inl z ↦ rw (z.0) (record {
     between = focused m (focused m (focused m f (Drop m a.from)) (Raise m a.term)) (Clear m);
     leg = record {
@@ -217,8 +217,8 @@ vote_answer_lawful members m n f a up c h = elim (lt_tells f.plain.store.term a.
           refl,
           refl,
           refl,
-          stays (put f.plain.store (PutTerm a.term)) refl,
-          (refl, refl, refl, refl, stays (put (put f.plain.store (PutTerm a.term)) (PutVote None)) refl, tt),
+          stays (put f.raft_server.store (PutTerm a.term)) refl,
+          (refl, refl, refl, refl, stays (put (put f.raft_server.store (PutTerm a.term)) (PutVote None)) refl, tt),
         ),
       );
       puts = refl;
@@ -233,7 +233,7 @@ vote_answer_lawful members m n f a up c h = elim (lt_tells f.plain.store.term a.
     bag = refl;
     said = λ x i. absurd i;
   })
-  | inr z ↦ rw (z.0) (elim (tell (counts f.plain a)) [
+  | inr z ↦ rw (z.0) (elim (tell (counts f.raft_server a)) [
     | inr k ↦ rw (k) (record {
       between = f;
       leg = record { marks = []; walk = tt; puts = refl; ends = refl };
@@ -246,7 +246,7 @@ vote_answer_lawful members m n f a up c h = elim (lt_tells f.plain.store.term a.
       bag = refl;
       said = λ x i. absurd i;
     })
-    | inl k ↦ rw (k) (elim (tell (has_quorum members (counted f.plain.memory a))) [
+    | inl k ↦ rw (k) (elim (tell (has_quorum members (votes_with f.raft_server.memory a))) [
       | inr q ↦ rw (q) (record {
         between = focused m f (Count m a);
         leg = leg_count k;
@@ -262,7 +262,7 @@ vote_answer_lawful members m n f a up c h = elim (lt_tells f.plain.store.term a.
       | inl q ↦
           let won : Won members m (TakeVoteAnswer a) (focused m f (Count m a))
           = win_of members m (TakeVoteAnswer a) (focused m f (Count m a)) (record { entry = λ s e x. refl; longer = λ s e x. refl }) up
-          (candidate_is f.plain.memory.role (and_left (is_candidate f.plain.memory.role) _ k)) q c in
+          (candidate_is f.raft_server.memory.role (and_left (is_candidate f.raft_server.memory.role) _ k)) q c in
           rw (q) (record {
             between = won.between;
             leg = join members m (TakeVoteAnswer a) f (focused m f (Count m a)) won.between [] _ (leg_count k) won.leg;
@@ -279,13 +279,13 @@ vote_answer_lawful members m n f a up c h = elim (lt_tells f.plain.store.term a.
   ])
 ]
   where
-    stays : (u : Store) → u.commit ≡ f.plain.store.commit → f.ledger ≡ ledger_with f.ledger u
-    stays u e = sym (ledger_stays f.ledger u (same_commit f.ledger f.plain.store u c e))
+    stays : (u : Store) → u.commit ≡ f.raft_server.store.commit → f.ledger ≡ ledger_with f.ledger u
+    stays u e = sym (ledger_stays f.ledger u (same_commit f.ledger f.raft_server.store u c e))
 
-    leg_count : counts f.plain a ≡ true → Leg members m (TakeVoteAnswer a) f (focused m f (Count m a)) []
+    leg_count : counts f.raft_server a ≡ true → Leg members m (TakeVoteAnswer a) f (focused m f (Count m a)) []
     leg_count k =
-        let role : f.plain.memory.role ≡ Candidate = candidate_is f.plain.memory.role (and_left (is_candidate f.plain.memory.role) _ k) in
-        let more : ((a.term == f.plain.store.term) && a.success) ≡ true = and_right (is_candidate f.plain.memory.role) _ k in
+        let role : f.raft_server.memory.role ≡ Candidate = candidate_is f.raft_server.memory.role (and_left (is_candidate f.raft_server.memory.role) _ k) in
+        let more : ((a.term == f.raft_server.store.term) && a.success) ≡ true = and_right (is_candidate f.raft_server.memory.role) _ k in
         record {
           marks = Silent (Count m a) ∷ [];
           walk = (
@@ -295,8 +295,8 @@ vote_answer_lawful members m n f a up c h = elim (lt_tells f.plain.store.term a.
               in_bag = h.0;
               kind = h.2;
               mine = h.1;
-              own_term = eqb-true a.term f.plain.store.term (and_left (a.term == f.plain.store.term) _ more);
-              success = and_right (a.term == f.plain.store.term) _ more;
+              own_term = eqb-true a.term f.raft_server.store.term (and_left (a.term == f.raft_server.store.term) _ more);
+              success = and_right (a.term == f.raft_server.store.term) _ more;
               pending = h.3;
             },
             refl,

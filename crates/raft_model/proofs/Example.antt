@@ -11,7 +11,7 @@ use Rattle.raft_model.specs.Server.{Store}
 use Rattle.raft_model.specs.Moves.{vote_request, append_request, answer_to, pair_at}
 use Rattle.raft_model.specs.Moves.Move.{TimeOut, TakeVoteRequest, TakeVoteAnswer, TakeAppendRequest, TakeAppendAnswer, ProposeEntry, CommitTo, TellPair, TellNothing, CallForVote, CallToAppend}
 use Rattle.raft_model.specs.Moves.Verdict.{Added}
-use Rattle.raft_model.specs.Runs.{Event, beginning, run, Lawful}
+use Rattle.raft_model.specs.Runs.{Event, initial_world, run, Lawful}
 use Rattle.raft_model.specs.Runs.Event.{Opens, Steps}
 use Rattle.raft_model.specs.Rows.{IsAtWork}
 use Rattle.raft_model.proofs.Prefixes.{joined_lawful}
@@ -64,7 +64,7 @@ one_injective e = λ i j b c. absurd (omega (arith, b, c))
 pub is_pair : IsPair entry
 is_pair = record { uid = not_zeros; least = omega arith; most = omega arith }
 
-pub lawful : Lawful (beginning three) example
+pub lawful : Lawful (initial_world three) example
 lawful = (
   (inl refl, refl),
   (
@@ -166,10 +166,10 @@ lawful = (
   ),
 )
 
-pub tells : In (Pairs told) (run (beginning three) example).bag
+pub tells : In (Pairs told) (run (initial_world three) example).bag
 tells = inl refl
 
-pub commits : length (run (beginning three) example).ledger.entries ≡ 1
+pub commits : length (run (initial_world three) example).ledger.entries ≡ 1
 commits = refl
 
 -- ---- and then a reservation
@@ -202,7 +202,7 @@ two_injective zero (suc zero) b c = record { nodes = λ na nb e. omega (arith, e
 two_injective zero (suc (suc j)) b c = absurd (omega (arith, c))
 two_injective (suc i) (suc j) b c = absurd (omega (arith, b, c))
 
-pub lawful_further : Lawful (run (beginning three) example) further
+pub lawful_further : Lawful (run (initial_world three) example) further
 lawful_further = (
   (
     refl,
@@ -265,10 +265,10 @@ lawful_further = (
   ),
 )
 
-pub lawful_whole : Lawful (beginning three) (example ++ further)
-lawful_whole = joined_lawful (beginning three) example further lawful lawful_further
+pub lawful_whole : Lawful (initial_world three) (example ++ further)
+lawful_whole = joined_lawful (initial_world three) example further lawful lawful_further
 
-pub at_work : IsAtWork (run (beginning three) (example ++ further)) 1
+pub at_work : IsAtWork (run (initial_world three) (example ++ further)) 1
 at_work = record {
   ledger = refl;
   pair = is_pair;

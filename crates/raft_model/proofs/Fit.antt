@@ -4,12 +4,12 @@ use Rattle.std.specs.Prelude.{◌&&◌, ◌==◌}
 use Rattle.can_frame.specs.Log.{blank}
 use Rattle.raft_model.specs.Lists.{at}
 use Rattle.raft_model.specs.Messages.{Request, Answer, Message, reach}
-use Rattle.raft_model.specs.Server.{Role, Store, Memory, RaftServer, put_all, lost, opened}
+use Rattle.raft_model.specs.Server.{Role, Store, Memory, RaftServer, put_all, memory_when_down, memory_when_opened}
 use Rattle.raft_model.specs.Server.Role.{Follower, Candidate, Leader}
-use Rattle.raft_model.specs.Moves.{Move, Verdict, IsEnabled, IsJudged, is_candidate, append_memory, term_puts, with_term, term_memory, stand_puts, stand_memory, has_quorum, own_vote, adds_blank, win_puts, win_memory, grant_puts, vote_puts, counts, counted, ended, is_leader, advance_puts, append_puts, matched_memory, matched_after, next_after, vote_request, append_request}
+use Rattle.raft_model.specs.Moves.{Move, Verdict, IsEnabled, IsJudged, is_candidate, append_memory, term_puts, with_term, term_memory, stand_puts, stand_memory, has_quorum, own_vote, adds_blank, win_puts, win_memory, grant_puts, vote_puts, counts, votes_with, memory_without_call, is_leader, advance_puts, append_puts, matched_memory, matched_after, next_after, vote_request, append_request}
 use Rattle.raft_model.specs.Moves.Move.{TimeOut, TakeVoteRequest, TakeVoteAnswer, TakeAppendRequest, TakeAppendAnswer, ProposeEntry, CommitTo, TellPair, TellNothing, CallForVote, CallToAppend, AnswerAgain, GiveUp}
 use Rattle.raft_model.specs.Moves.Verdict.{Outdated, Refused, Held, Added}
-use Rattle.raft_model.specs.Handlers.{plain_after}
+use Rattle.raft_model.specs.Handlers.{server_after}
 use Rattle.raft_model.specs.Fit.{IsWithin, IsFit}
 use Rattle.raft_model.proofs.Apart.{none_some, some_same}
 use Rattle.raft_model.proofs.At.{at_each, at3_each}
@@ -36,11 +36,11 @@ follower member store memory role told = record {
     not_both Candidate a b = cc
     not_both Leader a b = cc
 
-pub opens_fit : (member : ℕ) (store : Store) → IsFit member (Both store opened)
-opens_fit member store = follower member store opened refl (omega arith)
+pub opens_fit : (member : ℕ) (store : Store) → IsFit member (Both store memory_when_opened)
+opens_fit member store = follower member store memory_when_opened refl (omega arith)
 
-pub loses_fit : (member : ℕ) (store : Store) → IsFit member (Both store lost)
-loses_fit member store = follower member store lost refl (omega arith)
+pub loses_fit : (member : ℕ) (store : Store) → IsFit member (Both store memory_when_down)
+loses_fit member store = follower member store memory_when_down refl (omega arith)
 
 -- a server that wins, with the blank or without it
 won : (member : ℕ) (store : Store) (memory : Memory) → store.vote ≡ Some member → 1 ≤ store.term
@@ -109,7 +109,7 @@ commit_after store request (Added entry) = elim (lt_tells request.previous (leng
 
 -- the call to a peer ends
 call_ended : (member peer : ℕ) (store : Store) (memory : Memory) → IsFit member (Both store memory)
-    → IsFit member (Both store (ended memory peer))
+    → IsFit member (Both store (memory_without_call memory peer))
 call_ended member peer store memory fit = record {
   told = fit.told;
   vote = fit.vote;
@@ -211,7 +211,7 @@ judged member server request (Added entry) is fit = follows member server reques
 
 pub fit_after : (members : List ℕ) (member step : ℕ) (bag : List Message) (called_before : List ℕ) (server : RaftServer) (move : Move)
     → IsEnabled members member bag called_before server move →
-    IsFit member server → IsFit member (plain_after members member step server move)
+    IsFit member server → IsFit member (server_after members member step server move)
 fit_after members member step bag called_before server TimeOut comes fit = elim (tell (has_quorum members (own_vote member))) [
   | inl h ↦
       rw (h) (won member (put_all server.store (stand_puts member server.store)) (stand_memory member server.memory) refl (omega arith))
@@ -227,12 +227,12 @@ fit_after members member step bag called_before server (TakeVoteAnswer answer) c
   | inl h ↦
       rw (h.0)
       (follower member (record server.store { term = answer.term; vote = None })
-      (record (ended server.memory answer.from) { role = Follower }) refl fit.told)
+      (record (memory_without_call server.memory answer.from) { role = Follower }) refl fit.told)
   | inr h ↦ rw (h.0) (elim (tell (counts server answer)) [
-    | inl k ↦ rw (k) (elim (tell (has_quorum members (counted server.memory answer))) [
+    | inl k ↦ rw (k) (elim (tell (has_quorum members (votes_with server.memory answer))) [
       | inl q ↦
           rw (q)
-          (won member server.store (record (ended server.memory answer.from) { votes = counted server.memory answer })
+          (won member server.store (record (memory_without_call server.memory answer.from) { votes = votes_with server.memory answer })
           (fit.vote (stands k)) (fit.term (stands k)))
       | inr q ↦
           rw (q)
@@ -251,7 +251,7 @@ fit_after members member step bag called_before server (TakeAppendAnswer answer)
   | inl h ↦
       rw (h.0)
       (follower member (record server.store { term = answer.term; vote = None })
-      (record (ended server.memory answer.from) { role = Follower }) refl fit.told)
+      (record (memory_without_call server.memory answer.from) { role = Follower }) refl fit.told)
   | inr h ↦ rw (h.0) (elim (tell (is_leader server.memory.role && (answer.term == server.store.term))) [
     | inl k ↦ rw (k) (acknowledged member server.store server.memory answer comes.3 fit)
     | inr k ↦ rw (k) (call_ended member answer.from server.store server.memory fit)

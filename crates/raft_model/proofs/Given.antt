@@ -7,7 +7,7 @@ use Rattle.raft_model.specs.Lists.{In}
 use Rattle.raft_model.specs.Messages.{Pair}
 use Rattle.raft_model.specs.Messages.Message.{Pairs}
 use Rattle.raft_model.specs.Server.{Store, committed}
-use Rattle.raft_model.specs.Runs.{World, InEveryRun, beginning, run}
+use Rattle.raft_model.specs.Runs.{World, InEveryRun, initial_world, run}
 use Rattle.raft_model.specs.Invariants.{Invariants, SoundStore}
 use Rattle.raft_model.specs.Safety.{IsSafe, IsGivenOnce}
 use Rattle.raft_model.proofs.Run.{keeps_invariants, is_safe}
@@ -69,7 +69,7 @@ module _ (pairs : (log : List Entry) (i j : ℕ) → IsInjective log → i < len
   }
     where
       world : World
-      world = run (beginning members) events
+      world = run (initial_world members) events
 
       holds : Invariants world
       holds = keeps_invariants members events lawful

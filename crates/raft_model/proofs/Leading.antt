@@ -26,9 +26,9 @@ leader_is Follower h = absurd (cc)
 leader_is Candidate h = absurd (cc)
 leader_is Leader h = refl
 
-pub append_answer_lawful : (members : List ℕ) (m n : ℕ) (f : Focus) (a : Answer) → f.plain.memory.up ≡ true → Covered f.ledger f.plain.store
-    → IsEnabled members m f.bag [] f.plain (TakeAppendAnswer a) → Whole members m n f (TakeAppendAnswer a)
-append_answer_lawful members m n f a up c h = elim (lt_tells f.plain.store.term a.term) [
+pub append_answer_lawful : (members : List ℕ) (m n : ℕ) (f : Focus) (a : Answer) → f.raft_server.memory.up ≡ true → Covered f.ledger f.raft_server.store
+    → IsEnabled members m f.bag [] f.raft_server (TakeAppendAnswer a) → Whole members m n f (TakeAppendAnswer a)
+append_answer_lawful members m n f a up c h = elim (lt_tells f.raft_server.store.term a.term) [
   | inl z ↦ rw (z.0) (record {
     between = focused m (focused m (focused m f (Drop m a.from)) (Raise m a.term)) (Clear m);
     leg = record {
@@ -44,8 +44,8 @@ append_answer_lawful members m n f a up c h = elim (lt_tells f.plain.store.term 
           refl,
           refl,
           refl,
-          stays (put f.plain.store (PutTerm a.term)) refl,
-          (refl, refl, refl, refl, stays (put (put f.plain.store (PutTerm a.term)) (PutVote None)) refl, tt),
+          stays (put f.raft_server.store (PutTerm a.term)) refl,
+          (refl, refl, refl, refl, stays (put (put f.raft_server.store (PutTerm a.term)) (PutVote None)) refl, tt),
         ),
       );
       puts = refl;
@@ -60,7 +60,7 @@ append_answer_lawful members m n f a up c h = elim (lt_tells f.plain.store.term 
     bag = refl;
     said = λ x i. absurd i;
   })
-  | inr z ↦ rw (z.0) (elim (tell (is_leader f.plain.memory.role && (a.term == f.plain.store.term))) [
+  | inr z ↦ rw (z.0) (elim (tell (is_leader f.raft_server.memory.role && (a.term == f.raft_server.store.term))) [
     | inl k ↦ rw (k) (record {
       between = f;
       leg = record { marks = []; walk = tt; puts = refl; ends = refl };
@@ -68,11 +68,11 @@ append_answer_lawful members m n f a up c h = elim (lt_tells f.plain.store.term 
       lawful = (
         record {
           up = up;
-          role = leader_is f.plain.memory.role (and_left (is_leader f.plain.memory.role) _ k);
+          role = leader_is f.raft_server.memory.role (and_left (is_leader f.raft_server.memory.role) _ k);
           in_bag = h.0;
           kind = h.2;
           mine = h.1;
-          own_term = eqb-true a.term f.plain.store.term (and_right (is_leader f.plain.memory.role) _ k);
+          own_term = eqb-true a.term f.raft_server.store.term (and_right (is_leader f.raft_server.memory.role) _ k);
           pending = h.3;
         },
         tt,
@@ -99,12 +99,12 @@ append_answer_lawful members m n f a up c h = elim (lt_tells f.plain.store.term 
   ])
 ]
   where
-    stays : (u : Store) → u.commit ≡ f.plain.store.commit → f.ledger ≡ ledger_with f.ledger u
-    stays u e = sym (ledger_stays f.ledger u (same_commit f.ledger f.plain.store u c e))
+    stays : (u : Store) → u.commit ≡ f.raft_server.store.commit → f.ledger ≡ ledger_with f.ledger u
+    stays u e = sym (ledger_stays f.ledger u (same_commit f.ledger f.raft_server.store u c e))
 
 -- every move is a lawful list of micro moves with the result that the table says
-pub move_lawful : (members : List ℕ) (m n : ℕ) (f : Focus) (called : List ℕ) (mv : Move) → f.plain.memory.up ≡ true
-    → Covered f.ledger f.plain.store → IsEnabled members m f.bag called f.plain mv → Whole members m n f mv
+pub move_lawful : (members : List ℕ) (m n : ℕ) (f : Focus) (called : List ℕ) (mv : Move) → f.raft_server.memory.up ≡ true
+    → Covered f.ledger f.raft_server.store → IsEnabled members m f.bag called f.raft_server mv → Whole members m n f mv
 move_lawful members m n f called TimeOut up c h = time_out members m n f up c
 move_lawful members m n f called (TakeVoteRequest r g) up c h = vote_request_lawful members m n f r g up c h
 move_lawful members m n f called (TakeVoteAnswer a) up c h = vote_answer_lawful members m n f a up c h
@@ -119,7 +119,7 @@ move_lawful members m n f called (ProposeEntry e) up c h = record {
       refl,
       refl,
       refl,
-      sym (ledger_stays f.ledger f.plain.store c),
+      sym (ledger_stays f.ledger f.raft_server.store c),
       (
         record {
           up = up;
@@ -132,8 +132,8 @@ move_lawful members m n f called (ProposeEntry e) up c h = record {
         refl,
         refl,
         refl,
-        sym (ledger_stays f.ledger (put f.plain.store (PutLonger e))
-            (same_commit f.ledger f.plain.store (put f.plain.store (PutLonger e)) c refl)),
+        sym (ledger_stays f.ledger (put f.raft_server.store (PutLonger e))
+            (same_commit f.ledger f.raft_server.store (put f.raft_server.store (PutLonger e)) c refl)),
         tt,
       ),
     );
@@ -183,7 +183,7 @@ move_lawful members m n f called TellPair up c h = record {
   history = refl;
   memory = refl;
   bag = refl;
-  said = only_said (focused m f (Tell m n)) (Pairs (pair_at m n f.plain.store f.plain.memory.told)) (inl refl);
+  said = only_said (focused m f (Tell m n)) (Pairs (pair_at m n f.raft_server.store f.raft_server.memory.told)) (inl refl);
 }
 move_lawful members m n f called TellNothing up c h = record {
   between = f;
@@ -207,7 +207,7 @@ move_lawful members m n f called (CallForVote q) up c h = record {
   history = refl;
   memory = refl;
   bag = refl;
-  said = only_said (focused m f (CallVote m n q)) (Requests (vote_request m n f.plain.store q)) (inl refl);
+  said = only_said (focused m f (CallVote m n q)) (Requests (vote_request m n f.raft_server.store q)) (inl refl);
 }
 move_lawful members m n f called (CallToAppend q p w) up c h = record {
   between = f;
@@ -219,7 +219,7 @@ move_lawful members m n f called (CallToAppend q p w) up c h = record {
   history = refl;
   memory = refl;
   bag = refl;
-  said = only_said (focused m f (CallAppend m n q p w)) (Requests (append_request m n f.plain.store q p w)) (inl refl);
+  said = only_said (focused m f (CallAppend m n q p w)) (Requests (append_request m n f.raft_server.store q p w)) (inl refl);
 }
 move_lawful members m n f called (AnswerAgain i) up c h = record {
   between = f;
@@ -231,7 +231,7 @@ move_lawful members m n f called (AnswerAgain i) up c h = record {
   history = refl;
   memory = refl;
   bag = refl;
-  said = only_said (focused m f (Again m n i)) (Pairs (pair_at m n f.plain.store i)) (inl refl);
+  said = only_said (focused m f (Again m n i)) (Pairs (pair_at m n f.raft_server.store i)) (inl refl);
 }
 move_lawful members m n f called (GiveUp q) up c h = record {
   between = f;

@@ -6,11 +6,11 @@ use Rattle.raft_model.specs.Server.{Role, RaftServer, Put, put_all}
 use Rattle.raft_model.specs.Server.Role.{Follower, Candidate, Leader}
 use Rattle.raft_model.specs.History.{History}
 use Rattle.raft_model.specs.Ledger.{ledger_through}
-use Rattle.raft_model.specs.Moves.{Move, Verdict, acknowledges, append_memory, calls, counted, counts, is_candidate, memory_after, move_history, offers, own_vote, puts, puts_history}
+use Rattle.raft_model.specs.Moves.{Move, Verdict, acknowledges, append_memory, calls, votes_with, counts, is_candidate, memory_after, move_history, offers, own_vote, puts, puts_history}
 use Rattle.raft_model.specs.Moves.Move.{TimeOut, TakeVoteRequest, TakeVoteAnswer, TakeAppendRequest, TakeAppendAnswer, ProposeEntry, CommitTo, TellPair, TellNothing, CallForVote, CallToAppend, AnswerAgain, GiveUp}
 use Rattle.raft_model.specs.Moves.Verdict.{Outdated, Refused, Held, Added}
-use Rattle.raft_model.specs.Handlers.{plain_after, plain_after_all, puts_of_all, offers_of_all}
-use Rattle.raft_model.specs.Stops.{LocalState, moved, all_moved, AllEnabled}
+use Rattle.raft_model.specs.Handlers.{server_after, server_after_all, puts_of_all, offers_of_all}
+use Rattle.raft_model.specs.Stops.{LocalState, state_after_move, state_after_moves, AllEnabled}
 use Rattle.raft_model.specs.Members.{IsAll, KnowsEnough, counts_votes}
 use Rattle.raft_model.proofs.Apart.{candidate_no_follower, false_true}
 use Rattle.raft_model.proofs.Complete.{and_left}
@@ -73,7 +73,7 @@ module _ (list members : List ℕ) (member step : ℕ) where
 
   -- the moves after one count over all too
   knows_later : (server : RaftServer) (move : Move) (moves : List Move) → KnowsEnough list members server (move ∷ moves)
-      → KnowsEnough list members (plain_after list member step server move) moves
+      → KnowsEnough list members (server_after list member step server move) moves
   knows_later server move moves knows = record {
     counting = λ n. either (follower_or server.memory.role) n;
     standing = λ i. knows.standing (inr i);
@@ -93,7 +93,7 @@ module _ (list members : List ℕ) (member step : ℕ) where
       ]
 
   same_after : (server : RaftServer) (move : Move) → (counts_votes server move ≡ true → IsAll list members)
-      → plain_after list member step server move ≡ plain_after members member step server move
+      → server_after list member step server move ≡ server_after members member step server move
   same_after server move all = λ i. record {
     store = put_all server.store (same_puts list members member server move all i);
     memory = same_memory list members member step server move all i;
@@ -103,68 +103,68 @@ module _ (list members : List ℕ) (member step : ℕ) where
       → move_history list member server move history ≡ move_history members member server move history
   same_history server TimeOut history all = rw (same_quorum list members (own_vote member) (all refl)) refl
   same_history server (TakeVoteAnswer answer) history all = elim (tell (counts server answer)) [
-    | inl c ↦ rw (same_quorum list members (counted server.memory answer) (all c)) refl
+    | inl c ↦ rw (same_quorum list members (votes_with server.memory answer) (all c)) refl
     | inr c ↦ rw (c) refl
   ]
   same_history server _ history all = refl
 
-  same_moved : (site : LocalState) (move : Move) → (counts_votes site.plain move ≡ true → IsAll list members)
-      → moved list member step site move ≡ moved members member step site move
-  same_moved site move all = λ i. record {
-    plain = same_after site.plain move all i;
+  same_moved : (local_state : LocalState) (move : Move) → (counts_votes local_state.raft_server move ≡ true → IsAll list members)
+      → state_after_move list member step local_state move ≡ state_after_move members member step local_state move
+  same_moved local_state move all = λ i. record {
+    raft_server = same_after local_state.raft_server move all i;
     history = remembered i;
-    ledger = ledger_through site.ledger site.plain.store (same_puts list members member site.plain move all i);
-    offered = offers member step site.plain move ++ site.offered;
-    called = calls move ++ site.called;
+    ledger = ledger_through local_state.ledger local_state.raft_server.store (same_puts list members member local_state.raft_server move all i);
+    offered = offers member step local_state.raft_server move ++ local_state.offered;
+    called = calls move ++ local_state.called;
   }
     where
-      remembered : move_history list member site.plain move
-          (puts_history member move site.plain.store (puts list member site.plain move) site.history)
-          ≡ move_history members member site.plain move
-          (puts_history member move site.plain.store (puts members member site.plain move) site.history)
-      remembered = same_history site.plain move (puts_history member move site.plain.store (puts list member site.plain move) site.history) all
-          ∙ ap (λ (xs : List Put). move_history members member site.plain move
-          (puts_history member move site.plain.store xs site.history)) (same_puts list members member site.plain move all)
+      remembered : move_history list member local_state.raft_server move
+          (puts_history member move local_state.raft_server.store (puts list member local_state.raft_server move) local_state.history)
+          ≡ move_history members member local_state.raft_server move
+          (puts_history member move local_state.raft_server.store (puts members member local_state.raft_server move) local_state.history)
+      remembered = same_history local_state.raft_server move (puts_history member move local_state.raft_server.store (puts list member local_state.raft_server move) local_state.history) all
+          ∙ ap (λ (xs : List Put). move_history members member local_state.raft_server move
+          (puts_history member move local_state.raft_server.store xs local_state.history)) (same_puts list members member local_state.raft_server move all)
 
   -- ---- all of them
 
   pub all_after : (server : RaftServer) (moves : List Move) → KnowsEnough list members server moves
-      → plain_after_all list member step server moves ≡ plain_after_all members member step server moves
+      → server_after_all list member step server moves ≡ server_after_all members member step server moves
   all_after server [] knows = refl
   all_after server (move ∷ moves) knows =
-      all_after (plain_after list member step server move) moves (knows_later server move moves knows)
-      ∙ ap (λ (p : RaftServer). plain_after_all members member step p moves) (same_after server move (counted_over_all server move moves knows))
+      all_after (server_after list member step server move) moves (knows_later server move moves knows)
+      ∙ ap (λ (p : RaftServer). server_after_all members member step p moves) (same_after server move (counted_over_all server move moves knows))
 
   pub all_puts : (server : RaftServer) (moves : List Move) → KnowsEnough list members server moves
       → puts_of_all list member step server moves ≡ puts_of_all members member step server moves
   all_puts server [] knows = refl
   all_puts server (move ∷ moves) knows =
-      ap (λ (xs : List Put). xs ++ puts_of_all list member step (plain_after list member step server move) moves)
+      ap (λ (xs : List Put). xs ++ puts_of_all list member step (server_after list member step server move) moves)
       (same_puts list members member server move (counted_over_all server move moves knows))
       ∙ ap (λ (xs : List Put). puts members member server move ++ xs)
-      (all_puts (plain_after list member step server move) moves (knows_later server move moves knows)
+      (all_puts (server_after list member step server move) moves (knows_later server move moves knows)
       ∙ ap (λ (p : RaftServer). puts_of_all members member step p moves) (same_after server move (counted_over_all server move moves knows)))
 
   pub all_offers : (server : RaftServer) (moves : List Move) → KnowsEnough list members server moves
       → offers_of_all list member step server moves ≡ offers_of_all members member step server moves
   all_offers server [] knows = refl
   all_offers server (move ∷ moves) knows = ap (λ (xs : List Message). xs ++ offers member step server move)
-      (all_offers (plain_after list member step server move) moves (knows_later server move moves knows)
+      (all_offers (server_after list member step server move) moves (knows_later server move moves knows)
       ∙ ap (λ (p : RaftServer). offers_of_all members member step p moves) (same_after server move (counted_over_all server move moves knows)))
 
-  pub all_site : (site : LocalState) (moves : List Move) → KnowsEnough list members site.plain moves
-      → all_moved list member step site moves ≡ all_moved members member step site moves
-  all_site site [] knows = refl
-  all_site site (move ∷ moves) knows =
-      all_site (moved list member step site move) moves (knows_later site.plain move moves knows)
-      ∙ ap (λ (x : LocalState). all_moved members member step x moves) (same_moved site move (counted_over_all site.plain move moves knows))
+  pub all_local_state : (local_state : LocalState) (moves : List Move) → KnowsEnough list members local_state.raft_server moves
+      → state_after_moves list member step local_state moves ≡ state_after_moves members member step local_state moves
+  all_local_state local_state [] knows = refl
+  all_local_state local_state (move ∷ moves) knows =
+      all_local_state (state_after_move list member step local_state move) moves (knows_later local_state.raft_server move moves knows)
+      ∙ ap (λ (x : LocalState). state_after_moves members member step x moves) (same_moved local_state move (counted_over_all local_state.raft_server move moves knows))
 
-  pub all_come : (bag : List Message) (site : LocalState) (moves : List Move) → KnowsEnough list members site.plain moves
-      → AllEnabled list member step bag site moves → AllEnabled members member step bag site moves
-  all_come bag site [] knows come = tt
-  all_come bag site (move ∷ moves) knows come = (
-    same_come list members member bag site.called site.plain move knows.counting come.0,
+  pub all_come : (bag : List Message) (local_state : LocalState) (moves : List Move) → KnowsEnough list members local_state.raft_server moves
+      → AllEnabled list member step bag local_state moves → AllEnabled members member step bag local_state moves
+  all_come bag local_state [] knows come = tt
+  all_come bag local_state (move ∷ moves) knows come = (
+    same_come list members member bag local_state.called local_state.raft_server move knows.counting come.0,
     subst (λ (x : LocalState). AllEnabled members member step bag x moves)
-        (same_moved site move (counted_over_all site.plain move moves knows))
-        (all_come bag (moved list member step site move) moves (knows_later site.plain move moves knows) come.1),
+        (same_moved local_state move (counted_over_all local_state.raft_server move moves knows))
+        (all_come bag (state_after_move list member step local_state move) moves (knows_later local_state.raft_server move moves knows) come.1),
   )

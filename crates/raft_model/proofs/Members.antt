@@ -5,7 +5,7 @@ use Rattle.raft_model.specs.Lists.{In, how_many}
 use Rattle.raft_model.specs.Messages.{Message}
 use Rattle.raft_model.specs.Server.{RaftServer, quorum}
 use Rattle.raft_model.specs.Server.Role.{Follower}
-use Rattle.raft_model.specs.Moves.{Move, IsEnabled, CanCommit, MayCall, puts, memory_after, counts, counted, has_matched, has_quorum, own_vote}
+use Rattle.raft_model.specs.Moves.{Move, IsEnabled, CanCommit, MayCall, puts, memory_after, counts, votes_with, has_matched, has_quorum, own_vote}
 use Rattle.raft_model.specs.Moves.Move.{TimeOut, TakeVoteRequest, TakeVoteAnswer, TakeAppendRequest, TakeAppendAnswer, ProposeEntry, CommitTo, TellPair, TellNothing, CallForVote, CallToAppend, AnswerAgain, GiveUp}
 use Rattle.raft_model.specs.Members.{IsAll, counts_votes}
 use Rattle.raft_model.specs.Decisions.{can_commit, greatest_to, commit_index}
@@ -62,7 +62,7 @@ pub same_puts : (list members : List ℕ) (member : ℕ) (server : RaftServer) (
     → puts list member server move ≡ puts members member server move
 same_puts list members member server TimeOut h = rw (same_quorum list members (own_vote member) (h refl)) refl
 same_puts list members member server (TakeVoteAnswer answer) h = elim (tell (counts server answer)) [
-  | inl c ↦ rw (same_quorum list members (counted server.memory answer) (h c)) refl
+  | inl c ↦ rw (same_quorum list members (votes_with server.memory answer) (h c)) refl
   | inr c ↦ rw (c) refl
 ]
 same_puts list members member server _ h = refl
@@ -72,7 +72,7 @@ pub same_memory : (list members : List ℕ) (member step : ℕ) (server : RaftSe
     → memory_after list member step server move ≡ memory_after members member step server move
 same_memory list members member step server TimeOut h = rw (same_quorum list members (own_vote member) (h refl)) refl
 same_memory list members member step server (TakeVoteAnswer answer) h = elim (tell (counts server answer)) [
-  | inl c ↦ rw (same_quorum list members (counted server.memory answer) (h c)) refl
+  | inl c ↦ rw (same_quorum list members (votes_with server.memory answer) (h c)) refl
   | inr c ↦ rw (c) refl
 ]
 same_memory list members member step server _ h = refl

@@ -8,7 +8,7 @@ use Rattle.raft_model.specs.Invariants.{IsFirm, StaysSettled, has_acknowledged, 
 use Rattle.raft_model.specs.Lists.{any, how_many}
 use Rattle.raft_model.specs.Log.{Same}
 use Rattle.raft_model.specs.Messages.{Message}
-use Rattle.raft_model.specs.Runs.{Event, FromEachMoment, World, after, beginning, posted, run}
+use Rattle.raft_model.specs.Runs.{Event, FromEachMoment, World, after, initial_world, bag_with, run}
 use Rattle.raft_model.specs.Runs.Event.{Opens, Steps, Stops, StopsWithin}
 use Rattle.raft_model.specs.Safety.{Lasts}
 use Rattle.raft_model.specs.Server.{quorum}
@@ -26,7 +26,7 @@ prefix_same a b k e h = sym (take-take k (length a) b h) ∙ ap (take k) e
 
 -- ---- the bag only grows, and the members stay
 
-any_posted : (test : Message → Bool) (messages bag : List Message) → any test bag ≡ true → any test (posted messages bag) ≡ true
+any_posted : (test : Message → Bool) (messages bag : List Message) → any test bag ≡ true → any test (bag_with messages bag) ≡ true
 any_posted test [] bag h = h
 any_posted test (message ∷ messages) bag h = any_posted test messages (message ∷ bag) (any_more test message bag h)
 
@@ -98,4 +98,4 @@ module _ (early : World) (events : List Event) (still : Lasts early (run early e
   )
 
 pub settled_lasts : FromEachMoment StaysSettled
-settled_lasts members early late l h = settled_later (run (beginning members) early) late (lasts members early late l h)
+settled_lasts members early late l h = settled_later (run (initial_world members) early) late (lasts members early late l h)

@@ -3,14 +3,14 @@ use Rattle.std.proofs.Common.{◌≡◌, ◌≢◌, ℕ, zero, suc, ◌≤◌, t
 use Rattle.raft_model.specs.Lists.{In, at_here}
 use Rattle.raft_model.specs.Messages.{Message, Request, reach}
 use Rattle.raft_model.specs.Messages.Message.{Requests}
-use Rattle.raft_model.specs.Server.{Store, RaftServer, Put, put, put_all, committed, lost}
+use Rattle.raft_model.specs.Server.{Store, RaftServer, Put, put, put_all, committed, memory_when_down}
 use Rattle.raft_model.specs.Server.Put.{PutTerm, PutVote, PutEntry, PutLonger, PutShorter, PutCommit}
 use Rattle.raft_model.specs.Ledger.{Ledger, ledger_through}
-use Rattle.raft_model.specs.Moves.{Move, Verdict, IsEnabled, puts, term_puts, with_term, win_puts, adds_blank, has_quorum, own_vote, counts, counted, stand_puts, grant_puts, vote_puts, append_puts, advance_puts, cut_puts}
+use Rattle.raft_model.specs.Moves.{Move, Verdict, IsEnabled, puts, term_puts, with_term, win_puts, adds_blank, has_quorum, own_vote, counts, votes_with, stand_puts, grant_puts, vote_puts, append_puts, advance_puts, cut_puts}
 use Rattle.raft_model.specs.Moves.Move.{TimeOut, TakeVoteRequest, TakeVoteAnswer, TakeAppendRequest, TakeAppendAnswer, ProposeEntry, CommitTo, TellPair, TellNothing, CallForVote, CallToAppend, AnswerAgain, GiveUp}
 use Rattle.raft_model.specs.Moves.Verdict.{Outdated, Refused, Held, Added}
-use Rattle.raft_model.specs.Stops.{LocalState, moved, AllEnabled}
-use Rattle.raft_model.specs.Runs.{World, Event, beginning, site_of, site_after, after, MayOccur, run, Lawful}
+use Rattle.raft_model.specs.Stops.{LocalState, state_after_move, AllEnabled}
+use Rattle.raft_model.specs.Runs.{World, Event, initial_world, local_state_of, local_state_after, after, MayOccur, run, Lawful}
 use Rattle.raft_model.specs.Runs.Event.{Steps, Stops, StopsWithin}
 use Rattle.raft_model.specs.Invariants.{Invariants}
 use Rattle.raft_model.specs.Safety.{IsSafe}
@@ -126,7 +126,7 @@ puts_low members member bag called server (TakeVoteAnswer answer) top comes low 
   | inr h ↦ rw (h.0) (elim (tell (counts server answer)) [
     | inl k ↦
         rw (k)
-        (elim (tell (has_quorum members (counted server.memory answer)))
+        (elim (tell (has_quorum members (votes_with server.memory answer)))
         [ inl q ↦ rw (q) (win_low top server.store) | inr q ↦ rw (q) tt ])
     | inr k ↦ rw (k) tt
   ])
@@ -162,63 +162,63 @@ covered world member holds safe = record {
     store = (world.server member).store
 
 -- after some moves of a step, puts that are no commit of a Leader leave the ledger
-module _ (members : List ℕ) (events : List Event) (member step : ℕ) (moves : List Move) (next : Move) (lawful : Lawful (beginning members) events)
-    (may : (((run (beginning members) events).server member).memory.up ≡ true)
-    × AllEnabled (run (beginning members) events).members member step (run (beginning members) events).bag
-    (site_of (run (beginning members) events) member) moves
-    × IsEnabled (run (beginning members) events).members member (run (beginning members) events).bag
-    (site_after (run (beginning members) events) member step moves).called (site_after (run (beginning members) events) member step moves).plain
+module _ (members : List ℕ) (events : List Event) (member step : ℕ) (moves : List Move) (next : Move) (lawful : Lawful (initial_world members) events)
+    (may : (((run (initial_world members) events).server member).memory.up ≡ true)
+    × AllEnabled (run (initial_world members) events).members member step (run (initial_world members) events).bag
+    (local_state_of (run (initial_world members) events) member) moves
+    × IsEnabled (run (initial_world members) events).members member (run (initial_world members) events).bag
+    (local_state_after (run (initial_world members) events) member step moves).called (local_state_after (run (initial_world members) events) member step moves).raft_server
     next)
     (other : (index : ℕ) → next ≢ CommitTo index) where
   abbrev world : World
-  world = run (beginning members) events
+  world = run (initial_world members) events
 
-  abbrev site : LocalState
-  site = site_after world member step moves
+  abbrev local_state : LocalState
+  local_state = local_state_after world member step moves
 
-  stop : Lawful (beginning members) (events ++ (Stops member step moves ∷ []))
-  stop = lawful_then_one events (Stops member step moves) (beginning members) lawful (may.0, may.1)
+  stop : Lawful (initial_world members) (events ++ (Stops member step moves ∷ []))
+  stop = lawful_then_one events (Stops member step moves) (initial_world members) lawful (may.0, may.1)
 
   holds : Invariants (after world (Stops member step moves))
-  holds = subst Invariants (run_then_one events (Stops member step moves) (beginning members))
+  holds = subst Invariants (run_then_one events (Stops member step moves) (initial_world members))
       (keeps_invariants members (events ++ (Stops member step moves ∷ [])) stop)
 
   safe : IsSafe (after world (Stops member step moves))
-  safe = subst IsSafe (run_then_one events (Stops member step moves) (beginning members))
+  safe = subst IsSafe (run_then_one events (Stops member step moves) (initial_world members))
       (is_safe members (events ++ (Stops member step moves ∷ [])) stop)
 
-  here : Covered site.ledger site.plain.store
-  here = subst (Covered site.ledger)
-      (ap (λ (p : RaftServer). p.store) (at_here world.server member member (record { store = site.plain.store; memory = lost }) refl))
+  here : Covered local_state.ledger local_state.raft_server.store
+  here = subst (Covered local_state.ledger)
+      (ap (λ (p : RaftServer). p.store) (at_here world.server member member (record { store = local_state.raft_server.store; memory = memory_when_down }) refl))
       (covered (after world (Stops member step moves)) member holds safe)
 
-  low : EachLow (length site.ledger.entries) (puts world.members member site.plain next)
-  low = puts_low world.members member world.bag site.called site.plain next (length site.ledger.entries) may.2
+  low : EachLow (length local_state.ledger.entries) (puts world.members member local_state.raft_server next)
+  low = puts_low world.members member world.bag local_state.called local_state.raft_server next (length local_state.ledger.entries) may.2
       (λ request i append. (holds.commits.requests request i append).0) other
 
-  move_waits : (moved world.members member step site next).ledger ≡ site.ledger
-  move_waits = stays site.ledger site.plain.store (puts world.members member site.plain next) here low
+  move_waits : (state_after_move world.members member step local_state next).ledger ≡ local_state.ledger
+  move_waits = stays local_state.ledger local_state.raft_server.store (puts world.members member local_state.raft_server next) here low
 
-  pub cut_waits : (count : ℕ) → (after world (StopsWithin member step moves next count)).ledger ≡ site.ledger
-  cut_waits count = stays site.ledger site.plain.store (take count (puts world.members member site.plain next)) here
-      (take_low (length site.ledger.entries) count (puts world.members member site.plain next) low)
+  pub cut_waits : (count : ℕ) → (after world (StopsWithin member step moves next count)).ledger ≡ local_state.ledger
+  cut_waits count = stays local_state.ledger local_state.raft_server.store (take count (puts world.members member local_state.raft_server next)) here
+      (take_low (length local_state.ledger.entries) count (puts world.members member local_state.raft_server next) low)
 
-pub ledger_waits : (members : List ℕ) (events : List Event) → Lawful (beginning members) events
+pub ledger_waits : (members : List ℕ) (events : List Event) → Lawful (initial_world members) events
     → (member step : ℕ) (moves : List Move) (next : Move) (rest : List Move) (fitted : List Message)
-    → MayOccur (run (beginning members) events) (Steps member step (moves ++ (next ∷ rest)) fitted) → ((index : ℕ) → next ≢ CommitTo index) →
-    (site_after (run (beginning members) events) member step (moves ++ (next ∷ []))).ledger
-    ≡ (site_after (run (beginning members) events) member step moves).ledger
+    → MayOccur (run (initial_world members) events) (Steps member step (moves ++ (next ∷ rest)) fitted) → ((index : ℕ) → next ≢ CommitTo index) →
+    (local_state_after (run (initial_world members) events) member step (moves ++ (next ∷ []))).ledger
+    ≡ (local_state_after (run (initial_world members) events) member step moves).ledger
 ledger_waits members events lawful member step moves next rest fitted may other =
-    ap (λ (x : LocalState). x.ledger) (joined_moves world.members member step moves (next ∷ []) (site_of world member))
+    ap (λ (x : LocalState). x.ledger) (joined_moves world.members member step moves (next ∷ []) (local_state_of world member))
     ∙ move_waits members events member step moves next lawful (stop_comes world member step moves next rest fitted 0 may) other
   where
     world : World
-    world = run (beginning members) events
+    world = run (initial_world members) events
 
-pub ledger_cut : (members : List ℕ) (events : List Event) → Lawful (beginning members) events
+pub ledger_cut : (members : List ℕ) (events : List Event) → Lawful (initial_world members) events
     → (member step : ℕ) (moves : List Move) (next : Move) (count : ℕ)
-    → MayOccur (run (beginning members) events) (StopsWithin member step moves next count) → ((index : ℕ) → next ≢ CommitTo index) →
-    (after (run (beginning members) events) (StopsWithin member step moves next count)).ledger
-    ≡ (site_after (run (beginning members) events) member step moves).ledger
+    → MayOccur (run (initial_world members) events) (StopsWithin member step moves next count) → ((index : ℕ) → next ≢ CommitTo index) →
+    (after (run (initial_world members) events) (StopsWithin member step moves next count)).ledger
+    ≡ (local_state_after (run (initial_world members) events) member step moves).ledger
 ledger_cut members events lawful member step moves next count may other = cut_waits members events member step moves next lawful may other
     count

@@ -49,27 +49,27 @@ pub same_commit : (g : Ledger) (s u : Store) → Covered g s → u.commit ≡ s.
 same_commit g s u h e = record { commit = omega (arith, h.commit, e); stamps = h.stamps }
 
 abbrev pub term_focus : Focus → ℕ → Focus
-term_focus f t = with_both f (with_term f.plain.store t) (term_memory f.plain t) (if nat_lt f.plain.store.term t then true else f.fresh)
+term_focus f t = with_both f (with_term f.raft_server.store t) (term_memory f.raft_server t) (if nat_lt f.raft_server.store.term t then true else f.fresh)
 
-pub leg_term : (members : List ℕ) (m : ℕ) (mv : Move) (f : Focus) (t : ℕ) → f.plain.memory.up ≡ true → Covered f.ledger f.plain.store
-    → Leg members m mv f (term_focus f t) (term_puts f.plain.store t)
-leg_term members m mv f t up c = elim (lt_tells f.plain.store.term t) [
+pub leg_term : (members : List ℕ) (m : ℕ) (mv : Move) (f : Focus) (t : ℕ) → f.raft_server.memory.up ≡ true → Covered f.ledger f.raft_server.store
+    → Leg members m mv f (term_focus f t) (term_puts f.raft_server.store t)
+leg_term members m mv f t up c = elim (lt_tells f.raft_server.store.term t) [
   | inl h ↦ rw (h.0) (record {
     marks = Puts (PutTerm t) (Raise m t) ∷ Puts (PutVote None) (Clear m) ∷ [];
     walk = (
       (up, h.1),
       refl,
       refl,
-      sym (term_forgets m mv f.plain.store t f.history),
-      sym (ledger_stays f.ledger (put f.plain.store (PutTerm t))
-          (same_commit f.ledger f.plain.store (put f.plain.store (PutTerm t)) c refl)),
+      sym (term_forgets m mv f.raft_server.store t f.history),
+      sym (ledger_stays f.ledger (put f.raft_server.store (PutTerm t))
+          (same_commit f.ledger f.raft_server.store (put f.raft_server.store (PutTerm t)) c refl)),
       (
         refl,
         refl,
         refl,
-        sym (clear_forgets m mv (put f.plain.store (PutTerm t)) f.history),
-        sym (ledger_stays f.ledger (put (put f.plain.store (PutTerm t)) (PutVote None))
-            (same_commit f.ledger f.plain.store (put (put f.plain.store (PutTerm t)) (PutVote None)) c refl)),
+        sym (clear_forgets m mv (put f.raft_server.store (PutTerm t)) f.history),
+        sym (ledger_stays f.ledger (put (put f.raft_server.store (PutTerm t)) (PutVote None))
+            (same_commit f.ledger f.raft_server.store (put (put f.raft_server.store (PutTerm t)) (PutVote None)) c refl)),
         tt,
       ),
     );

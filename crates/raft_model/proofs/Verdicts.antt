@@ -5,7 +5,7 @@ use Rattle.raft_model.specs.Messages.{Request}
 use Rattle.raft_model.specs.Server.{Store, RaftServer}
 use Rattle.raft_model.specs.Moves.{Verdict, Holds, Adds, IsThere, IsBadEntry, IsRefused, IsCurrent, IsOutdated, IsJudged, with_term}
 use Rattle.raft_model.specs.Moves.Verdict.{Outdated, Refused, Held, Added}
-use Rattle.raft_model.specs.Decisions.{judges}
+use Rattle.raft_model.specs.Decisions.{verdict_on}
 use Rattle.raft_model.proofs.Apart.{none_some, some_same}
 use Rattle.raft_model.proofs.Decisions.{judged}
 
@@ -72,5 +72,5 @@ two_verdicts p r (Added e) Held x y = absurd (held_added (with_term p.store r.te
 two_verdicts p r (Added e) (Added d) x y = ap (λ (z : Entry). Added z) (some_same e d (sym x.1.carried ∙ y.1.carried))
 
 pub one_verdict : (server : RaftServer) (request : Request) (verdict : Verdict) → IsJudged server request verdict
-    → verdict ≡ judges server request
-one_verdict server request verdict is = two_verdicts server request verdict (judges server request) is (judged server request)
+    → verdict ≡ verdict_on server request
+one_verdict server request verdict is = two_verdicts server request verdict (verdict_on server request) is (judged server request)

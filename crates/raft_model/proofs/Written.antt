@@ -4,8 +4,8 @@ use Rattle.raft_model.specs.Messages.{Request, reach}
 use Rattle.can_frame.specs.declared.entry.Entry.{Entry}
 use Rattle.raft_model.specs.Server.{Store, RaftServer, Put, AreWritten, put_all}
 use Rattle.raft_model.specs.Server.Put.{PutTerm, PutVote, PutEntry, PutLonger, PutShorter, PutCommit}
-use Rattle.raft_model.specs.Handlers.{plain_after, puts_of_all}
-use Rattle.raft_model.specs.Moves.{Move, Verdict, puts, term_puts, with_term, win_puts, adds_blank, has_quorum, own_vote, counts, counted, stand_puts, grant_puts, vote_puts, append_puts, advance_puts}
+use Rattle.raft_model.specs.Handlers.{server_after, puts_of_all}
+use Rattle.raft_model.specs.Moves.{Move, Verdict, puts, term_puts, with_term, win_puts, adds_blank, has_quorum, own_vote, counts, votes_with, stand_puts, grant_puts, vote_puts, append_puts, advance_puts}
 use Rattle.raft_model.specs.Moves.Move.{TimeOut, TakeVoteRequest, TakeVoteAnswer, TakeAppendRequest, TakeAppendAnswer, ProposeEntry, CommitTo, TellPair, TellNothing, CallForVote, CallToAppend, AnswerAgain, GiveUp}
 use Rattle.raft_model.specs.Moves.Verdict.{Outdated, Refused, Held, Added}
 use Rattle.raft_model.proofs.Quorum.{tell}
@@ -51,7 +51,7 @@ puts_written members member server (TakeVoteAnswer answer) = elim (lt_tells serv
   | inr z ↦ rw (z.0) (elim (tell (counts server answer)) [
     | inl k ↦
         rw (k)
-        (elim (tell (has_quorum members (counted server.memory answer)))
+        (elim (tell (has_quorum members (votes_with server.memory answer)))
         [ inl q ↦ rw (q) (win_written server.store) | inr q ↦ rw (q) tt ])
     | inr k ↦ rw (k) tt
   ])
@@ -93,5 +93,5 @@ pub step_written : (members : List ℕ) (member step : ℕ) (server : RaftServer
     → AreWritten None (puts_of_all members member step server moves)
 step_written members member step server [] = tt
 step_written members member step server (move ∷ moves) = both_written None (puts members member server move)
-    (puts_of_all members member step (plain_after members member step server move) moves) (puts_written members member server move)
-    (step_written members member step (plain_after members member step server move) moves)
+    (puts_of_all members member step (server_after members member step server move) moves) (puts_written members member server move)
+    (step_written members member step (server_after members member step server move) moves)

@@ -84,8 +84,8 @@ is_current server request =
     nat_lt server.store.term request.term || ((request.term == server.store.term) && not (is_leader server.memory.role))
 
 -- what becomes of an append request
-abbrev pub judges : RaftServer → Request → Verdict
-judges server request =
+abbrev pub verdict_on : RaftServer → Request → Verdict
+verdict_on server request =
     if is_current server request then rule (with_term server.store request.term) request else Outdated
 
 -- Proposals.

@@ -29,24 +29,24 @@ abbrev pub no_history : History
 no_history = record { led = λ term. false; leader = λ term. 0; list = λ term. []; candidacies = []; kept = [] }
 
 -- a vote of this voter, with this log, is kept
-abbrev pub voted : History → ℕ → ℕ → ℕ → List Entry → History
-voted history voter candidate term log = record history {
+abbrev pub with_vote_kept : History → ℕ → ℕ → ℕ → List Entry → History
+with_vote_kept history voter candidate term log = record history {
   kept = record { voter = voter; candidate = candidate; term = term; log = log; led = history.led term }
       ∷ history.kept;
 }
 
 -- the member stands for leader: its candidacy is kept, and the vote for itself
-abbrev pub stood : History → ℕ → ℕ → List Entry → History
-stood history member term log = record history {
+abbrev pub with_candidacy : History → ℕ → ℕ → List Entry → History
+with_candidacy history member term log = record history {
   candidacies = record { candidate = member; term = term; log = log } ∷ history.candidacies;
   kept = record { voter = member; candidate = member; term = term; log = log; led = history.led term } ∷ history.kept;
 }
 
 -- the member leads the term, with this log
-abbrev pub elected : History → ℕ → ℕ → List Entry → History
-elected history member term log = record history
+abbrev pub with_leader : History → ℕ → ℕ → List Entry → History
+with_leader history member term log = record history
     { led = at history.led term true; leader = at history.leader term member; list = at history.list term log }
 
 -- the list of the term grows by an entry
-abbrev pub lengthened : History → ℕ → Entry → History
-lengthened history term entry = record history { list = at history.list term (history.list term ++ (entry ∷ [])) }
+abbrev pub with_longer_list : History → ℕ → Entry → History
+with_longer_list history term entry = record history { list = at history.list term (history.list term ++ (entry ∷ [])) }

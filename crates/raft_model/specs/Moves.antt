@@ -17,7 +17,7 @@ use Rattle.raft_model.specs.Messages.Message.{Requests, Answers, Pairs}
 use Rattle.raft_model.specs.Server.{Store, Memory, RaftServer, Put, put, put_all}
 use Rattle.raft_model.specs.Server.Role.{Candidate, Leader}
 use Rattle.raft_model.specs.Server.Put.{PutVote, PutEntry, PutLonger, PutCommit}
-use Rattle.raft_model.specs.History.{History, voted, stood, elected, lengthened}
+use Rattle.raft_model.specs.History.{History, with_vote_kept, with_candidacy, with_leader, with_longer_list}
 
 pub data Move : Type 0 where
   TimeOut : Move
@@ -90,18 +90,20 @@ module _ (members : List ℕ) (member step : ℕ) (server : RaftServer) where
   memory_after (TakeVoteRequest request granted) = term_memory server request.term
   memory_after (TakeVoteAnswer answer) =
       if nat_lt server.store.term answer.term then stepped_down server.memory answer.from
-      else (if counts server answer then counting_memory members server answer else ended server.memory answer.from)
+      else (if counts server answer then counting_memory members server answer
+      else memory_without_call server.memory answer.from)
   memory_after (TakeAppendRequest request verdict) = append_memory server request verdict
   memory_after (TakeAppendAnswer answer) =
       if nat_lt server.store.term answer.term then stepped_down server.memory answer.from
-      else (if acknowledges server answer then matched_memory server.memory answer else ended server.memory answer.from)
+      else (if acknowledges server answer then matched_memory server.memory answer
+      else memory_without_call server.memory answer.from)
   memory_after TellPair = record server.memory { told = server.memory.told + 1 }
   memory_after TellNothing = record server.memory { told = server.memory.told + 1 }
   memory_after (CallForVote peer) =
-      calling server.memory peer (vote_request member step server.store peer)
+      memory_with_call server.memory peer (vote_request member step server.store peer)
   memory_after (CallToAppend peer previous with_entry) =
-      calling server.memory peer (append_request member step server.store peer previous with_entry)
-  memory_after (GiveUp peer) = ended server.memory peer
+      memory_with_call server.memory peer (append_request member step server.store peer previous with_entry)
+  memory_after (GiveUp peer) = memory_without_call server.memory peer
   memory_after move = server.memory
 
 module _ (member step : ℕ) (server : RaftServer) where
@@ -127,14 +129,14 @@ calls move = []
 -- what the model remembers as soon as a put of it is done, where `store` is what was stored before it:
 -- a candidacy and a granted vote with the put of that vote, a win and a leader's entry with the put of last
 abbrev pub put_history : ℕ → Move → Store → Put → History → History
-put_history member TimeOut store (PutVote (Some candidate)) history = stood history member store.term store.log
+put_history member TimeOut store (PutVote (Some candidate)) history = with_candidacy history member store.term store.log
 put_history member TimeOut store (PutLonger entry) history =
-    elected history member store.term (store.log ++ (entry ∷ []))
+    with_leader history member store.term (store.log ++ (entry ∷ []))
 put_history member (TakeVoteRequest request granted) store (PutVote (Some candidate)) history =
-    voted history member request.from request.term store.log
-put_history member (TakeVoteAnswer answer) store (PutLonger entry) history = elected history member store.term
+    with_vote_kept history member request.from request.term store.log
+put_history member (TakeVoteAnswer answer) store (PutLonger entry) history = with_leader history member store.term
     (store.log ++ (entry ∷ []))
-put_history member (ProposeEntry entry) store (PutLonger added) history = lengthened history store.term added
+put_history member (ProposeEntry entry) store (PutLonger added) history = with_longer_list history store.term added
 put_history member move store change history = history
 
 abbrev pub puts_history : ℕ → Move → Store → List Put → History → History

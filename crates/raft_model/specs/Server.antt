@@ -75,8 +75,8 @@ abbrev pub empty_store : Store
 empty_store = record { term = 0; vote = None; log = []; commit = 0 }
 
 -- memory as it is from a stop to the next opening
-abbrev pub lost : Memory
-lost = record {
+abbrev pub memory_when_down : Memory
+memory_when_down = record {
   up = false;
   role = Role.Follower;
   told = 0;
@@ -87,8 +87,8 @@ lost = record {
 }
 
 -- memory after opening: Follower, told 0, nothing counted, no calls
-abbrev pub opened : Memory
-opened = record {
+abbrev pub memory_when_opened : Memory
+memory_when_opened = record {
   up = true;
   role = Role.Follower;
   told = 0;

@@ -10,17 +10,17 @@ ghost use Rattle.can_frame.specs.Zeros.{zeros};
 ghost use Rattle.raft_model.specs.Lists.{In, how_many};
 ghost use Rattle.raft_model.specs.Messages.{Answer, Message, Pair, Request};
 ghost use Rattle.raft_model.specs.Messages.Message.{Answers, Pairs, Requests};
-ghost use Rattle.raft_model.specs.Server.{AreWritten, RaftServer, Store, opened, put_all};
+ghost use Rattle.raft_model.specs.Server.{AreWritten, RaftServer, Store, memory_when_opened, put_all};
 ghost use Rattle.raft_model.specs.Server.Role.{Candidate, Follower, Leader};
 ghost use Rattle.raft_model.specs.Moves.{CanCommit, IsEnabled, IsCommitIndex, IsGranted, IsJudged, MayCall, MayPropose, Move, Verdict, memory_after, puts, term_limit, with_term};
 ghost use Rattle.raft_model.specs.Moves.Move.{AnswerAgain, CallForVote, CallToAppend, CommitTo, GiveUp, ProposeEntry, TakeAppendAnswer, TakeAppendRequest, TakeVoteAnswer, TakeVoteRequest, TellNothing, TellPair, TimeOut};
-ghost use Rattle.raft_model.specs.Decisions.{commit_index, grants, judges, may_propose};
+ghost use Rattle.raft_model.specs.Decisions.{commit_index, grants, verdict_on, may_propose};
 ghost use Rattle.raft_model.specs.Members.{IsAll, KnowsEnough, counts_votes};
-ghost use Rattle.raft_model.specs.Handlers.{IsBreak, IsCut, calls_of_all, offers_of_all, plain_after, plain_after_all, puts_of_all};
+ghost use Rattle.raft_model.specs.Handlers.{IsBreak, IsCut, calls_of_all, offers_of_all, server_after, server_after_all, puts_of_all};
 ghost use Rattle.raft_model.specs.Fit.{IsFit};
 ghost use Rattle.raft_model.specs.Duty.{CommitDuty, TellDuty, TickDuty, WinDuty, commit_phase, tell_phase, tick_phase};
-ghost use Rattle.raft_model.specs.Stops.{AllEnabled, LocalState, all_moved};
-ghost use Rattle.raft_model.specs.Runs.{Event, FromEachMoment, InEveryRun, Lawful, MayOccur, World, after, beginning, run, site_after};
+ghost use Rattle.raft_model.specs.Stops.{AllEnabled, LocalState, state_after_moves};
+ghost use Rattle.raft_model.specs.Runs.{Event, FromEachMoment, InEveryRun, Lawful, MayOccur, World, after, initial_world, run, local_state_after};
 ghost use Rattle.raft_model.specs.Runs.Event.{Steps, Stops, StopsWithin};
 ghost use Rattle.raft_model.specs.Rows.{IsAtWork, IsReady, MayTake};
 ghost use Rattle.raft_model.specs.Invariants.{AcknowledgedKept, AcknowledgedVoted, CallsSound, CommitsSettled, ExactlyKept, ExactlyVoted, Invariants, LeadersComplete, LeadersElected, LogsMatch, StaysSettled, StoresSound, VotesBound};
@@ -92,14 +92,14 @@ pub fn law_ledger()
         (rest : List Move) (fitted : List Message)
         → MayOccur world (Steps member step (moves ++ (next ∷ rest)) fitted)
         → ((index : ℕ) → next ≢ CommitTo index)
-        → (site_after world member step (moves ++ (next ∷ []))).ledger
-        ≡ (site_after world member step moves).ledger) }
+        → (local_state_after world member step (moves ++ (next ∷ []))).ledger
+        ≡ (local_state_after world member step moves).ledger) }
     ensures cut { InEveryRun
         (λ world. (member step : ℕ) (moves : List Move) (next : Move) (count : ℕ)
         → MayOccur world (StopsWithin member step moves next count)
         → ((index : ℕ) → next ≢ CommitTo index)
         → (after world (StopsWithin member step moves next count)).ledger
-        ≡ (site_after world member step moves).ledger) }
+        ≡ (local_state_after world member step moves).ledger) }
     ensures leader { (members : List ℕ) (member : ℕ) (bag : List Message) (called : List ℕ)
         (server : RaftServer) (index : ℕ)
         → IsEnabled members member bag called server (CommitTo index) → server.memory.role ≡ Leader }
@@ -132,7 +132,7 @@ pub fn law_stops()
         ((after world (StopsWithin member step moves next count)).server member).store
         ≡ put_all server.store (puts_of_all world.members member step server moves
         ++ take count (puts world.members member
-        (plain_after_all world.members member step server moves) next)) }
+        (server_after_all world.members member step server moves) next)) }
 {}
 
 /// Each move puts an entry just before it raises last by it, and so does a step of many moves.
@@ -161,17 +161,17 @@ pub fn law_one_more()
 /// Moves told of the plain server alone are those of its step: the server after them, what is stored then,
 /// the messages that they offer, and the peers that they call.
 pub fn law_handlers()
-    ensures plain { (members : List ℕ) (member step : ℕ) (moves : List Move) (site : LocalState)
-        → (all_moved members member step site moves).plain
-        ≡ plain_after_all members member step site.plain moves }
+    ensures raft_server { (members : List ℕ) (member step : ℕ) (moves : List Move) (local_state : LocalState)
+        → (state_after_moves members member step local_state moves).raft_server
+        ≡ server_after_all members member step local_state.raft_server moves }
     ensures store { (members : List ℕ) (member step : ℕ) (moves : List Move) (server : RaftServer)
-        → (plain_after_all members member step server moves).store
+        → (server_after_all members member step server moves).store
         ≡ put_all server.store (puts_of_all members member step server moves) }
-    ensures offers { (members : List ℕ) (member step : ℕ) (moves : List Move) (site : LocalState)
-        → (all_moved members member step site moves).offered
-        ≡ offers_of_all members member step site.plain moves ++ site.offered }
-    ensures calls { (members : List ℕ) (member step : ℕ) (moves : List Move) (site : LocalState)
-        → (all_moved members member step site moves).called ≡ calls_of_all moves ++ site.called }
+    ensures offers { (members : List ℕ) (member step : ℕ) (moves : List Move) (local_state : LocalState)
+        → (state_after_moves members member step local_state moves).offered
+        ≡ offers_of_all members member step local_state.raft_server moves ++ local_state.offered }
+    ensures calls { (members : List ℕ) (member step : ℕ) (moves : List Move) (local_state : LocalState)
+        → (state_after_moves members member step local_state moves).called ≡ calls_of_all moves ++ local_state.called }
 {}
 
 /// Two lists of moves, one after the other, are one: the server after them, their puts and offers; and they
@@ -179,33 +179,33 @@ pub fn law_handlers()
 pub fn law_joined()
     ensures server { (members : List ℕ) (member step : ℕ) (first second : List Move)
         (server : RaftServer)
-        → plain_after_all members member step server (first ++ second)
-        ≡ plain_after_all members member step
-        (plain_after_all members member step server first) second }
+        → server_after_all members member step server (first ++ second)
+        ≡ server_after_all members member step
+        (server_after_all members member step server first) second }
     ensures puts { (members : List ℕ) (member step : ℕ) (first second : List Move) (server : RaftServer)
         → puts_of_all members member step server (first ++ second)
         ≡ puts_of_all members member step server first
         ++ puts_of_all members member step
-        (plain_after_all members member step server first) second }
+        (server_after_all members member step server first) second }
     ensures offers { (members : List ℕ) (member step : ℕ) (first second : List Move)
         (server : RaftServer)
         → offers_of_all members member step server (first ++ second)
         ≡ offers_of_all members member step
-        (plain_after_all members member step server first) second
+        (server_after_all members member step server first) second
         ++ offers_of_all members member step server first }
-    ensures site { (members : List ℕ) (member step : ℕ) (first second : List Move) (site : LocalState)
-        → all_moved members member step site (first ++ second)
-        ≡ all_moved members member step (all_moved members member step site first) second }
+    ensures local_state { (members : List ℕ) (member step : ℕ) (first second : List Move) (local_state : LocalState)
+        → state_after_moves members member step local_state (first ++ second)
+        ≡ state_after_moves members member step (state_after_moves members member step local_state first) second }
     ensures come { (members : List ℕ) (member step : ℕ) (bag : List Message)
-        (first second : List Move) (site : LocalState)
-        → AllEnabled members member step bag site first
-        → AllEnabled members member step bag (all_moved members member step site first) second
-        → AllEnabled members member step bag site (first ++ second) }
+        (first second : List Move) (local_state : LocalState)
+        → AllEnabled members member step bag local_state first
+        → AllEnabled members member step bag (state_after_moves members member step local_state first) second
+        → AllEnabled members member step bag local_state (first ++ second) }
     ensures apart { (members : List ℕ) (member step : ℕ) (bag : List Message)
-        (first second : List Move) (site : LocalState)
-        → AllEnabled members member step bag site (first ++ second)
-        → AllEnabled members member step bag site first
-        × AllEnabled members member step bag (all_moved members member step site first) second }
+        (first second : List Move) (local_state : LocalState)
+        → AllEnabled members member step bag local_state (first ++ second)
+        → AllEnabled members member step bag local_state first
+        × AllEnabled members member step bag (state_after_moves members member step local_state first) second }
 {}
 
 /// What a server decides is what the moves ask for, and they ask for nothing else: whether a vote is
@@ -217,10 +217,10 @@ pub fn law_decisions()
     ensures one_grant { (store : Store) (request : Request) (granted : Bool)
         → IsGranted store request granted → granted ≡ grants store request }
     ensures judged { (server : RaftServer) (request : Request)
-        → IsJudged server request (judges server request) }
+        → IsJudged server request (verdict_on server request) }
     ensures one_verdict { (server : RaftServer) (request : Request) (verdict : Verdict)
         → IsJudged server request verdict
-        → verdict ≡ judges server request }
+        → verdict ≡ verdict_on server request }
     ensures proposal { (server : RaftServer) (entry : Entry)
         → (may_propose server entry ≡ true) ↔ MayPropose server entry }
     ensures commit { (members : List ℕ) (member : ℕ) (server : RaftServer) (index : ℕ)
@@ -257,8 +257,8 @@ pub fn law_members()
     ensures all_after { (list members : List ℕ) (member step : ℕ) (server : RaftServer)
         (moves : List Move)
         → KnowsEnough list members server moves
-        → plain_after_all list member step server moves
-        ≡ plain_after_all members member step server moves }
+        → server_after_all list member step server moves
+        ≡ server_after_all members member step server moves }
     ensures all_puts { (list members : List ℕ) (member step : ℕ) (server : RaftServer)
         (moves : List Move)
         → KnowsEnough list members server moves
@@ -268,26 +268,27 @@ pub fn law_members()
         → KnowsEnough list members server moves
         → offers_of_all list member step server moves
         ≡ offers_of_all members member step server moves }
-    ensures all_site { (list members : List ℕ) (member step : ℕ) (site : LocalState) (moves : List Move)
-        → KnowsEnough list members site.plain moves
-        → all_moved list member step site moves ≡ all_moved members member step site moves }
-    ensures all_come { (list members : List ℕ) (member step : ℕ) (bag : List Message) (site : LocalState)
+    ensures all_local_state { (list members : List ℕ) (member step : ℕ) (local_state : LocalState) (moves : List Move)
+        → KnowsEnough list members local_state.raft_server moves
+        → state_after_moves list member step local_state moves
+        ≡ state_after_moves members member step local_state moves }
+    ensures all_come { (list members : List ℕ) (member step : ℕ) (bag : List Message) (local_state : LocalState)
         (moves : List Move)
-        → KnowsEnough list members site.plain moves
-        → AllEnabled list member step bag site moves → AllEnabled members member step bag site moves }
+        → KnowsEnough list members local_state.raft_server moves
+        → AllEnabled list member step bag local_state moves → AllEnabled members member step bag local_state moves }
 {}
 
 /// A server that opens is fit, every move that may come keeps it fit, and so is each server of every run.
 pub fn law_fit()
     ensures opened { (member : ℕ) (store : Store)
-        → IsFit member (record { store = store; memory = opened }) }
+        → IsFit member (record { store = store; memory = memory_when_opened }) }
     ensures kept { (members : List ℕ) (member step : ℕ) (bag : List Message) (called : List ℕ)
         (server : RaftServer) (move : Move)
         → IsEnabled members member bag called server move → IsFit member server
-        → IsFit member (plain_after members member step server move) }
+        → IsFit member (server_after members member step server move) }
     ensures run { (members : List ℕ) (events : List Event) (member : ℕ)
-        → Lawful (beginning members) events
-        → IsFit member ((run (beginning members) events).server member) }
+        → Lawful (initial_world members) events
+        → IsFit member ((run (initial_world members) events).server member) }
 {}
 
 /// The phases of a finished step may come at any server, and do what is owed: a server that has waited
@@ -296,34 +297,34 @@ pub fn law_fit()
 /// every run.
 pub fn law_duty()
     ensures tick_comes { (members : List ℕ) (member step : ℕ) (bag : List Message) (waited : Bool)
-        (site : LocalState)
-        → AllEnabled members member step bag site (tick_phase waited site.plain) }
+        (local_state : LocalState)
+        → AllEnabled members member step bag local_state (tick_phase waited local_state.raft_server) }
     ensures tick { (members : List ℕ) (member step : ℕ) (server : RaftServer)
         → server.memory.role ≢ Leader → server.store.term < term_limit
-        → TickDuty server (plain_after_all members member step server (tick_phase true server)) }
-    ensures commit_comes { (members : List ℕ) (member step : ℕ) (bag : List Message) (site : LocalState)
-        → AllEnabled members member step bag site (commit_phase members member site.plain) }
+        → TickDuty server (server_after_all members member step server (tick_phase true server)) }
+    ensures commit_comes { (members : List ℕ) (member step : ℕ) (bag : List Message) (local_state : LocalState)
+        → AllEnabled members member step bag local_state (commit_phase members member local_state.raft_server) }
     ensures commit { (members : List ℕ) (member step : ℕ) (server : RaftServer)
         → server.memory.role ≡ Leader
         → CommitDuty members member server
-        (plain_after_all members member step server (commit_phase members member server)) }
+        (server_after_all members member step server (commit_phase members member server)) }
     ensures tell_comes { (members : List ℕ) (member step : ℕ) (bag : List Message) (room : Bool)
-        (site : LocalState)
-        → AllEnabled members member step bag site (tell_phase room site.plain) }
+        (local_state : LocalState)
+        → AllEnabled members member step bag local_state (tell_phase room local_state.raft_server) }
     ensures tell { (members : List ℕ) (member step : ℕ) (room : Bool) (server : RaftServer)
         → server.memory.role ≡ Leader
         → TellDuty member step room server
-        (plain_after_all members member step server (tell_phase room server))
+        (server_after_all members member step server (tell_phase room server))
         (offers_of_all members member step server (tell_phase room server)) }
     ensures full { (server : RaftServer) (entry : Entry) → length server.store.log ≡ log_limit
         → MayPropose server entry → ⊥ }
     ensures win_kept { (members : List ℕ) (member step : ℕ) (bag : List Message) (called : List ℕ)
         (server : RaftServer) (move : Move)
         → IsEnabled members member bag called server move → WinDuty members server
-        → WinDuty members (plain_after members member step server move) }
+        → WinDuty members (server_after members member step server move) }
     ensures win { (members : List ℕ) (events : List Event) (member : ℕ)
-        → Lawful (beginning members) events
-        → WinDuty members ((run (beginning members) events).server member) }
+        → Lawful (initial_world members) events
+        → WinDuty members ((run (initial_world members) events).server member) }
 {}
 
 /// Each row of the table whose condition holds is a lawful step by itself, so the machine is not empty.
@@ -346,7 +347,7 @@ pub fn law_rows()
         → IsReady world member step → In (Requests request) world.bag
         → request.to ≡ member → request.append ≡ true
         → MayTake world member step
-        (TakeAppendRequest request (judges (world.server member) request)) }
+        (TakeAppendRequest request (verdict_on (world.server member) request)) }
     ensures append_answer { (world : World) (member step : ℕ) (answer : Answer)
         → IsReady world member step → In (Answers answer) world.bag
         → answer.request.from ≡ member → answer.request.append ≡ true
@@ -390,9 +391,9 @@ pub fn law_rows()
 /// The machine does something: three members come to a leader that has committed an entry and told its pair,
 /// and go on to one that has committed a reservation too, and has passed it over.
 pub fn law_example()
-    ensures pair { (events : List Event) × Lawful (beginning (1 ∷ 2 ∷ 3 ∷ [])) events
-        × (length (run (beginning (1 ∷ 2 ∷ 3 ∷ [])) events).ledger.entries ≡ 1)
-        × ((pair : Pair) × In (Pairs pair) (run (beginning (1 ∷ 2 ∷ 3 ∷ [])) events).bag) }
-    ensures reservation { (events : List Event) × Lawful (beginning (1 ∷ 2 ∷ 3 ∷ [])) events
-        × IsAtWork (run (beginning (1 ∷ 2 ∷ 3 ∷ [])) events) 1 }
+    ensures pair { (events : List Event) × Lawful (initial_world (1 ∷ 2 ∷ 3 ∷ [])) events
+        × (length (run (initial_world (1 ∷ 2 ∷ 3 ∷ [])) events).ledger.entries ≡ 1)
+        × ((pair : Pair) × In (Pairs pair) (run (initial_world (1 ∷ 2 ∷ 3 ∷ [])) events).bag) }
+    ensures reservation { (events : List Event) × Lawful (initial_world (1 ∷ 2 ∷ 3 ∷ [])) events
+        × IsAtWork (run (initial_world (1 ∷ 2 ∷ 3 ∷ [])) events) 1 }
 {}

@@ -7,7 +7,7 @@ use Rattle.std.proofs.lemmas.List.Sums.{sum_by-cons, sum_by-set}
 use Rattle.transfer_rx.specs.declared.key.Key.{Key}
 use Rattle.transfer_rx.specs.Keys.{same_key}
 use Rattle.transfer_rx.specs.Places.{AreAt, Arranged, IsPlaceFor, Places, counted, has_key, is_free, left}
-use Rattle.transfer_rx.specs.Sessions.{AreDifferent, Session, is_recent, others, remembered, session_of}
+use Rattle.transfer_rx.specs.Sessions.{AreDifferent, Session, is_recent, others, recent_sessions, session_of}
 use Rattle.transfer_rx.proofs.Found.{filter-different, filter-dropped, filter-filter, found-key, found-others, others-none, others-others, others-own, same_key-equal, same_key-ne, ne-same_key, session_of-filter, session_of-others, session_of-others_own, sum-others, sum-ones}
 
 pub none_at : (places : Places) (sessions : List Session) (key : Key) → AreAt places sessions →
@@ -87,24 +87,24 @@ put places sessions key session place a k p = record {
 -- ---- old sessions are left out
 
 left_at : (now : ℕ) (places : Places) (sessions : List Session) → AreAt places sessions → AreDifferent sessions →
-    AreAt (left now places) (remembered now sessions)
-left_at now [] sessions a d = ap (remembered now) a
+    AreAt (left now places) (recent_sessions now sessions)
+left_at now [] sessions a d = ap (recent_sessions now) a
 left_at now (None ∷ places) sessions a d = left_at now places sessions a d
 left_at now (Some first ∷ places) sessions a d =
     let d' : AreDifferent (others first.key sessions) = filter-different (λ session. not (same_key first.key session.key)) sessions d in
     elim (cases_Bool (is_recent now first)) [
       | inl t ↦
           let t' : is_recent now first ≡ true = t in
-          let e : others first.key (remembered now sessions) ≡ remembered now (others first.key sessions) =
+          let e : others first.key (recent_sessions now sessions) ≡ recent_sessions now (others first.key sessions) =
           filter-filter (λ session. not (same_key first.key session.key)) (is_recent now) sessions in
           rw (t', e) (session_of-filter (is_recent now) first.key sessions first a.0 t, left_at now places (others first.key sessions) a.1 d')
       | inr f ↦
           let f' : is_recent now first ≡ false = f in
-          let e : remembered now (others first.key sessions) ≡ remembered now sessions = filter-dropped (is_recent now) first.key sessions first d a.0 f in
+          let e : recent_sessions now (others first.key sessions) ≡ recent_sessions now sessions = filter-dropped (is_recent now) first.key sessions first d a.0 f in
           rw f' (subst (λ x. AreAt (left now places) x) e (left_at now places (others first.key sessions) a.1 d'))
     ]
 
-pub forget : (now : ℕ) (places : Places) (sessions : List Session) → Arranged places sessions → Arranged (left now places) (remembered now sessions)
+pub forget : (now : ℕ) (places : Places) (sessions : List Session) → Arranged places sessions → Arranged (left now places) (recent_sessions now sessions)
 forget now places sessions a = record {
   at = left_at now places sessions a.at a.different;
   different = filter-different (is_recent now) sessions a.different;

@@ -10,7 +10,7 @@ use Rattle.transfer_rx.specs.declared.key.Key.{Key}
 use Rattle.transfer_rx.specs.declared.progress.Progress.{Progress}
 use Rattle.transfer_rx.specs.declared.progress.Found.{Found}
 use Rattle.transfer_rx.specs.Places.{Arranged, IsSearchResult, IsSessionOfKey, IsSessionAtPlace, Places, is_free}
-use Rattle.transfer_rx.specs.Sessions.{Session, begun, continued, opened, restarted, restarts, session_for, session_of}
+use Rattle.transfer_rx.specs.Sessions.{Session, begun, continued, new_session, restarted_session, restarts, session_for, session_of}
 use Rattle.transfer_rx.specs.Progress.{IsProgressAt, IsProgressOf}
 use Rattle.transfer_rx.proofs.Arrangement.{there}
 use Rattle.transfer_rx.specs.Turns.{ComesTo}
@@ -43,7 +43,7 @@ own_found bytes key places sessions found a l at =
 
 module _ (most : ℕ) (bytes : List (List ℕ)) (key : Key) (tail : Tail) (now : ℕ) (places : Places) (sessions : List Session) where
   pub as_found : (found : Found) (progress : Progress) → IsSessionOfKey bytes key places sessions found →
-      ((b : List ℕ) (session : Session) → IsProgressOf found.progress b session → IsProgressOf progress b (restarted tail session)) →
+      ((b : List ℕ) (session : Session) → IsProgressOf found.progress b session → IsProgressOf progress b (restarted_session tail session)) →
       IsSearchResult bytes key places sessions (Ok (record { place = found.place; progress = progress })) (session_for most key tail now sessions)
   unfolding session_for
   as_found found progress own f =
@@ -56,25 +56,25 @@ module _ (most : ℕ) (bytes : List (List ℕ)) (key : Key) (tail : Tail) (now :
 
   pub no_start : session_of key sessions ≡ None → tail.start ≡ false → session_for most key tail now sessions ≡ Err Start
   no_start none f =
-      of_none none ∙ ap (λ start. cond start (cond (nat_lt (length sessions) most) (Ok (opened key tail now)) (Err NoSession)) (Err Start)) f
+      of_none none ∙ ap (λ start. cond start (cond (nat_lt (length sessions) most) (Ok (new_session key tail now)) (Err NoSession)) (Err Start)) f
 
   pub no_room : session_of key sessions ≡ None → tail.start ≡ true → length sessions ≡ most → session_for most key tail now sessions ≡ Err NoSession
   no_room none t full =
       let f : nat_lt (length sessions) most ≡ false = le-ltb _ _ (omega arith) in
-      of_none none ∙ ap (λ start. cond start (cond (nat_lt (length sessions) most) (Ok (opened key tail now)) (Err NoSession)) (Err Start)) t
-      ∙ ap (λ room. cond room (Ok (opened key tail now)) (Err NoSession)) f
+      of_none none ∙ ap (λ start. cond start (cond (nat_lt (length sessions) most) (Ok (new_session key tail now)) (Err NoSession)) (Err Start)) t
+      ∙ ap (λ room. cond room (Ok (new_session key tail now)) (Err NoSession)) f
 
-  pub opens : session_of key sessions ≡ None → tail.start ≡ true → length sessions < most → session_for most key tail now sessions ≡ Ok (opened key tail now)
+  pub opens : session_of key sessions ≡ None → tail.start ≡ true → length sessions < most → session_for most key tail now sessions ≡ Ok (new_session key tail now)
   opens none t room =
       let f : nat_lt (length sessions) most ≡ true = lt-ltb _ _ room in
-      of_none none ∙ ap (λ start. cond start (cond (nat_lt (length sessions) most) (Ok (opened key tail now)) (Err NoSession)) (Err Start)) t
-      ∙ ap (λ room. cond room (Ok (opened key tail now)) (Err NoSession)) f
+      of_none none ∙ ap (λ start. cond start (cond (nat_lt (length sessions) most) (Ok (new_session key tail now)) (Err NoSession)) (Err Start)) t
+      ∙ ap (λ room. cond room (Ok (new_session key tail now)) (Err NoSession)) f
 
   pub as_dropped : (why : Why) → session_for most key tail now sessions ≡ Err why → IsSearchResult bytes key places sessions (Err why) (session_for most key tail now sessions)
   as_dropped why e = subst (λ r. IsSearchResult bytes key places sessions (Err why) r) (sym e) refl
 
   pub as_opened : (place : ℕ) (progress : Progress) → session_of key sessions ≡ None → tail.start ≡ true → length sessions < most →
-      place < length places → get_or places place None ≡ None → ((b : List ℕ) → IsProgressOf progress b (opened key tail now)) →
+      place < length places → get_or places place None ≡ None → ((b : List ℕ) → IsProgressOf progress b (new_session key tail now)) →
       IsSearchResult bytes key places sessions (Ok (record { place = place; progress = progress })) (session_for most key tail now sessions)
   as_opened place progress none t room present free f =
       subst (λ r. IsSearchResult bytes key places sessions (Ok (record { place = place; progress = progress })) r) (sym (opens none t room))
@@ -106,8 +106,8 @@ restarted-key tail session true = refl
 restarted-key tail session false = refl
 
 begun-key : (most : ℕ) (key : Key) (tail : Tail) (now : ℕ) (sessions : List Session) (session : Session) (start room : Bool) →
-    cond start (cond room (as_session (opened key tail now)) (Err NoSession)) (Err Start) ≡ Ok session → session.key ≡ key
-begun-key most key tail now sessions session true true h = let e : opened key tail now ≡ session = cc in ap (λ (x : Session). x.key) (sym e)
+    cond start (cond room (as_session (new_session key tail now)) (Err NoSession)) (Err Start) ≡ Ok session → session.key ≡ key
+begun-key most key tail now sessions session true true h = let e : new_session key tail now ≡ session = cc in ap (λ (x : Session). x.key) (sym e)
 begun-key most key tail now sessions session true false h = absurd cc
 begun-key most key tail now sessions session false room h = absurd cc
 
@@ -118,5 +118,5 @@ for-key most key tail now sessions session h = go (session_of key sessions) refl
   go : (o : Option Session) → session_of key sessions ≡ o → continued most key tail now sessions o ≡ Ok session → session.key ≡ key
   go None e r = begun-key most key tail now sessions session tail.start (nat_lt (length sessions) most) r
   go (Some own) e r =
-      let same : restarted tail own ≡ session = cc in
+      let same : restarted_session tail own ≡ session = cc in
       ap (λ (x : Session). x.key) (sym same) ∙ restarted-key tail own (restarts tail own) ∙ found-key key sessions own e

@@ -17,7 +17,7 @@ use Rattle.transfer_rx.specs.Outcome.{Delivers, Grows, lacks_blocks, out_of_turn
 use Rattle.transfer_rx.specs.Parts.{IsPart}
 use Rattle.transfer_rx.specs.Reassembly.{Arrival, Gives, Setting, Step, answer, at_session, grown, in_turn, next, piece_in, session_after, session_step}
 use Rattle.transfer_rx.specs.Run.{ComesWhole, MayBegin, has_session_key, is_of, of_key, run}
-use Rattle.transfer_rx.specs.Sessions.{Session, continued, is_recent, next_id, opened, others, remembered, restarted, restarts, session_for, session_of}
+use Rattle.transfer_rx.specs.Sessions.{Session, continued, is_recent, next_id, new_session, others, recent_sessions, restarted_session, restarts, session_for, session_of}
 use Rattle.transfer_rx.proofs.Cuts.{CarryWhatIsCut, SameFrames, SamePayload, Uncut}
 use Rattle.transfer_rx.proofs.Comes.{for-key, opens}
 use Rattle.transfer_rx.proofs.Cuttings.{delivered_last}
@@ -93,7 +93,7 @@ other_keeps setting sessions arrival key session other there recent = go (wanted
         let n : is_anonymous w.ident.kind ≡ false = none in
         let s : same_key key (key_of w.ident) ≡ false = rw n at f in
         ap (λ (x : Step). session_of key x.sessions) (of_session setting sessions arrival w e none)
-        ∙ other_session setting.sessions setting.blocks w (piece_in arrival) arrival.mark arrival.moment (remembered arrival.moment sessions) key
+        ∙ other_session setting.sessions setting.blocks w (piece_in arrival) arrival.mark arrival.moment (recent_sessions arrival.moment sessions) key
         (λ same. ne-same_key key (key_of w.ident) s (sym same))
         ∙ session_of-filter (is_recent arrival.moment) key sessions session there recent
   ]
@@ -105,14 +105,14 @@ and_false true = refl
 and_false false = refl
 
 -- a frame with the expected ID begins nothing anew
-stays : (tail : Tail) (session : Session) → tail.id ≡ session.expected → restarted tail session ≡ session
+stays : (tail : Tail) (session : Session) → tail.id ≡ session.expected → restarted_session tail session ≡ session
 stays tail session e =
     let t : nat_eq tail.id session.expected ≡ true = eq-eqb _ _ e in
     let f : restarts tail session ≡ false = ap (λ b. tail.start && (not b && not (nat_eq (next_id tail.id) session.expected))) t ∙ and_false tail.start in
     ap (λ b. cond b (record session { expected = tail.id; taken = []; marks = [] }) session) f
 
 finds : (most : ℕ) (key : Key) (tail : Tail) (now : ℕ) (sessions : List Session) (session : Session) → session_of key sessions ≡ Some session →
-    session_for most key tail now sessions ≡ Ok (restarted tail session)
+    session_for most key tail now sessions ≡ Ok (restarted_session tail session)
 unfolding session_for
 finds most key tail now sessions session there = ap (continued most key tail now sessions) there
 
@@ -130,10 +130,10 @@ pub record Begins (most : ℕ) (key : Key) (tail : Tail) (now : ℕ) (sessions :
   pub marks : session.marks ≡ []
 
 finds_first : (setting : Setting) (sessions : List Session) (key : Key) (first : Arrival) → MayBegin setting sessions key first → (piece_in first).tail.start ≡ true →
-    Begins setting.sessions key (piece_in first).tail first.moment (remembered first.moment sessions)
+    Begins setting.sessions key (piece_in first).tail first.moment (recent_sessions first.moment sessions)
 finds_first setting sessions key first (inl new) start = record {
-  session = opened key (piece_in first).tail first.moment;
-  there = opens setting.sessions [] key (piece_in first).tail first.moment [] (remembered first.moment sessions) new.0 start new.1;
+  session = new_session key (piece_in first).tail first.moment;
+  there = opens setting.sessions [] key (piece_in first).tail first.moment [] (recent_sessions first.moment sessions) new.0 start new.1;
   expected = refl;
   taken = refl;
   marks = refl;
@@ -141,14 +141,14 @@ finds_first setting sessions key first (inl new) start = record {
 finds_first setting sessions key first (inr old) start = elim old.2 [
   | inl idle ↦ record {
     session = old.0;
-    there = finds setting.sessions key (piece_in first).tail first.moment (remembered first.moment sessions) old.0 old.1 ∙ ap as_ok (stays (piece_in first).tail old.0 (sym idle.0));
+    there = finds setting.sessions key (piece_in first).tail first.moment (recent_sessions first.moment sessions) old.0 old.1 ∙ ap as_ok (stays (piece_in first).tail old.0 (sym idle.0));
     expected = idle.0;
     taken = idle.1;
     marks = idle.2;
   }
   | inr anew ↦ record {
     session = record old.0 { expected = (piece_in first).tail.id; taken = []; marks = [] };
-    there = finds setting.sessions key (piece_in first).tail first.moment (remembered first.moment sessions) old.0 old.1
+    there = finds setting.sessions key (piece_in first).tail first.moment (recent_sessions first.moment sessions) old.0 old.1
         ∙ ap (λ b. as_ok (cond b (record old.0 { expected = (piece_in first).tail.id; taken = []; marks = [] }) old.0)) anew;
     expected = refl;
     taken = refl;
@@ -157,9 +157,9 @@ finds_first setting sessions key first (inr old) start = elim old.2 [
 ]
 
 own_step : (setting : Setting) (sessions : List Session) (arrival : Arrival) (key : Key) (s : Session) → IsOwn setting key arrival →
-    session_for setting.sessions key (piece_in arrival).tail arrival.moment (remembered arrival.moment sessions) ≡ Ok s →
+    session_for setting.sessions key (piece_in arrival).tail arrival.moment (recent_sessions arrival.moment sessions) ≡ Ok s →
     IsPart s.expected 0 (s.taken ++ piece_in arrival ∷ []) → length (joined (s.taken ++ piece_in arrival ∷ [])) ≤ 378 →
-    lacks_blocks setting.blocks (piece_in arrival) s.taken (others key (remembered arrival.moment sessions)) ≡ false →
+    lacks_blocks setting.blocks (piece_in arrival) s.taken (others key (recent_sessions arrival.moment sessions)) ≡ false →
     session_of key (next setting sessions arrival) ≡ Some (grown (piece_in arrival) arrival.mark arrival.moment s)
 own_step setting sessions arrival key s own there p size l =
     let split = last_of s.expected 0 s.taken (piece_in arrival) p in
@@ -167,23 +167,23 @@ own_step setting sessions arrival key s own there p size l =
     let tail : (piece_in arrival).tail ≡ tail_at s.expected (length s.taken) false = split.2 ∙ ap (λ n. tail_at s.expected n false) zero_more in
     let id : (piece_in arrival).tail.id ≡ s.expected = ap (λ (t : Tail). t.id) tail in
     let p' = subst (λ i. IsPart i 0 (s.taken ++ piece_in arrival ∷ [])) (sym id) p in
-    let there' = subst (λ k. session_for setting.sessions k (piece_in arrival).tail arrival.moment (remembered arrival.moment sessions) ≡ Ok s) (sym own.own) there in
-    let l' = subst (λ k. lacks_blocks setting.blocks (piece_in arrival) s.taken (others k (remembered arrival.moment sessions)) ≡ false) (sym own.own) l in
-    let result = grows setting.blocks own.w.signature (piece_in arrival) s.taken (others (key_of own.w.ident) (remembered arrival.moment sessions)) p' size l' in
-    let k : s.key ≡ key = for-key setting.sessions key (piece_in arrival).tail arrival.moment (remembered arrival.moment sessions) s there in
+    let there' = subst (λ k. session_for setting.sessions k (piece_in arrival).tail arrival.moment (recent_sessions arrival.moment sessions) ≡ Ok s) (sym own.own) there in
+    let l' = subst (λ k. lacks_blocks setting.blocks (piece_in arrival) s.taken (others k (recent_sessions arrival.moment sessions)) ≡ false) (sym own.own) l in
+    let result = grows setting.blocks own.w.signature (piece_in arrival) s.taken (others (key_of own.w.ident) (recent_sessions arrival.moment sessions)) p' size l' in
+    let k : s.key ≡ key = for-key setting.sessions key (piece_in arrival).tail arrival.moment (recent_sessions arrival.moment sessions) s there in
     let t : same_key key s.key ≡ true = same_key-equal key s.key (sym k) in
     ap (λ (x : Step). session_of key x.sessions)
     (of_session setting sessions arrival own.w own.accepted own.of_session
-    ∙ steps.next setting.sessions setting.blocks own.w (piece_in arrival) arrival.mark arrival.moment (remembered arrival.moment sessions) s Grows there'
+    ∙ steps.next setting.sessions setting.blocks own.w (piece_in arrival) arrival.mark arrival.moment (recent_sessions arrival.moment sessions) s Grows there'
     (earlier.in_turn (piece_in arrival) s false tail) (sym result))
-    ∙ ap (λ b. cond b (Some (grown (piece_in arrival) arrival.mark arrival.moment s)) (session_of key (others (key_of own.w.ident) (remembered arrival.moment sessions)))) t
+    ∙ ap (λ b. cond b (Some (grown (piece_in arrival) arrival.mark arrival.moment s)) (session_of key (others (key_of own.w.ident) (recent_sessions arrival.moment sessions)))) t
 
 last_step : Uncut → SameFrames → SamePayload → (setting : Setting) (sessions : List Session) (arrival : Arrival) (w : Wanted) (s : Session) (payload : List ℕ) →
     wanted setting.rows setting.me arrival.id ≡ Ok w → is_anonymous w.ident.kind ≡ false →
-    session_for setting.sessions (key_of w.ident) (piece_in arrival).tail arrival.moment (remembered arrival.moment sessions) ≡ Ok s →
+    session_for setting.sessions (key_of w.ident) (piece_in arrival).tail arrival.moment (recent_sessions arrival.moment sessions) ≡ Ok s →
     (piece_in arrival).tail ≡ tail_at s.expected (length s.taken) true →
     IsCutting w.signature (piece_in arrival).tail.id payload (s.taken ++ piece_in arrival ∷ []) →
-    lacks_blocks setting.blocks (piece_in arrival) s.taken (others (key_of w.ident) (remembered arrival.moment sessions)) ≡ false →
+    lacks_blocks setting.blocks (piece_in arrival) s.taken (others (key_of w.ident) (recent_sessions arrival.moment sessions)) ≡ false →
     answer setting sessions arrival ≡ Gives (record {
       ident = w.ident;
       id = (piece_in arrival).tail.id;
@@ -193,10 +193,10 @@ last_step : Uncut → SameFrames → SamePayload → (setting : Setting) (sessio
     })
 last_step uncut same_frames same_payload setting sessions arrival w s payload e n there tail cutting l =
     let end : (piece_in arrival).tail.end ≡ true = ap (λ (t : Tail). t.end) tail in
-    let result = delivered_last uncut same_frames same_payload setting.blocks w.signature (piece_in arrival) s.taken (others (key_of w.ident) (remembered arrival.moment sessions)) payload cutting end l in
+    let result = delivered_last uncut same_frames same_payload setting.blocks w.signature (piece_in arrival) s.taken (others (key_of w.ident) (recent_sessions arrival.moment sessions)) payload cutting end l in
     ap (λ (x : Step). x.answer)
     (of_session setting sessions arrival w e n
-    ∙ steps.next setting.sessions setting.blocks w (piece_in arrival) arrival.mark arrival.moment (remembered arrival.moment sessions) s (Delivers payload) there
+    ∙ steps.next setting.sessions setting.blocks w (piece_in arrival) arrival.mark arrival.moment (recent_sessions arrival.moment sessions) s (Delivers payload) there
     (earlier.in_turn (piece_in arrival) s true tail) (sym result))
 
 -- ---- the frames one after the other
@@ -229,7 +229,7 @@ module _ (setting : Setting) (key : Key) (last : Arrival) where
   -- the blocks suffice from here on
   pub record Suffice (taken : List Piece) (sessions : List Session) (arrivals : List Arrival) : Type 0 where
     pub each : (front back : List Arrival) (arrival : Arrival) → arrivals ≡ front ++ arrival ∷ back → is_of setting key arrival ≡ true →
-        lacks_blocks setting.blocks (piece_in arrival) (taken ++ pieces_of front) (others key (remembered arrival.moment (run setting sessions front))) ≡ false
+        lacks_blocks setting.blocks (piece_in arrival) (taken ++ pieces_of front) (others key (recent_sessions arrival.moment (run setting sessions front))) ≡ false
 
   pub record InTime (arrivals : List Arrival) : Type 0 where
     pub pairs : AllPairs (λ (earlier later : Arrival). later.moment - earlier.moment ≤ 2000) arrivals
@@ -263,7 +263,7 @@ module _ (setting : Setting) (key : Key) (last : Arrival) where
 
   own_goes : (arrival : Arrival) (arrivals : List Arrival) → Goes arrivals → (sessions : List Session) (s : Session) (part : List Piece) →
       is_of setting key arrival ≡ true →
-      session_for setting.sessions key (piece_in arrival).tail arrival.moment (remembered arrival.moment sessions) ≡ Ok s →
+      session_for setting.sessions key (piece_in arrival).tail arrival.moment (recent_sessions arrival.moment sessions) ≡ Ok s →
       InTime (arrival ∷ (arrivals ++ last ∷ [])) → part ≡ s.taken ++ pieces_of (arrival ∷ arrivals) → IsPart s.expected 0 part → 7 * length part ≤ 378 →
       Suffice s.taken sessions (arrival ∷ (arrivals ++ last ∷ [])) →
       Waits (run setting (next setting sessions arrival) arrivals) part s.expected (s.marks ++ marks_of (arrival ∷ arrivals))
@@ -276,14 +276,14 @@ module _ (setting : Setting) (key : Key) (last : Arrival) where
       ap length e' ∙ length-append (s.taken ++ piece_in arrival ∷ []) (pieces_of arrivals) in
       let j : length (joined (s.taken ++ piece_in arrival ∷ [])) ≡ 7 * length (s.taken ++ piece_in arrival ∷ []) =
       length-joined s.expected 0 (s.taken ++ piece_in arrival ∷ []) p' in
-      let l = subst (λ taken. lacks_blocks setting.blocks (piece_in arrival) taken (others key (remembered arrival.moment sessions)) ≡ false)
+      let l = subst (λ taken. lacks_blocks setting.blocks (piece_in arrival) taken (others key (recent_sessions arrival.moment sessions)) ≡ false)
       (append-nil s.taken) (blocks.each [] (arrivals ++ last ∷ []) arrival refl own) in
       let w = rec (next setting sessions arrival) (grown (piece_in arrival) arrival.mark arrival.moment s) part
       (own_step setting sessions arrival key s (own_wanted setting key arrival own) there p' (omega arith) l)
       (from_here arrival (arrivals ++ last ∷ []) time) (tail_in_time arrival (arrivals ++ last ∷ []) time) e' p size
       (record {
         each = λ front back a cut mine.
-            subst (λ taken. lacks_blocks setting.blocks (piece_in a) taken (others key (remembered a.moment (run setting (next setting sessions arrival) front))) ≡ false)
+            subst (λ taken. lacks_blocks setting.blocks (piece_in a) taken (others key (recent_sessions a.moment (run setting (next setting sessions arrival) front))) ≡ false)
             (ap (λ more. s.taken ++ more) (own_pieces arrival front own) ∙ sym (append_assoc s.taken (piece_in arrival ∷ []) (pieces_of front)))
             (blocks.each (arrival ∷ front) back a (ap (λ rest. arrival ∷ rest) cut) mine);
       }) in
@@ -302,7 +302,7 @@ module _ (setting : Setting) (key : Key) (last : Arrival) where
       (e ∙ ap (λ more. s.taken ++ more) (other_pieces arrival arrivals other)) p size
       (record {
         each = λ front back a cut mine.
-            subst (λ taken. lacks_blocks setting.blocks (piece_in a) taken (others key (remembered a.moment (run setting (next setting sessions arrival) front))) ≡ false)
+            subst (λ taken. lacks_blocks setting.blocks (piece_in a) taken (others key (recent_sessions a.moment (run setting (next setting sessions arrival) front))) ≡ false)
             (ap (λ more. s.taken ++ more) (other_pieces arrival front other))
             (blocks.each (arrival ∷ front) back a (ap (λ rest. arrival ∷ rest) cut) mine);
       }) in
@@ -325,10 +325,10 @@ module _ (setting : Setting) (key : Key) (last : Arrival) where
         let p' : IsPart s.expected 0 (s.taken ++ piece_in arrival ∷ []) =
         part-front s.expected 0 (s.taken ++ piece_in arrival ∷ []) (pieces_of arrivals) (subst (λ x. IsPart s.expected 0 x) e' p) in
         let id : (piece_in arrival).tail.id ≡ s.expected = ap (λ (t : Tail). t.id) (last_of s.expected 0 s.taken (piece_in arrival) p').2 in
-        let still : session_of key (remembered arrival.moment sessions) ≡ Some s =
+        let still : session_of key (recent_sessions arrival.moment sessions) ≡ Some s =
         session_of-filter (is_recent arrival.moment) key sessions s there (le-leb _ _ (recent.each 0 arrival (omega arith))) in
         own_goes arrival arrivals (goes arrivals) sessions s part own
-        (finds setting.sessions key (piece_in arrival).tail arrival.moment (remembered arrival.moment sessions) s still ∙ same_ok _ _ (stays (piece_in arrival).tail s id))
+        (finds setting.sessions key (piece_in arrival).tail arrival.moment (recent_sessions arrival.moment sessions) s still ∙ same_ok _ _ (stays (piece_in arrival).tail s id))
         time e p size blocks
     | inr other ↦ other_goes arrival arrivals (goes arrivals) sessions s part other there recent time e p size blocks
   ]
@@ -388,12 +388,12 @@ module _ (carry : CarryWhatIsCut) (uncut : Uncut) (same_frames : SameFrames) (sa
 
     -- the last frame, where its session has taken all the others
     pub finish : (before : List Arrival) (s : Session) →
-        session_for setting.sessions (key_of w.ident) (piece_in last).tail last.moment (remembered last.moment (run setting sessions before)) ≡ Ok s →
+        session_for setting.sessions (key_of w.ident) (piece_in last).tail last.moment (recent_sessions last.moment (run setting sessions before)) ≡ Ok s →
         s.expected ≡ (piece_in last).tail.id → s.taken ≡ map piece_in (of_key setting (key_of w.ident) before) →
         s.marks ≡ map (λ (a : Arrival). a.mark) (of_key setting (key_of w.ident) before) →
         IsCutting w.signature (piece_in last).tail.id payload (map piece_in (of_key setting (key_of w.ident) before) ++ piece_in last ∷ []) →
         lacks_blocks setting.blocks (piece_in last) (map piece_in (of_key setting (key_of w.ident) before))
-        (others (key_of w.ident) (remembered last.moment (run setting sessions before))) ≡ false →
+        (others (key_of w.ident) (recent_sessions last.moment (run setting sessions before))) ≡ false →
         answer setting (run setting sessions before) last ≡ Gives (record {
           ident = w.ident;
           id = (piece_in last).tail.id;
@@ -407,7 +407,7 @@ module _ (carry : CarryWhatIsCut) (uncut : Uncut) (same_frames : SameFrames) (sa
         end.end_is ∙ (λ i. tail_at (sym expected i) (length (sym taken i)) true) in
         last_step uncut same_frames same_payload setting (run setting sessions before) last w s payload accepted of_a_session there tail
         (subst (λ x. IsCutting w.signature (piece_in last).tail.id payload (x ++ piece_in last ∷ [])) (sym taken) cutting)
-        (subst (λ x. lacks_blocks setting.blocks (piece_in last) x (others (key_of w.ident) (remembered last.moment (run setting sessions before))) ≡ false) (sym taken) l)
+        (subst (λ x. lacks_blocks setting.blocks (piece_in last) x (others (key_of w.ident) (recent_sessions last.moment (run setting sessions before))) ≡ false) (sym taken) l)
         ∙ ap (λ marks. Gives (record { ident = w.ident; id = (piece_in last).tail.id; payload = payload; mark = last.mark; whole = is_whole marks }))
         (ap (λ marks. marks ++ last.mark ∷ []) marked ∙ sym (marks-push setting (key_of w.ident) last own_last before))
 
@@ -416,7 +416,7 @@ module _ (carry : CarryWhatIsCut) (uncut : Uncut) (same_frames : SameFrames) (sa
         (map (λ (a : Arrival). a.mark) (of_key setting (key_of w.ident) before)) →
         IsCutting w.signature (piece_in last).tail.id payload (map piece_in (of_key setting (key_of w.ident) before) ++ piece_in last ∷ []) →
         lacks_blocks setting.blocks (piece_in last) (map piece_in (of_key setting (key_of w.ident) before))
-        (others (key_of w.ident) (remembered last.moment (run setting sessions before))) ≡ false →
+        (others (key_of w.ident) (recent_sessions last.moment (run setting sessions before))) ≡ false →
         answer setting (run setting sessions before) last ≡ Gives (record {
           ident = w.ident;
           id = (piece_in last).tail.id;
@@ -425,11 +425,11 @@ module _ (carry : CarryWhatIsCut) (uncut : Uncut) (same_frames : SameFrames) (sa
           whole = is_whole (map (λ (a : Arrival). a.mark) (of_key setting (key_of w.ident) (before ++ last ∷ [])));
         })
     finish_waiting before waits cutting l =
-        let still : session_of (key_of w.ident) (remembered last.moment (run setting sessions before)) ≡ Some waits.session =
+        let still : session_of (key_of w.ident) (recent_sessions last.moment (run setting sessions before)) ≡ Some waits.session =
         session_of-filter (is_recent last.moment) (key_of w.ident) (run setting sessions before) waits.session waits.there
         (le-leb (last.moment - waits.session.moment) 2000 (waits.recent.each 0 last (omega arith))) in
         finish before waits.session
-        (finds setting.sessions (key_of w.ident) (piece_in last).tail last.moment (remembered last.moment (run setting sessions before)) waits.session still
+        (finds setting.sessions (key_of w.ident) (piece_in last).tail last.moment (recent_sessions last.moment (run setting sessions before)) waits.session still
         ∙ ap as_ok (stays (piece_in last).tail waits.session (sym waits.expected)))
         waits.expected waits.taken waits.marked cutting l
 
@@ -489,7 +489,7 @@ module _ (carry : CarryWhatIsCut) (uncut : Uncut) (same_frames : SameFrames) (sa
       (ap (λ x. x ++ part) (sym b.taken)) (subst (λ i. IsPart i 0 part) (sym id) end.part_is) end.few
       (record {
         each = λ front back a cut mine.
-            subst (λ x. lacks_blocks setting.blocks (piece_in a) (x ++ map piece_in (of_key setting key front)) (others key (remembered a.moment (run setting sessions front))) ≡ false)
+            subst (λ x. lacks_blocks setting.blocks (piece_in a) (x ++ map piece_in (of_key setting key front)) (others key (recent_sessions a.moment (run setting sessions front))) ≡ false)
             (sym b.taken) (h.blocks front back a (h.ends ∙ cut) mine);
       }) in
       finish_waiting setting sessions w payload last h.accepted h.of_session (head ∷ before)

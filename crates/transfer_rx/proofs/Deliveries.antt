@@ -14,7 +14,7 @@ use Rattle.transfer_rx.specs.Keys.{is_anonymous, key_of}
 use Rattle.transfer_rx.specs.Marks.{is_whole}
 use Rattle.transfer_rx.specs.Outcome.{Delivers, Grows, Outcome, Spoils, cut_again, fits_no_part, fits_no_payload, is_wrong_length, lacks_blocks, out_of_turn, outcome, same_piece}
 use Rattle.transfer_rx.specs.Reassembly.{Arrival, Delivery, Drops, Gives, Setting, Step, answer, answer_of, at_session, in_turn, piece_in, session_step}
-use Rattle.transfer_rx.specs.Sessions.{Session, others, remembered, session_for}
+use Rattle.transfer_rx.specs.Sessions.{Session, others, recent_sessions, session_for}
 use Rattle.transfer_rx.specs.Sound.{IsDelivered}
 use Rattle.transfer_rx.proofs.Comes.{for-key}
 use Rattle.transfer_rx.proofs.Cuttings.{only, some_payload}
@@ -81,17 +81,17 @@ turned blocks w piece mark now rest session delivery (Some why) h = absurd cc
 
 of_a_session : (setting : Setting) (sessions : List Session) (arrival : Arrival) (delivery : Delivery) (w : Wanted) →
     wanted setting.rows setting.me arrival.id ≡ Ok w →
-    (session_step setting.sessions setting.blocks w (piece_in arrival) arrival.mark arrival.moment (remembered arrival.moment sessions)).answer ≡ Gives delivery →
+    (session_step setting.sessions setting.blocks w (piece_in arrival) arrival.mark arrival.moment (recent_sessions arrival.moment sessions)).answer ≡ Gives delivery →
     IsDelivered setting sessions arrival delivery
 unfolding session_step
 of_a_session setting sessions arrival delivery w accepted h =
-    go (session_for setting.sessions (key_of w.ident) (piece_in arrival).tail arrival.moment (remembered arrival.moment sessions)) refl h where
-      go : (r : Result Session Why) → session_for setting.sessions (key_of w.ident) (piece_in arrival).tail arrival.moment (remembered arrival.moment sessions) ≡ r →
-          (at_session setting.blocks w (piece_in arrival) arrival.mark arrival.moment (remembered arrival.moment sessions) r).answer ≡ Gives delivery →
+    go (session_for setting.sessions (key_of w.ident) (piece_in arrival).tail arrival.moment (recent_sessions arrival.moment sessions)) refl h where
+      go : (r : Result Session Why) → session_for setting.sessions (key_of w.ident) (piece_in arrival).tail arrival.moment (recent_sessions arrival.moment sessions) ≡ r →
+          (at_session setting.blocks w (piece_in arrival) arrival.mark arrival.moment (recent_sessions arrival.moment sessions) r).answer ≡ Gives delivery →
           IsDelivered setting sessions arrival delivery
       go (Err why) e g = absurd cc
       go (Ok session) e g =
-          let t = turned setting.blocks w (piece_in arrival) arrival.mark arrival.moment (others (key_of w.ident) (remembered arrival.moment sessions)) session delivery
+          let t = turned setting.blocks w (piece_in arrival) arrival.mark arrival.moment (others (key_of w.ident) (recent_sessions arrival.moment sessions)) session delivery
           (out_of_turn (piece_in arrival).tail session) g in
           record {
             w = w;
@@ -103,10 +103,10 @@ of_a_session setting sessions arrival delivery w accepted h =
                 inr (record {
                   session = session;
                   there = e;
-                  key = for-key setting.sessions (key_of w.ident) (piece_in arrival).tail arrival.moment (remembered arrival.moment sessions) session e
+                  key = for-key setting.sessions (key_of w.ident) (piece_in arrival).tail arrival.moment (recent_sessions arrival.moment sessions) session e
                       ∙ ap key_of (ap (λ (d : Delivery). d.ident) t.is);
                   cutting = subst (λ (d : Delivery). IsCutting w.signature d.id d.payload (session.taken ++ piece_in arrival ∷ [])) t.is
-                      (delivered_frames setting.blocks w.signature (piece_in arrival) session.taken (others (key_of w.ident) (remembered arrival.moment sessions)) t.payload t.from);
+                      (delivered_frames setting.blocks w.signature (piece_in arrival) session.taken (others (key_of w.ident) (recent_sessions arrival.moment sessions)) t.payload t.from);
                   whole = sym (ap (λ (d : Delivery). d.whole) t.is);
                 });
           }

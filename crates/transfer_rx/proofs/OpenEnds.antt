@@ -8,7 +8,7 @@ use Rattle.can_frame.specs.Cutting.{Piece}
 use Rattle.transfer_rx.specs.declared.accept.Wanted.{Wanted}
 use Rattle.transfer_rx.specs.Acceptance.{wanted}
 use Rattle.transfer_rx.specs.Keys.{is_anonymous, key_of}
-use Rattle.transfer_rx.specs.Sessions.{Session, others, remembered, session_for}
+use Rattle.transfer_rx.specs.Sessions.{Session, others, recent_sessions, session_for}
 use Rattle.transfer_rx.specs.Outcome.{Outcome, Grows, Spoils, assembled, is_wrong_length, lacks_blocks, out_of_turn, outcome}
 use Rattle.transfer_rx.specs.Reassembly.{Arrival, Setting, alone, answer_of, at_session, by_kind, delivered, in_turn, of_wanted, piece_in, session_step, step}
 
@@ -50,7 +50,7 @@ module _ (setting : Setting) (sessions : List Session) (arrival : Arrival) (open
   kind_gives_none w true = alone_gives_none setting.sessions setting.blocks w (piece_in arrival) arrival.mark arrival.moment open_end
   kind_gives_none w false =
       session_gives_none setting.sessions setting.blocks w (piece_in arrival) arrival.mark arrival.moment open_end
-      (remembered arrival.moment sessions)
+      (recent_sessions arrival.moment sessions)
 
   of_wanted_gives_none : (w : Result Wanted Why) → delivered (of_wanted setting arrival sessions w).answer ≡ None
   of_wanted_gives_none (Err why) = refl

@@ -17,7 +17,7 @@ use Rattle.transfer_rx.specs.Origin.{AreAmong, AreFormer, CameWithKey, IsIdleOrO
 use Rattle.transfer_rx.specs.Outcome.{Delivers, Grows, Outcome, Spoils, out_of_turn, outcome}
 use Rattle.transfer_rx.specs.Reassembly.{Arrival, Setting, Step, at_session, in_turn, next, piece_in, session_after, session_step}
 use Rattle.transfer_rx.specs.Run.{is_of, of_key, run}
-use Rattle.transfer_rx.specs.Sessions.{Session, continued, is_recent, opened, others, remembered, restarted, restarts, session_for, session_of}
+use Rattle.transfer_rx.specs.Sessions.{Session, continued, is_recent, new_session, others, recent_sessions, restarted_session, restarts, session_for, session_of}
 use Rattle.transfer_rx.proofs.Comes.{for-key}
 use Rattle.transfer_rx.proofs.Completeness.{is_own}
 use Rattle.transfer_rx.proofs.Steps.{anonymous, of_session, unwanted}
@@ -31,8 +31,8 @@ abbrev as_ok : Session → Result Session Why
 as_ok session = Ok session
 
 begun_idle : (key : Key) (tail : Tail) (now : ℕ) (session : Session) (start room : Bool) →
-    cond start (cond room (as_ok (opened key tail now)) (Err NoSession)) (Err Start) ≡ Ok session → IsIdle session
-begun_idle key tail now session true true h = let e : opened key tail now ≡ session = cc in subst IsIdle e (refl, refl)
+    cond start (cond room (as_ok (new_session key tail now)) (Err NoSession)) (Err Start) ≡ Ok session → IsIdle session
+begun_idle key tail now session true true h = let e : new_session key tail now ≡ session = cc in subst IsIdle e (refl, refl)
 begun_idle key tail now session true false h = absurd cc
 begun_idle key tail now session false room h = absurd cc
 
@@ -49,7 +49,7 @@ comes_to most now key tail sessions session h = record { own = for-key most key 
       IsIdle session ⊎ (session_of key sessions ≡ Some session)
   go None e r = inl (begun_idle key tail now session tail.start (nat_lt (length sessions) most) r)
   go (Some own) e r =
-      let same : restarted tail own ≡ session = cc in
+      let same : restarted_session tail own ≡ session = cc in
       elim (restarted_idle tail own session (restarts tail own) same) [
         | inl idle ↦ inl idle
         | inr is ↦ inr (e ∙ ap (λ (s : Session). Some s) is)
@@ -79,12 +79,12 @@ module _ (setting : Setting) (sessions : List Session) (arrival : Arrival) where
   all_stay k d h = stays _ (All-contains_itself sessions k d h)
 
   -- the session that a frame comes to
-  former : (key : Key) (session : Session) → IsIdleOrOf key (remembered arrival.moment sessions) session → AreFormer session.key sessions session.taken session.marks
+  former : (key : Key) (session : Session) → IsIdleOrOf key (recent_sessions arrival.moment sessions) session → AreFormer session.key sessions session.taken session.marks
   former key session finds = elim finds.idle_or_there [
     | inl idle ↦ inl idle
     | inr there ↦ inr (
       session,
-      found_all (Contains sessions) key (remembered arrival.moment sessions) session there
+      found_all (Contains sessions) key (recent_sessions arrival.moment sessions) session there
           (All-filter (is_recent arrival.moment) (Contains sessions) sessions (All-contains_itself sessions)),
       refl,
       refl,
@@ -100,13 +100,13 @@ module _ (setting : Setting) (sessions : List Session) (arrival : Arrival) where
 
   module _ (w : Wanted) (e : wanted setting.rows setting.me arrival.id ≡ Ok w) (of_one : is_anonymous w.ident.kind ≡ false) where
     abbrev rest : List Session
-    rest = others (key_of w.ident) (remembered arrival.moment sessions)
+    rest = others (key_of w.ident) (recent_sessions arrival.moment sessions)
 
     rest_stays : All (IsKeptAfter setting sessions arrival) rest
-    rest_stays = All-filter _ (IsKeptAfter setting sessions arrival) (remembered arrival.moment sessions)
+    rest_stays = All-filter _ (IsKeptAfter setting sessions arrival) (recent_sessions arrival.moment sessions)
         (All-filter (is_recent arrival.moment) (IsKeptAfter setting sessions arrival) sessions all_stay)
 
-    turned : (session : Session) (o : Option Why) → IsIdleOrOf (key_of w.ident) (remembered arrival.moment sessions) session →
+    turned : (session : Session) (o : Option Why) → IsIdleOrOf (key_of w.ident) (recent_sessions arrival.moment sessions) session →
         All (IsKeptAfter setting sessions arrival) (in_turn setting.blocks w (piece_in arrival) arrival.mark arrival.moment rest session o).sessions
     turned session None finds =
         let result = outcome setting.blocks w.signature (piece_in arrival) session.taken rest in
@@ -117,16 +117,16 @@ module _ (setting : Setting) (sessions : List Session) (arrival : Arrival) where
         (record { pieces = session.taken; marks = session.marks; former = former (key_of w.ident) session finds; after = inl (refl, refl) }) rest_stays
 
     of_one_stepped : All (IsKeptAfter setting sessions arrival)
-        (session_step setting.sessions setting.blocks w (piece_in arrival) arrival.mark arrival.moment (remembered arrival.moment sessions)).sessions
+        (session_step setting.sessions setting.blocks w (piece_in arrival) arrival.mark arrival.moment (recent_sessions arrival.moment sessions)).sessions
     unfolding session_step
-    of_one_stepped = go (session_for setting.sessions (key_of w.ident) (piece_in arrival).tail arrival.moment (remembered arrival.moment sessions)) refl where
+    of_one_stepped = go (session_for setting.sessions (key_of w.ident) (piece_in arrival).tail arrival.moment (recent_sessions arrival.moment sessions)) refl where
       go : (r : Result Session Why) →
-          session_for setting.sessions (key_of w.ident) (piece_in arrival).tail arrival.moment (remembered arrival.moment sessions) ≡ r →
+          session_for setting.sessions (key_of w.ident) (piece_in arrival).tail arrival.moment (recent_sessions arrival.moment sessions) ≡ r →
           All (IsKeptAfter setting sessions arrival)
-          (at_session setting.blocks w (piece_in arrival) arrival.mark arrival.moment (remembered arrival.moment sessions) r).sessions
+          (at_session setting.blocks w (piece_in arrival) arrival.mark arrival.moment (recent_sessions arrival.moment sessions) r).sessions
       go (Err why) found = All-filter (is_recent arrival.moment) (IsKeptAfter setting sessions arrival) sessions all_stay
       go (Ok session) found = turned session (out_of_turn (piece_in arrival).tail session)
-          (comes_to setting.sessions arrival.moment (key_of w.ident) (piece_in arrival).tail (remembered arrival.moment sessions) session found)
+          (comes_to setting.sessions arrival.moment (key_of w.ident) (piece_in arrival).tail (recent_sessions arrival.moment sessions) session found)
 
 pub stepped : (setting : Setting) (sessions : List Session) (arrival : Arrival) → All (IsKeptAfter setting sessions arrival) (next setting sessions arrival)
 stepped setting sessions arrival = go (wanted setting.rows setting.me arrival.id) refl where

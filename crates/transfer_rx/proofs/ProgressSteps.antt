@@ -7,7 +7,7 @@ use Rattle.can_frame.specs.declared.mark.Mark.{Mark}
 use Rattle.can_frame.specs.Cutting.{Piece, joined, tail_at}
 use Rattle.transfer_rx.specs.declared.key.Key.{Key}
 use Rattle.transfer_rx.specs.declared.progress.Progress.{Progress}
-use Rattle.transfer_rx.specs.Sessions.{Session, next_id, restarted, restarts}
+use Rattle.transfer_rx.specs.Sessions.{Session, next_id, restarted_session, restarts}
 use Rattle.transfer_rx.specs.Reassembly.{cut_off, grown}
 use Rattle.transfer_rx.specs.Marks.{is_whole}
 use Rattle.transfer_rx.specs.Progress.{Begins, IsProgressOf}
@@ -31,7 +31,7 @@ restarts_here tail session expected e s a b =
 pub restarted_keeps : (p r : Progress) (bytes : List ℕ) (tail : Tail) (session : Session) → IsProgressOf p bytes session →
     tail.start ≡ true → tail.id ≢ p.expected → (tail.id + 1) % 32 ≢ p.expected →
     IsProgressOf r bytes (record { key = p.key; expected = tail.id; taken = []; marks = []; moment = p.moment }) →
-    IsProgressOf r bytes (restarted tail session)
+    IsProgressOf r bytes (restarted_session tail session)
 restarted_keeps p r bytes tail session k s a b h =
     let t : restarts tail session ≡ true = restarts_here tail session p.expected k.expected s a b in
     rw (t, ← k.key, ← k.moment) h

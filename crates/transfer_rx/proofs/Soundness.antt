@@ -17,7 +17,7 @@ use Rattle.transfer_rx.specs.Outcome.{Delivers, Grows, Outcome, Spoils, cut_agai
 use Rattle.transfer_rx.specs.Parts.{IsPart}
 use Rattle.transfer_rx.specs.Places.{counted}
 use Rattle.transfer_rx.specs.Reassembly.{Arrival, Setting, Step, at_session, grown, in_turn, next, piece_in, session_after, session_step}
-use Rattle.transfer_rx.specs.Sessions.{AreDifferent, Session, continued, is_recent, opened, others, remembered, restarted, restarts, session_for, session_of}
+use Rattle.transfer_rx.specs.Sessions.{AreDifferent, Session, continued, is_recent, new_session, others, recent_sessions, restarted_session, restarts, session_for, session_of}
 use Rattle.transfer_rx.specs.Sound.{ArePossible, AreSound, IsSound}
 use Rattle.transfer_rx.proofs.Comes.{for-key}
 use Rattle.transfer_rx.proofs.Found.{filter-different, others-none, session_of-others_own, sum-ones, sum-others}
@@ -119,9 +119,9 @@ record IsNew (most : ℕ) (sessions : List Session) (session : Session) : Type 0
   room : length sessions < most
 
 begun_new : (most : ℕ) (key : Key) (tail : Tail) (now : ℕ) (sessions : List Session) (session : Session) (start room : Bool) → nat_lt (length sessions) most ≡ room →
-    cond start (cond room (as_ok (opened key tail now)) (Err NoSession)) (Err Start) ≡ Ok session → IsNew most sessions session
+    cond start (cond room (as_ok (new_session key tail now)) (Err NoSession)) (Err Start) ≡ Ok session → IsNew most sessions session
 begun_new most key tail now sessions session true true r h =
-    let e : opened key tail now ≡ session = cc in
+    let e : new_session key tail now ≡ session = cc in
     record { sound = subst (λ x. IsSound x) e (record { frames = tt; marks = refl }); room = ltb-true (length sessions) most r }
 begun_new most key tail now sessions session true false r h = absurd cc
 begun_new most key tail now sessions session false room r h = absurd cc
@@ -142,7 +142,7 @@ fit most key tail now sessions session d s few h = go (session_of key sessions) 
       let room = new.room in
       record { sound = new.sound; few = omega arith }
   go (Some own) e r =
-      let same : restarted tail own ≡ session = cc in
+      let same : restarted_session tail own ≡ session = cc in
       let all : sum_by (λ (x : Session). 1) (others key sessions) + counted (λ (x : Session). 1) (Some own) ≡ sum_by (λ (x : Session). 1) sessions =
       subst (λ x. sum_by (λ (x : Session). 1) (others key sessions) + counted (λ (x : Session). 1) x ≡ sum_by (λ (x : Session). 1) sessions) e
       (sum-others (λ (x : Session). 1) key sessions d) in
@@ -186,7 +186,7 @@ stepped setting w piece mark now sessions p = go (session_for setting.sessions (
 
 pub stay_possible : (setting : Setting) (sessions : List Session) (arrival : Arrival) → ArePossible setting sessions → ArePossible setting (next setting sessions arrival)
 stay_possible setting sessions arrival p = go (wanted setting.rows setting.me arrival.id) refl where
-  left : ArePossible setting (remembered arrival.moment sessions)
+  left : ArePossible setting (recent_sessions arrival.moment sessions)
   left =
       let few = p.few in
       let fewer = filter_few (is_recent arrival.moment) sessions in
@@ -202,5 +202,5 @@ stay_possible setting sessions arrival p = go (wanted setting.rows setting.me ar
     | inl alone ↦ subst (λ (x : Step). ArePossible setting x.sessions) (sym (anonymous setting sessions arrival w e alone)) p
     | inr none ↦
         subst (λ (x : Step). ArePossible setting x.sessions) (sym (of_session setting sessions arrival w e none))
-        (stepped setting w (piece_in arrival) arrival.mark arrival.moment (remembered arrival.moment sessions) left)
+        (stepped setting w (piece_in arrival) arrival.mark arrival.moment (recent_sessions arrival.moment sessions) left)
   ]

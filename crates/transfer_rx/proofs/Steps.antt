@@ -6,7 +6,7 @@ use Rattle.can_frame.specs.Cutting.{Piece}
 use Rattle.transfer_rx.specs.declared.accept.Wanted.{Wanted}
 use Rattle.transfer_rx.specs.Acceptance.{wanted}
 use Rattle.transfer_rx.specs.Keys.{is_anonymous, key_of}
-use Rattle.transfer_rx.specs.Sessions.{Session, others, remembered, session_for}
+use Rattle.transfer_rx.specs.Sessions.{Session, others, recent_sessions, session_for}
 use Rattle.transfer_rx.specs.Outcome.{Outcome, Delivers, Grows, Spoils, out_of_turn, outcome}
 use Rattle.transfer_rx.specs.Reassembly.{Arrival, Drops, Setting, alone, answer_of, piece_in, session_after, session_step, step}
 
@@ -49,6 +49,6 @@ module _ (setting : Setting) (sessions : List Session) (arrival : Arrival) where
   anonymous w e h = rw (e, h) refl
 
   pub of_session : (w : Wanted) → wanted setting.rows setting.me arrival.id ≡ Ok w → is_anonymous w.ident.kind ≡ false →
-      step setting sessions arrival ≡ session_step setting.sessions setting.blocks w (piece_in arrival) arrival.mark arrival.moment (remembered arrival.moment sessions)
+      step setting sessions arrival ≡ session_step setting.sessions setting.blocks w (piece_in arrival) arrival.mark arrival.moment (recent_sessions arrival.moment sessions)
   unfolding step
   of_session w e h = rw (e, h) refl

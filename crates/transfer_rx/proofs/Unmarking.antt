@@ -17,7 +17,7 @@ use Rattle.transfer_rx.specs.Keys.{is_anonymous, key_of, same_key}
 use Rattle.transfer_rx.specs.Marks.{is_whole}
 use Rattle.transfer_rx.specs.Outcome.{Delivers, Grows, Outcome, Spoils, blocks_used, out_of_turn, outcome, session_blocks}
 use Rattle.transfer_rx.specs.Reassembly.{Answer, Arrival, Drops, Gives, Setting, Step, alone, answer, answer_of, at_session, by_kind, in_turn, of_wanted, piece_in, session_after, session_step, step}
-use Rattle.transfer_rx.specs.Sessions.{Session, continued, is_recent, opened, others, remembered, restarts, session_for, session_of}
+use Rattle.transfer_rx.specs.Sessions.{Session, continued, is_recent, new_session, others, recent_sessions, restarts, session_for, session_of}
 use Rattle.transfer_rx.specs.Unmarked.{no_mark, unmarked, unmarked_answer, unmarked_arrival}
 
 filter-unmarked : (p : Session → Bool) → ((s : Session) → p (unmarked s) ≡ p s) → (sessions : List Session) → filter p (map unmarked sessions) ≡ map unmarked (filter p sessions)
@@ -27,7 +27,7 @@ filter-unmarked p same (s ∷ sessions) = elim (cases_Bool (p s)) [
   | inr f ↦ let f' : p s ≡ false = f in rw (same s, f') (filter-unmarked p same sessions)
 ]
 
-remembered-unmarked : (now : ℕ) (sessions : List Session) → remembered now (map unmarked sessions) ≡ map unmarked (remembered now sessions)
+remembered-unmarked : (now : ℕ) (sessions : List Session) → recent_sessions now (map unmarked sessions) ≡ map unmarked (recent_sessions now sessions)
 remembered-unmarked now sessions = filter-unmarked (is_recent now) (λ s. refl) sessions
 
 others-unmarked : (key : Key) (sessions : List Session) → others key (map unmarked sessions) ≡ map unmarked (others key sessions)
@@ -55,7 +55,7 @@ abbrev as_ok : Session → Result Session Why
 as_ok s = Ok s
 
 begun-unmarked : (key : Key) (tail : Tail) (now : ℕ) (start room : Bool) →
-    cond start (cond room (Ok (opened key tail now)) (Err NoSession)) (Err Start) ≡ unmarked_found (cond start (cond room (Ok (opened key tail now)) (Err NoSession)) (Err Start))
+    cond start (cond room (Ok (new_session key tail now)) (Err NoSession)) (Err Start) ≡ unmarked_found (cond start (cond room (Ok (new_session key tail now)) (Err NoSession)) (Err Start))
 begun-unmarked key tail now true true = refl
 begun-unmarked key tail now true false = refl
 begun-unmarked key tail now false room = refl
@@ -69,7 +69,7 @@ restarted-unmarked tail session false = refl
 continued-unmarked : (most : ℕ) (key : Key) (tail : Tail) (now : ℕ) (sessions : List Session) (o : Option Session) →
     continued most key tail now (map unmarked sessions) (option_map unmarked o) ≡ unmarked_found (continued most key tail now sessions o)
 continued-unmarked most key tail now sessions None =
-    ap (λ n. cond tail.start (cond (nat_lt n most) (Ok (opened key tail now)) (Err NoSession)) (Err Start)) (length-map sessions unmarked)
+    ap (λ n. cond tail.start (cond (nat_lt n most) (Ok (new_session key tail now)) (Err NoSession)) (Err Start)) (length-map sessions unmarked)
     ∙ begun-unmarked key tail now tail.start (nat_lt (length sessions) most)
 continued-unmarked most key tail now sessions (Some session) = ap as_ok (restarted-unmarked tail session (restarts tail session))
 
@@ -147,7 +147,7 @@ by_kind-unmarked setting w arrival sessions true =
     ap (λ answer. the_step answer (map unmarked sessions)) (alone-unmarked w.ident (piece_in arrival) arrival.mark ((piece_in arrival).tail.start && (piece_in arrival).tail.end) (piece_in arrival).tail.toggle)
     ∙ ap (the_step (unmarked_answer (alone w.ident (piece_in arrival) no_mark))) (sym (unmarked-own sessions))
 by_kind-unmarked setting w arrival sessions false =
-    session_step-unmarked setting.sessions setting.blocks w (piece_in arrival) arrival.mark arrival.moment (remembered arrival.moment sessions)
+    session_step-unmarked setting.sessions setting.blocks w (piece_in arrival) arrival.mark arrival.moment (recent_sessions arrival.moment sessions)
     ∙ ap (λ left. unmarked_step (session_step setting.sessions setting.blocks w (piece_in arrival) no_mark arrival.moment left)) (sym (remembered-unmarked arrival.moment sessions))
 
 of_wanted-unmarked : (setting : Setting) (arrival : Arrival) (sessions : List Session) (r : Result Wanted Why) →

@@ -11,7 +11,7 @@ use Rattle.transfer_rx.specs.declared.accept.Wanted.{Wanted}
 use Rattle.transfer_rx.specs.Acceptance.{wanted}
 use Rattle.transfer_rx.specs.Keys.{is_anonymous, key_of}
 use Rattle.transfer_rx.specs.Marks.{is_whole}
-use Rattle.transfer_rx.specs.Sessions.{Session, next_id, others, remembered, session_for}
+use Rattle.transfer_rx.specs.Sessions.{Session, next_id, others, recent_sessions, session_for}
 use Rattle.transfer_rx.specs.Outcome.{Outcome, Delivers, Grows, Spoils, out_of_turn, outcome}
 
 -- what a receiver is made with: its rows, its own node ID, and the most sessions and blocks that it has
@@ -127,7 +127,7 @@ by_kind setting w arrival sessions true =
     record { answer = alone w.ident (piece_in arrival) arrival.mark; sessions = sessions }
 by_kind setting w arrival sessions false =
     session_step setting.sessions setting.blocks w (piece_in arrival) arrival.mark arrival.moment
-    (remembered arrival.moment sessions)
+    (recent_sessions arrival.moment sessions)
 
 abbrev pub of_wanted : Setting → Arrival → List Session → Result Wanted Why → Step
 of_wanted setting arrival sessions (Err why) = record { answer = Drops why; sessions = sessions }

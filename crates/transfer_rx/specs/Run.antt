@@ -8,7 +8,7 @@ use Rattle.transfer_rx.specs.Acceptance.{wanted}
 use Rattle.transfer_rx.specs.Keys.{is_anonymous, key_of, same_key}
 use Rattle.transfer_rx.specs.Outcome.{lacks_blocks}
 use Rattle.transfer_rx.specs.Reassembly.{Arrival, Setting, next, piece_in}
-use Rattle.transfer_rx.specs.Sessions.{Session, others, remembered, restarts, session_of}
+use Rattle.transfer_rx.specs.Sessions.{Session, others, recent_sessions, restarts, session_of}
 
 -- the sessions after all that came
 abbrev pub run : Setting → List Session → List Arrival → List Session
@@ -30,9 +30,9 @@ of_key setting key arrivals = filter (is_of setting key) arrivals
 -- and has nothing in progress, or is begun anew by this ID
 abbrev pub MayBegin : Setting → List Session → Key → Arrival → Type 0
 MayBegin setting sessions key first =
-    ((session_of key (remembered first.moment sessions) ≡ None)
-    × (length (remembered first.moment sessions) < setting.sessions))
-    ⊎ ((session : Session) × (session_of key (remembered first.moment sessions) ≡ Some session)
+    ((session_of key (recent_sessions first.moment sessions) ≡ None)
+    × (length (recent_sessions first.moment sessions) < setting.sessions))
+    ⊎ ((session : Session) × (session_of key (recent_sessions first.moment sessions) ≡ Some session)
     × (((session.expected ≡ (piece_in first).tail.id) × (session.taken ≡ []) × (session.marks ≡ []))
     ⊎ (restarts (piece_in first).tail session ≡ true)))
 
@@ -55,4 +55,4 @@ pub record ComesWhole (setting : Setting) (sessions : List Session) (w : Wanted)
   pub blocks : (front back : List Arrival) (arrival : Arrival) → arrivals ≡ front ++ arrival ∷ back →
       is_of setting (key_of w.ident) arrival ≡ true →
       lacks_blocks setting.blocks (piece_in arrival) (map piece_in (of_key setting (key_of w.ident) front))
-      (others (key_of w.ident) (remembered arrival.moment (run setting sessions front))) ≡ false
+      (others (key_of w.ident) (recent_sessions arrival.moment (run setting sessions front))) ≡ false

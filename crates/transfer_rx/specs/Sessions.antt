@@ -35,12 +35,12 @@ AreDifferent (session ∷ sessions) = (session_of session.key sessions ≡ None)
 abbrev pub is_recent : ℕ → Session → Bool
 is_recent now session = nat_le (now - session.moment) 2000
 
-abbrev pub remembered : ℕ → List Session → List Session
-remembered now sessions = filter (is_recent now) sessions
+abbrev pub recent_sessions : ℕ → List Session → List Session
+recent_sessions now sessions = filter (is_recent now) sessions
 
 -- a session that begins with a frame
-abbrev pub opened : Key → Tail → ℕ → Session
-opened key tail now = record { key = key; expected = tail.id; taken = []; marks = []; moment = now }
+abbrev pub new_session : Key → Tail → ℕ → Session
+new_session key tail now = record { key = key; expected = tail.id; taken = []; marks = []; moment = now }
 
 -- the ID that follows
 abbrev pub next_id : ℕ → ℕ
@@ -51,19 +51,19 @@ abbrev pub restarts : Tail → Session → Bool
 restarts tail session =
     tail.start && (not (nat_eq tail.id session.expected) && not (nat_eq (next_id tail.id) session.expected))
 
-abbrev pub restarted : Tail → Session → Session
-restarted tail session =
+abbrev pub restarted_session : Tail → Session → Session
+restarted_session tail session =
     if restarts tail session then record session { expected = tail.id; taken = []; marks = [] } else session
 
 -- a first frame opens a session, where there are fewer than the receiver has room for
 abbrev pub begun : ℕ → Key → Tail → ℕ → List Session → Result Session Why
 begun most key tail now sessions =
-    if tail.start then (if nat_lt (length sessions) most then Ok (opened key tail now) else Err NoSession)
+    if tail.start then (if nat_lt (length sessions) most then Ok (new_session key tail now) else Err NoSession)
     else Err Start
 
 abbrev pub continued : ℕ → Key → Tail → ℕ → List Session → Option Session → Result Session Why
 continued most key tail now sessions None = begun most key tail now sessions
-continued most key tail now sessions (Some session) = Ok (restarted tail session)
+continued most key tail now sessions (Some session) = Ok (restarted_session tail session)
 
 -- the session that a frame comes to, as the frame finds it, or why there is none
 unfoldable pub session_for : ℕ → Key → Tail → ℕ → List Session → Result Session Why

@@ -7,7 +7,7 @@ use Rattle.transfer_rx.specs.Keys.{is_anonymous, key_of}
 use Rattle.transfer_rx.specs.Marks.{is_whole}
 use Rattle.transfer_rx.specs.Parts.{IsPart}
 use Rattle.transfer_rx.specs.Reassembly.{Arrival, Delivery, Setting, piece_in}
-use Rattle.transfer_rx.specs.Sessions.{AreDifferent, Session, remembered, session_for}
+use Rattle.transfer_rx.specs.Sessions.{AreDifferent, Session, recent_sessions, session_for}
 
 -- the frames taken have seven bytes each, the expected ID and the tails of their places, and each has a mark
 pub record IsSound (session : Session) : Type 0 where
@@ -30,7 +30,7 @@ pub record Completes (setting : Setting) (sessions : List Session) (w : Wanted) 
     (delivery : Delivery) : Type 0 where
   pub session : Session
   pub there : session_for setting.sessions (key_of w.ident) (piece_in arrival).tail arrival.moment
-      (remembered arrival.moment sessions) ≡ Ok session
+      (recent_sessions arrival.moment sessions) ≡ Ok session
   pub key : session.key ≡ key_of delivery.ident
   pub cutting : IsCutting w.signature delivery.id delivery.payload (session.taken ++ piece_in arrival ∷ [])
   pub whole : delivery.whole ≡ is_whole (session.marks ++ arrival.mark ∷ [])

@@ -36,7 +36,7 @@ impl Progress {
     ghost use Rattle.transfer_rx.specs.Marks.{is_whole};
     ghost use Rattle.transfer_rx.specs.Outcome.{out_of_turn, session_blocks};
     ghost use Rattle.transfer_rx.specs.Reassembly.{cut_off, grown};
-    ghost use Rattle.transfer_rx.specs.Sessions.{Session, opened, restarted};
+    ghost use Rattle.transfer_rx.specs.Sessions.{Session, new_session, restarted_session};
     ghost use Rattle.transfer_rx.specs.Progress.{Begins, IsProgressOf};
 
     /// A session that begins with a frame.
@@ -44,7 +44,7 @@ impl Progress {
         requires { tail.now.id < 32 }
         ensures key { result.key ≡ key }
         ensures none { result.taken ≡ 0 }
-        ensures keeps { (bytes : List ℕ) → IsProgressOf result bytes (opened key tail.now now) }
+        ensures keeps { (bytes : List ℕ) → IsProgressOf result bytes (new_session key tail.now now) }
     {
         Progress {
             key,
@@ -65,7 +65,7 @@ impl Progress {
         ensures crc { (signature : ℕ) (chain : List ℕ) → HasCrc signature self chain →
             HasCrc signature result chain }
         ensures keeps { (bytes : List ℕ) (session : Session) → IsProgressOf self bytes session →
-            IsProgressOf result bytes (restarted tail.now session) }
+            IsProgressOf result bytes (restarted_session tail.now session) }
     {
         if tail.start && tail.id != self.expected && (tail.id + 1) % TRANSFER_IDS != self.expected {
             return self.emptied(tail.id, self.moment);

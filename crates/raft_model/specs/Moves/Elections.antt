@@ -7,7 +7,7 @@ use Rattle.raft_model.specs.Messages.{Request, Answer}
 use Rattle.raft_model.specs.Server.{Role, Store, Memory, RaftServer, quorum, Put, put_all}
 use Rattle.raft_model.specs.Server.Role.{Follower, Candidate, Leader}
 use Rattle.raft_model.specs.Server.Put.{PutTerm, PutVote, PutEntry, PutLonger}
-use Rattle.raft_model.specs.History.{History, voted, elected}
+use Rattle.raft_model.specs.History.{History, with_vote_kept, with_leader}
 
 -- no term is above it
 abbrev pub term_limit : ℕ
@@ -70,7 +70,7 @@ win_memory store memory = record memory {
 
 -- a win that has no put is remembered when its move is done
 abbrev pub win_history : ℕ → Store → History → History
-win_history member store history = if adds_blank store then history else elected history member store.term store.log
+win_history member store history = if adds_blank store then history else with_leader history member store.term store.log
 
 -- Votes.
 
@@ -97,7 +97,8 @@ grant_puts store request false = []
 -- a repeated grant is kept when its move is done
 abbrev pub vote_history : ℕ → Store → Request → Option ℕ → History → History
 vote_history member store request None history = history
-vote_history member store request (Some earlier) history = voted history member request.from request.term store.log
+vote_history member store request (Some earlier) history =
+    with_vote_kept history member request.from request.term store.log
 
 abbrev pub grant_history : ℕ → Store → Request → Bool → History → History
 grant_history member store request true history = vote_history member store request store.vote history
@@ -107,30 +108,30 @@ grant_history member store request false history = history
 abbrev pub counts : RaftServer → Answer → Bool
 counts server answer = is_candidate server.memory.role && ((answer.term == server.store.term) && answer.success)
 
-abbrev pub counted : Memory → Answer → ℕ → Bool
-counted memory answer = at memory.votes answer.from true
+abbrev pub votes_with : Memory → Answer → ℕ → Bool
+votes_with memory answer = at memory.votes answer.from true
 
 -- the call that an answer answers ends
-abbrev pub ended : Memory → ℕ → Memory
-ended memory peer = record memory { pending = at memory.pending peer None }
+abbrev pub memory_without_call : Memory → ℕ → Memory
+memory_without_call memory peer = record memory { pending = at memory.pending peer None }
 
 -- an answer with a higher term makes a Follower
 abbrev pub stepped_down : Memory → ℕ → Memory
-stepped_down memory peer = record (ended memory peer) { role = Follower }
+stepped_down memory peer = record (memory_without_call memory peer) { role = Follower }
 
 -- a grant is counted, and a quorum wins
 abbrev pub with_vote : Memory → Answer → Memory
-with_vote memory answer = record (ended memory answer.from) { votes = counted memory answer }
+with_vote memory answer = record (memory_without_call memory answer.from) { votes = votes_with memory answer }
 
 abbrev pub counting_puts : List ℕ → RaftServer → Answer → List Put
 counting_puts members server answer =
-    if has_quorum members (counted server.memory answer) then win_puts server.store else []
+    if has_quorum members (votes_with server.memory answer) then win_puts server.store else []
 
 abbrev pub counting_memory : List ℕ → RaftServer → Answer → Memory
 counting_memory members server answer =
-    if has_quorum members (counted server.memory answer)
+    if has_quorum members (votes_with server.memory answer)
     then win_memory server.store (with_vote server.memory answer) else with_vote server.memory answer
 
 abbrev pub counting_history : List ℕ → ℕ → RaftServer → Answer → History → History
 counting_history members member server answer history =
-    if has_quorum members (counted server.memory answer) then win_history member server.store history else history
+    if has_quorum members (votes_with server.memory answer) then win_history member server.store history else history

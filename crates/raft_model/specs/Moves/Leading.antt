@@ -79,8 +79,8 @@ pair_at member step store place = record {
 }
 
 -- the request is the pending call to the peer
-abbrev pub calling : Memory → ℕ → Request → Memory
-calling memory peer request = record memory { pending = at memory.pending peer (Some request) }
+abbrev pub memory_with_call : Memory → ℕ → Request → Memory
+memory_with_call memory peer request = record memory { pending = at memory.pending peer (Some request) }
 
 -- no call is pending to this other member, and none was made to it before in this step
 pub record MayCall (members : List ℕ) (member : ℕ) (called : List ℕ) (server : RaftServer) (peer : ℕ) : Type 0 where

@@ -2,8 +2,8 @@ use Rattle.std.proofs.Common.{ap, subst, sym, ◌∙◌, ℕ, List}
 use Rattle.alloc_step.specs.declared.event.Event.{Event}
 use Rattle.alloc_step.specs.Accepted.{setting_for}
 use Rattle.alloc_step.specs.StepState.{StepState}
-use Rattle.alloc_step.specs.Step.{at_sessions, at_step, begins, step, takes_answer, with_answer}
-use Rattle.alloc_step.specs.Tick.{ticks}
+use Rattle.alloc_step.specs.Step.{at_sessions, at_step, begin_phase, step, takes_answer, with_answer}
+use Rattle.alloc_step.specs.Tick.{clock_phase}
 use Rattle.transfer_rx.specs.declared.accept.AcceptRow.{AcceptRow}
 use Rattle.transfer_rx.specs.Acceptance.{first_signature}
 use Rattle.transfer_rx.specs.Reassembly.{Answer, Arrival, Setting, answer, arrival_of, next}
@@ -26,8 +26,8 @@ pub returns-in-Tick-clause-comes : goal.returns-in-Tick-clause-comes
 unfolding step
 returns-in-Tick-clause-comes g c t h sess set =
     let s = c.args.offered.now.step in
-    let g0 : StepState = begins s c.in-Tick.now t in
-    let g1 : StepState = ticks s c.in-Tick.word g0 in
+    let g0 : StepState = begin_phase s c.in-Tick.now t in
+    let g1 : StepState = clock_phase s c.in-Tick.word g0 in
     subst (λ (e : Event). ComesTo c.args.member.now.durable t c.take_tick.new.self c.args.receiver.now c.take_tick.new.offered (step t s (event_of e)) c.take_tick.result) (sym c.in-Tick.is) (record {
       sees = c.take_tick.ensures.sees t h;
       sessions = subst (λ (list : List Session). receiver.HasSessions c.args.receiver.now list) (sym ((c.phases_add_puts.ensures.ends s g1).sessions ∙ (c.phases_add_puts.ensures.ticks s c.in-Tick.word g0).sessions)) sess;
@@ -38,8 +38,8 @@ pub returns-in-Rx-clause-comes : goal.returns-in-Rx-clause-comes
 unfolding step
 returns-in-Rx-clause-comes g c t h sess set =
     let s = c.args.offered.now.step in
-    let g0 : StepState = begins s c.in-Rx.now t in
-    let arrival : Arrival = at_step g0.timed (arrival_of c.in-Rx.frame c.in-Rx.mark c.in-Rx.now) in
+    let g0 : StepState = begin_phase s c.in-Rx.now t in
+    let arrival : Arrival = at_step g0.allocator (arrival_of c.in-Rx.frame c.in-Rx.mark c.in-Rx.now) in
     let sessions : List Session = next (setting_for t.me) t.sessions arrival in
     let g1 : StepState = at_sessions sessions g0 in
     let found : Answer = answer (setting_for t.me) t.sessions arrival in

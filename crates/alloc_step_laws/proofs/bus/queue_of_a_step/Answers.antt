@@ -1,4 +1,4 @@
-use Rattle.alloc_step_laws.proofs.Waiting.{waits}
+use Rattle.alloc_step_laws.proofs.QueueContents.{waits}
 use Rattle.alloc_step_laws.proofs.bus.queue_of_a_step.Goals as goal
 
 pub returns : goal.returns

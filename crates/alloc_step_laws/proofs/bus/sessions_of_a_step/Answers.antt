@@ -1,4 +1,4 @@
-use Rattle.alloc_step_laws.proofs.Hearing.{after_frame, after_tick}
+use Rattle.alloc_step_laws.proofs.SessionChanges.{after_frame, after_tick}
 use Rattle.alloc_step_laws.proofs.bus.sessions_of_a_step.Goals as goal
 
 pub returns : goal.returns

@@ -1,6 +1,6 @@
-use Rattle.alloc_step_laws.proofs.Committing.{step_commits}
-use Rattle.alloc_step_laws.proofs.Dutiful.{phases, stands, tells_duly}
-use Rattle.alloc_step_laws.proofs.Winning.{step_wins}
+use Rattle.alloc_step_laws.proofs.Commits.{step_commits}
+use Rattle.alloc_step_laws.proofs.StepDuties.{phases, stands, tells_duly}
+use Rattle.alloc_step_laws.proofs.Wins.{step_wins}
 use Rattle.alloc_step_laws.proofs.laws.duty_of_a_step.Goals as goal
 
 pub returns : goal.returns

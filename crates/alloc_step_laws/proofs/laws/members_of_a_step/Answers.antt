@@ -1,5 +1,5 @@
-use Rattle.alloc_step_laws.proofs.Listing.{kept, named, whole}
-use Rattle.alloc_step_laws.proofs.Told.{discoveries_tell, told_nodes}
+use Rattle.alloc_step_laws.proofs.MemberLists.{kept, named, whole}
+use Rattle.alloc_step_laws.proofs.DiscoveryLists.{discoveries_tell, told_nodes}
 use Rattle.alloc_step_laws.proofs.laws.members_of_a_step.Goals as goal
 
 pub returns : goal.returns

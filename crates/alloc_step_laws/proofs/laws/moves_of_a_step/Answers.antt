@@ -1,4 +1,4 @@
-use Rattle.alloc_step_laws.proofs.Stepping.{keeps, of_the_machine, opening_keeps, popped_keeps}
+use Rattle.alloc_step_laws.proofs.StepMoves.{keeps, of_the_machine, opening_keeps, popped_keeps}
 use Rattle.alloc_step_laws.proofs.laws.moves_of_a_step.Goals as goal
 
 pub returns : goal.returns

@@ -1,4 +1,4 @@
-use Rattle.alloc_step_laws.proofs.Given.{commit_stays_inside, offers_are_committed, pairs_are_committed}
+use Rattle.alloc_step_laws.proofs.CommittedPairs.{commit_stays_inside, offers_are_committed, pairs_are_committed}
 use Rattle.alloc_step_laws.proofs.laws.pairs_of_a_step.Goals as goal
 
 pub returns : goal.returns

@@ -1,4 +1,4 @@
-use Rattle.alloc_step_laws.proofs.Recorded.{opening_has, step_records}
+use Rattle.alloc_step_laws.proofs.RecordedUids.{opening_has, step_records}
 use Rattle.alloc_step_laws.proofs.laws.proposals_of_a_step.Goals as goal
 
 pub returns : goal.returns

@@ -1,4 +1,4 @@
-use Rattle.alloc_step_laws.proofs.Answered.{responses_answer}
+use Rattle.alloc_step_laws.proofs.AnsweredRequests.{responses_answer}
 use Rattle.alloc_step_laws.proofs.laws.responses_answer_what_was_delivered.Goals as goal
 
 pub returns : goal.returns

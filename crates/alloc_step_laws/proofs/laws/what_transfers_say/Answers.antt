@@ -1,4 +1,4 @@
-use Rattle.alloc_step_laws.proofs.Saying.{all_say}
+use Rattle.alloc_step_laws.proofs.StepMessages.{all_say}
 use Rattle.alloc_step_laws.proofs.laws.what_transfers_say.Goals as goal
 
 pub returns : goal.returns

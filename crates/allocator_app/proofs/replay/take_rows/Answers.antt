@@ -2,7 +2,7 @@ use Rattle.std.proofs.Common.{◌+◌, ◌++◌, sym, ap, ◌∙◌, refl, arith
 use Rattle.std.proofs.KnownBytes.{Appends-nil, Appends-trans}
 use Rattle.std.proofs.lemmas.Bool.{true≢false}
 use Rattle.std.proofs.lemmas.Bool.Decides.{nat_tests}
-use Rattle.bus_spec.specs.Cluster.{next}
+use Rattle.bus_spec.specs.Cluster.{after_row}
 use Rattle.allocator_app.proofs.Coming.{bad-row, beyond, goes-more, goes-nil, refused-row}
 use Rattle.allocator_app.proofs.Rest.{read_below, read_usable, rows_taken}
 use Rattle.app_base.proofs.Written.{front-on, grows-refl, grows-trans, on_err}
@@ -91,12 +91,12 @@ rows-preserved g c =
           let told = c.in-Ok.ensures.told far.0 far.1 in
           let now = c.in-Ok.ensures.accepted far.0 far.1 in
           let rows = far.1.members.rows in (
-            next far.0 c.in-Row.row,
+            after_row far.0 c.in-Row.row,
             now,
             (
               far.2.0 ++ c.deref.result.now,
               goes-more first far.0 c.in-Row.row c.in-Ok.told c.args.input.now c.rows.input _ far.2.0 c.deref.result.now _
-                  far.2.1 c.in-Row.ensures.found told.0 told.1 (c.logs_give_once.ensures c.rows.world far.0 far.1) (c.in-Ok.ensures.kept far.0 far.1) (c.logs_give_once.ensures c.row.new.self (next far.0 c.in-Row.row) now) (c.taken-in-rows.ensures ∙ taken ∙ ap (λ n. n + 1) rows) line,
+                  far.2.1 c.in-Row.ensures.found told.0 told.1 (c.logs_give_once.ensures c.rows.world far.0 far.1) (c.in-Ok.ensures.kept far.0 far.1) (c.logs_give_once.ensures c.row.new.self (after_row far.0 c.in-Row.row) now) (c.taken-in-rows.ensures ∙ taken ∙ ap (λ n. n + 1) rows) line,
               Appends-trans _ _ _ far.2.0 c.deref.result.now far.2.2 c.in_ok-line.ensures.told.ok,
             ),
           );
@@ -117,13 +117,13 @@ returns-in_err-line-clause-cut g c =
     let told = c.in-Ok.ensures.told far.0 far.1 in
     let now = c.in-Ok.ensures.accepted far.0 far.1 in
     let rows = far.1.members.rows in (
-      next far.0 c.in-Row.row,
+      after_row far.0 c.in-Row.row,
       now,
       record {
         lines = far.2.0 ++ c.deref.result.now;
         rest = c.next_row.new.input;
         goes = goes-more first far.0 c.in-Row.row c.in-Ok.told c.args.input.now c.rows.input c.next_row.new.input far.2.0 c.deref.result.now _
-            far.2.1 c.in-Row.ensures.found told.0 told.1 (c.logs_give_once.ensures c.rows.world far.0 far.1) (c.in-Ok.ensures.kept far.0 far.1) (c.logs_give_once.ensures c.row.new.self (next far.0 c.in-Row.row) now) (c.taken-in-rows.ensures ∙ c.in-Ok.ensures.taken ∙ ap (λ n. n + 1) rows) line;
+            far.2.1 c.in-Row.ensures.found told.0 told.1 (c.logs_give_once.ensures c.rows.world far.0 far.1) (c.in-Ok.ensures.kept far.0 far.1) (c.logs_give_once.ensures c.row.new.self (after_row far.0 c.in-Row.row) now) (c.taken-in-rows.ensures ∙ c.in-Ok.ensures.taken ∙ ap (λ n. n + 1) rows) line;
         shorter = omega (arith, so_far.shorter, c.in-Row.ensures.found.shorter);
         written = front-on (written c.args.sink.now) (written c.rows.sink) (written c.line.new.sink) c.args.output.now c.rows.output far.2.0 c.deref.result.now
             so_far.grew far.2.2 c.in_err-line.ensures.told.err;

@@ -1,6 +1,6 @@
 use Rattle.std.proofs.Common.{◌<◌, length, refl, inl, inr, ◌∙◌, subst, arith}
 use Rattle.std.specs.Prelude.{None, slice_index_or}
-use Rattle.app_node.specs.Opening.{Given, opened as opened_of}
+use Rattle.app_node.specs.Opening.{Given, together_at_opening as opened_of}
 use Rattle.app_node.specs.Runners.{runners_of}
 use Rattle.app_node.specs.Stands.{Stand}
 use Rattle.app_node.specs.Turns.{all_turns}

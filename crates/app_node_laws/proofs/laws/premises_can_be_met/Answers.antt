@@ -4,8 +4,8 @@ use Rattle.can_frame.specs.Cutting.{frames_of, payload_of}
 use Rattle.can_frame.specs.Identifier.{identifier_of}
 use Rattle.raft_model.specs.Lists.{In}
 use Rattle.alloc_step.specs.Accepted.{rows}
-use Rattle.alloc_step.specs.Delivered.{delivers}
-use Rattle.alloc_step.specs.Judging.{judges}
+use Rattle.alloc_step.specs.Delivered.{delivery_phase}
+use Rattle.alloc_step.specs.Judging.{arrival_judgement}
 use Rattle.alloc_step.specs.Step.{all_nodes, step}
 use Rattle.transfer_rx.specs.Acceptance.{wanted}
 use Rattle.transfer_rx.specs.Outcome.{fits_no_payload, outcome}
@@ -13,7 +13,7 @@ use Rattle.transfer_rx.specs.Reassembly.{session_step, step as frame_step}
 use Rattle.transfer_rx.specs.Sessions.{session_for}
 use Rattle.transfer_tx.specs.Queue.{left_behind, next_out, queued_frames}
 use Rattle.outside.specs.declared.received.Received.TheVariants.{Frame}
-use Rattle.app_base.specs.Draws.{moved, word_at}
+use Rattle.app_base.specs.Draws.{next_state, word_at}
 use Rattle.app_node.specs.Frames.{is_frame, raw_of}
 use Rattle.bus_spec.specs.Cluster.{AreMembers, Cluster, after_rows, cluster, frame_at}
 use Rattle.bus_spec.specs.Members.MemberStatus.{Down}
@@ -39,7 +39,7 @@ members = record { some = omega arith; five = omega arith; nodes = each; once = 
     other (inr i) = absurd i
 
 may : MayAllHappen (first_events ++ later_events) (cluster two)
-unfolding step frame_step outcome fits_no_payload payload_of all_nodes delivers judges session_for session_step wanted queued_frames next_out left_behind frames_of identifier_of rows
+unfolding step frame_step outcome fits_no_payload payload_of all_nodes delivery_phase arrival_judgement session_for session_step wanted queued_frames next_out left_behind frames_of identifier_of rows
 may = (
   (refl, refl),
   (
@@ -64,18 +64,18 @@ front [] ys = refl
 front (x ∷ xs) ys = ap (λ (l : List ℕ). x ∷ l) (front xs ys)
 
 carried : (w : Cluster) → is_frame (raw_of (frame_at w.frames 2)) ≡ true
-    → Carries (after_rows w (rows_of (Opens 2 9100 (word_at (moved 2))) w)).frames (Frame (raw_of (frame_at w.frames 2))) (WasSent 2)
+    → Carries (after_rows w (rows_of (Opens 2 9100 (word_at (next_state 2))) w)).frames (Frame (raw_of (frame_at w.frames 2))) (WasSent 2)
 carried w e = record { frame = e; id_is = refl; bytes_are = front (frame_at w.frames 2).bytes (replicate (8 - length (frame_at w.frames 2).bytes) 0) }
 
 is_one : is_frame (raw_of (frame_at world_by_then.frames 2)) ≡ true
-unfolding step frame_step outcome fits_no_payload payload_of all_nodes delivers judges session_for session_step wanted queued_frames next_out left_behind frames_of identifier_of rows
+unfolding step frame_step outcome fits_no_payload payload_of all_nodes delivery_phase arrival_judgement session_for session_step wanted queued_frames next_out left_behind frames_of identifier_of rows
 is_one = refl
 
 goes : GoesOn 2 own given_then world_by_then later_events (Opening 0) (Turning 1 0)
 goes = ((refl, refl, refl), ((refl, record { moment_is = refl; word_is = refl; carries = carried world_by_then is_one }), refl))
 
-down : (world_by_then.member 2).life ≡ Down
-unfolding step frame_step outcome fits_no_payload payload_of all_nodes delivers judges session_for session_step wanted queued_frames next_out left_behind frames_of identifier_of rows
+down : (world_by_then.member 2).status ≡ Down
+unfolding step frame_step outcome fits_no_payload payload_of all_nodes delivery_phase arrival_judgement session_for session_step wanted queued_frames next_out left_behind frames_of identifier_of rows
 down = refl
 
 waits : (i : ℕ) → i < length own → IsWaiting 2 own given_then world_by_then i
@@ -95,7 +95,7 @@ returns-clause-run c = record {
 }
 
 term : (world_by_then.member 2).disk.store.term ≡ 1
-unfolding step frame_step outcome fits_no_payload payload_of all_nodes delivers judges session_for session_step wanted queued_frames next_out left_behind frames_of identifier_of rows
+unfolding step frame_step outcome fits_no_payload payload_of all_nodes delivery_phase arrival_judgement session_for session_step wanted queued_frames next_out left_behind frames_of identifier_of rows
 term = refl
 
 pub returns-clause-killed : goal.returns-clause-killed

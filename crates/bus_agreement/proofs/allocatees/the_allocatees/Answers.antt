@@ -1,4 +1,4 @@
-use Rattle.bus_agreement.proofs.Held.{HoldingLaws, has_allocatees}
+use Rattle.bus_agreement.proofs.HeldPairs.{HoldingLaws, has_allocatees}
 use Rattle.bus_agreement.proofs.allocatees.the_allocatees.Goals as goal
 
 pub returns : goal.returns

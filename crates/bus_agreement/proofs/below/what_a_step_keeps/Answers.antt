@@ -17,6 +17,6 @@ returns c = record {
   done = λ key_disk puts e. (c.the_disk_by_states.ensures.done key_disk puts e).0;
   votes = c.puts_are_stored.ensures.votes;
   same = c.puts_are_stored.ensures.same;
-  plain = c.law_handlers.ensures.plain;
+  raft_server = c.law_handlers.ensures.raft_server;
   store = c.law_handlers.ensures.store;
 }

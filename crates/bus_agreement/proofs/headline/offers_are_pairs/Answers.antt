@@ -1,4 +1,4 @@
-use Rattle.bus_agreement.proofs.Offering.{bus_is_made, offers_are_made}
+use Rattle.bus_agreement.proofs.OfferedAllocations.{bus_is_made, offers_are_made}
 use Rattle.bus_agreement.proofs.headline.offers_are_pairs.Goals as goal
 
 pub returns : goal.returns

@@ -1,4 +1,4 @@
-use Rattle.bus_agreement.proofs.Dutiful.{DutyLaws, are_dutiful}
+use Rattle.bus_agreement.proofs.StepDuties.{DutyLaws, are_dutiful}
 use Rattle.bus_agreement.proofs.headline.rows_are_dutiful.Goals as goal
 
 pub returns : goal.returns

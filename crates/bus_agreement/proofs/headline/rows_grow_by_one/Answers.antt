@@ -1,5 +1,5 @@
-use Rattle.bus_agreement.proofs.Joining.{ids_stay}
-use Rattle.bus_agreement.proofs.Longer.{fits, grown, lawful, made_more, shown}
+use Rattle.bus_agreement.proofs.Concatenations.{ids_stay}
+use Rattle.bus_agreement.proofs.OneRowMore.{fits, grown, lawful, made_more, shown}
 use Rattle.bus_agreement.proofs.headline.rows_grow_by_one.Goals as goal
 
 pub returns : goal.returns

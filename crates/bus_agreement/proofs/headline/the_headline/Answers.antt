@@ -1,4 +1,4 @@
-use Rattle.bus_agreement.proofs.Mirroring.{ListLaws, has_headline}
+use Rattle.bus_agreement.proofs.MirroredRuns.{ListLaws, has_headline}
 use Rattle.bus_agreement.proofs.headline.the_headline.Goals as goal
 
 pub returns : goal.returns

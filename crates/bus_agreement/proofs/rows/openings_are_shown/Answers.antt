@@ -1,4 +1,4 @@
-use Rattle.bus_agreement.proofs.Starting.{DiskLaws, may_open, not_opened_shown, open_shown}
+use Rattle.bus_agreement.proofs.StopsAndOpenings.{DiskLaws, may_open, not_opened_shown, open_shown}
 use Rattle.bus_agreement.proofs.StillWritable.{opened_written}
 use Rattle.bus_agreement.proofs.rows.openings_are_shown.Goals as goal
 

@@ -1,4 +1,4 @@
-use Rattle.bus_agreement.proofs.Quiet.{armed_shown, fault_shown, outside_shown, sent_shown}
+use Rattle.bus_agreement.proofs.RowsWithoutEvents.{armed_shown, fault_shown, outside_shown, sent_shown}
 use Rattle.bus_agreement.proofs.rows.rows_without_events_are_shown.Goals as goal
 
 pub returns : goal.returns

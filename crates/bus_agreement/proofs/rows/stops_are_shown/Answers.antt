@@ -1,5 +1,5 @@
 use Rattle.std.specs.Prelude.{◌+◌}
-use Rattle.bus_agreement.proofs.Starting.{failed_stop_shown, may_stop, stop_shown}
+use Rattle.bus_agreement.proofs.StopsAndOpenings.{failed_stop_shown, may_stop, stop_shown}
 use Rattle.bus_agreement.proofs.StillWritable.{stopped_written}
 use Rattle.bus_agreement.proofs.rows.stops_are_shown.Goals as goal
 

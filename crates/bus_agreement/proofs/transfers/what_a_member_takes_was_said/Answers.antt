@@ -1,4 +1,4 @@
-use Rattle.bus_agreement.proofs.Hearing.{takes_from}
+use Rattle.bus_agreement.proofs.Deliveries.{takes_from}
 use Rattle.bus_agreement.proofs.transfers.what_a_member_takes_was_said.Goals as goal
 
 pub returns : goal.returns

@@ -1,4 +1,4 @@
-use Rattle.bus_agreement.proofs.Delivering.{was_made}
+use Rattle.bus_agreement.proofs.DeliveredTransfers.{was_made}
 use Rattle.bus_agreement.proofs.transfers.what_is_delivered_was_made.Goals as goal
 
 pub returns : goal.returns

@@ -3,7 +3,7 @@ use Rattle.std.specs.Prelude.{Err, Ok, Result}
 use Rattle.disk_model.specs.declared.calls.Calls.{Calls}
 use Rattle.kv_store.specs.declared.fault.Fault.{Fault}
 use Rattle.alloc_step.specs.declared.event.Outcome.{Outcome}
-use Rattle.alloc_step.specs.StepState.{sents}
+use Rattle.alloc_step.specs.StepState.{listing_of}
 use Rattle.alloc_step.specs.Step.{step as step_of}
 use Rattle.alloc_step.specs.AllocatorState.{view_of}
 use Rattle.alloc_server.specs.Server.{event_of, fault_of}
@@ -17,8 +17,8 @@ pub returns-in-Ok-clause-finished : goal.returns-in-Ok-clause-finished
 returns-in-Ok-clause-finished g c = λ t key_disk up done.
     let step_result = step_of t c.args.number (event_of c.args.event) in
     let does = c.in-Ok.ensures.steps t up.stands in (
-      c.stepped.ensures ∙ told_same c.args.n c.view.result (view_of step_result.step_state.timed) c.in-Ok.outcome.seen step_result.seen c.in-Ok.outcome.sent.items (sents step_result.step_state)
-          (c.view.ensures.stands step_result.step_state.timed does.stands) does.tells.seen does.tells.sent,
+      c.stepped.ensures ∙ told_same c.args.n c.view.result (view_of step_result.step_state.allocator) c.in-Ok.outcome.seen step_result.seen c.in-Ok.outcome.sent.items (listing_of step_result.step_state)
+          (c.view.ensures.stands step_result.step_state.allocator does.stands) does.tells.seen does.tells.sent,
       up_after c.args.server.now c.step.new.self c.a_member_on_the_disk_by_states.ensures.puts t key_disk up step_result c.in-Ok.outcome does,
     )
 

@@ -3,7 +3,7 @@ use Rattle.raft_core.proofs.Turns.{cut_off, joined, times_joined}
 use Rattle.raft_core.proofs.laws.moves_in_turn.Goals as goal
 
 pub returns-clause-nothing : goal.returns-clause-nothing
-returns-clause-nothing g c = λ members m n p t durable raft st. record { plain = refl; puts = c.puts_in_turn.ensures.nothing durable; after = st }
+returns-clause-nothing g c = λ members m n p t durable raft st. record { raft_server = refl; puts = c.puts_in_turn.ensures.nothing durable; after = st }
 
 pub returns-clause-joined : goal.returns-clause-joined
 returns-clause-joined g c = λ members m n xs ys p one two t1 t2 old mid new before after failed first second.

@@ -6,7 +6,7 @@ returns c = record {
   server = joined_server;
   puts = joined_puts;
   offers = joined_offers;
-  site = joined_moves;
+  local_state = joined_moves;
   come = joined_come;
   apart = come_apart;
 }

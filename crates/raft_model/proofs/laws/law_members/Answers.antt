@@ -1,4 +1,4 @@
-use Rattle.raft_model.proofs.Listed.{all_after, all_puts, all_offers, all_site, all_come}
+use Rattle.raft_model.proofs.Listed.{all_after, all_puts, all_offers, all_local_state, all_come}
 use Rattle.raft_model.proofs.Members.{same_count, same_puts, same_memory, same_commit, same_come}
 use Rattle.raft_model.proofs.laws.law_members.Goals as goal
 
@@ -12,6 +12,6 @@ returns c = record {
   all_after = all_after;
   all_puts = all_puts;
   all_offers = all_offers;
-  all_site = all_site;
+  all_local_state = all_local_state;
   all_come = all_come;
 }

@@ -1,6 +1,6 @@
 use Rattle.raft_model.specs.Moves.{with_term}
 use Rattle.raft_model.specs.Moves.Move.{AnswerAgain, CallForVote, CallToAppend, CommitTo, GiveUp, ProposeEntry, TakeAppendAnswer, TakeAppendRequest, TakeVoteAnswer, TakeVoteRequest, TellNothing, TellPair, TimeOut}
-use Rattle.raft_model.specs.Decisions.{grants, judges}
+use Rattle.raft_model.specs.Decisions.{grants, verdict_on}
 use Rattle.raft_model.proofs.Decisions.{granted, judged, commit}
 use Rattle.raft_model.proofs.Rows.{takes}
 use Rattle.raft_model.proofs.laws.law_rows.Goals as goal
@@ -14,7 +14,7 @@ returns c = record {
   vote_answer = λ world member step answer ready there mine kind pending. takes world member step (TakeVoteAnswer answer) ready
       (there, mine, kind, pending);
   append_request = λ world member step request ready there mine kind.
-      takes world member step (TakeAppendRequest request (judges (world.server member) request)) ready
+      takes world member step (TakeAppendRequest request (verdict_on (world.server member) request)) ready
       (there, mine, kind, judged (world.server member) request);
   append_answer = λ world member step answer ready there mine kind pending. takes world member step (TakeAppendAnswer answer) ready
       (there, mine, kind, pending);

@@ -4,7 +4,7 @@ use Rattle.can_frame.specs.declared.step.What.TheVariants.{InfoQ}
 use Rattle.node_discovery.specs.History.{Asked}
 use Rattle.node_discovery.specs.Stands as watch
 use Rattle.node_discovery.specs.Watch.{of_node}
-use Rattle.alloc_step.specs.StepState.{StepState, sends}
+use Rattle.alloc_step.specs.StepState.{StepState, with_transfer}
 use Rattle.alloc_step.specs.Outbox.{Waiting}
 use Rattle.alloc_step.specs.Transfers.{has_room, id_of}
 use Rattle.alloc_core.specs.Stands.{IsInStep}
@@ -14,13 +14,13 @@ use Rattle.alloc_core.proofs.member.Member.ask.Goals as goal
 
 pub returns-then-send-clause-step_state : goal.returns-then-send-clause-step_state
 returns-then-send-clause-step_state g c start step_state h =
-    let t = step_state.timed in
+    let t = step_state.allocator in
     let s = c.args.offered.now.step in
     let node = c.args.node in
     let to : c.get-to.result ≡ node = c.get-to.ensures.number in
     let empty : c.new.result.items ≡ [] = search rules in
-    let sent = subst (λ (n : ℕ). IsInStep start c.send.new.self c.send.new.offered (sends s InfoQ n [] None step_state)) to
-    (subst (λ (list : List ℕ). IsInStep start c.send.new.self c.send.new.offered (sends s InfoQ c.get-to.result list None step_state)) empty (c.send.ensures.step_state refl None start step_state h)) in
+    let sent = subst (λ (n : ℕ). IsInStep start c.send.new.self c.send.new.offered (with_transfer s InfoQ n [] None step_state)) to
+    (subst (λ (list : List ℕ). IsInStep start c.send.new.self c.send.new.offered (with_transfer s InfoQ c.get-to.result list None step_state)) empty (c.send.ensures.step_state refl None start step_state h)) in
     let id : c.next_id-id.result ≡ id_of t.ids InfoQ node = c.next_id-id.ensures.id ∙ ap (λ (n : ℕ). id_of c.args.self.now.outbox.ids InfoQ n) to ∙ ap (λ (w : Waiting). id_of w.ids InfoQ node) h.stands.outbox in
     let fits : has_room t.queue [] ≡ true = ap (λ (w : Waiting). has_room w.queue []) (sym h.stands.outbox) ∙ ap (λ (list : List ℕ). has_room c.args.self.now.outbox.queue list) (sym empty) ∙ sym c.send.ensures.fitted ∙ c.if-send.true in
     then_ (λ (x : StepState). IsInStep start (record c.send.new.self { watch = c.asked.new.self }) c.send.new.offered x) _ _ _ fits
@@ -31,11 +31,11 @@ returns-then-send-clause-step_state g c start step_state h =
 
 pub returns-else-send-clause-step_state : goal.returns-else-send-clause-step_state
 returns-else-send-clause-step_state g c start step_state h =
-    let t = step_state.timed in
+    let t = step_state.allocator in
     let s = c.args.offered.now.step in
     let to : c.get-to.result ≡ c.args.node = c.get-to.ensures.number in
     let empty : c.new.result.items ≡ [] = search rules in
-    let sent = subst (λ (n : ℕ). IsInStep start c.send.new.self c.send.new.offered (sends s InfoQ n [] None step_state)) to
-    (subst (λ (list : List ℕ). IsInStep start c.send.new.self c.send.new.offered (sends s InfoQ c.get-to.result list None step_state)) empty (c.send.ensures.step_state refl None start step_state h)) in
+    let sent = subst (λ (n : ℕ). IsInStep start c.send.new.self c.send.new.offered (with_transfer s InfoQ n [] None step_state)) to
+    (subst (λ (list : List ℕ). IsInStep start c.send.new.self c.send.new.offered (with_transfer s InfoQ c.get-to.result list None step_state)) empty (c.send.ensures.step_state refl None start step_state h)) in
     let full : has_room t.queue [] ≡ false = ap (λ (w : Waiting). has_room w.queue []) (sym h.stands.outbox) ∙ ap (λ (list : List ℕ). has_room c.args.self.now.outbox.queue list) (sym empty) ∙ sym c.send.ensures.fitted ∙ c.if-send.false in
     otherwise (λ (x : StepState). IsInStep start c.send.new.self c.send.new.offered x) _ _ _ full sent

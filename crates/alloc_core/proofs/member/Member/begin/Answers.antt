@@ -4,7 +4,7 @@ use Rattle.raft_core.specs.Handled.{moves_of_expire}
 use Rattle.raft_core.specs.Stands as raft
 use Rattle.raft_core.specs.Times.{given_at, overdue, times_after_all}
 use Rattle.raft_log.specs.DurableViews.{durable_state}
-use Rattle.raft_model.specs.Handlers.{plain_after_all}
+use Rattle.raft_model.specs.Handlers.{server_after_all}
 use Rattle.alloc_step.specs.Step.{all_nodes}
 use Rattle.alloc_step.specs.AllocatorState.{members_of}
 use Rattle.alloc_core.proofs.Beginning.{begun}
@@ -19,9 +19,9 @@ returns-clause-step_state g c t h offered fresh step sessions =
     begun c.args.self.now.durable _ t offered step c.args.now sessions (c.puts_go_on.ensures.nothing c.args.self.now.durable) refl fresh (record {
       me = h.me;
       size = h.size;
-      raft = subst (λ (now : ℕ). raft.StandsFor c.expire.new.self (members_of t) state (plain_after_all (members_of t) t.me step t.plain (moves_of_expire (overdue t.times now all_nodes))) (times_after_all (members_of t) t.me step (given_at now) t.plain (moves_of_expire (overdue t.times now all_nodes)) t.times)) at
-          (subst (λ (me : ℕ). raft.StandsFor c.expire.new.self (members_of t) state (plain_after_all (members_of t) me step t.plain (moves_of_expire (overdue t.times c.max-self.result all_nodes))) (times_after_all (members_of t) me step (given_at c.max-self.result) t.plain (moves_of_expire (overdue t.times c.max-self.result all_nodes)) t.times)) mine
-          (c.expire.ensures.moves (members_of t) step state t.plain t.times h.raft all_nodes (λ node below pending. in_all_nodes node below)));
+      raft = subst (λ (now : ℕ). raft.StandsFor c.expire.new.self (members_of t) state (server_after_all (members_of t) t.me step t.raft_server (moves_of_expire (overdue t.times now all_nodes))) (times_after_all (members_of t) t.me step (given_at now) t.raft_server (moves_of_expire (overdue t.times now all_nodes)) t.times)) at
+          (subst (λ (me : ℕ). raft.StandsFor c.expire.new.self (members_of t) state (server_after_all (members_of t) me step t.raft_server (moves_of_expire (overdue t.times c.max-self.result all_nodes))) (times_after_all (members_of t) me step (given_at c.max-self.result) t.raft_server (moves_of_expire (overdue t.times c.max-self.result all_nodes)) t.times)) mine
+          (c.expire.ensures.moves (members_of t) step state t.raft_server t.times h.raft all_nodes (λ node below pending. in_all_nodes node below)));
       exchange = h.exchange;
       watch = h.watch;
       cluster = h.cluster;

@@ -13,7 +13,7 @@ returns-clause-answer g c t h =
 
 pub returns-clause-step_state : goal.returns-clause-step_state
 returns-clause-step_state g c offered start step_state h =
-    let t = step_state.timed in
+    let t = step_state.allocator in
     noted_request start c.args.self.now offered step_state h c.heard.new.self (after t.accepted c.args.message.now t.now (may_follow t))
     (subst (λ (may : Bool). exchange.StandsFor c.heard.new.self (after t.accepted c.args.message.now t.now may)) (c.may_follow-may_follow.ensures t h.stands)
     (subst (λ (now : ℕ). exchange.StandsFor c.heard.new.self (after t.accepted c.args.message.now now c.may_follow-may_follow.result)) h.stands.now

@@ -15,7 +15,7 @@ use Rattle.alloc_core.proofs.member.Member.hear_discovery.Goals as goal
 
 pub returns-clause-sees : goal.returns-clause-sees
 returns-clause-sees g c offered start step_state h =
-    let t = step_state.timed in
+    let t = step_state.allocator in
     let value = c.in-Some.ensures.value ∙ ap (λ (bytes : List ℕ). discovery_of bytes) c.deref.ensures.0 in
     let d = delivery_of c.args.transfer.now in
     let events : List Event = Heard d.ident.source c.in-Some.message ∷ t.heard in
@@ -24,6 +24,6 @@ returns-clause-sees g c offered start step_state h =
     (same_number (length (members_of t)) t.size (ap (λ (list : List ℕ). length list) (sym (h.stands.raft.known leads)) ∙ c.args.self.now.raft.complete leads ∙ c.requires.raft_size ∙ h.stands.size)) in
     read_as (λ (step_result : StepResult). IsInStep start (record c.args.self.now { cluster = c.heard.new.self }) offered step_result.step_state × (Took ≡ step_result.seen)) (hears_discovery d) _ c.in-Some.message step_state value (
       noted_cluster start c.args.self.now offered step_state h c.heard.new.self events (c.heard.ensures.follows (start_of t) t.heard h.stands.cluster)
-          (counts_same c.args.self.now.raft (members_of t) (members (start_of t) events) _ t.plain t.times h.stands.raft stays),
+          (counts_same c.args.self.now.raft (members_of t) (members (start_of t) events) _ t.raft_server t.times h.stands.raft stays),
       refl,
     )

@@ -13,7 +13,7 @@ use Rattle.alloc_core.proofs.member.Member.hear_info.Goals as goal
 
 pub returns-clause-sees : goal.returns-clause-sees
 returns-clause-sees g c offered start step_state h =
-    let t = step_state.timed in
+    let t = step_state.allocator in
     let d = delivery_of c.args.response.now in
     let value = c.in-Some.ensures.value ∙ ap (λ (bytes : List ℕ). node_info_of bytes) c.deref.ensures.0 in
     read_as (λ (step_result : StepResult). IsInStep start (record c.args.self.now { watch = c.info.new.self }) offered step_result.step_state × (Took ≡ step_result.seen)) (hears_info d) _ c.in-Some.info step_state value (

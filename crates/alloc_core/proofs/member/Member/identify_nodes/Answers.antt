@@ -5,18 +5,18 @@ use Rattle.alloc_step.specs.StepState.{StepState}
 use Rattle.alloc_step.specs.Tick.{query_phase, record_phase}
 use Rattle.alloc_core.specs.Stands.{GoesTo}
 use Rattle.alloc_core.proofs.Strangers.{nothing_led, nothing_unknown}
-use Rattle.alloc_core.proofs.Taking.{given_on, goes_failed, is_going}
+use Rattle.alloc_core.proofs.Taking.{given_on, goes_failed, is_step_state}
 use Rattle.alloc_core.proofs.member.Member.identify_nodes.Goals as goal
 
 pub returns-then-not-leads-clause-goes : goal.returns-then-not-leads-clause-goes
 returns-then-not-leads-clause-goes g c start step_state h =
-    let same = nothing_led c.args.offered.now.step step_state (sym (c.leads.ensures.stands step_state.timed h.stands) ∙ c.if-not-leads.true) in
-    subst (λ (x : StepState). GoesTo start c.args.self.now c.args.offered.now x None) (sym same) (is_going start c.args.self.now c.args.offered.now step_state h)
+    let same = nothing_led c.args.offered.now.step step_state (sym (c.leads.ensures.stands step_state.allocator h.stands) ∙ c.if-not-leads.true) in
+    subst (λ (x : StepState). GoesTo start c.args.self.now c.args.offered.now x None) (sym same) (is_step_state start c.args.self.now c.args.offered.now step_state h)
 
 pub returns-then-not-sees_strangers-clause-goes : goal.returns-then-not-sees_strangers-clause-goes
 returns-then-not-sees_strangers-clause-goes g c start step_state h =
-    let same = nothing_unknown c.args.offered.now.step step_state (c.sees_strangers.ensures.none c.if-not-sees_strangers.true step_state.timed h.stands) in
-    subst (λ (x : StepState). GoesTo start c.args.self.now c.args.offered.now x None) (sym same) (is_going start c.args.self.now c.args.offered.now step_state h)
+    let same = nothing_unknown c.args.offered.now.step step_state (c.sees_strangers.ensures.none c.if-not-sees_strangers.true step_state.allocator h.stands) in
+    subst (λ (x : StepState). GoesTo start c.args.self.now c.args.offered.now x None) (sym same) (is_step_state start c.args.self.now c.args.offered.now step_state h)
 
 pub returns-in_err-record_node-clause-goes : goal.returns-in_err-record_node-clause-goes
 returns-in_err-record_node-clause-goes g c start step_state h =
@@ -31,4 +31,4 @@ returns-clause-goes g c start step_state h =
     let s = c.args.offered.now.step in
     let g1 : StepState = record_phase s step_state in
     let h1 = (c.record_node.ensures.goes c.args.offered.now s start step_state h).step_state (ap result_err c.in_ok-record_node.was) in
-    is_going start c.ask_node.new.self c.ask_node.new.offered _ (c.ask_node.ensures.step_state start g1 h1)
+    is_step_state start c.ask_node.new.self c.ask_node.new.offered _ (c.ask_node.ensures.step_state start g1 h1)

@@ -21,26 +21,26 @@ no_room n below is = omega arith
 
 pub returns-in_err-propose-clause-goes : goal.returns-in_err-propose-clause-goes
 returns-in_err-propose-clause-goes g c offered step start step_state h =
-    let t = step_state.timed in
+    let t = step_state.allocator in
     let tried : IsTried c.propose.result = is_tried c.propose.result (λ is. c.propose.ensures.not_leader.0 is c.requires.leads) (λ is. no_room _ c.requires.log_room ((c.propose.ensures.full.0 is).1)) (λ is. elim ((c.propose.ensures.taken.0 is).2) [ inl here ↦ c.requires.free here | inr here ↦ c.requires.free_node here ]) in
-    let may = (c.propose.ensures.appends.tried t.plain h.stands.raft.store h.stands.raft.role).0 tried in
-    let entry : Entry = proposal t.plain.store.term c.args.uid.now c.args.node in
+    let may = (c.propose.ensures.appends.tried t.raft_server h.stands.raft.store h.stands.raft.role).0 tried in
+    let entry : Entry = proposal t.raft_server.store.term c.args.uid.now c.args.node in
     let goes = took_moves start c.args.self.now c.propose.new.d c.propose.new.self offered step_state h step (given_proposal t.now c.args.origin) _ (result_err c.propose.result) c.puts_go_on.ensures
-    (subst (λ (r : Raft). MakesMoves (members_of t) t.me step (given_proposal t.now c.args.origin) (ProposeEntry entry ∷ []) t.plain t.times c.args.self.now.durable c.propose.new.d r (result_err c.propose.result)) (sym c.propose.ensures.same)
-    (subst (λ (me : ℕ). MakesMoves (members_of t) me step (given_proposal t.now c.args.origin) (ProposeEntry entry ∷ []) t.plain t.times c.args.self.now.durable c.propose.new.d c.args.self.now.raft (result_err c.propose.result)) (c.requires.ready.raft_me ∙ h.stands.me)
-    (c.propose.ensures.appends.moves (members_of t) step t.plain t.times h.stands.raft (given_proposal t.now c.args.origin) refl may))) in
+    (subst (λ (r : Raft). MakesMoves (members_of t) t.me step (given_proposal t.now c.args.origin) (ProposeEntry entry ∷ []) t.raft_server t.times c.args.self.now.durable c.propose.new.d r (result_err c.propose.result)) (sym c.propose.ensures.same)
+    (subst (λ (me : ℕ). MakesMoves (members_of t) me step (given_proposal t.now c.args.origin) (ProposeEntry entry ∷ []) t.raft_server t.times c.args.self.now.durable c.propose.new.d c.args.self.now.raft (result_err c.propose.result)) (c.requires.ready.raft_me ∙ h.stands.me)
+    (c.propose.ensures.appends.moves (members_of t) step t.raft_server t.times h.stands.raft (given_proposal t.now c.args.origin) refl may))) in
     subst (λ (f : Option Fault). GoesTo start (record c.args.self.now { durable = c.propose.new.d; raft = c.propose.new.self }) offered (proposes step c.args.origin c.args.uid.now c.args.node step_state) f)
     (ap result_err c.in_err-propose.was ∙ sym (given_on c.from_residual.result c.in_err-propose.field-0.0 c.from_residual.ensures.0 c.from_residual.ensures.1)) goes
 
 pub returns-clause-goes : goal.returns-clause-goes
 returns-clause-goes g c offered step start step_state h =
-    let t = step_state.timed in
+    let t = step_state.allocator in
     let tried : IsTried c.propose.result = is_tried c.propose.result (λ is. c.propose.ensures.not_leader.0 is c.requires.leads) (λ is. no_room _ c.requires.log_room ((c.propose.ensures.full.0 is).1)) (λ is. elim ((c.propose.ensures.taken.0 is).2) [ inl here ↦ c.requires.free here | inr here ↦ c.requires.free_node here ]) in
-    let may = (c.propose.ensures.appends.tried t.plain h.stands.raft.store h.stands.raft.role).0 tried in
-    let entry : Entry = proposal t.plain.store.term c.args.uid.now c.args.node in
+    let may = (c.propose.ensures.appends.tried t.raft_server h.stands.raft.store h.stands.raft.role).0 tried in
+    let entry : Entry = proposal t.raft_server.store.term c.args.uid.now c.args.node in
     let goes = took_moves start c.args.self.now c.propose.new.d c.propose.new.self offered step_state h step (given_proposal t.now c.args.origin) _ (result_err c.propose.result) c.puts_go_on.ensures
-    (subst (λ (r : Raft). MakesMoves (members_of t) t.me step (given_proposal t.now c.args.origin) (ProposeEntry entry ∷ []) t.plain t.times c.args.self.now.durable c.propose.new.d r (result_err c.propose.result)) (sym c.propose.ensures.same)
-    (subst (λ (me : ℕ). MakesMoves (members_of t) me step (given_proposal t.now c.args.origin) (ProposeEntry entry ∷ []) t.plain t.times c.args.self.now.durable c.propose.new.d c.args.self.now.raft (result_err c.propose.result)) (c.requires.ready.raft_me ∙ h.stands.me)
-    (c.propose.ensures.appends.moves (members_of t) step t.plain t.times h.stands.raft (given_proposal t.now c.args.origin) refl may))) in
+    (subst (λ (r : Raft). MakesMoves (members_of t) t.me step (given_proposal t.now c.args.origin) (ProposeEntry entry ∷ []) t.raft_server t.times c.args.self.now.durable c.propose.new.d r (result_err c.propose.result)) (sym c.propose.ensures.same)
+    (subst (λ (me : ℕ). MakesMoves (members_of t) me step (given_proposal t.now c.args.origin) (ProposeEntry entry ∷ []) t.raft_server t.times c.args.self.now.durable c.propose.new.d c.args.self.now.raft (result_err c.propose.result)) (c.requires.ready.raft_me ∙ h.stands.me)
+    (c.propose.ensures.appends.moves (members_of t) step t.raft_server t.times h.stands.raft (given_proposal t.now c.args.origin) refl may))) in
     subst (λ (f : Option Fault). GoesTo start (record c.args.self.now { durable = c.propose.new.d; raft = c.propose.new.self }) offered (proposes step c.args.origin c.args.uid.now c.args.node step_state) f)
     (ap result_err c.in_ok-propose.was) goes

@@ -22,26 +22,26 @@ no_room n below is = omega arith
 
 pub returns-in_err-reserve-clause-goes : goal.returns-in_err-reserve-clause-goes
 returns-in_err-reserve-clause-goes g c offered step start step_state h =
-    let t = step_state.timed in
+    let t = step_state.allocator in
     let tried : IsTried c.reserve.result = is_tried c.reserve.result (λ is. c.reserve.ensures.not_leader.0 is c.requires.leads) (λ is. no_room _ c.requires.log_room ((c.reserve.ensures.full.0 is).1)) (λ is. c.requires.free_node ((c.reserve.ensures.taken.0 is).2)) in
-    let may = (c.reserve.ensures.appends.tried t.plain h.stands.raft.store h.stands.raft.role).0 tried in
-    let entry : Entry = proposal t.plain.store.term zeros c.args.node in
+    let may = (c.reserve.ensures.appends.tried t.raft_server h.stands.raft.store h.stands.raft.role).0 tried in
+    let entry : Entry = proposal t.raft_server.store.term zeros c.args.node in
     let goes = took_moves start c.args.self.now c.reserve.new.d c.reserve.new.self offered step_state h step (given_proposal t.now 3) _ (result_err c.reserve.result) c.puts_go_on.ensures
-    (subst (λ (r : Raft). MakesMoves (members_of t) t.me step (given_proposal t.now 3) (ProposeEntry entry ∷ []) t.plain t.times c.args.self.now.durable c.reserve.new.d r (result_err c.reserve.result)) (sym c.reserve.ensures.same)
-    (subst (λ (me : ℕ). MakesMoves (members_of t) me step (given_proposal t.now 3) (ProposeEntry entry ∷ []) t.plain t.times c.args.self.now.durable c.reserve.new.d c.args.self.now.raft (result_err c.reserve.result)) (c.requires.ready.raft_me ∙ h.stands.me)
-    (c.reserve.ensures.appends.moves (members_of t) step t.plain t.times h.stands.raft (given_proposal t.now 3) refl may))) in
+    (subst (λ (r : Raft). MakesMoves (members_of t) t.me step (given_proposal t.now 3) (ProposeEntry entry ∷ []) t.raft_server t.times c.args.self.now.durable c.reserve.new.d r (result_err c.reserve.result)) (sym c.reserve.ensures.same)
+    (subst (λ (me : ℕ). MakesMoves (members_of t) me step (given_proposal t.now 3) (ProposeEntry entry ∷ []) t.raft_server t.times c.args.self.now.durable c.reserve.new.d c.args.self.now.raft (result_err c.reserve.result)) (c.requires.ready.raft_me ∙ h.stands.me)
+    (c.reserve.ensures.appends.moves (members_of t) step t.raft_server t.times h.stands.raft (given_proposal t.now 3) refl may))) in
     subst (λ (f : Option Fault). GoesTo start (record c.args.self.now { durable = c.reserve.new.d; raft = c.reserve.new.self }) offered (reserves step c.args.node step_state) f)
     (ap result_err c.in_err-reserve.was ∙ sym (given_on c.from_residual.result c.in_err-reserve.field-0.0 c.from_residual.ensures.0 c.from_residual.ensures.1)) goes
 
 pub returns-clause-goes : goal.returns-clause-goes
 returns-clause-goes g c offered step start step_state h =
-    let t = step_state.timed in
+    let t = step_state.allocator in
     let tried : IsTried c.reserve.result = is_tried c.reserve.result (λ is. c.reserve.ensures.not_leader.0 is c.requires.leads) (λ is. no_room _ c.requires.log_room ((c.reserve.ensures.full.0 is).1)) (λ is. c.requires.free_node ((c.reserve.ensures.taken.0 is).2)) in
-    let may = (c.reserve.ensures.appends.tried t.plain h.stands.raft.store h.stands.raft.role).0 tried in
-    let entry : Entry = proposal t.plain.store.term zeros c.args.node in
+    let may = (c.reserve.ensures.appends.tried t.raft_server h.stands.raft.store h.stands.raft.role).0 tried in
+    let entry : Entry = proposal t.raft_server.store.term zeros c.args.node in
     let goes = took_moves start c.args.self.now c.reserve.new.d c.reserve.new.self offered step_state h step (given_proposal t.now 3) _ (result_err c.reserve.result) c.puts_go_on.ensures
-    (subst (λ (r : Raft). MakesMoves (members_of t) t.me step (given_proposal t.now 3) (ProposeEntry entry ∷ []) t.plain t.times c.args.self.now.durable c.reserve.new.d r (result_err c.reserve.result)) (sym c.reserve.ensures.same)
-    (subst (λ (me : ℕ). MakesMoves (members_of t) me step (given_proposal t.now 3) (ProposeEntry entry ∷ []) t.plain t.times c.args.self.now.durable c.reserve.new.d c.args.self.now.raft (result_err c.reserve.result)) (c.requires.ready.raft_me ∙ h.stands.me)
-    (c.reserve.ensures.appends.moves (members_of t) step t.plain t.times h.stands.raft (given_proposal t.now 3) refl may))) in
+    (subst (λ (r : Raft). MakesMoves (members_of t) t.me step (given_proposal t.now 3) (ProposeEntry entry ∷ []) t.raft_server t.times c.args.self.now.durable c.reserve.new.d r (result_err c.reserve.result)) (sym c.reserve.ensures.same)
+    (subst (λ (me : ℕ). MakesMoves (members_of t) me step (given_proposal t.now 3) (ProposeEntry entry ∷ []) t.raft_server t.times c.args.self.now.durable c.reserve.new.d c.args.self.now.raft (result_err c.reserve.result)) (c.requires.ready.raft_me ∙ h.stands.me)
+    (c.reserve.ensures.appends.moves (members_of t) step t.raft_server t.times h.stands.raft (given_proposal t.now 3) refl may))) in
     subst (λ (f : Option Fault). GoesTo start (record c.args.self.now { durable = c.reserve.new.d; raft = c.reserve.new.self }) offered (reserves step c.args.node step_state) f)
     (ap result_err c.in_ok-reserve.was) goes

@@ -18,7 +18,7 @@ pub returns-else-lists-clause-sees : goal.returns-else-lists-clause-sees
 returns-else-lists-clause-sees g c offered step start step_state h =
     let value = c.in-Some.ensures.value ∙ ap (λ (bytes : List ℕ). append_answer_of bytes) c.deref.ensures.0 in
     read_as (λ (step_result : StepResult). SeesTo start c.args.self.now offered step_result (Ok Took)) (takes_append_answer step (delivery_of c.args.transfer.now)) _ c.in-Some.answer step_state value
-    (otherwise (λ (x : StepState). SeesTo start c.args.self.now offered (took x) (Ok Took)) _ _ _ (sym (c.lists.ensures.stands step_state.timed h.stands) ∙ c.if-lists.false)
+    (otherwise (λ (x : StepState). SeesTo start c.args.self.now offered (took x) (Ok Took)) _ _ _ (sym (c.lists.ensures.stands step_state.allocator h.stands) ∙ c.if-lists.false)
     (sees start c.args.self.now offered (took step_state) Took refl h))
 
 pub returns-in_ok-end_append_call-clause-sees : goal.returns-in_ok-end_append_call-clause-sees
@@ -27,7 +27,7 @@ returns-in_ok-end_append_call-clause-sees g c offered step start step_state h =
     let d = delivery_of c.args.transfer.now in
     let g1 : StepState = ends_append_call step d c.in-Some.answer step_state in
     read_as (λ (step_result : StepResult). SeesTo start c.end_append_call.new.self offered step_result (Ok Took)) (takes_append_answer step d) _ c.in-Some.answer step_state value
-    (then_ (λ (x : StepState). SeesTo start c.end_append_call.new.self offered (took x) (Ok Took)) _ _ _ (sym (c.lists.ensures.stands step_state.timed h.stands) ∙ c.if-lists.true)
+    (then_ (λ (x : StepState). SeesTo start c.end_append_call.new.self offered (took x) (Ok Took)) _ _ _ (sym (c.lists.ensures.stands step_state.allocator h.stands) ∙ c.if-lists.true)
     (sees start c.end_append_call.new.self offered (took g1) Took refl
     ((c.end_append_call.ensures.goes offered step start step_state h).step_state (ap result_err c.in_ok-end_append_call.was))))
 
@@ -38,6 +38,6 @@ returns-in_err-end_append_call-clause-sees g c offered step start step_state h =
     let g1 : StepState = ends_append_call step d c.in-Some.answer step_state in
     let fault : result_err c.from_residual.result ≡ Some c.in_err-end_append_call.field-0.0 = given_on _ _ c.from_residual.ensures.0 c.from_residual.ensures.1 in
     read_as (λ (step_result : StepResult). SeesTo start c.end_append_call.new.self offered step_result c.from_residual.result) (takes_append_answer step d) _ c.in-Some.answer step_state value
-    (then_ (λ (x : StepState). SeesTo start c.end_append_call.new.self offered (took x) c.from_residual.result) _ _ _ (sym (c.lists.ensures.stands step_state.timed h.stands) ∙ c.if-lists.true)
+    (then_ (λ (x : StepState). SeesTo start c.end_append_call.new.self offered (took x) c.from_residual.result) _ _ _ (sym (c.lists.ensures.stands step_state.allocator h.stands) ∙ c.if-lists.true)
     (sees_failed start c.end_append_call.new.self offered (took g1) c.from_residual.result c.in_err-end_append_call.field-0.0 fault
     (subst (λ (f : Option Fault). GoesTo start c.end_append_call.new.self offered g1 f) (ap result_err c.in_err-end_append_call.was ∙ sym fault) (c.end_append_call.ensures.goes offered step start step_state h))))

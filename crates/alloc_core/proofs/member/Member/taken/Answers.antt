@@ -1,6 +1,6 @@
 use Rattle.std.proofs.Common.{ℕ, Bool, true, false, ◌||◌, sym, ap, ◌∙◌}
 use Rattle.std.proofs.lemmas.List.FromFn.{fill_by_all}
-use Rattle.cluster_discovery.specs.Members.{lists}
+use Rattle.cluster_discovery.specs.Members.{is_on_list}
 use Rattle.cluster_discovery.specs.Views.{member_list}
 use Rattle.node_discovery.specs.History.{is_online}
 use Rattle.node_discovery.specs.Watch.{history}
@@ -12,7 +12,7 @@ use Rattle.alloc_core.proofs.member.Member.taken.Goals as goal
 pub returns-clause-taken : goal.returns-clause-taken
 returns-clause-taken g c t h =
     fill_by_all (is_taken t) c.mark_known.new.marked 128 false c.mark_known.array_long (λ node below.
-    let listed = lists (member_list c.args.self.now.cluster) node in
+    let listed = is_on_list (member_list c.args.self.now.cluster) node in
     let recorded = is_recorded (durable_state c.args.self.now.durable).log node in
     let online = is_online (history node t.watch) c.args.self.now.latest in
     c.mark_known.ensures node false below ∙ ap (λ (b : Bool). listed || (recorded || b)) (c.seen-taken.ensures t.watch h.watch node below)
@@ -21,4 +21,4 @@ returns-clause-taken g c t h =
 
 pub returns-clause-free : goal.returns-clause-free
 returns-clause-free g c node below not =
-    not_recorded (durable_state c.args.self.now.durable).log node (lists (member_list c.args.self.now.cluster) node) _ _ (c.mark_known.ensures node true below) not
+    not_recorded (durable_state c.args.self.now.durable).log node (is_on_list (member_list c.args.self.now.cluster) node) _ _ (c.mark_known.ensures node true below) not

@@ -9,7 +9,7 @@ pub returns-in-Some : goal.returns-in-Some
 returns-in-Some g c t h =
     let d = delivery_of c.args.transfer.now in
     let device : c.args.transfer.now.ident.source ≤ 125 = omega arith in
-    let p = c.in-Some.ensures.some (members_of t) (durable_state c.args.self.now.member.durable) t.plain t.times h.member.raft in
+    let p = c.in-Some.ensures.some (members_of t) (durable_state c.args.self.now.member.durable) t.raft_server t.times h.member.raft in
     stale_as t d c.args.now _ (sym c.is_response.ensures ∙ c.if-not-is_response.false) device
     (c.misses.ensures p.0 p.1 p.4 ∙ misses_as d c.args.now _ _ _ _ p.2 p.3)
 
@@ -17,6 +17,6 @@ pub returns-in-None : goal.returns-in-None
 returns-in-None g c t h =
     let d = delivery_of c.args.transfer.now in
     let device : c.args.transfer.now.ident.source ≤ 125 = omega arith in
-    let none = c.in-None.ensures.none refl (members_of t) (durable_state c.args.self.now.member.durable) t.plain t.times h.member.raft in
+    let none = c.in-None.ensures.none refl (members_of t) (durable_state c.args.self.now.member.durable) t.raft_server t.times h.member.raft in
     stale_as t d c.args.now _ (sym c.is_response.ensures ∙ c.if-not-is_response.false) device
     (misses_as d c.args.now _ None _ _ none refl)

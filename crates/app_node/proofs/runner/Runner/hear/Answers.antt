@@ -5,7 +5,7 @@ use Rattle.outside.specs.Traffic.{items_behind, next_item}
 use Rattle.app_node.specs.Frames.{event_in}
 use Rattle.app_node.specs.Puts.{heard_puts, taken_puts}
 use Rattle.app_node.specs.Stands.{IsTurning}
-use Rattle.app_node.specs.Turn.{takes}
+use Rattle.app_node.specs.Turn.{turn_after_taking}
 use Rattle.app_node.proofs.Lists.{on_ok}
 use Rattle.app_node.specs.declared.fault.Fault.TheVariants.{Disk}
 use Rattle.app_node.proofs.Parts.{leaves_at_once}
@@ -21,7 +21,7 @@ returns-in-Some-clause-heard g c = on_ok c.step.result (λ stepped t is.
     let after = record t { running = record t.running { coming = items_behind t.running.coming } } in
     let event : event_in c.args.now (next_item t.running.coming) ≡ Some (event_of c.in-Some.event) =
     ap (event_in c.args.now) (sym told.0) ∙ sym c.in-Some.ensures in
-    subst (λ e. IsTurning c.step.new.self (coming c.recv.new.self) (sent c.recv.new.self) c.step.new.steps (takes e after)) (sym event)
+    subst (λ e. IsTurning c.step.new.self (coming c.recv.new.self) (sent c.recv.new.self) c.step.new.steps (turn_after_taking e after)) (sym event)
     (stepped after (coming c.recv.new.self) (sent c.recv.new.self) (record {
       running = record {
         id = is.running.id;
@@ -41,7 +41,7 @@ returns-in-None-clause-heard g c = λ t is.
     let after = record t { running = record t.running { coming = items_behind t.running.coming } } in
     let event : event_in c.args.now (next_item t.running.coming) ≡ None =
     ap (event_in c.args.now) (sym told.0) ∙ sym c.in-None.ensures in
-    subst (λ e. IsTurning c.args.self.now (coming c.recv.new.self) (sent c.recv.new.self) c.args.steps.now (takes e after)) (sym event)
+    subst (λ e. IsTurning c.args.self.now (coming c.recv.new.self) (sent c.recv.new.self) c.args.steps.now (turn_after_taking e after)) (sym event)
     (record {
       running = record {
         id = is.running.id;

@@ -2,7 +2,7 @@ use Rattle.std.proofs.Common.{◌≡◌, suc, ◌∷◌, [], ◌++◌, length, a
 use Rattle.std.specs.Prelude.{Ok}
 use Rattle.alloc_step.specs.Step.{step as step_of}
 use Rattle.alloc_step.specs.AllocatorState.{view_of}
-use Rattle.bus_spec.specs.Telling.{telling_line}
+use Rattle.bus_spec.specs.ReportLine.{text_of_line}
 use Rattle.alloc_server.specs.Server.{HasPut, LeavesSome, StepsTo, event_of}
 use Rattle.app_node.specs.Steps.{Keeps}
 use Rattle.app_node.proofs.Turning.{told_same}
@@ -13,11 +13,11 @@ returns-in-Ok-clause-stepped g c = λ t coming sent is.
     let number = suc (length t.lines) in
     let count = is.lines.made in
     let at : c.next_number.result ≡ number = omega (arith, c.next_number.ensures, count) in
-    let step_result = step_of t.running.timed number (event_of c.args.event) in
-    let does = subst (λ n. StepsTo c.args.self.now.server c.step.new.self (step_of t.running.timed n (event_of c.args.event)) (Ok c.in-Ok.outcome)) at
-    (c.in-Ok.ensures.steps t.running.timed is.running.server) in
-    let line = c.stepped.ensures number ∙ ap (telling_line number) (told_same c.args.self.now.id t.running.id c.view.result (view_of step_result.step_state.timed) c.in-Ok.outcome.seen
-    c.in-Ok.outcome.sent.items step_result is.running.id (c.view.ensures.stands step_result.step_state.timed does.stands) does.tells.seen does.tells.sent) in
+    let step_result = step_of t.running.allocator number (event_of c.args.event) in
+    let does = subst (λ n. StepsTo c.args.self.now.server c.step.new.self (step_of t.running.allocator n (event_of c.args.event)) (Ok c.in-Ok.outcome)) at
+    (c.in-Ok.ensures.steps t.running.allocator is.running.server) in
+    let line = c.stepped.ensures number ∙ ap (text_of_line number) (told_same c.args.self.now.id t.running.id c.view.result (view_of step_result.step_state.allocator) c.in-Ok.outcome.seen
+    c.in-Ok.outcome.sent.items step_result is.running.id (c.view.ensures.stands step_result.step_state.allocator does.stands) does.tells.seen does.tells.sent) in
     record {
       running = record {
         id = is.running.id;
@@ -33,22 +33,22 @@ pub returns-in-Ok-clause-put : goal.returns-in-Ok-clause-put
 returns-in-Ok-clause-put g c = λ t coming sent is.
     let count = is.lines.made in
     let at : c.next_number.result ≡ suc (length t.lines) = omega (arith, c.next_number.ensures, count) in
-    subst (λ n. HasPut c.args.self.now.server c.step.new.self (step_of t.running.timed n (event_of c.args.event)).step_state.puts) at
-    (c.in-Ok.ensures.steps t.running.timed is.running.server).put
+    subst (λ n. HasPut c.args.self.now.server c.step.new.self (step_of t.running.allocator n (event_of c.args.event)).step_state.puts) at
+    (c.in-Ok.ensures.steps t.running.allocator is.running.server).put
 
 pub returns-in-Ok-clause-leaves : goal.returns-in-Ok-clause-leaves
 returns-in-Ok-clause-leaves g c = λ t coming sent is.
     let count = is.lines.made in
     let at : c.next_number.result ≡ suc (length t.lines) = omega (arith, c.next_number.ensures, count) in
-    subst (λ n. LeavesSome c.args.self.now.server c.step.new.self (step_of t.running.timed n (event_of c.args.event)).step_state.puts) at
-    (c.in-Ok.ensures.steps t.running.timed is.running.server).leaves
+    subst (λ n. LeavesSome c.args.self.now.server c.step.new.self (step_of t.running.allocator n (event_of c.args.event)).step_state.puts) at
+    (c.in-Ok.ensures.steps t.running.allocator is.running.server).leaves
 
 pub returns-in-Err-clause-leaves : goal.returns-in-Err-clause-leaves
 returns-in-Err-clause-leaves g c = λ t coming sent is.
     let count = is.lines.made in
     let at : c.next_number.result ≡ suc (length t.lines) = omega (arith, c.next_number.ensures, count) in
-    subst (λ n. LeavesSome c.args.self.now.server c.step.new.self (step_of t.running.timed n (event_of c.args.event)).step_state.puts) at
-    (c.in-Err.ensures.steps t.running.timed is.running.server).leaves
+    subst (λ n. LeavesSome c.args.self.now.server c.step.new.self (step_of t.running.allocator n (event_of c.args.event)).step_state.puts) at
+    (c.in-Err.ensures.steps t.running.allocator is.running.server).leaves
 
 pub returns-in-Ok-clause-standing : goal.returns-in-Ok-clause-standing
 returns-in-Ok-clause-standing g c = λ s. (_, (c.in-Ok.ensures.steps s.0 s.1).stands)

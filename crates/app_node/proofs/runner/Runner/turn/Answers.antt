@@ -1,10 +1,10 @@
 use Rattle.std.proofs.Common.{ap, ◌∙◌, subst, inl}
 use Rattle.alloc_server.specs.Server.{LeavesSome}
-use Rattle.app_base.specs.Draws.{moved, word_at}
+use Rattle.app_base.specs.Draws.{next_state, word_at}
 use Rattle.alloc_step.specs.Step.{Tick}
 use Rattle.app_node.specs.Puts.{step_puts}
 use Rattle.app_node.specs.Stands.{IsTurning}
-use Rattle.app_node.specs.Turn.{hears, makes_step, ticks, turn}
+use Rattle.app_node.specs.Turn.{turn_after_hearing, turn_after_step, turn_after_tick, turn}
 use Rattle.app_node.specs.declared.fault.Fault.TheVariants.{Link}
 use Rattle.app_node.proofs.Ending.{if_err}
 use Rattle.app_node.proofs.Quiet.{unless_failed}
@@ -17,12 +17,12 @@ unfolding turn
 returns-clause-turned g c = on_ok c.send.result (λ sends t is.
     let coming = g.L.Link.coming c.args.link.now in
     let sent = g.L.Link.sent c.args.link.now in
-    let word = c.word-word.ensures.word ∙ ap word_at (c.word-word.ensures.moved ∙ ap moved is.running.draws) in
-    let before = record t { running = record t.running { draws = moved t.running.draws } } in
+    let word = c.word-word.ensures.word ∙ ap word_at (c.word-word.ensures.moved ∙ ap next_state is.running.draws) in
+    let before = record t { running = record t.running { draws = next_state t.running.draws } } in
     let stepped = c.in_ok-step.ensures.stepped before coming sent (next_word is c.word-word.ensures.moved) in
-    let ticked = subst (λ w. IsTurning c.step.new.self coming sent c.step.new.steps (makes_step (Tick c.args.now w) before)) word stepped in
-    let ticked_to = makes_step (Tick c.args.now (word_at (moved t.running.draws))) before in
-    sends (hears c.args.now ticked_to) c.hear.new.steps (c.in_ok-hear.ensures.heard ticked_to ticked)) c.send.ensures.sent
+    let ticked = subst (λ w. IsTurning c.step.new.self coming sent c.step.new.steps (turn_after_step (Tick c.args.now w) before)) word stepped in
+    let ticked_to = turn_after_step (Tick c.args.now (word_at (next_state t.running.draws))) before in
+    sends (turn_after_hearing c.args.now ticked_to) c.hear.new.steps (c.in_ok-hear.ensures.heard ticked_to ticked)) c.send.ensures.sent
 
 pub returns-clause-works : goal.returns-clause-works
 returns-clause-works g c = on_ok_always c.send.result (c.send.ensures.works (c.in_ok-hear.ensures.works c.in_ok-step.ensures.works))
@@ -46,8 +46,8 @@ pub returns-in_err-step-clause-cut : goal.returns-in_err-step-clause-cut
 returns-in_err-step-clause-cut g c = λ t is.
     let coming = g.L.Link.coming c.args.link.now in
     let sent = g.L.Link.sent c.args.link.now in
-    let word = c.word-word.ensures.word ∙ ap word_at (c.word-word.ensures.moved ∙ ap moved is.running.draws) in
-    let before = record t { running = record t.running { draws = moved t.running.draws } } in
+    let word = c.word-word.ensures.word ∙ ap word_at (c.word-word.ensures.moved ∙ ap next_state is.running.draws) in
+    let before = record t { running = record t.running { draws = next_state t.running.draws } } in
     inl (
       is.running.coming_is,
       subst (λ w. LeavesSome c.args.self.now.server c.step.new.self.server (step_puts (Tick c.args.now w) t)) word
@@ -58,22 +58,22 @@ pub returns-in_err-hear-clause-cut : goal.returns-in_err-hear-clause-cut
 returns-in_err-hear-clause-cut g c = λ t is.
     let coming = g.L.Link.coming c.args.link.now in
     let sent = g.L.Link.sent c.args.link.now in
-    let word = c.word-word.ensures.word ∙ ap word_at (c.word-word.ensures.moved ∙ ap moved is.running.draws) in
-    let before = record t { running = record t.running { draws = moved t.running.draws } } in
+    let word = c.word-word.ensures.word ∙ ap word_at (c.word-word.ensures.moved ∙ ap next_state is.running.draws) in
+    let before = record t { running = record t.running { draws = next_state t.running.draws } } in
     let begun = next_word is c.word-word.ensures.moved in
     turn_cut c.args.self.now.server c.step.new.self.server c.hear.new.self.server c.args.now t (g.L.Link.coming c.hear.new.link) c.word-word.result word
-    (c.in_ok-step.ensures.put before coming sent begun) c.step.ensures.tells (c.hear.ensures.cut (ticks c.args.now t)
-    (subst (λ w. IsTurning c.step.new.self coming sent c.step.new.steps (makes_step (Tick c.args.now w) before)) word (c.in_ok-step.ensures.stepped before coming sent begun)))
+    (c.in_ok-step.ensures.put before coming sent begun) c.step.ensures.tells (c.hear.ensures.cut (turn_after_tick c.args.now t)
+    (subst (λ w. IsTurning c.step.new.self coming sent c.step.new.steps (turn_after_step (Tick c.args.now w) before)) word (c.in_ok-step.ensures.stepped before coming sent begun)))
 
 pub returns-clause-cut : goal.returns-clause-cut
 returns-clause-cut g c = λ t is.
     let coming = g.L.Link.coming c.args.link.now in
     let sent = g.L.Link.sent c.args.link.now in
-    let word = c.word-word.ensures.word ∙ ap word_at (c.word-word.ensures.moved ∙ ap moved is.running.draws) in
-    let before = record t { running = record t.running { draws = moved t.running.draws } } in
+    let word = c.word-word.ensures.word ∙ ap word_at (c.word-word.ensures.moved ∙ ap next_state is.running.draws) in
+    let before = record t { running = record t.running { draws = next_state t.running.draws } } in
     let begun = next_word is c.word-word.ensures.moved in
     let cut = turn_cut c.args.self.now.server c.step.new.self.server c.hear.new.self.server c.args.now t (g.L.Link.coming c.hear.new.link) c.word-word.result word
-    (c.in_ok-step.ensures.put before coming sent begun) c.step.ensures.tells (c.hear.ensures.cut (ticks c.args.now t)
-    (subst (λ w. IsTurning c.step.new.self coming sent c.step.new.steps (makes_step (Tick c.args.now w) before)) word (c.in_ok-step.ensures.stepped before coming sent begun))) in
+    (c.in_ok-step.ensures.put before coming sent begun) c.step.ensures.tells (c.hear.ensures.cut (turn_after_tick c.args.now t)
+    (subst (λ w. IsTurning c.step.new.self coming sent c.step.new.steps (turn_after_step (Tick c.args.now w) before)) word (c.in_ok-step.ensures.stepped before coming sent begun))) in
     cut_still c.args.self.now.server c.hear.new.self.server c.send.new.self.server c.args.now t (g.L.Link.coming c.hear.new.link) (g.L.Link.coming c.send.new.link)
     c.send.ensures.coming c.send.ensures.disk cut

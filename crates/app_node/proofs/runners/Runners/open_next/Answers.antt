@@ -1,5 +1,5 @@
 use Rattle.std.proofs.Common.{◌≡◌, ◌≤◌, sym, ◌∙◌, subst}
-use Rattle.app_base.specs.Draws.{moved, word_at}
+use Rattle.app_base.specs.Draws.{next_state, word_at}
 use Rattle.raft_core.specs.StoredPuts.{store_of}
 use Rattle.raft_log.specs.DurableViews.{durable_state}
 use Rattle.raft_log.specs.Opening.{OpensTo}
@@ -23,7 +23,7 @@ returns-in-Ok-clause-opened g c =
         later = λ taken is. subst (λ d. g.D.Disk.faults d ≤ g.D.Disk.faults (runner_disk runner)) (same taken c.args.place.now c.in-Some.ensures.value is) c.in-Ok.ensures.later;
         tells = λ taken is. subst (λ d. g.D.Disk.tells (runner_disk runner) ≡ g.D.Disk.tells d) (same taken c.args.place.now c.in-Some.ensures.value is) c.in-Ok.ensures.tells;
         works = c.in-Ok.ensures.works;
-        standing = (opening c.args.id c.args.size store c.args.now (word_at (moved c.args.id)), c.in-Ok.ensures.stands);
+        standing = (opening c.args.id c.args.size store c.args.now (word_at (next_state c.args.id)), c.in-Ok.ensures.stands);
       },
       subst (λ n. StandsFor runner.server (opening n c.args.size store c.args.now (word_at runner.draws))) (sym c.in-Ok.ensures.id)
           (subst (λ s. StandsFor runner.server (opening c.args.id c.args.size store c.args.now (word_at s))) (sym c.in-Ok.ensures.draws) c.in-Ok.ensures.stands),

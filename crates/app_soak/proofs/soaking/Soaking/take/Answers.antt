@@ -1,7 +1,7 @@
 use Rattle.std.proofs.Common.{ap, ◌∙◌}
 use Rattle.std.specs.Prelude.{is_some}
 use Rattle.app_soak.specs.Rounds.{one_if}
-use Rattle.bus_spec.specs.Telling.{is_stop}
+use Rattle.bus_spec.specs.ReportLine.{is_stop}
 use Rattle.app_soak.proofs.Counting.{one_of}
 use Rattle.app_soak.proofs.Standing.{takes_stands}
 use Rattle.app_soak.proofs.soaking.Soaking.take.Goals as goal

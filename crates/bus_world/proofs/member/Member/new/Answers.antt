@@ -18,4 +18,4 @@ returns-clause-stands g c =
     let ready = c.the_disk_by_states.ensures.begun disk fresh_disk.store (c.zeros_are_the_first_state.ensures (memory_contents disk).seen zeros) c.new.ensures.settled in
     let same : record { store = fresh_disk.store; copies = λ key. chosen_copy (memory_contents disk).seen key; unsynced = fresh_disk.unsynced; calls = memory_calls disk } ≡ fresh_disk =
     λ i. record { store = fresh_disk.store; copies = λ key. ap (λ (n : ℕ). n % 2) (zeros (67 * key)) i; unsynced = fresh_disk.unsynced; calls = c.new.ensures.calls i } in
-    record { life = subst (λ (key_disk : KeyDisk Stored). IsOn disk key_disk) same ready.on; pattern = refl }
+    record { status = subst (λ (key_disk : KeyDisk Stored). IsOn disk key_disk) same ready.on; pattern = refl }

@@ -1,8 +1,8 @@
 use Rattle.std.proofs.Common.{ℕ, ◌∙◌, ap, sym, subst}
 use Rattle.bus_world.specs.Stands.{StandsFor}
 use Rattle.bus_world.specs.declared.member.Member.{Member}
-use Rattle.bus_spec.specs.Members.{failing}
-use Rattle.bus_spec.specs.Telling.Telling.{IsArmed}
+use Rattle.bus_spec.specs.Members.{with_failure_armed}
+use Rattle.bus_spec.specs.ReportLine.ReportLine.{IsArmed}
 use Rattle.bus_world.proofs.Finding.{set_few, alike_there, set_alike, its_id, set_holds, stands_there}
 use Rattle.bus_world.proofs.members.Members.fault.Goals as goal
 
@@ -21,7 +21,7 @@ returns-in-Ok-clause-leaves g c = λ w stands.
     (stands_there xs bus w stands.holds n c.in-Ok.place c.in-Ok.ensures.place m) in
     let id = ap (λ (m : Member g.row.F.Denot). m.id) c.index_mut.ensures.value ∙ its_id xs bus w stands.holds n c.in-Ok.place c.in-Ok.ensures.place m in
     set_holds xs bus w stands.holds n c.in-Ok.place c.in-Ok.ensures.place c.fail_at.new.self
-    (failing c.args.call (w.member n)) (c.fail_at.ensures.id ∙ id) (c.fail_at.ensures.stands (w.member n) here)
+    (with_failure_armed c.args.call (w.member n)) (c.fail_at.ensures.id ∙ id) (c.fail_at.ensures.stands (w.member n) here)
 
 pub invariant_of-self-clause-alike : goal.invariant_of-self-clause-alike
 invariant_of-self-clause-alike g c =

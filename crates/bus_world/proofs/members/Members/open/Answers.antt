@@ -1,11 +1,11 @@
 use Rattle.std.proofs.Common.{◌≡◌, ℕ, List, length, ◌∙◌, ap, sym, subst}
 use Rattle.std.proofs.lemmas.List.{length-map}
 use Rattle.bus_world.specs.Stands.{StandsFor}
-use Rattle.bus_spec.specs.Telling.{telling_of}
+use Rattle.bus_spec.specs.ReportLine.{report_line_of}
 use Rattle.bus_world.specs.declared.member.Member.{Member}
 use Rattle.bus_spec.specs.Cluster.{is_member}
-use Rattle.bus_spec.specs.Members.{is_running, opened}
-use Rattle.bus_spec.specs.Report.{opening_told}
+use Rattle.bus_spec.specs.Members.{is_running, after_opening}
+use Rattle.bus_spec.specs.Report.{line_of_opening}
 use Rattle.bus_world.proofs.Finding.{alike_there, set_alike, set_few, its_id, set_holds, stands_there, stopped_from}
 use Rattle.bus_world.proofs.members.Members.open.Goals as goal
 
@@ -17,8 +17,8 @@ returns-in-Ok-clause-told g c = λ w stands.
     let id = ap (λ (m : Member g.row.F.Denot). m.id) c.index_mut.ensures.value ∙ its_id xs bus w stands.holds n c.in-Ok.place c.in-Ok.ensures.place m in
     let lawful = c.in-Ok.ensures.lawful w stands in (
       lawful,
-      subst (λ (k : ℕ). telling_of c.open.result ≡ opening_told k (w.member n).disk) id
-          (c.open.ensures.told (w.member n) here (stopped_from (is_member w.ids n) (is_running (w.member n).life) lawful)),
+      subst (λ (k : ℕ). report_line_of c.open.result ≡ line_of_opening k (w.member n).disk) id
+          (c.open.ensures.told (w.member n) here (stopped_from (is_member w.ids n) (is_running (w.member n).status) lawful)),
     )
 
 pub returns-in-Ok-clause-leaves : goal.returns-in-Ok-clause-leaves
@@ -29,10 +29,10 @@ returns-in-Ok-clause-leaves g c = λ w stands.
     let id = ap (λ (m : Member g.row.F.Denot). m.id) c.index_mut.ensures.value ∙ its_id xs bus w stands.holds n c.in-Ok.place c.in-Ok.ensures.place m in
     let size : length c.as_slice.result.now ≡ length w.ids = ap (λ (l : List (Member g.row.F.Denot)). length l) c.as_slice.ensures.value ∙ (sym (length-map xs (λ (m : Member g.row.F.Denot). m.id)) ∙ ap (λ (ids : List ℕ). length ids) stands.holds.ids) in
     set_holds xs bus w stands.holds n c.in-Ok.place c.in-Ok.ensures.place c.open.new.self
-    (opened n (length w.ids) c.args.moment c.args.word (w.member n)) (c.open.ensures.id ∙ id)
-    (subst (λ (k : ℕ). StandsFor c.open.new.self (opened k (length w.ids) c.args.moment c.args.word (w.member n))) id
-    (subst (λ (k : ℕ). StandsFor c.open.new.self (opened m.id k c.args.moment c.args.word (w.member n))) size
-    (c.open.ensures.stands (w.member n) here (stopped_from (is_member w.ids n) (is_running (w.member n).life) (c.in-Ok.ensures.lawful w stands)))))
+    (after_opening n (length w.ids) c.args.moment c.args.word (w.member n)) (c.open.ensures.id ∙ id)
+    (subst (λ (k : ℕ). StandsFor c.open.new.self (after_opening k (length w.ids) c.args.moment c.args.word (w.member n))) id
+    (subst (λ (k : ℕ). StandsFor c.open.new.self (after_opening m.id k c.args.moment c.args.word (w.member n))) size
+    (c.open.ensures.stands (w.member n) here (stopped_from (is_member w.ids n) (is_running (w.member n).status) (c.in-Ok.ensures.lawful w stands)))))
 
 pub invariant_of-self-clause-alike : goal.invariant_of-self-clause-alike
 invariant_of-self-clause-alike g c =

@@ -1,10 +1,10 @@
 use Rattle.std.proofs.Common.{◌≡◌, ℕ, ◌+◌, ◌∙◌, ap, sym, subst}
 use Rattle.alloc_step.specs.Step.{Event}
-use Rattle.bus_spec.specs.Cluster.{arriving, frame_at, is_member}
-use Rattle.bus_spec.specs.Members.{is_running, stepped}
-use Rattle.bus_spec.specs.Report.{step_told}
+use Rattle.bus_spec.specs.Cluster.{arrival_at, frame_at, is_member}
+use Rattle.bus_spec.specs.Members.{is_running, member_after_step}
+use Rattle.bus_spec.specs.Report.{line_of_step}
 use Rattle.bus_world.specs.Stands.{StandsFor}
-use Rattle.bus_spec.specs.Telling.{telling_of}
+use Rattle.bus_spec.specs.ReportLine.{report_line_of}
 use Rattle.bus_world.specs.declared.member.Member.{Member}
 use Rattle.bus_world.proofs.Finding.{alike_there, serves, set_alike, set_few, its_id, runs_from, set_holds, stands_there}
 use Rattle.bus_world.proofs.members.Members.receive.Goals as goal
@@ -12,28 +12,28 @@ use Rattle.bus_world.proofs.members.Members.receive.Goals as goal
 pub returns-in-Ok-clause-told : goal.returns-in-Ok-clause-told
 returns-in-Ok-clause-told g c = λ w stands.
     let xs = c.args.self.now.members.items in let bus = c.args.self.now.frames.items in let n = c.args.n in let m = c.index_mut.result.now in
-    let event : Event = Event.Rx (arriving (frame_at w.frames c.args.k) c.args.moment) in
+    let event : Event = Event.Rx (arrival_at (frame_at w.frames c.args.k) c.args.moment) in
     let here = subst (λ (m : Member g.row.F.Denot). StandsFor m (w.member n)) (sym c.index_mut.ensures.value)
     (stands_there xs bus w stands.holds n c.in-Ok.place c.in-Ok.ensures.place m) in
     let id = ap (λ (m : Member g.row.F.Denot). m.id) c.index_mut.ensures.value ∙ its_id xs bus w stands.holds n c.in-Ok.place c.in-Ok.ensures.place m in
     let both = c.in-Ok.ensures.lawful w stands in let lawful = both.0 in (
       both.1,
-      subst (λ (k : ℕ). telling_of c.step.result ≡ step_told k (w.rows + 1) event (w.member n).life (w.member n)) id
-          (subst (λ (r : ℕ). telling_of c.step.result ≡ step_told m.id (r + 1) event (w.member n).life (w.member n)) stands.rows
-          (subst (λ (e : Event). telling_of c.step.result ≡ step_told m.id (c.args.self.now.taken + 1) e (w.member n).life (w.member n)) (c.in-Ok.ensures.event w stands) (c.step.ensures.told (w.member n) here (runs_from (is_member w.ids n) (is_running (w.member n).life) lawful)))),
+      subst (λ (k : ℕ). report_line_of c.step.result ≡ line_of_step k (w.rows + 1) event (w.member n).status (w.member n)) id
+          (subst (λ (r : ℕ). report_line_of c.step.result ≡ line_of_step m.id (r + 1) event (w.member n).status (w.member n)) stands.rows
+          (subst (λ (e : Event). report_line_of c.step.result ≡ line_of_step m.id (c.args.self.now.taken + 1) e (w.member n).status (w.member n)) (c.in-Ok.ensures.event w stands) (c.step.ensures.told (w.member n) here (runs_from (is_member w.ids n) (is_running (w.member n).status) lawful)))),
     )
 
 pub returns-in-Ok-clause-leaves : goal.returns-in-Ok-clause-leaves
 returns-in-Ok-clause-leaves g c = λ w stands.
     let xs = c.args.self.now.members.items in let bus = c.args.self.now.frames.items in let n = c.args.n in let m = c.index_mut.result.now in
-    let event : Event = Event.Rx (arriving (frame_at w.frames c.args.k) c.args.moment) in
+    let event : Event = Event.Rx (arrival_at (frame_at w.frames c.args.k) c.args.moment) in
     let here = subst (λ (m : Member g.row.F.Denot). StandsFor m (w.member n)) (sym c.index_mut.ensures.value)
     (stands_there xs bus w stands.holds n c.in-Ok.place c.in-Ok.ensures.place m) in
     let id = ap (λ (m : Member g.row.F.Denot). m.id) c.index_mut.ensures.value ∙ its_id xs bus w stands.holds n c.in-Ok.place c.in-Ok.ensures.place m in
     set_holds xs bus w stands.holds n c.in-Ok.place c.in-Ok.ensures.place c.step.new.self
-    (stepped (w.rows + 1) event (w.member n).life (w.member n)) (c.step.ensures.id ∙ id)
-    (subst (λ (r : ℕ). StandsFor c.step.new.self (stepped (r + 1) event (w.member n).life (w.member n))) stands.rows
-    (subst (λ (e : Event). StandsFor c.step.new.self (stepped (c.args.self.now.taken + 1) e (w.member n).life (w.member n))) (c.in-Ok.ensures.event w stands) (c.step.ensures.stands (w.member n) here (runs_from (is_member w.ids n) (is_running (w.member n).life) (c.in-Ok.ensures.lawful w stands).0))))
+    (member_after_step (w.rows + 1) event (w.member n).status (w.member n)) (c.step.ensures.id ∙ id)
+    (subst (λ (r : ℕ). StandsFor c.step.new.self (member_after_step (r + 1) event (w.member n).status (w.member n))) stands.rows
+    (subst (λ (e : Event). StandsFor c.step.new.self (member_after_step (c.args.self.now.taken + 1) e (w.member n).status (w.member n))) (c.in-Ok.ensures.event w stands) (c.step.ensures.stands (w.member n) here (runs_from (is_member w.ids n) (is_running (w.member n).status) (c.in-Ok.ensures.lawful w stands).0))))
 
 pub step-requires-clause-answers : goal.step-requires-clause-answers
 step-requires-clause-answers g c =

@@ -8,9 +8,9 @@ use Rattle.transfer_tx.specs.Views.{queued_of}
 use Rattle.bus_spec.specs.Cluster.{in_list}
 use Rattle.bus_spec.specs.Members.{after_sending, next_frame}
 use Rattle.bus_spec.specs.Lawful.{no_node, not_running, nothing_to_send}
-use Rattle.bus_spec.specs.Report.{sending_told}
+use Rattle.bus_spec.specs.Report.{line_of_sending}
 use Rattle.bus_world.specs.Stands.{StandsFor}
-use Rattle.bus_spec.specs.Telling.Telling.{HasSent}
+use Rattle.bus_spec.specs.ReportLine.ReportLine.{HasSent}
 use Rattle.bus_world.specs.declared.member.Member.{Member}
 use Rattle.bus_world.proofs.Finding.{its_id, past_two, set_holds, stands_there}
 use Rattle.bus_world.proofs.members.Members.send.Goals as goal
@@ -20,21 +20,21 @@ returns-in_default-clause-refused g c = λ w stands.
     let xs = c.args.self.now.members.items in let bus = c.args.self.now.frames.items in let n = c.args.n in let m = c.index_mut.result.now in
     let here = subst (λ (m : Member g.row.F.Denot). StandsFor m (w.member n)) (sym c.index_mut.ensures.value)
     (stands_there xs bus w stands.holds n c.in-Ok.place c.in-Ok.ensures.place m) in
-    let next : next_frame (w.member n).life ≡ None = sym (c.pop.ensures.next (w.member n) here) ∙ ap (λ (o : Option Marked). option_map queued_of o) c.in_default.is in
-    past_two (no_node w n) (not_running w n) (nothing_to_send (next_frame (w.member n).life)) (c.in-Ok.ensures.lawful w stands) ∙ ap nothing_to_send next
+    let next : next_frame (w.member n).status ≡ None = sym (c.pop.ensures.next (w.member n) here) ∙ ap (λ (o : Option Marked). option_map queued_of o) c.in_default.is in
+    past_two (no_node w n) (not_running w n) (nothing_to_send (next_frame (w.member n).status)) (c.in-Ok.ensures.lawful w stands) ∙ ap nothing_to_send next
 
 pub returns-clause-told : goal.returns-clause-told
 returns-clause-told g c = λ w stands.
     let xs = c.args.self.now.members.items in let bus = c.args.self.now.frames.items in let n = c.args.n in let m = c.index_mut.result.now in
     let here = subst (λ (m : Member g.row.F.Denot). StandsFor m (w.member n)) (sym c.index_mut.ensures.value)
     (stands_there xs bus w stands.holds n c.in-Ok.place c.in-Ok.ensures.place m) in
-    let next : next_frame (w.member n).life ≡ Some (queued_of c.in-Some.next) = sym (c.pop.ensures.next (w.member n) here) ∙ ap (λ (o : Option Marked). option_map queued_of o) c.in-Some.is in
+    let next : next_frame (w.member n).status ≡ Some (queued_of c.in-Some.next) = sym (c.pop.ensures.next (w.member n) here) ∙ ap (λ (o : Option Marked). option_map queued_of o) c.in-Some.is in
     let number : c.put_on-k.result ≡ length w.frames + 1 = c.put_on-k.ensures.number
     ∙ ap (λ (k : ℕ). k + 1) (sym (length-map bus queued_of) ∙ ap (λ (l : List Queued). length l) stands.holds.frames) in (
-      past_two (no_node w n) (not_running w n) (nothing_to_send (next_frame (w.member n).life)) (c.in-Ok.ensures.lawful w stands) ∙ ap nothing_to_send next,
+      past_two (no_node w n) (not_running w n) (nothing_to_send (next_frame (w.member n).status)) (c.in-Ok.ensures.lawful w stands) ∙ ap nothing_to_send next,
       ap (λ (f : Frame). HasSent n c.put_on-k.result f.id f.bytes.items) c.copy-frame.ensures
           ∙ (ap (λ (k : ℕ). HasSent n k c.in-Some.next.frame.id c.in-Some.next.frame.bytes.items) number
-          ∙ ap (λ (o : Option Queued). sending_told n (length w.frames + 1) o) (sym next)),
+          ∙ ap (λ (o : Option Queued). line_of_sending n (length w.frames + 1) o) (sym next)),
     )
 
 pub returns-clause-leaves : goal.returns-clause-leaves
@@ -43,9 +43,9 @@ returns-clause-leaves g c = λ w stands.
     let here = subst (λ (m : Member g.row.F.Denot). StandsFor m (w.member n)) (sym c.index_mut.ensures.value)
     (stands_there xs bus w stands.holds n c.in-Ok.place c.in-Ok.ensures.place m) in
     let id = ap (λ (m : Member g.row.F.Denot). m.id) c.index_mut.ensures.value ∙ its_id xs bus w stands.holds n c.in-Ok.place c.in-Ok.ensures.place m in
-    let next : next_frame (w.member n).life ≡ Some (queued_of c.in-Some.next) = sym (c.pop.ensures.next (w.member n) here) ∙ ap (λ (o : Option Marked). option_map queued_of o) c.in-Some.is in
+    let next : next_frame (w.member n).status ≡ Some (queued_of c.in-Some.next) = sym (c.pop.ensures.next (w.member n) here) ∙ ap (λ (o : Option Marked). option_map queued_of o) c.in-Some.is in
     let set = set_holds xs bus w stands.holds n c.in-Ok.place c.in-Ok.ensures.place c.pop.new.self
-    (record (w.member n) { life = after_sending (w.member n).life }) (c.pop.ensures.id ∙ id) (c.pop.ensures.stands (w.member n) here) in
+    (record (w.member n) { status = after_sending (w.member n).status }) (c.pop.ensures.id ∙ id) (c.pop.ensures.stands (w.member n) here) in
     record {
       ids = set.ids;
       frames = ap (λ (l : List Marked). map queued_of l) c.put_on-k.ensures.frames

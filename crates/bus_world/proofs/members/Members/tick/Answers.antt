@@ -1,10 +1,10 @@
 use Rattle.std.proofs.Common.{◌≡◌, ℕ, ◌+◌, ◌∙◌, ap, sym, subst}
 use Rattle.alloc_step.specs.Step.{Event}
 use Rattle.bus_spec.specs.Cluster.{is_member}
-use Rattle.bus_spec.specs.Members.{is_running, stepped}
-use Rattle.bus_spec.specs.Report.{step_told}
+use Rattle.bus_spec.specs.Members.{is_running, member_after_step}
+use Rattle.bus_spec.specs.Report.{line_of_step}
 use Rattle.bus_world.specs.Stands.{StandsFor}
-use Rattle.bus_spec.specs.Telling.{telling_of}
+use Rattle.bus_spec.specs.ReportLine.{report_line_of}
 use Rattle.bus_world.specs.declared.member.Member.{Member}
 use Rattle.bus_world.proofs.Finding.{set_few, alike_there, serves, set_alike, its_id, runs_from, set_holds, stands_there}
 use Rattle.bus_world.proofs.members.Members.tick.Goals as goal
@@ -18,9 +18,9 @@ returns-in-Ok-clause-told g c = λ w stands.
     let id = ap (λ (m : Member g.row.F.Denot). m.id) c.index_mut.ensures.value ∙ its_id xs bus w stands.holds n c.in-Ok.place c.in-Ok.ensures.place m in
     let lawful = c.in-Ok.ensures.lawful w stands in (
       lawful,
-      subst (λ (k : ℕ). telling_of c.step.result ≡ step_told k (w.rows + 1) event (w.member n).life (w.member n)) id
-          (subst (λ (r : ℕ). telling_of c.step.result ≡ step_told m.id (r + 1) event (w.member n).life (w.member n)) stands.rows
-          (c.step.ensures.told (w.member n) here (runs_from (is_member w.ids n) (is_running (w.member n).life) lawful))),
+      subst (λ (k : ℕ). report_line_of c.step.result ≡ line_of_step k (w.rows + 1) event (w.member n).status (w.member n)) id
+          (subst (λ (r : ℕ). report_line_of c.step.result ≡ line_of_step m.id (r + 1) event (w.member n).status (w.member n)) stands.rows
+          (c.step.ensures.told (w.member n) here (runs_from (is_member w.ids n) (is_running (w.member n).status) lawful))),
     )
 
 pub returns-in-Ok-clause-leaves : goal.returns-in-Ok-clause-leaves
@@ -31,9 +31,9 @@ returns-in-Ok-clause-leaves g c = λ w stands.
     (stands_there xs bus w stands.holds n c.in-Ok.place c.in-Ok.ensures.place m) in
     let id = ap (λ (m : Member g.row.F.Denot). m.id) c.index_mut.ensures.value ∙ its_id xs bus w stands.holds n c.in-Ok.place c.in-Ok.ensures.place m in
     set_holds xs bus w stands.holds n c.in-Ok.place c.in-Ok.ensures.place c.step.new.self
-    (stepped (w.rows + 1) event (w.member n).life (w.member n)) (c.step.ensures.id ∙ id)
-    (subst (λ (r : ℕ). StandsFor c.step.new.self (stepped (r + 1) event (w.member n).life (w.member n))) stands.rows
-    (c.step.ensures.stands (w.member n) here (runs_from (is_member w.ids n) (is_running (w.member n).life) (c.in-Ok.ensures.lawful w stands))))
+    (member_after_step (w.rows + 1) event (w.member n).status (w.member n)) (c.step.ensures.id ∙ id)
+    (subst (λ (r : ℕ). StandsFor c.step.new.self (member_after_step (r + 1) event (w.member n).status (w.member n))) stands.rows
+    (c.step.ensures.stands (w.member n) here (runs_from (is_member w.ids n) (is_running (w.member n).status) (c.in-Ok.ensures.lawful w stands))))
 
 pub step-requires-clause-answers : goal.step-requires-clause-answers
 step-requires-clause-answers g c =

@@ -1,5 +1,5 @@
 use Rattle.std.proofs.Common.{subst}
-use Rattle.bus_spec.specs.Cluster.{AreMembers, changed, cluster, world_of}
+use Rattle.bus_spec.specs.Cluster.{AreMembers, effect_of, cluster, world_of}
 use Rattle.bus_world.proofs.Giving.{formed_at, offers_own}
 use Rattle.bus_world.proofs.world.World.row.Goals as goal
 
@@ -8,7 +8,7 @@ returns-in-Ok-clause-kept g c = λ w stands.
     let row = c.args.row.now in
     let then_ = (c.in-Ok.ensures.leaves w stands).0 in
     offers_own c.args.self.now.members w stands.members c.pairs_of_a_step.ensures.committed row
-    (formed_at c.change.new.self.members.members.items (changed w row) then_.members then_.ids) (c.in-Ok.ensures.told w stands).0
+    (formed_at c.change.new.self.members.members.items (effect_of w row) then_.members then_.ids) (c.in-Ok.ensures.told w stands).0
 
 pub returns-in-Ok-clause-headline : goal.returns-in-Ok-clause-headline
 returns-in-Ok-clause-headline g c = λ ids rows lawful stands.

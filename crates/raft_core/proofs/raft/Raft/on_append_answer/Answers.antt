@@ -2,7 +2,7 @@ use Rattle.std.proofs.Common.{rules, ◌≡◌, ◌≤◌, false, refl, sym, sub
 use Rattle.std.specs.Prelude.{Some, None, nat_lt}
 use Rattle.raft_log.specs.declared.origin.TheConstants.{LEADER}
 use Rattle.raft_log.specs.DurableViews.{durable_state}
-use Rattle.raft_model.specs.Moves.Elections.{ended, term_puts}
+use Rattle.raft_model.specs.Moves.Elections.{memory_without_call, term_puts}
 use Rattle.raft_model.specs.Moves.Move.{TakeAppendAnswer}
 use Rattle.raft_model.specs.Server.{RaftServer, Store}
 use Rattle.raft_core.specs.Handled.{answer_of}
@@ -40,7 +40,7 @@ pub returns-then-not-leads-clause-moves : goal.returns-then-not-leads-clause-mov
 returns-then-not-leads-clause-moves g c = λ members n p t st awaited step r is.
     let old = c.args.d.now in
     let a = answer_of step c.args.from r c.args.ans.now.term c.args.ans.now.success in
-    let p1 : RaftServer = record p { memory = ended p.memory c.args.from } in
+    let p1 : RaftServer = record p { memory = memory_without_call p.memory c.args.from } in
     let t1 = end_call c.args.from t in
     let st2 = c.in_ok-raise.ensures.stands members p1 t1 (c.end_call.ensures.stands members (durable_state old) p t st) in
     let none = λ (low : nat_lt p.store.term a.term ≡ false).
@@ -76,7 +76,7 @@ pub returns-clause-moves : goal.returns-clause-moves
 returns-clause-moves g c = λ members n p t st awaited step r is.
     let old = c.args.d.now in
     let a = answer_of step c.args.from r c.args.ans.now.term c.args.ans.now.success in
-    let p1 : RaftServer = record p { memory = ended p.memory c.args.from } in
+    let p1 : RaftServer = record p { memory = memory_without_call p.memory c.args.from } in
     let t1 = end_call c.args.from t in
     let leads = c.if-not-leads.ensures.leader refl in
     let st2 = c.in_ok-raise.ensures.stands members p1 t1 (c.end_call.ensures.stands members (durable_state old) p t st) in

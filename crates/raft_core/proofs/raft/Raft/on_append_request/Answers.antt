@@ -2,7 +2,7 @@ use Rattle.std.proofs.Common.{rules, subst, refl}
 use Rattle.std.specs.Prelude.{List, Some, None}
 use Rattle.raft_log.specs.declared.origin.TheConstants.{LEADER}
 use Rattle.raft_log.specs.DurableViews.{durable_state}
-use Rattle.raft_model.specs.Decisions.{judges}
+use Rattle.raft_model.specs.Decisions.{verdict_on}
 use Rattle.raft_model.specs.Moves.Appending.{append_puts}
 use Rattle.raft_model.specs.Server.{Put}
 use Rattle.raft_model.specs.Moves.Elections.{term_puts, with_term}
@@ -20,7 +20,7 @@ returns-then-is_outdated-clause-moves g c = λ members n p t st step.
     let old = c.args.d.now in
     let r = append_request_of c.args.req.now step c.args.from raft.me in
     let late : IsLate raft members (durable_state old) p t r st = search rules in
-    refused_late members raft.me n (given_at c.args.now) p t r (judges p r) (c.law_decisions.ensures.judged p r) old old raft st _ late (search rules) (c.puts_in_turn.ensures.nothing old)
+    refused_late members raft.me n (given_at c.args.now) p t r (verdict_on p r) (c.law_decisions.ensures.judged p r) old old raft st _ late (search rules) (c.puts_in_turn.ensures.nothing old)
 
 pub returns-in_err-raise-clause-moves : goal.returns-in_err-raise-clause-moves
 returns-in_err-raise-clause-moves g c = λ members n p t st step.
@@ -28,9 +28,9 @@ returns-in_err-raise-clause-moves g c = λ members n p t st step.
     let old = c.args.d.now in
     let r = append_request_of c.args.req.now step c.args.from raft.me in
     let not : IsLate raft members (durable_state old) p t r st → ⊥ = λ late. search (rules, late) in
-    term_failed members raft.me n (given_at c.args.now) p t r (judges p r) (c.law_decisions.ensures.judged p r) old _ raft st not c.in_err-raise.field-0.0 _ _ (search rules)
-    (alike LEADER (term_puts (store_of (durable_state old)) r.term) (append_puts (with_term p.store r.term) r (judges p r)) old _ (Some c.in_err-raise.field-0.0)
-    (c.puts_in_turn.ensures.cut_off _ (with_origin LEADER (append_puts (with_term p.store r.term) r (judges p r))) old _ c.in_err-raise.field-0.0 (c.in_err-raise.ensures.puts LEADER)))
+    term_failed members raft.me n (given_at c.args.now) p t r (verdict_on p r) (c.law_decisions.ensures.judged p r) old _ raft st not c.in_err-raise.field-0.0 _ _ (search rules)
+    (alike LEADER (term_puts (store_of (durable_state old)) r.term) (append_puts (with_term p.store r.term) r (verdict_on p r)) old _ (Some c.in_err-raise.field-0.0)
+    (c.puts_in_turn.ensures.cut_off _ (with_origin LEADER (append_puts (with_term p.store r.term) r (verdict_on p r))) old _ c.in_err-raise.field-0.0 (c.in_err-raise.ensures.puts LEADER)))
 
 pub returns-in_err-success-clause-moves : goal.returns-in_err-success-clause-moves
 returns-in_err-success-clause-moves g c = λ members n p t st step.
@@ -38,7 +38,7 @@ returns-in_err-success-clause-moves g c = λ members n p t st step.
     let old = c.args.d.now in
     let mid = c.raise.new.d in
     let r = append_request_of c.args.req.now step c.args.from raft.me in
-    let v = judges p r in
+    let v = verdict_on p r in
     let judged = c.law_decisions.ensures.judged p r in
     let st1 = c.in_ok-raise.ensures.stands members p t st in
     let not : IsLate raft members (durable_state old) p t r st → ⊥ = λ late. search (rules, late) in
@@ -55,7 +55,7 @@ returns-clause-moves g c = λ members n p t st step.
     let old = c.args.d.now in
     let mid = c.raise.new.d in
     let r = append_request_of c.args.req.now step c.args.from raft.me in
-    let v = judges p r in
+    let v = verdict_on p r in
     let judged = c.law_decisions.ensures.judged p r in
     let st1 = c.in_ok-raise.ensures.stands members p t st in
     let not : IsLate raft members (durable_state old) p t r st → ⊥ = λ late. search (rules, late) in

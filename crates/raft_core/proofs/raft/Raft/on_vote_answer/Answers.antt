@@ -2,7 +2,7 @@ use Rattle.std.proofs.Common.{rules, ◌≡◌, ◌++◌, false, refl, sym, subs
 use Rattle.std.specs.Prelude.{List, Some, None, nat_lt}
 use Rattle.raft_log.specs.declared.origin.TheConstants.{WIN}
 use Rattle.raft_log.specs.DurableViews.{durable_state}
-use Rattle.raft_model.specs.Moves.Elections.{counted, ended, term_puts}
+use Rattle.raft_model.specs.Moves.Elections.{votes_with, memory_without_call, term_puts}
 use Rattle.raft_model.specs.Server.{RaftServer, Put, Store}
 use Rattle.raft_core.specs.Handled.{answer_of}
 use Rattle.raft_core.specs.StoredPuts.{CallWrites, with_origin, store_of}
@@ -40,7 +40,7 @@ pub returns-then-not-counts-clause-moves : goal.returns-then-not-counts-clause-m
 returns-then-not-counts-clause-moves g c = λ members n p t st awaited step r is.
     let old = c.args.d.now in
     let a = answer_of step c.args.from r c.args.ans.now.term c.args.ans.now.granted in
-    let p1 : RaftServer = record p { memory = ended p.memory c.args.from } in
+    let p1 : RaftServer = record p { memory = memory_without_call p.memory c.args.from } in
     let t1 = end_vote_call c.args.from t in
     let st1 = c.note_answer.ensures.stands members (durable_state old) p1 _ (c.end_call.ensures.stands members (durable_state old) p t st) in
     let st2 = c.in_ok-raise.ensures.stands members p1 t1 st1 in
@@ -68,7 +68,7 @@ returns-in_err-count_vote-clause-moves g c = λ members n p t st awaited step r 
     let mid = c.raise.new.d in
     let broken = Some c.in_err-count_vote.field-0.0 in
     let a = answer_of step c.args.from r c.args.ans.now.term c.args.ans.now.granted in
-    let p1 : RaftServer = record p { memory = ended p.memory c.args.from } in
+    let p1 : RaftServer = record p { memory = memory_without_call p.memory c.args.from } in
     let t1 = end_vote_call c.args.from t in
     let stands = c.if-not-counts.ensures.candidate refl in
     let st1 = c.note_answer.ensures.stands members (durable_state old) p1 _ (c.end_call.ensures.stands members (durable_state old) p t st) in
@@ -76,7 +76,7 @@ returns-in_err-count_vote-clause-moves g c = λ members n p t st awaited step r 
     let low = not_higher p1 a.term c.raise.new.self.role st2.role (λ h. cc (sym stands ∙ h)) in
     let st3 = unraised c.raise.new.self members (durable_state mid) p1 t1 c.args.now a.term low st2 in
     let so = sym (c.counts.ensures.counts p1 a st3.role (ap (λ (z : Store). z.term) st3.store ∙ sym c.term.ensures) refl refl) ∙ c.if-not-counts.false in
-    let votes = votes_puts members p1 t (counted p.memory a) old c.count_vote.new.d c.count_vote.new.self in (
+    let votes = votes_puts members p1 t (votes_with p.memory a) old c.count_vote.new.d c.count_vote.new.self in (
       count_failed members c.args.self.now.me n (given_at c.args.now) p t a old c.count_vote.new.d c.count_vote.new.self _ c.in_err-count_vote.field-0.0 (search rules) low so
           (subst (λ (l : List Put). CallWrites (with_origin WIN l) old c.count_vote.new.d broken) (low_puts p.store a.term votes low)
           (subst (λ (z : Store). CallWrites (with_origin WIN (term_puts z a.term ++ votes)) old c.count_vote.new.d broken) (sym st.store)
@@ -95,7 +95,7 @@ returns-clause-moves g c = λ members n p t st awaited step r is.
     let old = c.args.d.now in
     let mid = c.raise.new.d in
     let a = answer_of step c.args.from r c.args.ans.now.term c.args.ans.now.granted in
-    let p1 : RaftServer = record p { memory = ended p.memory c.args.from } in
+    let p1 : RaftServer = record p { memory = memory_without_call p.memory c.args.from } in
     let t1 = end_vote_call c.args.from t in
     let stands = c.if-not-counts.ensures.candidate refl in
     let st1 = c.note_answer.ensures.stands members (durable_state old) p1 _ (c.end_call.ensures.stands members (durable_state old) p t st) in
@@ -103,7 +103,7 @@ returns-clause-moves g c = λ members n p t st awaited step r is.
     let low = not_higher p1 a.term c.raise.new.self.role st2.role (λ h. cc (sym stands ∙ h)) in
     let st3 = unraised c.raise.new.self members (durable_state mid) p1 t1 c.args.now a.term low st2 in
     let so = sym (c.counts.ensures.counts p1 a st3.role (ap (λ (z : Store). z.term) st3.store ∙ sym c.term.ensures) refl refl) ∙ c.if-not-counts.false in
-    let votes = votes_puts members p1 t (counted p.memory a) old c.count_vote.new.d c.count_vote.new.self in (
+    let votes = votes_puts members p1 t (votes_with p.memory a) old c.count_vote.new.d c.count_vote.new.self in (
       vote_counted members c.args.self.now.me n (given_at c.args.now) p t a old c.count_vote.new.d c.count_vote.new.self low so
           (subst (λ (l : List Put). CallWrites (with_origin WIN l) old c.count_vote.new.d None) (low_puts p.store a.term votes low)
           (subst (λ (z : Store). CallWrites (with_origin WIN (term_puts z a.term ++ votes)) old c.count_vote.new.d None) (sym st.store)

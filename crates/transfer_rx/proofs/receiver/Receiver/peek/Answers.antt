@@ -3,7 +3,7 @@ use Rattle.std.proofs.lemmas.Bool.{not-true}
 use Rattle.can_frame.specs.declared.tail.Tail.{Tail}
 use Rattle.transfer_rx.specs.Crcs.{signature_in}
 use Rattle.transfer_rx.specs.Keys.{key_of}
-use Rattle.transfer_rx.specs.Sessions.{remembered}
+use Rattle.transfer_rx.specs.Sessions.{recent_sessions}
 use Rattle.transfer_rx.specs.Places.{left}
 use Rattle.transfer_rx.specs.Reassembly.{Step, arrival_of, delivered}
 use Rattle.transfer_rx.proofs.Arrangement.{forget}
@@ -33,8 +33,8 @@ returns-then-is_anonymous-clause-ranges g c = c.delivered.ensures.ranges c.alone
 
 pub returns-clause-answer : goal.returns-clause-answer
 returns-clause-answer g c = λ sessions s.
-    c.foretell.ensures.delivery g.row.S g.row.N c.in-Ok.wanted.signature c.args.now c.args.self.now.sessions.pool (left c.args.now s.places) (remembered c.args.now sessions)
-    (c.turn-turn.ensures.turn s.places (remembered c.args.now sessions) s.stand (forget c.args.now s.places sessions s.arranged) (c.free_without_old-free.ensures.free s.places s.stand))
+    c.foretell.ensures.delivery g.row.S g.row.N c.in-Ok.wanted.signature c.args.now c.args.self.now.sessions.pool (left c.args.now s.places) (recent_sessions c.args.now sessions)
+    (c.turn-turn.ensures.turn s.places (recent_sessions c.args.now sessions) s.stand (forget c.args.now s.places sessions s.arranged) (c.free_without_old-free.ensures.free s.places s.stand))
     ∙ ap (λ (x : Step). delivered x.answer) (sym (of_session (record { rows = c.args.self.now.rows.items; me = c.args.self.now.me; sessions = g.row.S; blocks = g.row.N }) sessions (arrival_of c.args.frame.now c.args.mark c.args.now) c.in-Ok.wanted (sym c.wanted.ensures.wanted ∙ c.in-Ok.is) (sym c.is_anonymous.ensures ∙ c.if-is_anonymous.false)))
 
 pub turn-turn-requires : goal.turn-turn-requires

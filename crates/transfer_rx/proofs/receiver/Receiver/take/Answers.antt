@@ -3,7 +3,7 @@ use Rattle.can_frame.specs.Piece.{piece_of}
 use Rattle.transfer_rx.specs.Crcs.{signature_in}
 use Rattle.transfer_rx.specs.Filled.{IsFree}
 use Rattle.transfer_rx.specs.Keys.{key_of}
-use Rattle.transfer_rx.specs.Sessions.{remembered}
+use Rattle.transfer_rx.specs.Sessions.{recent_sessions}
 use Rattle.transfer_rx.specs.Places.{Arranged, Places, KeepSessions, left}
 use Rattle.transfer_rx.specs.Reassembly.{Step, arrival_of}
 use Rattle.transfer_rx.specs.Turns.{IsTurn}
@@ -35,7 +35,7 @@ returns-then-is_anonymous-clause-sessions g c = λ sessions s.
 pub returns-clause-answer : goal.returns-clause-answer
 returns-clause-answer g c = λ sessions s.
     let places = left c.args.now s.places in
-    let recent = remembered c.args.now sessions in
+    let recent = recent_sessions c.args.now sessions in
     let twice = left_twice c.args.now s.places in
     let stand = c.forget.ensures.places s.places s.stand in
     let arranged = forget c.args.now s.places sessions s.arranged in
@@ -48,7 +48,7 @@ returns-clause-answer g c = λ sessions s.
 pub returns-clause-sessions : goal.returns-clause-sessions
 returns-clause-sessions g c = λ sessions s.
     let places = left c.args.now s.places in
-    let recent = remembered c.args.now sessions in
+    let recent = recent_sessions c.args.now sessions in
     let twice = left_twice c.args.now s.places in
     let stand = c.forget.ensures.places s.places s.stand in
     let arranged = forget c.args.now s.places sessions s.arranged in
