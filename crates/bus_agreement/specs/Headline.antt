@@ -1,9 +1,12 @@
--- The headline. Whatever frames are delivered, lost or repeated, whatever clocks read and wherever inside store writes
--- allocators stop: each allocator's committed log is always a prefix of one injective, growing list of unique ID and
--- node ID pairs, every allocation offered to the bus is a pair of it by then, and every later leader holds it.
+-- The headline, which `the_headline` proves (`src/headline.rt`). For 1 to 5 members and every list of lawful rows, so
+-- whatever frames are delivered, lost or repeated, whatever clocks read and wherever inside store writes allocators
+-- stop: each allocator's committed log is always a prefix of one injective, growing list of unique ID and node ID
+-- pairs; every allocation offered to the bus is a pair of it by then; and every later leader, but one of an older term,
+-- has it in its log.
 --
--- A schedule is cut at any two places: `first` came, `more` follow, and then the rest. So "now" is after any row, or
--- before all of them, and "later" is now or after any row from then on.
+-- A schedule is cut at any two places: the rows `first` are taken, then `more`, then `rest`. So "now" is after any row,
+-- or before all of them, and "later" is now or after any row from then on. `choice row` says whether the put took
+-- effect that failed in that row, where a stop did not find it yet.
 use Rattle.std.specs.Prelude.{◌≡◌, ◌≢◌, ℕ, ◌<◌, ◌≤◌, nat_lt, Bool, if◌then◌else◌}
 use Rattle.std.specs.Prelude.{List, [], ◌∷◌, ◌++◌, length, slice_index_or}
 use Rattle.can_frame.specs.declared.entry.Entry.{Entry}
@@ -45,26 +48,27 @@ pub record Headline (choice : ℕ → Bool) (now later : Cluster) : Type 0 where
   -- each committed log is a prefix of the list, and of each that its member has later, through stops and openings
   pub prefix : (n : ℕ) → In n now.ids → IsPrefix (committed choice now n) (the_list choice now)
   pub kept : (n : ℕ) → In n now.ids → IsPrefix (committed choice now n) (committed choice later n)
-  -- a running member goes by what it has stored
+  -- a member that runs and has not failed goes by what it has stored
   pub shown : (n : ℕ) (server : AllocatorState) → In n now.ids → (now.member n).status ≡ Up server
       → server.raft_server.store ≡ stored choice now n
-  -- whatever image a stop now would leave of a member's disk, it stands for what is stored; of a failed step it stands
-  -- for one of the two that choices may say
+  -- whatever a restart now would find of a member's disk, by each pattern, is what is stored; after a failed step it is
+  -- one of the two that choices may say
   pub found : (n : ℕ) (pattern : Pattern) → In n now.ids
       → IsFound (now.member n).status (now.member n).disk (store_of (restarted_on pattern (now.member n).disk).store)
-  -- the list has pairs, reservations and blanks, each with a unique ID of 16 bytes
-  pub formed : (place : ℕ) → place < length (the_list choice now)
-      → IsWellFormed (slice_index_or (the_list choice now) place (blank 0))
-  pub entries : (place : ℕ) → place < length (the_list choice now)
-      → IsEntry (slice_index_or (the_list choice now) place (blank 0))
-  -- no two of it but blanks have one node ID, and no two pairs one unique ID; it only grows
+  -- each entry of the list is a pair, a reservation or a blank
+  pub formed : (index : ℕ) → index < length (the_list choice now)
+      → IsWellFormed (slice_index_or (the_list choice now) index (blank 0))
+  -- and its unique ID has 16 bytes, its term is below 2^32, and its node ID below 128
+  pub entries : (index : ℕ) → index < length (the_list choice now)
+      → IsEntry (slice_index_or (the_list choice now) index (blank 0))
+  -- no two entries of the list but blanks have one node ID, and no two pairs one unique ID; the list only grows
   pub injective : IsInjective (the_list choice now)
   pub grows : IsPrefix (the_list choice now) (the_list choice later)
   -- no member's own node ID is ever given or kept back
-  pub outside : (place n : ℕ) → place < length (the_list choice now) → In n now.ids
-      → (slice_index_or (the_list choice now) place (blank 0)).node ≢ n
-  -- an Allocation with a node ID that waits in a running member's queue is a pair of the member's committed log, and so
-  -- of the list; each Allocation that fits waits whole when its row is over (`queue_of_a_step` of `alloc_step_laws`)
+  pub outside : (index n : ℕ) → index < length (the_list choice now) → In n now.ids
+      → (slice_index_or (the_list choice now) index (blank 0)).node ≢ n
+  -- an Allocation with a node ID, of which all frames wait in the queue of a member that runs and has not failed, is a
+  -- pair of the member's committed log, and so of the list. Of one that is partly sent `bus` speaks
   pub offered : (n : ℕ) (server : AllocatorState) (answer : Allocation) → In n now.ids
       → (now.member n).status ≡ Up server
       → IsOffered server.queue n answer → answer.node ≢ 0
@@ -77,16 +81,15 @@ pub record Headline (choice : ℕ → Bool) (now later : Cluster) : Type 0 where
       → (stored choice now n).term ≤ server.raft_server.store.term
       → IsPrefix (committed choice now n) server.raft_server.store.log
 
--- Of a list of rows: the headline holds from each of its moments to each later one, for every choice that fits the rows
--- up to the later one; and there is a choice that fits all of it, and so up to every moment.
+-- Of a list of rows: the headline holds from each cut of it to each later one, for every choice that agrees with the
+-- disks up to the later one; and there is a choice that agrees with them along all of it, and so up to every cut.
 pub record HasHeadline (ids : List ℕ) (rows : List Row) : Type 0 where
   pub some : (choice : ℕ → Bool) × AgreesWithDisk choice (cluster ids) rows
   pub holds : (first more rest : List Row) (choice : ℕ → Bool) → rows ≡ first ++ (more ++ rest)
       → AgreesWithDisk choice (cluster ids) (first ++ more)
       → Headline choice (world_of ids first) (world_of ids (first ++ more))
-  -- On the bus there are no other Allocations: at each moment each frame whose identifier reads as an Allocation of a
-  -- node is that member's, of an Allocation that it made in a step by then, and what this one gives is a pair of the
-  -- member's committed log.
+  -- A frame that ever was on the bus, whose identifier reads as an Allocation of node n, is of a member n, and of an
+  -- Allocation that n made in a step by then; where that Allocation gives a node ID, its pair is in n's committed log.
   pub bus : (first rest : List Row) (choice : ℕ → Bool) → rows ≡ first ++ rest
       → AgreesWithDisk choice (cluster ids) first
       → (frame : Queued) (n : ℕ) → In frame (world_of ids first).frames → IsOfAllocation frame n
