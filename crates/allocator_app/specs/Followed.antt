@@ -3,9 +3,9 @@ use Rattle.std.specs.Prelude.{ℕ, List, Option}
 use Rattle.disk_model.specs.declared.disk.Disk.{Ghosts}
 use Rattle.outside.specs.declared.received.RawFrame.{RawFrame}
 use Rattle.outside.specs.declared.received.Received.{Received}
-use Rattle.dsdl_decode.specs.Ends.{Decodes}
-use Rattle.log_modes.specs.Converted.{Converts}
-use Rattle.log_modes.specs.Watched.{Watches}
+use Rattle.app_decode.specs.Ends.{Decodes}
+use Rattle.app_logs.specs.Converted.{Converts}
+use Rattle.app_logs.specs.Watched.{Watches}
 use Rattle.app_node.specs.Nodes.{RunsNodes}
 use Rattle.app_base.specs.declared.status.Status.{Status}
 use Rattle.store_audit.specs.Audits.{Audits}

@@ -1,7 +1,7 @@
 ghost use Rattle.std.specs.Prelude.{◌≡◌, ◌≤◌, ◌↔◌, ◌⊎◌, ℕ, Bool, List, [], Some, length, map, string_bytes, IsTrue};
-ghost use Rattle.dsdl_decode.specs.Ends.{Decodes};
-ghost use Rattle.log_modes.specs.Converted.{Converts};
-ghost use Rattle.log_modes.specs.Watched.{Watches};
+ghost use Rattle.app_decode.specs.Ends.{Decodes};
+ghost use Rattle.app_logs.specs.Converted.{Converts};
+ghost use Rattle.app_logs.specs.Watched.{Watches};
 ghost use Rattle.outside.specs.Faults.{Rose};
 ghost use Rattle.replay_text.specs.declared.row.Row.{Row};
 ghost use Rattle.replay_text.specs.Lines.{ReadsRows};
@@ -23,6 +23,8 @@ use crate::plans::Plan;
 use crate::replay::replay;
 use crate::words::plan;
 use app_base::Status;
+use app_decode::decode;
+use app_logs::{convert, watch};
 use app_node::node;
 use app_node_laws::laws::{runs_of_node_are_rows, traces_are_lawful};
 use app_soak::laws::rows_are_lawful;
@@ -30,8 +32,6 @@ use app_soak::soak;
 use bus_agreement::allocatees::the_allocatees;
 use bus_agreement::headline::{rows_are_safe, the_headline};
 use disk_model::Disk;
-use dsdl_decode::decode;
-use log_modes::{convert, watch};
 use outside::{Clock, Link, Sink, Source};
 use replay_text::laws::a_line_has_one_row;
 use std::alloc::Global;
@@ -71,9 +71,9 @@ use store_audit::audit_stores;
 /// what they agree on, or `Differ` with the line that names two that differ (`Audits` of `store_audit`).
 ///
 /// `watch <format> <lines> <id>..` lists the transfers of a log that comes from the source (`Watches` of
-/// `log_modes`), and `convert <format> <format> <lines>` writes the log in the other form or the same
+/// `app_logs`), and `convert <format> <format> <lines>` writes the log in the other form or the same
 /// (`Converts`). `decode <name> <part> <hex>` writes the numbers of a payload under the part of a type that the
-/// text of the source describes (`Decodes` of `dsdl_decode`); it is `NoPart` where the text has no such part, and
+/// text of the source describes (`Decodes` of `app_decode`); it is `NoPart` where the text has no such part, and
 /// `NoValue` where the payload has no reading. These four take no memory, and come to the end that their input
 /// has unless something fails.
 ///

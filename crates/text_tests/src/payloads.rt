@@ -1,7 +1,7 @@
 ghost use Rattle.std.specs.Prelude.{◌≤◌, length};
 
 use app_base::Status;
-use dsdl_decode::decode;
+use app_decode::decode;
 use outside::{MemorySink, MemorySource};
 use std::test::Fail;
 
