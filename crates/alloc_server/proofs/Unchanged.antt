@@ -6,10 +6,10 @@ use Rattle.kv_store.specs.declared.fault.Fault.{Fault}
 use Rattle.raft_core.specs.OneFit.{ReachesUpTo-prop}
 use Rattle.raft_log.specs.DurableViews.{durable_fault}
 use Rattle.transfer_rx.specs.Views.{setting_of}
-use Rattle.alloc_step.specs.Accepted as accepted
-use Rattle.alloc_step.specs.Outbox.{Waiting}
-use Rattle.alloc_core.specs.declared.member.Member.{Member}
-use Rattle.alloc_core.specs.Stands.{IsReady}
+use Rattle.alloc_spec.specs.Accepted as accepted
+use Rattle.alloc_spec.specs.Outbox.{Waiting}
+use Rattle.alloc_handlers.specs.declared.member.Member.{Member}
+use Rattle.alloc_handlers.specs.Stands.{IsReady}
 use Rattle.alloc_server.specs.declared.server.Server.{Server}
 
 module _ {D F : Type 0} {disk : Ghosts D} (s : Server D F disk) where

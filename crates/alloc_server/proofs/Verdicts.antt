@@ -6,11 +6,11 @@ use Rattle.transfer_rx.specs.Reassembly.{Answer, Arrival, Continues, Delivery, D
 use Rattle.transfer_rx.specs.Sessions.{Session}
 use Rattle.can_frame.specs.declared.frame.Frame.{Frame}
 use Rattle.can_frame.specs.declared.mark.Mark.{Mark}
-use Rattle.alloc_step.specs.Accepted.{setting_for}
-use Rattle.alloc_step.specs.Judging.{is_response, is_stale, answer_judgement, arrival_judgement, misses}
+use Rattle.alloc_spec.specs.Accepted.{setting_for}
+use Rattle.alloc_spec.specs.Judging.{is_response, is_stale, answer_judgement, arrival_judgement, misses}
 use Rattle.raft_core.specs.Times.{Sending}
 use Rattle.raft_model.specs.Messages.{Request as Call}
-use Rattle.alloc_step.specs.AllocatorState.{AllocatorState}
+use Rattle.alloc_spec.specs.AllocatorState.{AllocatorState}
 
 judged_none : (t : AllocatorState) (step now : ℕ) (a : Answer) → delivered a ≡ None → answer_judgement t step now a ≡ Fine
 judged_none t step now (Gives d) none = cc

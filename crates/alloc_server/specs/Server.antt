@@ -15,20 +15,20 @@ use Rattle.transfer_rx.specs.declared.receiver.Receiver.{Receiver}
 use Rattle.transfer_rx.specs.Views as receiver
 use Rattle.transfer_rx.specs.Views.{accept_of, setting_of}
 use Rattle.transfer_tx.specs.Queue.{Queued}
-use Rattle.alloc_step.specs.declared.event.Event.{Event as CodeEvent}
-use Rattle.alloc_step.specs.declared.event.Event.TheVariants.{Tick as TickCode, Rx as RxCode}
-use Rattle.alloc_step.specs.declared.event.Outcome.{Outcome}
-use Rattle.alloc_core.specs.declared.member.Member.{Member}
+use Rattle.alloc_spec.specs.declared.event.Event.{Event as CodeEvent}
+use Rattle.alloc_spec.specs.declared.event.Event.TheVariants.{Tick as TickCode, Rx as RxCode}
+use Rattle.alloc_spec.specs.declared.event.Outcome.{Outcome}
+use Rattle.alloc_handlers.specs.declared.member.Member.{Member}
 use Rattle.alloc_server.specs.declared.server.Server.{Server}
 use Rattle.can_frame.specs.declared.step.Seen.{Seen}
-use Rattle.alloc_step.specs.declared.offered.Offered.{Offered}
+use Rattle.alloc_spec.specs.declared.offered.Offered.{Offered}
 use Rattle.transfer_rx.specs.Reassembly.{arrival_of}
-use Rattle.alloc_step.specs.Accepted.{setting_for}
-use Rattle.alloc_step.specs.StepState.{pairs, listing_of}
-use Rattle.alloc_core.specs.Stands as member
-use Rattle.alloc_step.specs.Delivered.{StepResult}
-use Rattle.alloc_step.specs.Step.{Event, Rx, Tick}
-use Rattle.alloc_step.specs.AllocatorState.{AllocatorState}
+use Rattle.alloc_spec.specs.Accepted.{setting_for}
+use Rattle.alloc_spec.specs.StepState.{pairs, listing_of}
+use Rattle.alloc_handlers.specs.Stands as member
+use Rattle.alloc_spec.specs.Delivered.{StepResult}
+use Rattle.alloc_spec.specs.Step.{Event, Rx, Tick}
+use Rattle.alloc_spec.specs.AllocatorState.{AllocatorState}
 
 -- an event of the code
 abbrev pub event_of : CodeEvent → Event

@@ -8,10 +8,10 @@ ghost use Rattle.transfer_rx.specs.Told.{delivery_of};
 ghost use Rattle.can_frame.specs.declared.step.Judged.TheVariants.{Fine, Stale, Torn};
 ghost use Rattle.transfer_rx.specs.Acceptance.{AnswersByRows};
 ghost use Rattle.transfer_rx.specs.Reassembly.{arrival_of};
-ghost use Rattle.alloc_step.specs.Accepted as accepted;
-ghost use Rattle.alloc_step.specs.Judging.{is_response, is_stale, arrival_judgement, misses};
+ghost use Rattle.alloc_spec.specs.Accepted as accepted;
+ghost use Rattle.alloc_spec.specs.Judging.{is_response, is_stale, arrival_judgement, misses};
 ghost use Rattle.transfer_rx.specs.Memory.{ReceiverFitsInMemory};
-ghost use Rattle.alloc_step.specs.AllocatorState.{AllocatorState};
+ghost use Rattle.alloc_spec.specs.AllocatorState.{AllocatorState};
 
 use crate::server::Server;
 use can_frame::{Frame, Judged, Kind, Mark};

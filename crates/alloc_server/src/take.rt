@@ -2,19 +2,19 @@
 
 ghost use Rattle.std.specs.Prelude.{◌≡◌, OnOk};
 ghost use Rattle.std.specs.Result.{result_err};
-ghost use Rattle.alloc_core.specs.Stands.{IsFresh, IsReady, StandsFor as IsMember};
+ghost use Rattle.alloc_handlers.specs.Stands.{IsFresh, IsReady, StandsFor as IsMember};
 ghost use Rattle.alloc_server.specs.Server.{ComesTo, event_of};
 ghost use Rattle.raft_core.specs.StoredPuts.{CallFaultIsSticky};
-ghost use Rattle.alloc_step.specs.Accepted as accepted;
-ghost use Rattle.alloc_step.specs.Step as steps;
-ghost use Rattle.alloc_step.specs.AllocatorState.{AllocatorState};
+ghost use Rattle.alloc_spec.specs.Accepted as accepted;
+ghost use Rattle.alloc_spec.specs.Step as steps;
+ghost use Rattle.alloc_spec.specs.AllocatorState.{AllocatorState};
 ghost use Rattle.transfer_rx.specs.Acceptance.{AnswersByRows};
 ghost use Rattle.transfer_rx.specs.Memory.{ReceiverFitsInMemory};
 ghost use Rattle.transfer_rx.specs.Views.{HasSessions, accept_of, setting_of};
 
-use alloc_core::Member;
-use alloc_step::laws::phases_add_puts;
-use alloc_step::{Event, Offered};
+use alloc_handlers::Member;
+use alloc_spec::laws::phases_add_puts;
+use alloc_spec::{Event, Offered};
 use can_frame::{Kind, Seen};
 use disk_model::Disk;
 use kv_store::Fault;

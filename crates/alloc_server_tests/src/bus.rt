@@ -1,7 +1,7 @@
 //! Frames that come to an allocator.
 
 ghost use Rattle.std.specs.Prelude.{◌≡◌};
-ghost use Rattle.alloc_step.specs.Accepted as accepted;
+ghost use Rattle.alloc_spec.specs.Accepted as accepted;
 ghost use Rattle.transfer_rx.specs.Acceptance.{first_signature};
 
 use alloc_server::Event;

@@ -3,7 +3,7 @@
 use crate::bus::{FIRST_ASK, SECOND_ASK, THIRD_ASK, accept, event, heard};
 use crate::table::{Case, line_of, play};
 use alloc_server::{Server, What, accept_rows};
-use alloc_step::Outbox;
+use alloc_spec::Outbox;
 use arrayvec::ArrayVec;
 use can_frame::{Entry, Uid};
 use disk_model::{IMAGE, MemoryDisk};

@@ -3,7 +3,7 @@
 ghost use Rattle.std.specs.Prelude.{◌≡◌};
 ghost use Rattle.disk_model.specs.declared.memory.MemoryDisk.{MemoryDisk};
 ghost use Rattle.alloc_server.specs.Server.{accepts};
-ghost use Rattle.alloc_step.specs.Accepted as accepted;
+ghost use Rattle.alloc_spec.specs.Accepted as accepted;
 ghost use Rattle.transfer_rx.specs.Acceptance.{AnswersByRows};
 ghost use Rattle.transfer_rx.specs.Memory.{ReceiverFitsInMemory};
 

@@ -5,12 +5,12 @@ use Rattle.replay_text.specs.declared.told.Told.{Told}
 use Rattle.replay_text.specs.declared.told.Told.TheVariants.{Opened, Stepped, Failed, Stopped, Armed, Popped, Outside, AOpened, AStepped, APopped, AEnded}
 use Rattle.replay_text.specs.Report.{told_line}
 use Rattle.replay_text.specs.Lines.{BeginsWith, BeginsWithNoRow, ReadsRows}
-use Rattle.bus_spec.specs.Cluster.{Cluster, after_rows, after_row}
-use Rattle.bus_spec.specs.Lawful.{Lawful, cause}
-use Rattle.bus_spec.specs.Promise.{GivesOnce, KeepsItsWord, OffersItsOwn}
-use Rattle.bus_spec.specs.Report.{row_lines, line_of_row}
-use Rattle.bus_spec.specs.ReportLine.{text_of_line, report_line_of}
-use Rattle.bus_spec.specs.declared.unlawful.Unlawful.{Unlawful}
+use Rattle.cluster_spec.specs.Cluster.{Cluster, after_rows, after_row}
+use Rattle.cluster_spec.specs.Lawful.{Lawful, cause}
+use Rattle.cluster_spec.specs.Promise.{GivesOnce, KeepsItsWord, OffersItsOwn}
+use Rattle.cluster_spec.specs.Report.{row_lines, line_of_row}
+use Rattle.cluster_spec.specs.ReportLine.{text_of_line, report_line_of}
+use Rattle.cluster_spec.specs.declared.unlawful.Unlawful.{Unlawful}
 use Rattle.allocator_app.specs.Input.{FindsRow}
 use Rattle.allocator_app.specs.Report.{ReadsUpTo, ReadsKeepingPromise, IsBadRow, IsBeyond, IsRefused}
 

@@ -4,13 +4,13 @@ use Rattle.std.specs.declared.option.Option.{Option}
 use Rattle.replay_text.specs.declared.row.Row.{Row}
 use Rattle.replay_text.specs.Lines.{ReadsRows}
 use Rattle.replay_text.specs.Schedule.{Reads}
-use Rattle.bus_spec.specs.Cluster.{AreMembers, Cluster, after_rows, cluster}
-use Rattle.bus_spec.specs.Lawful.{Lawful}
-use Rattle.bus_spec.specs.Report.{end_lines, row_lines}
+use Rattle.cluster_spec.specs.Cluster.{AreMembers, Cluster, after_rows, cluster}
+use Rattle.cluster_spec.specs.Lawful.{Lawful}
+use Rattle.cluster_spec.specs.Report.{end_lines, row_lines}
 use Rattle.allocator_app.specs.Report.{IsReport, IsToTheEnd}
 use Rattle.allocator_app.specs.Rows.{Ends, IsTold}
-use Rattle.app_base.specs.declared.status.Status.{Status}
-use Rattle.app_base.specs.declared.status.Status.TheVariants.{Done, Usage, BadRow, Unlawful, ReadFault, WriteFault, Memory, Limit, LinkFault, DiskFault, Damaged, Differ, NoPart, NoValue}
+use Rattle.cmd_base.specs.declared.status.Status.{Status}
+use Rattle.cmd_base.specs.declared.status.Status.TheVariants.{Done, Usage, BadRow, Unlawful, ReadFault, WriteFault, Memory, Limit, LinkFault, DiskFault, Damaged, Differ, NoPart, NoValue}
 use Rattle.allocator_app.proofs.OneReport.{one_report, rows-grow}
 
 -- ---- the answers, each by itself

@@ -5,7 +5,7 @@ use Rattle.std.proofs.lemmas.Fmt.{decimal_injective}
 use Rattle.arrayvec.specs.ArrayVec.{ArrayVec}
 use Rattle.raft_model.specs.Lists.{In}
 use Rattle.replay_text.specs.Words.{IsHex}
-use Rattle.bus_spec.specs.Cluster.{AreMembers}
+use Rattle.cluster_spec.specs.Cluster.{AreMembers}
 use Rattle.allocator_app.specs.Words.{AreFew, IsAudit, IsConvert, IsDecode, IsNode, IsPlan, IsReplay, IsSoak, IsSound, IsWatch, SpellsPayload, form_word}
 use Rattle.allocator_app.specs.declared.plans.Plan.{Plan}
 use Rattle.allocator_app.specs.declared.plans.Plan.TheVariants.{Replay, Node, Soak, Audit, Watch, Convert, Decode}

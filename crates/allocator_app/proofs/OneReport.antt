@@ -4,18 +4,18 @@ use Rattle.std.specs.declared.option.Option.{Option}
 use Rattle.replay_text.specs.declared.row.Row.{Row}
 use Rattle.replay_text.specs.Lines.{BeginsWith, ReadsRows, after_line, first_line}
 use Rattle.replay_text.specs.Schedule.{Reads}
-use Rattle.bus_spec.specs.Cluster.{Cluster, after_rows, after_row}
-use Rattle.bus_spec.specs.Lawful.{Lawful, cause, number_of}
-use Rattle.bus_spec.specs.Report.{row_lines, line_of_row}
-use Rattle.bus_spec.specs.ReportLine.{text_of_line}
-use Rattle.bus_spec.specs.declared.unlawful.Unlawful.{Unlawful}
+use Rattle.cluster_spec.specs.Cluster.{Cluster, after_rows, after_row}
+use Rattle.cluster_spec.specs.Lawful.{Lawful, cause, number_of}
+use Rattle.cluster_spec.specs.Report.{row_lines, line_of_row}
+use Rattle.cluster_spec.specs.ReportLine.{text_of_line}
+use Rattle.cluster_spec.specs.declared.unlawful.Unlawful.{Unlawful}
 use Rattle.allocator_app.specs.InPart.{IsWrittenInPart}
 use Rattle.allocator_app.specs.InPart.IsWrittenInPart.{InRows, AtTheEnd}
-use Rattle.app_base.specs.Output.{WritesFront}
+use Rattle.cmd_base.specs.Output.{WritesFront}
 use Rattle.allocator_app.specs.Report.{IsBadRow, IsBeyond, IsRefused, IsReport, Says, bad_row_line, limit_line, unlawful_line}
-use Rattle.app_base.specs.declared.status.Status.{Status}
-use Rattle.app_base.specs.declared.status.Status.TheVariants.{Done, Usage, BadRow, Unlawful as IsUnlawful, ReadFault, WriteFault, Memory, Limit, LinkFault, DiskFault, Damaged, Differ, NoPart, NoValue}
-use Rattle.app_base.proofs.Written.{front-of_more}
+use Rattle.cmd_base.specs.declared.status.Status.{Status}
+use Rattle.cmd_base.specs.declared.status.Status.TheVariants.{Done, Usage, BadRow, Unlawful as IsUnlawful, ReadFault, WriteFault, Memory, Limit, LinkFault, DiskFault, Damaged, Differ, NoPart, NoValue}
+use Rattle.cmd_base.proofs.Written.{front-of_more}
 
 -- ---- rows are taken up to where none can be
 

@@ -3,15 +3,15 @@ use Rattle.std.proofs.Common.{ℕ, ◌<◌, List, ◌++◌, length, Option, subs
 use Rattle.disk_model.specs.declared.disk.Disk.{Ghosts}
 use Rattle.outside.specs.declared.received.RawFrame.{RawFrame}
 use Rattle.outside.specs.declared.received.Received.{Received}
-use Rattle.app_base.specs.declared.status.Status.{Status}
-use Rattle.bus_spec.specs.Cluster.{AreMembers, cluster}
-use Rattle.app_node.specs.CutRun.{IsCutAtTurn}
-use Rattle.app_node.specs.Nodes.{IsCutInTurn, LeavesWith, RunsNodes}
-use Rattle.app_node.specs.Opening.{Given}
-use Rattle.app_node.specs.WholeRun.{LeavesAll, Tell, after_turns}
-use Rattle.app_node_laws.specs.Processes.{Turning, together_at}
-use Rattle.app_node_laws.specs.Stands.{IsCutAsTold, IsRunIn, LeavesAsTold, world_after}
-use Rattle.app_node_laws.specs.Traces.{Event, MayAllHappen, all_rows}
+use Rattle.cmd_base.specs.declared.status.Status.{Status}
+use Rattle.cluster_spec.specs.Cluster.{AreMembers, cluster}
+use Rattle.cmd_node.specs.CutRun.{IsCutAtTurn}
+use Rattle.cmd_node.specs.Nodes.{IsCutInTurn, LeavesWith, RunsNodes}
+use Rattle.cmd_node.specs.Opening.{Given}
+use Rattle.cmd_node.specs.WholeRun.{LeavesAll, Tell, after_turns}
+use Rattle.cmd_node_laws.specs.Processes.{Turning, together_at}
+use Rattle.cmd_node_laws.specs.Stands.{IsCutAsTold, IsRunIn, LeavesAsTold, world_after}
+use Rattle.cmd_node_laws.specs.Traces.{Event, MayAllHappen, all_rows}
 use Rattle.allocator_app.specs.Nodes.{IsCutInTraces, RunsInTraces}
 use Rattle.allocator_app.specs.Promise.{KeepsPromise}
 

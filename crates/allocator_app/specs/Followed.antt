@@ -3,11 +3,11 @@ use Rattle.std.specs.Prelude.{ℕ, List, Option}
 use Rattle.disk_model.specs.declared.disk.Disk.{Ghosts}
 use Rattle.outside.specs.declared.received.RawFrame.{RawFrame}
 use Rattle.outside.specs.declared.received.Received.{Received}
-use Rattle.app_decode.specs.Ends.{Decodes}
-use Rattle.app_logs.specs.Converted.{Converts}
-use Rattle.app_logs.specs.Watched.{Watches}
-use Rattle.app_node.specs.Nodes.{RunsNodes}
-use Rattle.app_base.specs.declared.status.Status.{Status}
+use Rattle.cmd_decode.specs.Ends.{Decodes}
+use Rattle.cmd_logs.specs.Converted.{Converts}
+use Rattle.cmd_logs.specs.Watched.{Watches}
+use Rattle.cmd_node.specs.Nodes.{RunsNodes}
+use Rattle.cmd_base.specs.declared.status.Status.{Status}
 use Rattle.store_audit.specs.Audits.{Audits}
 use Rattle.allocator_app.specs.declared.plans.Plan.{Plan}
 use Rattle.allocator_app.specs.declared.plans.Plan.TheVariants.{Replay, Node, Soak, Audit, Watch, Convert, Decode}

@@ -3,16 +3,16 @@ use Rattle.std.specs.Prelude.{◌≡◌, ◌⊎◌, ◌<◌, ℕ, List, ◌++◌
 use Rattle.disk_model.specs.declared.disk.Disk.{Ghosts}
 use Rattle.outside.specs.declared.received.RawFrame.{RawFrame}
 use Rattle.outside.specs.declared.received.Received.{Received}
-use Rattle.app_base.specs.declared.status.Status.{Status}
-use Rattle.app_base.specs.declared.status.Status.TheVariants.{Done}
-use Rattle.app_node.specs.CutRun.{EndsAt}
-use Rattle.app_node.specs.Nodes.{RunsNodes}
-use Rattle.app_node.specs.Opening.{Given}
-use Rattle.app_node.specs.WholeRun.{Tell}
-use Rattle.app_node_laws.specs.Processes.{Point, Turning, together_at}
-use Rattle.app_node_laws.specs.Stands.{IsCutAsTold, IsRunIn, LeavesAsTold, world_after}
-use Rattle.app_node_laws.specs.Traces.{Event, all_rows}
-use Rattle.bus_spec.specs.Cluster.{cluster}
+use Rattle.cmd_base.specs.declared.status.Status.{Status}
+use Rattle.cmd_base.specs.declared.status.Status.TheVariants.{Done}
+use Rattle.cmd_node.specs.CutRun.{EndsAt}
+use Rattle.cmd_node.specs.Nodes.{RunsNodes}
+use Rattle.cmd_node.specs.Opening.{Given}
+use Rattle.cmd_node.specs.WholeRun.{Tell}
+use Rattle.cmd_node_laws.specs.Processes.{Point, Turning, together_at}
+use Rattle.cmd_node_laws.specs.Stands.{IsCutAsTold, IsRunIn, LeavesAsTold, world_after}
+use Rattle.cmd_node_laws.specs.Traces.{Event, all_rows}
+use Rattle.cluster_spec.specs.Cluster.{cluster}
 use Rattle.allocator_app.specs.Promise.{KeepsPromise}
 
 -- ---- the traces of a cluster in which the run of these members stands, which went on to a point

@@ -2,10 +2,10 @@
 use Rattle.std.specs.Prelude.{◌≡◌, ◌⊎◌, ℕ, List, Option}
 use Rattle.std.specs.Io.KnownBytes.{Appends}
 use Rattle.outside.specs.Faults.{Rose}
-use Rattle.app_base.specs.Output.{WritesFront}
-use Rattle.app_base.specs.declared.status.Status.{Status}
-use Rattle.app_base.specs.declared.status.Status.TheVariants.{Done, Memory, WriteFault}
-use Rattle.app_soak.specs.Counts.{IsEnd, soak_report}
+use Rattle.cmd_base.specs.Output.{WritesFront}
+use Rattle.cmd_base.specs.declared.status.Status.{Status}
+use Rattle.cmd_base.specs.declared.status.Status.TheVariants.{Done, Memory, WriteFault}
+use Rattle.cmd_soak.specs.Counts.{IsEnd, soak_report}
 
 -- A soak's lines were written, or a prefix of them where the sink failed. The two numbers and the two lists behind are
 -- the faults that the sink has counted, and what it has been written, before and now

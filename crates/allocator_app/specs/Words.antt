@@ -2,7 +2,7 @@
 use Rattle.std.specs.Prelude.{◌≡◌, ◌≤◌, ◌<◌, ◌⊎◌, ◌^◌, ℕ, Bool, true, false, IsTrue, List, [], ◌∷◌, codes, decimal, length, map, EachIndex, slice_index_or, Option, None, IsNone, IsSome}
 use Rattle.dsdl_text.specs.Words.{is_name}
 use Rattle.replay_text.specs.Words.{IsHex}
-use Rattle.bus_spec.specs.Cluster.{AreMembers}
+use Rattle.cluster_spec.specs.Cluster.{AreMembers}
 use Rattle.allocator_app.specs.declared.plans.Plan.{Plan}
 use Rattle.allocator_app.specs.declared.plans.Plan.TheVariants.{Replay, Node, Soak, Audit, Watch, Convert, Decode}
 

@@ -2,7 +2,7 @@
 //!
 //! [`run`] does all that the program does, over any source and sink; its clauses say exactly what is
 //! written and when each status comes (`specs/Report.antt`), and each allocator's word along the rows
-//! (`Promise` of `bus_spec`). A row is taken from the source, the world (`bus_world`) takes it and
+//! (`Promise` of `cluster_spec`). A row is taken from the source, the world (`bus_world`) takes it and
 //! tells what it did, and its line is written.
 #![tactic(auto)]
 
@@ -15,7 +15,7 @@ mod report;
 mod rows;
 mod words;
 
-pub use app_base::Status;
+pub use cmd_base::Status;
 pub use plans::Plan;
 pub use program::run;
 pub use words::plan;

@@ -1,14 +1,14 @@
 ghost use Rattle.std.specs.Prelude.{◌≡◌, ◌≤◌, ◌↔◌, ◌⊎◌, ℕ, Bool, List, [], Some, length, map, string_bytes, IsTrue};
-ghost use Rattle.app_decode.specs.Ends.{Decodes};
-ghost use Rattle.app_logs.specs.Converted.{Converts};
-ghost use Rattle.app_logs.specs.Watched.{Watches};
+ghost use Rattle.cmd_decode.specs.Ends.{Decodes};
+ghost use Rattle.cmd_logs.specs.Converted.{Converts};
+ghost use Rattle.cmd_logs.specs.Watched.{Watches};
 ghost use Rattle.outside.specs.Faults.{Rose};
 ghost use Rattle.replay_text.specs.declared.row.Row.{Row};
 ghost use Rattle.replay_text.specs.Lines.{ReadsRows};
-ghost use Rattle.app_soak.specs.Rounds.{members, soaked};
+ghost use Rattle.cmd_soak.specs.Rounds.{members, soaked};
 ghost use Rattle.store_audit.specs.Audits.{Audits};
-ghost use Rattle.bus_spec.specs.Cluster.{cluster};
-ghost use Rattle.bus_spec.specs.Lawful.{Lawful};
+ghost use Rattle.cluster_spec.specs.Cluster.{cluster};
+ghost use Rattle.cluster_spec.specs.Lawful.{Lawful};
 ghost use Rattle.allocator_app.specs.Faults.{NamesFault};
 ghost use Rattle.allocator_app.specs.Followed.{IsFollowed};
 ghost use Rattle.allocator_app.specs.Nodes.{RunsInTraces};
@@ -22,15 +22,15 @@ ghost use Rattle.allocator_app.specs.Words.{IsAsked, IsAudit, IsConvert, IsDecod
 use crate::plans::Plan;
 use crate::replay::replay;
 use crate::words::plan;
-use app_base::Status;
-use app_decode::decode;
-use app_logs::{convert, watch};
-use app_node::node;
-use app_node_laws::laws::{runs_of_node_are_rows, traces_are_lawful};
-use app_soak::laws::rows_are_lawful;
-use app_soak::soak;
-use bus_agreement::allocatees::the_allocatees;
-use bus_agreement::headline::{rows_are_safe, the_headline};
+use cluster_agreement::allocatees::the_allocatees;
+use cluster_agreement::headline::{rows_are_safe, the_headline};
+use cmd_base::Status;
+use cmd_decode::decode;
+use cmd_logs::{convert, watch};
+use cmd_node::node;
+use cmd_node_laws::laws::{runs_of_node_are_rows, traces_are_lawful};
+use cmd_soak::laws::rows_are_lawful;
+use cmd_soak::soak;
 use disk_model::Disk;
 use outside::{Clock, Link, Sink, Source};
 use replay_text::laws::a_line_has_one_row;
@@ -49,11 +49,11 @@ use store_audit::audit_stores;
 /// (`specs/InPart.antt`).
 ///
 /// `soak <seed> <rounds> <size>` makes its rows from the seed, and writes what they came to in six lines
-/// (`Rounds` and `Counts` of `app_soak`).
+/// (`Rounds` and `Counts` of `cmd_soak`).
 ///
 /// `node <size> <base> <turns> <id>..` runs these members of a cluster over the links and the disks that
 /// are handed in, one of each for a member, in their order, and writes what the last 256 steps told. Each
-/// disk is there again at the end (`RunsNodes` of `app_node`). `LinkFault` and `DiskFault` come only where
+/// disk is there again at the end (`RunsNodes` of `cmd_node`). `LinkFault` and `DiskFault` come only where
 /// the link or the disk of that node failed, and `Damaged` only where the store of that node is damaged,
 /// first at that key, and those before it are not, if these disks tell what they hold. Then one line is
 /// written, and with `Damaged` no frame came or went. But for `WriteFault` no link and no disk counted a
@@ -62,18 +62,18 @@ use store_audit::audit_stores;
 ///
 /// Where links, disks and the clock tell what they have: with `Done` what was sent, written and stored is
 /// exactly what the members do over what came on the links and what the clock read (`WholeRun` of
-/// `app_node`). With `LinkFault`, `DiskFault` and `Damaged` what was sent is a beginning of what a run to
-/// its end sends, and each store that was opened holds what it then held (`CutRun` of `app_node`). And in
+/// `cmd_node`). With `LinkFault`, `DiskFault` and `Damaged` what was sent is a beginning of what a run to
+/// its end sends, and each store that was opened holds what it then held (`CutRun` of `cmd_node`). And in
 /// every trace of a cluster of processes in which the run stands, what it sent and stored is what the world
-/// of the trace's rows says (`Traces` and `Stands` of `app_node_laws`).
+/// of the trace's rows says (`Traces` and `Stands` of `cmd_node_laws`).
 ///
 /// `audit <id>..` compares the stores of these members, a disk for each, and changes none of them: the lines of
 /// what they agree on, or `Differ` with the line that names two that differ (`Audits` of `store_audit`).
 ///
 /// `watch <format> <lines> <id>..` lists the transfers of a log that comes from the source (`Watches` of
-/// `app_logs`), and `convert <format> <format> <lines>` writes the log in the other form or the same
+/// `cmd_logs`), and `convert <format> <format> <lines>` writes the log in the other form or the same
 /// (`Converts`). `decode <name> <part> <hex>` writes the numbers of a payload under the part of a type that the
-/// text of the source describes (`Decodes` of `app_decode`); it is `NoPart` where the text has no such part, and
+/// text of the source describes (`Decodes` of `cmd_decode`); it is `NoPart` where the text has no such part, and
 /// `NoValue` where the payload has no reading. These four take no memory, and come to the end that their input
 /// has unless something fails.
 ///
@@ -85,7 +85,7 @@ use store_audit::audit_stores;
 /// gives one node ID to two devices, nor two to one; every allocation that is offered to the bus is a pair of
 /// it by then; and every later leader holds it. What an allocatee holds is a pair of that list, so no two
 /// with different unique IDs ever hold one node ID. Along the rows of a report each allocator by itself keeps
-/// its word, too (`Promise` of `bus_spec`): its whole log gives nothing twice, and whatever pair it offers
+/// its word, too (`Promise` of `cluster_spec`): its whole log gives nothing twice, and whatever pair it offers
 /// is one of its own committed log.
 pub fn run<S: Source, K: Sink, L: Link, D: Disk, C: Clock>(
     alloc: Global,

@@ -1,12 +1,12 @@
 ghost use Rattle.std.specs.Prelude.{◌≡◌, ◌≤◌, ◌<◌, ◌⊎◌, [], ℕ, Bool, List, map, string_bytes, decimal, length, slice_index, EachIndex, IfSome, IsNone, IsTrue};
 ghost use Rattle.dsdl_text.specs.Words as text_words;
 ghost use Rattle.raft_model.specs.Lists.{In};
-ghost use Rattle.bus_spec.specs.Cluster.{AreMembers};
+ghost use Rattle.cluster_spec.specs.Cluster.{AreMembers};
 ghost use Rattle.allocator_app.specs.Words.{AreFew, IsAudit, IsConvert, IsDecode, IsNode, IsPlan, IsReplay, IsSoak, IsWatch, SpellsPayload, form_word};
 
 use crate::plans::Plan;
 use arrayvec::ArrayVec;
-use bus_spec::are_members;
+use cluster_spec::are_members;
 use dsdl_text::is_name;
 use replay_text::{read_bytes, read_number};
 

@@ -16,13 +16,13 @@ use Rattle.raft_model.specs.Server.{Store}
 use Rattle.replay_text.specs.declared.row.Row.{Row}
 use Rattle.store_audit.specs.Stores.{committed as committed_by, store_at}
 use Rattle.store_audit.specs.Verdict.{IsDifference}
-use Rattle.bus_agreement.specs.Headline.{HasHeadline, Headline, the_list}
-use Rattle.bus_spec.specs.Choices.{AgreesWithDisk}
-use Rattle.bus_spec.specs.Cluster.{Cluster, cluster, world_of}
-use Rattle.bus_spec.specs.Logs.{stored, stored_on}
-use Rattle.bus_spec.specs.Members.{MemberStatus}
-use Rattle.bus_spec.specs.Members.MemberStatus.{Down, Up, Failed}
-use Rattle.app_node_laws.specs.Mirrored.{AreCalm, HasWorked}
+use Rattle.cluster_agreement.specs.Headline.{HasHeadline, Headline, the_list}
+use Rattle.cluster_spec.specs.Choices.{AgreesWithDisk}
+use Rattle.cluster_spec.specs.Cluster.{Cluster, cluster, world_of}
+use Rattle.cluster_spec.specs.Logs.{stored, stored_on}
+use Rattle.cluster_spec.specs.Members.{MemberStatus}
+use Rattle.cluster_spec.specs.Members.MemberStatus.{Down, Up, Failed}
+use Rattle.cmd_node_laws.specs.Mirrored.{AreCalm, HasWorked}
 use Rattle.audit_laws.specs.Left.{AreLeftBy, AreStoredBy, IsLeftBy, IsReadOf, IsStoredBy}
 
 -- a store's entries are committed, and are a beginning of the list

@@ -7,8 +7,8 @@ use Rattle.raft_log.specs.Rules.{StandsForState}
 use Rattle.raft_log.specs.Stored.{Stored}
 use Rattle.raft_model.specs.Lists.{In}
 use Rattle.store_audit.specs.Stores.{store_at}
-use Rattle.bus_spec.specs.Cluster.{Cluster}
-use Rattle.bus_spec.specs.Logs.{stored}
+use Rattle.cluster_spec.specs.Cluster.{Cluster}
+use Rattle.cluster_spec.specs.Logs.{stored}
 
 -- the image stands for what the choice says that the member has stored
 pub record IsLeftBy (choice : ℕ → Bool) (w : Cluster) (n : ℕ) (image : List ℕ) : Type 0 where

@@ -2,17 +2,17 @@
 
 ghost use Rattle.std.specs.Prelude.{ℕ, Bool, List};
 ghost use Rattle.audit_laws.specs.Left.{AreLeftBy, AreStoredBy, IsStoredBy};
-ghost use Rattle.app_node_laws.specs.Stands.{IsFound, world_after};
-ghost use Rattle.app_node_laws.specs.Traces.{Event, MayAllHappen};
+ghost use Rattle.cmd_node_laws.specs.Stands.{IsFound, world_after};
+ghost use Rattle.cmd_node_laws.specs.Traces.{Event, MayAllHappen};
 ghost use Rattle.raft_log.specs.declared.stored.Stored.{Stored};
 ghost use Rattle.replay_text.specs.declared.row.Row.{Row};
 ghost use Rattle.store_audit.specs.Verdict.{IsDifference};
-ghost use Rattle.bus_spec.specs.Choices.{AgreesWithDisk};
-ghost use Rattle.bus_spec.specs.Cluster.{AreMembers, Cluster, cluster, world_of};
-ghost use Rattle.bus_spec.specs.Lawful.{Lawful};
+ghost use Rattle.cluster_spec.specs.Choices.{AgreesWithDisk};
+ghost use Rattle.cluster_spec.specs.Cluster.{AreMembers, Cluster, cluster, world_of};
+ghost use Rattle.cluster_spec.specs.Lawful.{Lawful};
 
-use app_node_laws::laws::traces_are_lawful;
-use bus_agreement::headline::the_headline;
+use cluster_agreement::headline::the_headline;
+use cmd_node_laws::laws::traces_are_lawful;
 use raft_log::laws::an_image_stands_for_one_state;
 
 /// Stores that members of a world have at one moment never differ: the world of any list of lawful rows,

@@ -15,14 +15,14 @@ use Rattle.raft_log.specs.Calls.{WritesInOrder}
 use Rattle.raft_log.specs.DurableViews.{durable_disk, durable_fault}
 use Rattle.raft_log.specs.KeyDisk.{IsOn, IsKeyDisk, are_put, puts_on}
 use Rattle.raft_log.specs.Stored.{Put, Stored}
-use Rattle.alloc_step.specs.declared.event.Outcome.{Outcome}
-use Rattle.alloc_step.specs.declared.event.View.{View}
-use Rattle.alloc_step.specs.Delivered.{StepResult}
-use Rattle.alloc_step.specs.AllocatorState.{AllocatorState}
+use Rattle.alloc_spec.specs.declared.event.Outcome.{Outcome}
+use Rattle.alloc_spec.specs.declared.event.View.{View}
+use Rattle.alloc_spec.specs.Delivered.{StepResult}
+use Rattle.alloc_spec.specs.AllocatorState.{AllocatorState}
 use Rattle.alloc_server.specs.declared.server.Server.{Server}
 use Rattle.alloc_server.specs.Server.{StepsTo, disk_of, durable_of, fault_of}
-use Rattle.bus_spec.specs.Report.{line_of_failure}
-use Rattle.bus_spec.specs.ReportLine.ReportLine.{HasFailed, HasStepped, HasStopped}
+use Rattle.cluster_spec.specs.Report.{line_of_failure}
+use Rattle.cluster_spec.specs.ReportLine.ReportLine.{HasFailed, HasStepped, HasStopped}
 use Rattle.bus_world.specs.OnDisk.{IsCutOn, IsUpOn}
 
 abbrev pub LawOfMemberPuts : Ghosts MemoryDisk → Type 0

@@ -14,19 +14,19 @@ use Rattle.raft_model.specs.Lists.{In, at, at_here}
 use Rattle.raft_model.specs.Server.{Store, committed}
 use Rattle.replay_text.specs.declared.row.Row.{Row}
 use Rattle.replay_text.specs.declared.row.Row.TheVariants.{Open, Tick, Rx, Send, Ext, Crash, Fault, AOpen, ATick, ARx, ASend, AEnd}
-use Rattle.alloc_step_laws.specs.Giving as law
-use Rattle.alloc_step.specs.StepState.{StepState, pairs}
-use Rattle.alloc_step.specs.Step.{Event, step}
-use Rattle.alloc_step.specs.AllocatorState.{AllocatorState}
-use Rattle.alloc_step.specs.Transfers.{Given}
+use Rattle.alloc_spec_laws.specs.Giving as law
+use Rattle.alloc_spec.specs.StepState.{StepState, pairs}
+use Rattle.alloc_spec.specs.Step.{Event, step}
+use Rattle.alloc_spec.specs.AllocatorState.{AllocatorState}
+use Rattle.alloc_spec.specs.Transfers.{Given}
 use Rattle.alloc_server.specs.declared.server.Server.{Server}
-use Rattle.bus_spec.specs.declared.unlawful.Unlawful.{Unlawful}
-use Rattle.bus_spec.specs.declared.unlawful.Unlawful.TheVariants.{NoNode}
-use Rattle.bus_spec.specs.Cluster.{Cluster, effect_of, is_member, receipt_of, tick_of}
-use Rattle.bus_spec.specs.Lawful.{because, cause, or_else}
-use Rattle.bus_spec.specs.Members.{MemberStatus, Member as MemberState, after_cut_off, puts_of, member_after_step}
-use Rattle.bus_spec.specs.Members.MemberStatus.{Down, Up, Failed}
-use Rattle.bus_spec.specs.Promise.{AreOwn, OffersItsOwn, pairs_of_step}
+use Rattle.cluster_spec.specs.declared.unlawful.Unlawful.{Unlawful}
+use Rattle.cluster_spec.specs.declared.unlawful.Unlawful.TheVariants.{NoNode}
+use Rattle.cluster_spec.specs.Cluster.{Cluster, effect_of, is_member, receipt_of, tick_of}
+use Rattle.cluster_spec.specs.Lawful.{because, cause, or_else}
+use Rattle.cluster_spec.specs.Members.{MemberStatus, Member as MemberState, after_cut_off, puts_of, member_after_step}
+use Rattle.cluster_spec.specs.Members.MemberStatus.{Down, Up, Failed}
+use Rattle.cluster_spec.specs.Promise.{AreOwn, OffersItsOwn, pairs_of_step}
 use Rattle.bus_world.specs.OnDisk.{IsUpOn, RunsAs}
 use Rattle.bus_world.specs.Places.{HasStatus}
 use Rattle.bus_world.specs.Stands.{StandsFor as StandsForMember}

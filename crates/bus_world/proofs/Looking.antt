@@ -12,13 +12,13 @@ use Rattle.transfer_rx.specs.Reassembly.{Arrival}
 use Rattle.transfer_tx.specs.declared.marked.Marked.{Marked}
 use Rattle.transfer_tx.specs.Queue.{next_out}
 use Rattle.transfer_tx.specs.Views.{queued_of}
-use Rattle.alloc_step.specs.Judging.{arrival_judgement}
-use Rattle.alloc_step.specs.AllocatorState.{AllocatorState}
+use Rattle.alloc_spec.specs.Judging.{arrival_judgement}
+use Rattle.alloc_spec.specs.AllocatorState.{AllocatorState}
 use Rattle.alloc_server.specs.declared.server.Server.{Server}
 use Rattle.alloc_server.specs.Server.{StandsFor, fault_of, queued}
-use Rattle.bus_spec.specs.Lawful.{arrival_refusal, cause_of_judgement}
-use Rattle.bus_spec.specs.Members.{MemberStatus, next_frame}
-use Rattle.bus_spec.specs.Members.MemberStatus.{Down, Up, Failed}
+use Rattle.cluster_spec.specs.Lawful.{arrival_refusal, cause_of_judgement}
+use Rattle.cluster_spec.specs.Members.{MemberStatus, next_frame}
+use Rattle.cluster_spec.specs.Members.MemberStatus.{Down, Up, Failed}
 use Rattle.std.proofs.Props.{props}
 use Rattle.outside.specs.declared.pattern.Pattern.{Pattern}
 use Rattle.bus_world.specs.OnDisk.{RunsAs}

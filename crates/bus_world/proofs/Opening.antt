@@ -11,15 +11,15 @@ use Rattle.raft_core.specs.StoredPuts.{store_of}
 use Rattle.raft_log.specs.DurableViews.{durable_state}
 use Rattle.raft_log.specs.KeyDisk.{IsKeyDisk, is_open_on, opening_on}
 use Rattle.raft_log.specs.Stored.{Stored}
-use Rattle.alloc_step.specs.declared.event.View.{View}
-use Rattle.alloc_step.specs.AllocatorState.{opening}
+use Rattle.alloc_spec.specs.declared.event.View.{View}
+use Rattle.alloc_spec.specs.AllocatorState.{opening}
 use Rattle.alloc_server.specs.declared.server.Server.{Server}
 use Rattle.alloc_server.specs.Server.{StandsFor, durable_of}
-use Rattle.bus_spec.specs.Members.{Member as MemberState, after_opening, stopped_with, after_failed_opening}
-use Rattle.bus_spec.specs.Members.MemberStatus.{Down}
-use Rattle.bus_spec.specs.Report.{line_of_failure, line_of_opening, line_of_stored}
-use Rattle.bus_spec.specs.ReportLine.{ReportLine}
-use Rattle.bus_spec.specs.ReportLine.ReportLine.{HasOpened}
+use Rattle.cluster_spec.specs.Members.{Member as MemberState, after_opening, stopped_with, after_failed_opening}
+use Rattle.cluster_spec.specs.Members.MemberStatus.{Down}
+use Rattle.cluster_spec.specs.Report.{line_of_failure, line_of_opening, line_of_stored}
+use Rattle.cluster_spec.specs.ReportLine.{ReportLine}
+use Rattle.cluster_spec.specs.ReportLine.ReportLine.{HasOpened}
 use Rattle.bus_world.specs.OnDisk.{IsUpOn}
 use Rattle.bus_world.specs.Places.{IsDownOn, HasStatus}
 use Rattle.bus_world.specs.declared.place.Place.{Place}

@@ -9,12 +9,12 @@ use Rattle.kv_store.specs.KeyDisk.{KeyDisk}
 use Rattle.raft_log.specs.Stored.{Stored}
 use Rattle.raft_model.specs.Lists.{In}
 use Rattle.raft_model.specs.Server.{Store}
-use Rattle.alloc_step.specs.AllocatorState.{AllocatorState}
+use Rattle.alloc_spec.specs.AllocatorState.{AllocatorState}
 use Rattle.alloc_server.specs.declared.server.Server.{Server}
-use Rattle.bus_spec.specs.Cluster.{Cluster}
-use Rattle.bus_spec.specs.Members.{MemberStatus}
-use Rattle.bus_spec.specs.Members.MemberStatus.{Down, Up, Failed}
-use Rattle.bus_spec.specs.Promise.{GivesOnce, log_on}
+use Rattle.cluster_spec.specs.Cluster.{Cluster}
+use Rattle.cluster_spec.specs.Members.{MemberStatus}
+use Rattle.cluster_spec.specs.Members.MemberStatus.{Down, Up, Failed}
+use Rattle.cluster_spec.specs.Promise.{GivesOnce, log_on}
 use Rattle.bus_world.specs.OnDisk.{IsUpOn, RunsAs}
 use Rattle.bus_world.specs.Places.{HasStatus}
 use Rattle.bus_world.specs.Stands.{StandsFor as StandsForMember}

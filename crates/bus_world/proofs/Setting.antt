@@ -9,11 +9,11 @@ use Rattle.raft_log.specs.declared.durable.Durable.{Durable}
 use Rattle.raft_log.specs.DurableViews.{durable_copies, durable_disk, durable_fault, durable_state}
 use Rattle.raft_log.specs.KeyDisk.{IsOn, IsKeyDisk}
 use Rattle.raft_log.specs.Stored.{Stored}
-use Rattle.alloc_step.specs.AllocatorState.{AllocatorState}
+use Rattle.alloc_spec.specs.AllocatorState.{AllocatorState}
 use Rattle.alloc_server.specs.declared.server.Server.{Server}
 use Rattle.alloc_server.specs.Server.{StandsFor, disk_of, durable_of, fault_of}
-use Rattle.bus_spec.specs.Members.{MemberStatus}
-use Rattle.bus_spec.specs.Members.MemberStatus.{Down, Up, Failed}
+use Rattle.cluster_spec.specs.Members.{MemberStatus}
+use Rattle.cluster_spec.specs.Members.MemberStatus.{Down, Up, Failed}
 use Rattle.bus_world.specs.OnDisk.{RunsAs}
 
 abbrev pub LawOfSet : Type 0

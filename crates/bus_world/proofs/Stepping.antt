@@ -8,16 +8,16 @@ use Rattle.outside.specs.declared.pattern.Pattern.{Pattern}
 use Rattle.raft_core.specs.StoredPuts.{stored_puts}
 use Rattle.raft_log.specs.KeyDisk.{IsOn, are_put, done_on, puts_on}
 use Rattle.raft_log.specs.Stored.{Stored}
-use Rattle.alloc_step.specs.StepState.{StepState}
-use Rattle.alloc_step.specs.Step.{Event, step}
-use Rattle.alloc_step.specs.AllocatorState.{AllocatorState, view_of}
+use Rattle.alloc_spec.specs.StepState.{StepState}
+use Rattle.alloc_spec.specs.Step.{Event, step}
+use Rattle.alloc_spec.specs.AllocatorState.{AllocatorState, view_of}
 use Rattle.alloc_server.specs.declared.server.Server.{Server}
 use Rattle.alloc_server.specs.Server.{disk_of}
-use Rattle.bus_spec.specs.Members.{MemberStatus, Member as MemberState, after_cut_off, puts_of, member_after_step, stopped_with}
-use Rattle.bus_spec.specs.Members.MemberStatus.{Down, Up, Failed}
-use Rattle.bus_spec.specs.Report.{line_of_failure, line_of_step, line_of_view}
-use Rattle.bus_spec.specs.ReportLine.{ReportLine, is_stop}
-use Rattle.bus_spec.specs.ReportLine.ReportLine.{HasFailed, HasStopped}
+use Rattle.cluster_spec.specs.Members.{MemberStatus, Member as MemberState, after_cut_off, puts_of, member_after_step, stopped_with}
+use Rattle.cluster_spec.specs.Members.MemberStatus.{Down, Up, Failed}
+use Rattle.cluster_spec.specs.Report.{line_of_failure, line_of_step, line_of_view}
+use Rattle.cluster_spec.specs.ReportLine.{ReportLine, is_stop}
+use Rattle.cluster_spec.specs.ReportLine.ReportLine.{HasFailed, HasStopped}
 use Rattle.bus_world.specs.OnDisk.{HasFailedOn, IsCutOn, IsUpOn, RunsAs}
 use Rattle.bus_world.specs.Places.{IsDownOn, HasStatus}
 use Rattle.bus_world.specs.declared.place.Place.{Place}

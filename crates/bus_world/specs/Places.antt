@@ -4,7 +4,7 @@ use Rattle.kv_store.specs.KeyDisk.{KeyDisk}
 use Rattle.raft_log.specs.KeyDisk.{IsOn}
 use Rattle.raft_log.specs.Stored.{Stored}
 use Rattle.alloc_server.specs.Server.{accepts, disk_of}
-use Rattle.bus_spec.specs.Members.{MemberStatus}
+use Rattle.cluster_spec.specs.Members.{MemberStatus}
 use Rattle.bus_world.specs.OnDisk.{IsDownAs, RunsAs}
 use Rattle.bus_world.specs.declared.place.Place.{Place}
 use Rattle.bus_world.specs.declared.place.Place.TheVariants.{Down as DownAt, Up as UpAt, Absent}

@@ -1,6 +1,6 @@
 -- What a member of the code stands for.
 use Rattle.std.specs.Prelude.{◌≡◌}
-use Rattle.bus_spec.specs.Members.{Member as MemberState}
+use Rattle.cluster_spec.specs.Members.{Member as MemberState}
 use Rattle.bus_world.specs.Places.{HasStatus}
 use Rattle.bus_world.specs.declared.member.Member.{Member}
 

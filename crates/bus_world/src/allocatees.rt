@@ -6,14 +6,14 @@ ghost use Rattle.transfer_rx.specs.Acceptance.{AnswersByRows};
 ghost use Rattle.transfer_rx.specs.Memory.{ReceiverFitsInMemory};
 ghost use Rattle.allocatee.specs.Accepted as accepted;
 ghost use Rattle.allocatee.specs.Stands.{event_of};
-ghost use Rattle.bus_spec.specs.Cluster.{Cluster, receipt_at};
-ghost use Rattle.bus_spec.specs.Lawful.{absent, cause, no_allocatee, or_else, present};
+ghost use Rattle.cluster_spec.specs.Cluster.{Cluster, receipt_at};
+ghost use Rattle.cluster_spec.specs.Lawful.{absent, cause, no_allocatee, or_else, present};
 
 use crate::rows::copy_of;
 use crate::world::World;
 use allocatee::AEvent;
-use bus_spec::Unlawful;
 use can_frame::{Judged, Kind, Uid};
+use cluster_spec::Unlawful;
 use replay_text::Told;
 
 impl<F: Fn(Kind, u16) -> Option<u64> + Copy, G: Fn(Kind, u16) -> Option<u64> + Copy> World<F, G> {

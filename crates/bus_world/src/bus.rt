@@ -5,16 +5,16 @@ ghost use Rattle.can_frame.specs.Identifier.{identifier_of};
 ghost use Rattle.replay_text.specs.declared.row.Row.TheVariants.{Rx, Send, Ext};
 ghost use Rattle.transfer_rx.specs.Acceptance.{AnswersByRows};
 ghost use Rattle.transfer_rx.specs.Memory.{ReceiverFitsInMemory};
-ghost use Rattle.alloc_step.specs.Accepted as accepted;
+ghost use Rattle.alloc_spec.specs.Accepted as accepted;
 ghost use Rattle.alloc_server.specs.Server.{event_of};
-ghost use Rattle.bus_spec.specs.Cluster.{Cluster, receipt_of};
-ghost use Rattle.bus_spec.specs.Lawful.{cause, is_forged, no_node, not_running, or_else};
+ghost use Rattle.cluster_spec.specs.Cluster.{Cluster, receipt_of};
+ghost use Rattle.cluster_spec.specs.Lawful.{cause, is_forged, no_node, not_running, or_else};
 
 use crate::members::Members;
 use alloc_server::Event;
-use alloc_step::{ALLOCATION, APPEND_ENTRIES, DISCOVERY, REQUEST_VOTE};
-use bus_spec::Unlawful;
+use alloc_spec::{ALLOCATION, APPEND_ENTRIES, DISCOVERY, REQUEST_VOTE};
 use can_frame::{Frame, Ident, Judged, Kind, Mark};
+use cluster_spec::Unlawful;
 use replay_text::Told;
 use transfer_tx::Marked;
 

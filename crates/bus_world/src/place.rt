@@ -1,6 +1,6 @@
 ghost use Rattle.kv_store.specs.KeyDisk.{KeyDisk};
 ghost use Rattle.raft_log.specs.Stored.{Stored};
-ghost use Rattle.bus_spec.specs.Members.{MemberStatus};
+ghost use Rattle.cluster_spec.specs.Members.{MemberStatus};
 
 use alloc_server::Server;
 use can_frame::Kind;

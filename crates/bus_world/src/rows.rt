@@ -4,14 +4,14 @@ ghost use Rattle.std.specs.Prelude.{◌≡◌, ◌<◌, IfOk, IfErr, IsErr, OnOk
 ghost use Rattle.replay_text.specs.declared.row.Row.TheVariants.{Open, Tick, Crash, Fault};
 ghost use Rattle.transfer_rx.specs.Acceptance.{AnswersByRows};
 ghost use Rattle.transfer_rx.specs.Memory.{ReceiverFitsInMemory};
-ghost use Rattle.alloc_step.specs.Accepted as accepted;
+ghost use Rattle.alloc_spec.specs.Accepted as accepted;
 ghost use Rattle.bus_world.specs.Patterns.{IsFilled};
 
 use crate::members::Members;
 use alloc_server::Event;
 use arrayvec::ArrayVec;
-use bus_spec::Unlawful;
 use can_frame::Kind;
+use cluster_spec::Unlawful;
 use outside::Pattern;
 use replay_text::Told;
 use transfer_rx::AcceptRow;

@@ -6,29 +6,31 @@ ghost use Rattle.replay_text.specs.declared.row.Row.TheVariants.{AOpen, Crash};
 ghost use Rattle.transfer_rx.specs.Acceptance.{AnswersByRows};
 ghost use Rattle.transfer_rx.specs.Memory.{ReceiverFitsInMemory};
 ghost use Rattle.allocatee.specs.Accepted as device;
-ghost use Rattle.alloc_step.specs.Accepted as accepted;
-ghost use Rattle.bus_agreement.specs.Allocatees.{HasAllocatees};
-ghost use Rattle.bus_agreement.specs.Duty.{AreDutiful};
-ghost use Rattle.bus_agreement.specs.Headline.{HasHeadline};
-ghost use Rattle.bus_agreement.specs.Safe.{AreSafe};
-ghost use Rattle.bus_spec.specs.Cluster.{AreMembers, Cluster, cluster, after_row, world_of};
-ghost use Rattle.bus_spec.specs.Lawful.{Lawful, cause};
-ghost use Rattle.bus_spec.specs.Promise.{OffersItsOwn};
-ghost use Rattle.bus_spec.specs.Report.{entry_of, line_of_row as told_by, view_at};
-ghost use Rattle.bus_spec.specs.ReportLine.{report_line_of};
-ghost use Rattle.bus_spec.specs.declared.unlawful.WorldFault.TheVariants.{BadIds};
+ghost use Rattle.alloc_spec.specs.Accepted as accepted;
+ghost use Rattle.cluster_agreement.specs.Allocatees.{HasAllocatees};
+ghost use Rattle.cluster_agreement.specs.Duty.{AreDutiful};
+ghost use Rattle.cluster_agreement.specs.Headline.{HasHeadline};
+ghost use Rattle.cluster_agreement.specs.Safe.{AreSafe};
+ghost use Rattle.cluster_spec.specs.Cluster.{AreMembers, Cluster, cluster, after_row, world_of};
+ghost use Rattle.cluster_spec.specs.Lawful.{Lawful, cause};
+ghost use Rattle.cluster_spec.specs.Promise.{OffersItsOwn};
+ghost use Rattle.cluster_spec.specs.Report.{entry_of, line_of_row as told_by, view_at};
+ghost use Rattle.cluster_spec.specs.ReportLine.{report_line_of};
+ghost use Rattle.cluster_spec.specs.declared.unlawful.WorldFault.TheVariants.{BadIds};
 ghost use Rattle.bus_world.specs.Seats.{Accepts, AreEmpty};
 ghost use Rattle.bus_world.specs.declared.seat.Seat.{Seat};
 
 use crate::members::Members;
 use crate::seat::Seat;
 use alloc_server::View;
-use alloc_step_laws::laws::pairs_of_a_step;
+use alloc_spec_laws::laws::pairs_of_a_step;
 use arrayvec::ArrayVec;
-use bus_agreement::allocatees::the_allocatees;
-use bus_agreement::headline::{rows_are_dutiful, rows_are_safe, rows_grow_by_one, the_headline};
-use bus_spec::{Unlawful, WorldFault};
 use can_frame::{Entry, Kind};
+use cluster_agreement::allocatees::the_allocatees;
+use cluster_agreement::headline::{
+    rows_are_dutiful, rows_are_safe, rows_grow_by_one, the_headline,
+};
+use cluster_spec::{Unlawful, WorldFault};
 use replay_text::{Row, Told};
 use std::alloc::Global;
 use transfer_rx::AcceptRow;
@@ -107,7 +109,7 @@ impl<F: Fn(Kind, u16) -> Option<u64> + Copy, G: Fn(Kind, u16) -> Option<u64> + C
     /// Along all rows that a world took, what its members commit is a beginning of one list that only
     /// grows, gives no ID twice and has no member's node ID; every allocation that they offer, in a queue
     /// or on the bus, is a pair of it by then, and every later leader holds it (`HasHeadline` of
-    /// `bus_agreement`). The run of the message machine that the rows show is lawful and safe (`AreSafe`).
+    /// `cluster_agreement`). The run of the message machine that the rows show is lawful and safe (`AreSafe`).
     /// Each step does its duty: a leader commits as far as a quorum lets it and tells one place where there
     /// is room, who has waited stands for election, and who counts a quorum leads (`AreDutiful`). What an
     /// allocatee holds is a pair of that list from then on, so two with different unique IDs never hold the

@@ -3,7 +3,7 @@ ghost use Rattle.disk_model.specs.Pattern.{IsUsable};
 ghost use Rattle.transfer_rx.specs.Acceptance.{AnswersByRows, first_signature};
 ghost use Rattle.transfer_rx.specs.Memory.{ReceiverFitsInMemory};
 ghost use Rattle.allocatee.specs.Accepted as device;
-ghost use Rattle.alloc_step.specs.Accepted as accepted;
+ghost use Rattle.alloc_spec.specs.Accepted as accepted;
 ghost use Rattle.bus_world.specs.World.{AcceptsAs, accepts, allocatees_accept};
 ghost use Rattle.bus_world_tests.specs.Rows.{HasPattern};
 
@@ -16,7 +16,7 @@ use replay_text::{Row, Told};
 pub(crate) fn accept(kind: Kind, number: u16) -> Option<u64>
     ensures { result ≡ first_signature accepted.rows kind number }
 {
-    alloc_step::accept(kind, number)
+    alloc_spec::accept(kind, number)
 }
 
 /// What an allocatee receives.

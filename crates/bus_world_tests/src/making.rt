@@ -1,5 +1,5 @@
 use crate::cluster::{accept, device_accept};
-use alloc_step::accept_rows;
+use alloc_spec::accept_rows;
 use allocatee::allocatee_rows;
 use bus_world::{World, WorldFault};
 use std::mem::size_of;

@@ -1,7 +1,7 @@
 ghost use Rattle.transfer_rx.specs.Acceptance.{AnswersByRows};
 ghost use Rattle.transfer_rx.specs.Memory.{ReceiverFitsInMemory};
 ghost use Rattle.allocatee.specs.Accepted as device;
-ghost use Rattle.alloc_step.specs.Accepted as accepted;
+ghost use Rattle.alloc_spec.specs.Accepted as accepted;
 ghost use Rattle.bus_world.specs.World.{AcceptsAs, accepts, allocatees_accept};
 
 use crate::cluster::{all_agree, give, open_again};

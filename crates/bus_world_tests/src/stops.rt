@@ -2,7 +2,7 @@ use crate::cluster::{accept, device_accept};
 use crate::play::{ARMINGS, Arming, Course, arming_row, play};
 use crate::rounds::{ROOM, rounds};
 use crate::schedule::WORKED_CLUSTER;
-use alloc_step::accept_rows;
+use alloc_spec::accept_rows;
 use allocatee::allocatee_rows;
 use bus_world::World;
 use replay_text::Row;

@@ -1,7 +1,7 @@
 ghost use Rattle.std.specs.Prelude.{◌≤◌, length};
 
-use app_base::Status;
-use app_decode::decode;
+use cmd_base::Status;
+use cmd_decode::decode;
 use outside::{MemorySink, MemorySource};
 use std::test::Fail;
 

@@ -1,15 +1,15 @@
 use Rattle.std.proofs.Common.{ap, subst, sym, ◌∙◌, ℕ, List}
-use Rattle.alloc_step.specs.declared.event.Event.{Event}
-use Rattle.alloc_step.specs.Accepted.{setting_for}
-use Rattle.alloc_step.specs.StepState.{StepState}
-use Rattle.alloc_step.specs.Step.{at_sessions, at_step, begin_phase, step, takes_answer, with_answer}
-use Rattle.alloc_step.specs.Tick.{clock_phase}
+use Rattle.alloc_spec.specs.declared.event.Event.{Event}
+use Rattle.alloc_spec.specs.Accepted.{setting_for}
+use Rattle.alloc_spec.specs.StepState.{StepState}
+use Rattle.alloc_spec.specs.Step.{at_sessions, at_step, begin_phase, step, takes_answer, with_answer}
+use Rattle.alloc_spec.specs.Tick.{clock_phase}
 use Rattle.transfer_rx.specs.declared.accept.AcceptRow.{AcceptRow}
 use Rattle.transfer_rx.specs.Acceptance.{first_signature}
 use Rattle.transfer_rx.specs.Reassembly.{Answer, Arrival, Setting, answer, arrival_of, next}
 use Rattle.transfer_rx.specs.Sessions.{Session}
 use Rattle.transfer_rx.specs.Views as receiver
-use Rattle.alloc_core.specs.Stands.{SeesTo}
+use Rattle.alloc_handlers.specs.Stands.{SeesTo}
 use Rattle.alloc_server.specs.Server.{ComesTo, event_of}
 use Rattle.alloc_server.proofs.take.take.Goals as goal
 

@@ -1,5 +1,5 @@
 use Rattle.std.proofs.Common.{[], ◌++◌}
-use Rattle.bus_spec.specs.Cluster.{world_of}
+use Rattle.cluster_spec.specs.Cluster.{world_of}
 use Rattle.audit_laws.proofs.Beginnings.{headline_at_end, left_agree}
 use Rattle.audit_laws.proofs.laws.stores_of_a_world_agree.Goals as goal
 

@@ -1,7 +1,7 @@
 use Rattle.std.proofs.Common.{[], ◌++◌}
-use Rattle.app_node_laws.specs.Stands.{world_after}
-use Rattle.app_node_laws.specs.Traces.{all_rows}
-use Rattle.bus_spec.specs.Cluster.{cluster, world_of}
+use Rattle.cmd_node_laws.specs.Stands.{world_after}
+use Rattle.cmd_node_laws.specs.Traces.{all_rows}
+use Rattle.cluster_spec.specs.Cluster.{cluster, world_of}
 use Rattle.audit_laws.proofs.Beginnings.{headline_at_end, stored_agree}
 use Rattle.audit_laws.proofs.laws.stores_of_processes_agree.Goals as goal
 

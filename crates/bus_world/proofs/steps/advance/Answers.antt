@@ -2,10 +2,10 @@ use Rattle.std.proofs.Common.{◌≡◌, ◌∙◌, ap, refl, sym, true, false}
 use Rattle.std.specs.Prelude.{Err, Ok, Result}
 use Rattle.disk_model.specs.declared.calls.Calls.{Calls}
 use Rattle.kv_store.specs.declared.fault.Fault.{Fault}
-use Rattle.alloc_step.specs.declared.event.Outcome.{Outcome}
-use Rattle.alloc_step.specs.StepState.{listing_of}
-use Rattle.alloc_step.specs.Step.{step as step_of}
-use Rattle.alloc_step.specs.AllocatorState.{view_of}
+use Rattle.alloc_spec.specs.declared.event.Outcome.{Outcome}
+use Rattle.alloc_spec.specs.StepState.{listing_of}
+use Rattle.alloc_spec.specs.Step.{step as step_of}
+use Rattle.alloc_spec.specs.AllocatorState.{view_of}
 use Rattle.alloc_server.specs.Server.{event_of, fault_of}
 use Rattle.bus_world.proofs.Advancing.{again_by, all_put, cut_after, failure_after, not_all_put, same_stopped, told_same, up_after}
 use Rattle.bus_world.proofs.steps.advance.Goals as goal

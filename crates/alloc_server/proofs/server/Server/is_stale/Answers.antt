@@ -1,7 +1,7 @@
 use Rattle.std.proofs.Common.{◌≤◌, None, refl, sym, ◌∙◌, arith}
 use Rattle.raft_log.specs.DurableViews.{durable_state}
 use Rattle.transfer_rx.specs.Told.{delivery_of}
-use Rattle.alloc_step.specs.AllocatorState.{members_of}
+use Rattle.alloc_spec.specs.AllocatorState.{members_of}
 use Rattle.alloc_server.proofs.Verdicts.{misses_as, stale_as}
 use Rattle.alloc_server.proofs.server.Server.is_stale.Goals as goal
 

@@ -2,7 +2,7 @@ use Rattle.std.proofs.Common.{ap, sym, ◌∙◌}
 use Rattle.std.specs.Prelude.{max}
 use Rattle.std.proofs.lemmas.Bool.{not-true}
 use Rattle.can_frame.specs.declared.tail.Tail.{Tail}
-use Rattle.alloc_step.specs.Accepted.{setting_for}
+use Rattle.alloc_spec.specs.Accepted.{setting_for}
 use Rattle.transfer_rx.specs.Reassembly.{Arrival, arrival_of}
 use Rattle.transfer_rx.proofs.OpenEnds.{gives_none}
 use Rattle.alloc_server.proofs.Verdicts.{judges_none}

@@ -1,7 +1,7 @@
 use Rattle.std.proofs.Common.{ℕ, List, Option, sym, ap, ◌∙◌}
 use Rattle.std.specs.Prelude.{◌&&◌, Bool, max, nat_eq, not, option_map, if◌then◌else◌}
 use Rattle.can_frame.specs.declared.step.Judged.TheVariants.{Fine, Stale, Torn}
-use Rattle.alloc_step.specs.Judging.{is_stale}
+use Rattle.alloc_spec.specs.Judging.{is_stale}
 use Rattle.transfer_rx.specs.declared.accept.AcceptRow.{AcceptRow}
 use Rattle.transfer_rx.specs.declared.transfer.Transfer.{Transfer}
 use Rattle.transfer_rx.specs.Acceptance.{first_signature}

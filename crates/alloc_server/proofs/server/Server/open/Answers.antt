@@ -4,8 +4,8 @@ use Rattle.raft_log.specs.declared.durable.Durable.{Durable}
 use Rattle.raft_log.specs.DurableViews.{durable_disk, durable_state}
 use Rattle.raft_log.specs.Rules.{StandsForState}
 use Rattle.raft_core.specs.StoredPuts.{store_of}
-use Rattle.alloc_step.specs.AllocatorState.{opening}
-use Rattle.alloc_core.specs.Stands.{StandsFor}
+use Rattle.alloc_spec.specs.AllocatorState.{opening}
+use Rattle.alloc_handlers.specs.Stands.{StandsFor}
 use Rattle.alloc_server.proofs.server.Server.open.Goals as goal
 
 pub new-requires : goal.new-requires

@@ -1,6 +1,6 @@
 use Rattle.std.proofs.Common.{ap, ◌∙◌, List, sym}
 use Rattle.transfer_tx.specs.Queue.{Queued, left_behind}
-use Rattle.alloc_step.specs.Outbox.{Waiting}
+use Rattle.alloc_spec.specs.Outbox.{Waiting}
 use Rattle.alloc_server.proofs.Unchanged.{unchanged}
 use Rattle.alloc_server.proofs.server.Server.pop.Goals as goal
 

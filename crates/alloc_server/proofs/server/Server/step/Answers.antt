@@ -4,9 +4,9 @@ use Rattle.std.specs.Result.{result_err}
 use Rattle.can_frame.specs.declared.step.Seen.{Seen}
 use Rattle.kv_store.specs.declared.fault.Fault.{Fault}
 use Rattle.raft_core.specs.StoredPuts.{CallWrites}
-use Rattle.alloc_step.specs.Accepted.{setting_for}
-use Rattle.alloc_step.specs.Delivered.{StepResult}
-use Rattle.alloc_step.specs.Step as steps
+use Rattle.alloc_spec.specs.Accepted.{setting_for}
+use Rattle.alloc_spec.specs.Delivered.{StepResult}
+use Rattle.alloc_spec.specs.Step as steps
 use Rattle.alloc_server.specs.Server.{ComesTo, event_of}
 use Rattle.alloc_server.proofs.server.Server.step.Goals as goal
 

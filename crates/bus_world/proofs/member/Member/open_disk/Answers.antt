@@ -5,11 +5,11 @@ use Rattle.kv_store.specs.KeyDisk.{restarted_on}
 use Rattle.outside.specs.declared.pattern.Pattern.{Pattern}
 use Rattle.raft_core.specs.StoredPuts.{store_of}
 use Rattle.raft_log.specs.KeyDisk.{is_open_on, opening_on}
-use Rattle.alloc_step.specs.AllocatorState.{opening}
+use Rattle.alloc_spec.specs.AllocatorState.{opening}
 use Rattle.alloc_server.specs.Server.{durable_of}
-use Rattle.bus_spec.specs.Members.{after_failed_opening}
-use Rattle.bus_spec.specs.Members.MemberStatus.{Up}
-use Rattle.bus_spec.specs.ReportLine.{report_line_of}
+use Rattle.cluster_spec.specs.Members.{after_failed_opening}
+use Rattle.cluster_spec.specs.Members.MemberStatus.{Up}
+use Rattle.cluster_spec.specs.ReportLine.{report_line_of}
 use Rattle.bus_world.specs.Places.{IsDownOn}
 use Rattle.bus_world.specs.declared.place.Place.TheVariants.{Up as UpAt}
 use Rattle.bus_world.proofs.Opening.{is_down, is_up, not_damaged, opened_by, opened_told, pattern_kept, refused_told}

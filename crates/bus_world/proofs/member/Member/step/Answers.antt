@@ -1,6 +1,6 @@
 use Rattle.std.proofs.Common.{◌∙◌, ap, sym, refl, subst}
 use Rattle.alloc_server.specs.Server.{accepts, event_of}
-use Rattle.bus_spec.specs.ReportLine.{report_line_of}
+use Rattle.cluster_spec.specs.ReportLine.{report_line_of}
 use Rattle.bus_world.specs.Places.{HasStatus, closure_of}
 use Rattle.bus_world.specs.declared.place.Place.{Place}
 use Rattle.bus_world.proofs.Looking.{accepted_on}

@@ -1,11 +1,11 @@
 use Rattle.std.proofs.Common.{◌≡◌, ℕ, List, length, ◌∙◌, ap, sym, subst}
 use Rattle.std.proofs.lemmas.List.{length-map}
 use Rattle.bus_world.specs.Stands.{StandsFor}
-use Rattle.bus_spec.specs.ReportLine.{report_line_of}
+use Rattle.cluster_spec.specs.ReportLine.{report_line_of}
 use Rattle.bus_world.specs.declared.member.Member.{Member}
-use Rattle.bus_spec.specs.Cluster.{is_member}
-use Rattle.bus_spec.specs.Members.{is_running, after_opening}
-use Rattle.bus_spec.specs.Report.{line_of_opening}
+use Rattle.cluster_spec.specs.Cluster.{is_member}
+use Rattle.cluster_spec.specs.Members.{is_running, after_opening}
+use Rattle.cluster_spec.specs.Report.{line_of_opening}
 use Rattle.bus_world.proofs.Finding.{alike_there, set_alike, set_few, its_id, set_holds, stands_there, stopped_from}
 use Rattle.bus_world.proofs.members.Members.open.Goals as goal
 

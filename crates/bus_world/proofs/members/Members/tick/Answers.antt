@@ -1,10 +1,10 @@
 use Rattle.std.proofs.Common.{◌≡◌, ℕ, ◌+◌, ◌∙◌, ap, sym, subst}
-use Rattle.alloc_step.specs.Step.{Event}
-use Rattle.bus_spec.specs.Cluster.{is_member}
-use Rattle.bus_spec.specs.Members.{is_running, member_after_step}
-use Rattle.bus_spec.specs.Report.{line_of_step}
+use Rattle.alloc_spec.specs.Step.{Event}
+use Rattle.cluster_spec.specs.Cluster.{is_member}
+use Rattle.cluster_spec.specs.Members.{is_running, member_after_step}
+use Rattle.cluster_spec.specs.Report.{line_of_step}
 use Rattle.bus_world.specs.Stands.{StandsFor}
-use Rattle.bus_spec.specs.ReportLine.{report_line_of}
+use Rattle.cluster_spec.specs.ReportLine.{report_line_of}
 use Rattle.bus_world.specs.declared.member.Member.{Member}
 use Rattle.bus_world.proofs.Finding.{set_few, alike_there, serves, set_alike, its_id, runs_from, set_holds, stands_there}
 use Rattle.bus_world.proofs.members.Members.tick.Goals as goal

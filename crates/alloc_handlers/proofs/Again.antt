@@ -1,0 +1,47 @@
+-- A recorded pair is answered again.
+use Rattle.std.proofs.Common.{◌≡◌, ◌<◌, ◌≤◌, ℕ, zero, suc, Bool, true, false, List, [], ◌∷◌, length, get_or, inl, inr, refl, arith}
+use Rattle.std.specs.Prelude.{None, nat_lt, if◌then◌else◌}
+use Rattle.std.proofs.lemmas.Bool.{cases_lt}
+use Rattle.std.proofs.lemmas.Bool.Decides.{nat_tests}
+use Rattle.can_frame.specs.declared.entry.Entry.{Entry}
+use Rattle.can_frame.specs.declared.step.What.TheVariants.{Alloc}
+use Rattle.can_frame.specs.Log.{IsWellFormed}
+use Rattle.disk_model.specs.declared.disk.Disk.{Ghosts}
+use Rattle.raft_log.specs.declared.durable.Durable.{Durable}
+use Rattle.raft_core.specs.Times.{given_at}
+use Rattle.raft_model.specs.Moves.Move.{AnswerAgain}
+use Rattle.alloc_spec.specs.declared.offered.Offered.{Offered}
+use Rattle.alloc_spec.specs.Exchange.{allocation_payload, gives_entry}
+use Rattle.alloc_spec.specs.StepState.{StepState, with_transfer, with_moves}
+use Rattle.alloc_spec.specs.Transfers.{has_room}
+use Rattle.alloc_handlers.specs.declared.member.Member.{Member}
+use Rattle.alloc_handlers.specs.Stands.{IsInStep}
+use Rattle.alloc_handlers.proofs.Noting.{noted_moves}
+
+pub node_low : (entry : Entry) → IsWellFormed entry → entry.node < 128
+node_low entry formed =
+    elim (cases_lt entry.node 128) as (λ _. entry.node < 128) [
+      | inl low ↦ low
+      | inr high ↦ (let most : entry.node ≤ 125 = (formed (λ blank. omega (arith, blank.0, high)) (λ kept. omega (arith, kept.most, high))).most in absurd (omega (arith, most, high)))
+    ]
+
+-- within a list it does not matter what is read past its end
+pub same_at : (log : List Entry) (i : ℕ) (d e : Entry) → i < length log → get_or log i d ≡ get_or log i e
+same_at [] i d e below = absurd (omega (arith, below))
+same_at (x ∷ log) zero d e below = refl
+same_at (x ∷ log) (suc i) d e below = same_at log i d e (omega (arith, below))
+
+pub under : (n m : ℕ) → n < m → nat_lt n m ≡ true
+under n m h = grind (arith, nat_tests)
+
+pub not_under : (n m : ℕ) → m ≤ n → nat_lt n m ≡ false
+not_under n m h = grind (arith, nat_tests)
+
+-- the move that answers again changes nothing
+pub again : {D : Type 0} {disk : Ghosts D} (start : Durable D disk) (member : Member D disk) (offered : Offered) (g : StepState) (step place : ℕ) (entry : Entry)
+    → IsInStep start member offered (with_transfer step Alloc 0 (allocation_payload entry.node entry.uid) None g) → IsInStep start member offered (gives_entry step (AnswerAgain place) entry g)
+again start member offered g step place entry h = by (has_room g.allocator.queue (allocation_payload entry.node entry.uid))
+  where
+    by : (b : Bool) → IsInStep start member offered (if b then with_moves step (given_at g.allocator.now) (AnswerAgain place ∷ []) (with_transfer step Alloc 0 (allocation_payload entry.node entry.uid) None g) else with_transfer step Alloc 0 (allocation_payload entry.node entry.uid) None g)
+    by true = noted_moves start member offered (with_transfer step Alloc 0 (allocation_payload entry.node entry.uid) None g) h step (given_at g.allocator.now) (AnswerAgain place ∷ []) member.raft refl h.stands.raft
+    by false = h

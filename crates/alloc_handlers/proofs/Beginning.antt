@@ -1,0 +1,44 @@
+-- A step that begins.
+use Rattle.std.proofs.Common.{◌≡◌, ℕ, List, [], ◌∷◌, refl, sym, subst}
+use Rattle.std.specs.Prelude.{None}
+use Rattle.disk_model.specs.declared.disk.Disk.{Ghosts}
+use Rattle.raft_log.specs.declared.durable.Durable.{Durable}
+use Rattle.raft_core.specs.Handled.{moves_of_expire, puts_with_origins}
+use Rattle.raft_core.specs.StoredPuts.{CallWrites, PutWithOrigin}
+use Rattle.raft_core.specs.Times.{Given, given_at, overdue}
+use Rattle.raft_model.specs.Handlers.{server_after}
+use Rattle.raft_model.specs.Moves.Move.{GiveUp}
+use Rattle.raft_model.specs.Server.{RaftServer}
+use Rattle.alloc_spec.specs.declared.offered.Offered.{Offered}
+use Rattle.alloc_spec.specs.Step.{all_nodes, at_moment, at_sessions, begin_phase}
+use Rattle.alloc_spec.specs.AllocatorState.{AllocatorState, members_of}
+use Rattle.transfer_rx.specs.Sessions.{Session}
+use Rattle.alloc_handlers.specs.declared.member.Member.{Member}
+use Rattle.alloc_handlers.specs.Stands.{IsFresh, IsInStep, StandsFor}
+
+-- giving up calls makes no puts
+expire_is_quiet : (members : List ℕ) (me step : ℕ) (given : Given) (raft_server : RaftServer) (nodes : List ℕ) → puts_with_origins members me step given raft_server (moves_of_expire nodes) ≡ []
+expire_is_quiet members me step given raft_server [] = refl
+expire_is_quiet members me step given raft_server (node ∷ nodes) = expire_is_quiet members me step given (server_after members me step raft_server (GiveUp node)) nodes
+
+pub begun : {D : Type 0} {disk : Ghosts D} (start : Durable D disk) (member : Member D disk) (t : AllocatorState) (offered : Offered) (step now : ℕ) (sessions : List Session)
+    → CallWrites [] start start None → member.durable ≡ start → IsFresh offered → StandsFor member (begin_phase step now t).allocator
+    → IsInStep start member offered (at_sessions sessions (begin_phase step now t))
+begun start member t offered step now sessions nothing same fresh h = record {
+  stands = record {
+    me = h.me;
+    size = h.size;
+    raft = h.raft;
+    exchange = h.exchange;
+    watch = h.watch;
+    cluster = h.cluster;
+    outbox = h.outbox;
+    opened_at = h.opened_at;
+    now = h.now;
+    status_at = h.status_at;
+  };
+  sent = fresh.sent;
+  given = fresh.given;
+  puts = subst (λ (list : List PutWithOrigin). CallWrites list start member.durable None) (sym (expire_is_quiet (members_of t) t.me step (given_at (at_moment now t).now) t.raft_server (overdue t.times (at_moment now t).now all_nodes)))
+      (subst (λ (d : Durable _ _). CallWrites [] start d None) (sym same) nothing);
+}

@@ -1,0 +1,33 @@
+-- The pair that an Allocation gives, by its payload.
+use Rattle.std.proofs.Common.{◌≡◌, ℕ, ◌≤◌, ◌+◌, ◌*◌, ◌/◌, ◌%◌, Bool, true, List, length, ap, ◌∙◌, arith}
+use Rattle.std.specs.Prelude.{◌&&◌, nat_eq, nat_le, cond, Option, Some, None, if◌then◌else◌}
+use Rattle.std.proofs.lemmas.Bool.Decides.{nat_tests}
+use Rattle.can_frame.specs.declared.step.What.TheVariants.{Alloc}
+use Rattle.alloc_spec.specs.Exchange.{allocation_payload}
+use Rattle.alloc_spec.specs.Transfers.{Given, pair_of_allocation, pair_in}
+
+at_most : (n : ℕ) → n ≤ 16 → nat_le n 16 ≡ true
+at_most n h = grind (arith, nat_tests)
+
+half : (n : ℕ) → (n * 2 + 0) / 2 ≡ n
+half n = omega arith
+
+-- by these numbers
+abbrev given_as : ℕ → List ℕ → Option Given
+given_as node uid = if nat_le 1 node && nat_eq (length uid) 16 then Some ((uid, node)) else None
+
+-- as it is read from the bytes
+read : (node : ℕ) (uid : List ℕ) → length uid ≤ 16 → pair_in Alloc (allocation_payload node uid) ≡ given_as node uid
+read node uid short =
+    ap (λ (b : Bool). pair_of_allocation (cond b (Some (record { node = (node * 2 + 0) / 2; first_part = nat_eq ((node * 2 + 0) % 2) 1; uid = record { items = uid } })) None)) (at_most (length uid) short)
+    ∙ ap (λ (n : ℕ). given_as n uid) (half node)
+
+both_hold : (node size : ℕ) → 1 ≤ node → size ≡ 16 → (nat_le 1 node && nat_eq size 16) ≡ true
+both_hold node size least whole = grind (arith, nat_tests)
+
+pub nobody_is_given : (bytes : List ℕ) → length bytes ≤ 16 → pair_in Alloc (allocation_payload 0 bytes) ≡ None
+nobody_is_given bytes short = read 0 bytes short
+
+pub pair_is_given : (node : ℕ) (uid : List ℕ) → 1 ≤ node → length uid ≡ 16 → pair_in Alloc (allocation_payload node uid) ≡ Some ((uid, node))
+pair_is_given node uid least whole =
+    read node uid (omega arith) ∙ ap (λ (b : Bool). if b then Some ((uid, node)) else None) (both_hold node (length uid) least whole)

@@ -1,0 +1,16 @@
+-- Unique IDs.
+use Rattle.std.proofs.Common.{refl, ◌≡◌, Bool, true, false, List, ℕ}
+use Rattle.std.specs.Str.{bytes_eq}
+use Rattle.std.proofs.lemmas.Slice.Eq.{bytes_eq-Decides}
+use Rattle.can_frame.specs.Zeros.{zeros}
+use Rattle.alloc_spec.specs.AllocatorState.{is_zero}
+
+pub zero_is : (uid : List ℕ) → uid ≡ zeros → is_zero uid ≡ true
+zero_is uid is = (bytes_eq-Decides uid zeros).1 is
+
+pub zero_not : (uid : List ℕ) → (uid ≡ zeros → ⊥) → is_zero uid ≡ false
+zero_not uid not = by (bytes_eq uid zeros) refl
+  where
+    by : (b : Bool) → bytes_eq uid zeros ≡ b → bytes_eq uid zeros ≡ false
+    by true is = absurd (not ((bytes_eq-Decides uid zeros).0 is))
+    by false is = is

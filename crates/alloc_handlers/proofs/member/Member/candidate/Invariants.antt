@@ -1,0 +1,10 @@
+use Rattle.std.proofs.Common.{◌≡◌, ◌-◌, find}
+use Rattle.std.specs.List.{range_with_len}
+use Rattle.alloc_handlers.specs.Stands.{StandsFor}
+use Rattle.alloc_spec.specs.Tick.{candidate, is_candidate}
+use Rattle.alloc_spec.specs.AllocatorState.{AllocatorState}
+use Rattle.alloc_handlers.proofs.member.Member.candidate.Given as goal
+
+-- those that are left have the same first candidate as all
+abbrev pub invariant-loop-node : goal.invariant-loop-node
+invariant-loop-node g l = (t : AllocatorState) → StandsFor l.self t → find (is_candidate t) (range_with_len l.node (126 - l.node)) ≡ candidate t

@@ -1,0 +1,13 @@
+use Rattle.std.proofs.Common.{ap, subst, ◌∙◌, List, ℕ}
+use Rattle.std.specs.Prelude.{None}
+use Rattle.can_frame.specs.declared.step.What.TheVariants.{Alloc}
+use Rattle.alloc_spec.specs.StepState.{with_transfer}
+use Rattle.alloc_spec.specs.Transfers.{pair_in}
+use Rattle.alloc_handlers.specs.Stands.{IsInStep}
+use Rattle.alloc_handlers.proofs.Giving.{nobody_is_given}
+use Rattle.alloc_handlers.proofs.member.Member.follow_up.Goals as goal
+
+pub returns-clause-step_state : goal.returns-clause-step_state
+returns-clause-step_state g c start step_state h =
+    subst (λ (payload : List ℕ). IsInStep start c.send.new.self c.send.new.offered (with_transfer c.args.offered.now.step Alloc 0 payload None step_state)) c.allocation.ensures
+    (c.send.ensures.step_state (ap (λ (payload : List ℕ). pair_in Alloc payload) c.allocation.ensures ∙ nobody_is_given c.args.bytes.now c.requires.size) None start step_state h)

@@ -1,0 +1,25 @@
+use Rattle.std.proofs.Common.{◌≡◌, List, ℕ, refl, sym, ap, subst, ◌∙◌, ◌==◌, true, arith}
+use Rattle.std.proofs.lemmas.Bool.Decides.{nat_tests}
+use Rattle.std.proofs.lemmas.List.{nil_from_length}
+use Rattle.std.specs.Prelude.{None}
+use Rattle.can_frame.specs.declared.step.Seen.TheVariants.{Took}
+use Rattle.can_frame.specs.declared.step.What.TheVariants.{Info}
+use Rattle.dsdl_codec.specs.declared.node_info.NodeInfo.{NodeInfo}
+use Rattle.dsdl_codec.specs.NodeInfo.{node_info_bytes}
+use Rattle.transfer_rx.specs.Told.{delivery_of}
+use Rattle.alloc_spec.specs.Delivered.{asks_info}
+use Rattle.alloc_spec.specs.StepState.{with_response_to}
+use Rattle.alloc_handlers.specs.Stands.{IsInStep}
+use Rattle.alloc_handlers.proofs.member.Member.tell_info.Goals as goal
+
+none_left : (n : ℕ) → (n == 0) ≡ true → n ≡ 0
+none_left n is = grind (arith, nat_tests)
+
+pub returns-clause-sees : goal.returns-clause-sees
+returns-clause-sees g c start step_state h =
+    let s = c.args.offered.now.step in
+    let d = delivery_of c.args.request.now in
+    let empty = nil_from_length c.args.request.now.payload.items (none_left _ (sym c.is_empty.ensures ∙ c.if-not-is_empty.false)) in
+    let bytes = c.write-payload.ensures.bytes ∙ ap (λ (info : NodeInfo). node_info_bytes info) (c.info.ensures.stands step_state.allocator h.stands) in
+    subst (λ (list : List ℕ). IsInStep start c.answer.new.self c.answer.new.offered (asks_info s d list step_state).step_state × (Took ≡ (asks_info s d list step_state).seen)) (sym empty)
+    (subst (λ (list : List ℕ). IsInStep start c.answer.new.self c.answer.new.offered (with_response_to s Info d list None step_state)) bytes (c.answer.ensures.step_state refl None start step_state h), refl)

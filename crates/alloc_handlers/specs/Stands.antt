@@ -1,0 +1,108 @@
+-- What a member of the code stands for, between the parts of a step.
+use Rattle.std.specs.Prelude.{◌≡◌, ℕ, ◌+◌, ◌≤◌, ◌++◌, Bool, List, [], Option, None, Result, IfOk}
+use Rattle.std.specs.Result.{result_err}
+use Rattle.arrayvec.specs.ArrayVec.{array_vec_len}
+use Rattle.can_frame.specs.declared.step.Seen.{Seen}
+use Rattle.can_frame.specs.declared.step.What.{What}
+use Rattle.disk_model.specs.declared.disk.Disk.{Ghosts}
+use Rattle.kv_store.specs.declared.fault.Fault.{Fault}
+use Rattle.raft_log.specs.declared.durable.Durable.{Durable}
+use Rattle.raft_log.specs.DurableViews.{durable_state}
+use Rattle.raft_core.specs.Fits.{Fits}
+use Rattle.raft_core.specs.RaftViews.{raft_me, raft_size}
+use Rattle.raft_core.specs.StoredPuts.{CallWrites}
+use Rattle.raft_core.specs.Stands as raft
+use Rattle.alloc_exchange.specs.Stands as exchange
+use Rattle.node_discovery.specs.Stands as watch
+use Rattle.cluster_discovery.specs.Stands as cluster
+use Rattle.alloc_handlers.specs.declared.member.Member.{Member}
+use Rattle.alloc_spec.specs.declared.offered.Offered.{Offered}
+use Rattle.alloc_spec.specs.AllocatorState.{AllocatorState, members_of, start_of}
+use Rattle.alloc_spec.specs.StepState.{StepState, pairs_if_fitted, pairs, listing_of}
+use Rattle.alloc_spec.specs.Delivered.{StepResult}
+
+-- part for part
+pub record StandsFor {D : Type 0} {disk : Ghosts D} (member : Member D disk) (t : AllocatorState) : Type 0 where
+  pub me : member.me ≡ t.me
+  pub size : member.size ≡ t.size
+  pub raft : raft.StandsFor member.raft (members_of t) (durable_state member.durable) t.raft_server t.times
+  pub exchange : exchange.StandsFor member.exchange t.accepted
+  pub watch : watch.StandsFor member.watch t.watch
+  pub cluster : cluster.StandsFor member.cluster (start_of t) t.heard
+  pub outbox : member.outbox ≡ record { me = t.me; queue = t.queue; ids = t.ids }
+  pub opened_at : member.opened_at ≡ t.opened_at
+  pub now : member.latest ≡ t.now
+  pub status_at : member.status_at ≡ t.status_at
+
+-- what always holds of a member between the parts of a step
+pub record IsReady {D : Type 0} {disk : Ghosts D} (member : Member D disk) : Type 0 where
+  pub least : 1 ≤ member.me
+  pub most : member.me ≤ 125
+  pub some : 1 ≤ member.size
+  pub five : member.size ≤ 5
+  -- its parts are of this member, and of this cluster
+  pub raft_me : raft_me member.raft ≡ member.me
+  pub raft_size : raft_size member.raft ≡ member.size
+  pub outbox_me : member.outbox.me ≡ member.me
+  pub opened_before : member.opened_at ≤ member.latest
+  pub status_before : member.status_at ≤ member.latest
+  -- what it keeps in memory fits what is stored
+  pub fits : Fits member.raft (durable_state member.durable)
+
+-- the member is in a step that has gone so far, from what was stored at its beginning
+pub record IsInStep {D : Type 0} {disk : Ghosts D} (start : Durable D disk) (member : Member D disk)
+    (offered : Offered) (g : StepState) : Type 0 where
+  pub stands : StandsFor member g.allocator
+  pub sent : offered.sent.items ≡ listing_of g
+  pub given : offered.answers.items ≡ pairs g
+  pub puts : CallWrites g.puts start member.durable None
+
+-- the step goes on to here, up to the first put that fails
+pub record GoesTo {D : Type 0} {disk : Ghosts D} (start : Durable D disk) (member : Member D disk)
+    (offered : Offered) (g : StepState) (failed : Option Fault) : Type 0 where
+  pub puts : CallWrites g.puts start member.durable failed
+  pub step_state : failed ≡ None → IsInStep start member offered g
+
+-- it goes on to here, and tells what it saw
+pub record SeesTo {D : Type 0} {disk : Ghosts D} (start : Durable D disk) (member : Member D disk)
+    (offered : Offered) (step_result : StepResult) (result : Result Seen Fault) : Type 0 where
+  pub goes : GoesTo start member offered step_result.step_state (result_err result)
+  pub seen : IfOk result (λ seen. seen ≡ step_result.seen)
+
+-- nothing was listed yet
+pub record IsFresh (offered : Offered) : Type 0 where
+  pub sent : offered.sent.items ≡ []
+  pub given : offered.answers.items ≡ []
+
+-- a transfer was listed, and then the pair that it gives
+pub record ListsGiven (before listed after : Offered) (fitted : Bool) (what : What) (payload : List ℕ) : Type 0 where
+  pub sent : after.sent ≡ listed.sent
+  pub given : after.answers.items ≡ before.answers.items ++ pairs_if_fitted fitted what payload
+
+-- ---- parts of a step, from one member to another, and from what was listed to what is
+
+module _ {D : Type 0} {disk : Ghosts D} (old new : Member D disk) (before after : Offered) where
+  -- a part without puts
+  abbrev pub GoesOn : (StepState → StepState) → Type 0
+  GoesOn part =
+      (start : Durable D disk) (g : StepState) → IsInStep start old before g → IsInStep start new after (part g)
+
+  -- one whose puts may fail
+  abbrev pub GoesUpTo : (StepState → StepState) → Option Fault → Type 0
+  GoesUpTo part failed = (start : Durable D disk) (g : StepState) → IsInStep start old before g →
+      GoesTo start new after (part g) failed
+
+  -- one that sees something: without puts, and with puts that may fail
+  abbrev pub SeesOn : (StepState → StepResult) → Seen → Type 0
+  SeesOn part seen = (start : Durable D disk) (g : StepState) → IsInStep start old before g →
+      IsInStep start new after (part g).step_state × (seen ≡ (part g).seen)
+
+  abbrev pub SeesUpTo : (StepState → StepResult) → Result Seen Fault → Type 0
+  SeesUpTo part result = (start : Durable D disk) (g : StepState) → IsInStep start old before g →
+      SeesTo start new after (part g) result
+
+-- at most so many transfers and pairs more are listed, in the same step
+pub record ListsUpTo (sent given : ℕ) (before after : Offered) : Type 0 where
+  pub step : after.step ≡ before.step
+  pub sent_most : array_vec_len after.sent ≤ array_vec_len before.sent + sent
+  pub given_most : array_vec_len after.answers ≤ array_vec_len before.answers + given

@@ -1,0 +1,165 @@
+//! How each step ends: a leader commits and tells, and the calls that are owed are made.
+
+ghost use Rattle.std.specs.Prelude.{◌≡◌, ◌≤◌, ◌<◌, ℕ, OnOk, drop, length, slice_index_or};
+ghost use Rattle.std.specs.Result.{result_err};
+ghost use Rattle.arrayvec.specs.ArrayVec.{array_vec_len};
+ghost use Rattle.alloc_handlers.specs.Calling as calling;
+ghost use Rattle.raft_core.specs.Calls.{IsWritable};
+ghost use Rattle.raft_core.specs.StoredPuts.{CallFaultIsSticky};
+ghost use Rattle.alloc_spec.specs.declared.offered.Offered.{Offered};
+ghost use Rattle.alloc_spec.specs.Ending.{call_phase, calls_all, calls_peer, commit_phase, end_phase, tell_phase};
+ghost use Rattle.alloc_spec.specs.AllocatorState.{AllocatorState, members_of};
+
+use crate::member::Member;
+use crate::puts::puts_go_on;
+use alloc_spec::Offered;
+use alloc_spec::laws::phases_add_puts;
+use arrayvec::ArrayVec;
+use can_frame::What;
+use disk_model::Disk;
+use dsdl_codec::Payload;
+use kv_store::Fault;
+use raft_core::{Call, Telling};
+
+impl<D: Disk> Member<D> {
+    ghost use Rattle.alloc_handlers.specs.Stands.{GoesOn, GoesUpTo, IsReady, ListsUpTo, StandsFor};
+
+    /// At most six transfers and one pair more are listed.
+    pub fn end(&mut self, offered: &mut Offered) -> Result<(), Fault>
+        requires ready { IsReady self.old }
+        requires room { array_vec_len offered.old.sent ≤ 6 }
+        requires pairs { array_vec_len offered.old.answers ≤ 1 }
+        ensures goes { GoesUpTo self.old self.new offered.old offered.new (end_phase offered.old.step)
+            (result_err result) }
+        ensures ready { OnOk result (IsReady self.new) }
+        ensures faults { CallFaultIsSticky self.old.durable self.new.durable (result_err result) }
+    {
+        phases_add_puts();
+        puts_go_on::<D>();
+        self.commit()?;
+        self.tell(offered);
+        self.call_all(offered);
+        Ok(())
+    }
+
+    fn commit(&mut self) -> Result<(), Fault>
+        requires { IsReady self.old }
+        ensures goes { (offered : Offered) (step : ℕ) →
+            GoesUpTo self.old self.new offered offered (commit_phase step) (result_err result) }
+        ensures ready { OnOk result (IsReady self.new) }
+        ensures faults { CallFaultIsSticky self.old.durable self.new.durable (result_err result) }
+    {
+        puts_go_on::<D>();
+        self.raft.commit(&mut self.durable)
+    }
+
+    /// A leader tells one committed pair, once it fits; a place without a unique ID is passed over.
+    fn tell(&mut self, offered: &mut Offered)
+        requires ready { IsReady self.old }
+        requires room { array_vec_len offered.old.sent < 12 }
+        requires pairs { array_vec_len offered.old.answers < 2 }
+        ensures step_state { GoesOn self.old self.new offered.old offered.new
+            (tell_phase offered.old.step) }
+        ensures ready { IsReady self.new }
+        ensures lists { ListsUpTo 1 1 offered.old offered.new }
+        ensures durable { self.new.durable ≡ self.old.durable }
+    {
+        match self.raft.tell(&self.durable) {
+            Telling::Nothing => {}
+            Telling::Skip(place) => self.raft.told(place),
+            Telling::Pair(place, uid, node) => {
+                if self.send_pair(&uid, node.get(), offered) {
+                    self.raft.told(place);
+                }
+            }
+        }
+    }
+
+    /// Each other member on the list, in its order, is called where a call is owed.
+    fn call_all(&mut self, offered: &mut Offered)
+        requires ready { IsReady self.old }
+        requires room { array_vec_len offered.old.sent ≤ 7 }
+        ensures step_state { GoesOn self.old self.new offered.old offered.new
+            (call_phase offered.old.step) }
+        ensures ready { IsReady self.new }
+        ensures lists { ListsUpTo 5 0 offered.old offered.new }
+        ensures durable { self.new.durable ≡ self.old.durable }
+    {
+        let peers = self.peers();
+        self.call_each(peers.as_slice(), offered);
+    }
+
+    /// The others on the list.
+    fn peers(&self) -> ArrayVec<u8, 5>
+        ensures others { (t : AllocatorState) → StandsFor self.now t → result.items ≡ drop 1 (members_of t) }
+        ensures few { array_vec_len result ≤ 5 }
+        ensures devices { (i : ℕ) → i < length result.items →
+            slice_index_or result.items i 0 ≤ 125 }
+        ensures numbered { (i : ℕ) → i < length result.items → 1 ≤ slice_index_or result.items i 0 }
+    {
+        let members = self.cluster.members();
+        match ArrayVec::try_from(&members[1..]) {
+            Ok(peers) => peers,
+            Err(_) => unreachable!(),
+        }
+    }
+
+    fn call_each(&mut self, peers: &[u8], offered: &mut Offered)
+        requires ready { IsReady self.old }
+        requires few { length peers.now ≤ 5 }
+        requires room { array_vec_len offered.old.sent ≤ 7 }
+        requires devices { (i : ℕ) → i < length peers.now → slice_index_or peers.now i 0 ≤ 125 }
+        requires numbered { (i : ℕ) → i < length peers.now → 1 ≤ slice_index_or peers.now i 0 }
+        ensures step_state { GoesOn self.old self.new offered.old offered.new
+            (calls_all offered.old.step peers.now) }
+        ensures ready { IsReady self.new }
+        ensures lists { ListsUpTo (length peers.now) 0 offered.old offered.new }
+        ensures durable { self.new.durable ≡ self.old.durable }
+    {
+        for peer in peers {
+            self.call(*peer, offered);
+        }
+    }
+
+    /// The call that is owed to a peer is made where it fits.
+    fn call(&mut self, peer: u8, offered: &mut Offered)
+        requires ready { IsReady self.old }
+        requires least { 1 ≤ peer }
+        requires most { peer ≤ 125 }
+        requires room { array_vec_len offered.old.sent < 12 }
+        ensures step_state { GoesOn self.old self.new offered.old offered.new
+            (calls_peer offered.old.step peer) }
+        ensures ready { IsReady self.new }
+        ensures lists { ListsUpTo 1 0 offered.old offered.new }
+        ensures durable { self.new.durable ≡ self.old.durable }
+    {
+        let Some(call) = self.raft.call(&self.durable, peer, self.latest) else {
+            return;
+        };
+        let what = what_of(&call);
+        let id = self.outbox.next_id(what, peer);
+        if self.send(what, peer, payload_of(&call), offered) {
+            self.raft
+                .called(&self.durable, peer, &call, id, offered.step, self.latest);
+        }
+    }
+}
+
+fn what_of(call: &Call) -> What
+    ensures { result ≡ calling.what_of call.now }
+{
+    match call {
+        Call::Vote(_) => What::VoteQ,
+        Call::Append(_) => What::AppQ,
+    }
+}
+
+fn payload_of(call: &Call) -> Payload
+    requires { IsWritable call.now }
+    ensures { result.items ≡ calling.bytes_of call.now }
+{
+    match call {
+        Call::Vote(request) => request.write(),
+        Call::Append(request) => request.write(),
+    }
+}

@@ -1,0 +1,132 @@
+//! What a member does with a whole transfer.
+
+ghost use Rattle.std.specs.Prelude.{◌≡◌, ◌≤◌, ◌<◌, ℕ, OnOk};
+ghost use Rattle.std.specs.Result.{result_err};
+ghost use Rattle.arrayvec.specs.ArrayVec.{array_vec_len};
+ghost use Rattle.can_frame.specs.Identifier.{IsIdentifier};
+ghost use Rattle.can_frame.specs.declared.identifier.Kind.TheVariants.{Request};
+ghost use Rattle.dsdl_codec.specs.Discovery.{discovery_of};
+ghost use Rattle.dsdl_codec.specs.NodeStatus.{node_status_of};
+ghost use Rattle.raft_core.specs.StoredPuts.{CallFaultIsSticky};
+ghost use Rattle.alloc_spec.specs.declared.offered.Offered.{Offered};
+ghost use Rattle.alloc_spec.specs.Delivered.{delivery_phase, hears_discovery, hears_status, message, reads, request, response};
+ghost use Rattle.transfer_rx.specs.Told.{delivery_of};
+
+use crate::member::Member;
+use alloc_spec::{APPEND_ENTRIES, GET_NODE_INFO, NODE_STATUS, Offered};
+use can_frame::{Kind, Seen};
+use cluster_discovery::laws::a_complete_list_stays;
+use disk_model::Disk;
+use dsdl_codec::{Discovery, NodeStatus};
+use kv_store::Fault;
+use transfer_rx::Transfer;
+
+impl<D: Disk> Member<D> {
+    ghost use Rattle.alloc_handlers.specs.Stands.{IsReady, ListsUpTo, SeesOn, SeesUpTo};
+
+    /// By the transfer's data type. A payload that is no value of it does nothing.
+    pub fn deliver(&mut self, transfer: &Transfer, offered: &mut Offered) -> Result<Seen, Fault>
+        requires ready { IsReady self.old }
+        requires ident { IsIdentifier transfer.now.ident }
+        requires id { transfer.now.id < 32 }
+        requires room { array_vec_len offered.old.sent < 12 }
+        requires pairs { array_vec_len offered.old.answers < 2 }
+        ensures sees { SeesUpTo self.old self.new offered.old offered.new
+            (delivery_phase offered.old.step (delivery_of transfer.now)) result }
+        ensures ready { OnOk result (IsReady self.new) }
+        ensures lists { ListsUpTo 1 1 offered.old offered.new }
+        ensures faults { CallFaultIsSticky self.old.durable self.new.durable (result_err result) }
+    {
+        match transfer.ident.kind {
+            Kind::Anonymous => self.hear_allocation(transfer, offered),
+            Kind::Message => Ok(self.hear_message(transfer)),
+            Kind::Request => self.take_request(transfer, offered),
+            Kind::Response => self.take_response(transfer),
+        }
+    }
+
+    /// Of the messages NodeStatus and Discovery are received.
+    fn hear_message(&mut self, transfer: &Transfer) -> Seen
+        requires { IsReady self.old }
+        ensures sees { (offered : Offered) → SeesOn self.old self.new offered offered (message
+            (delivery_of transfer.now)) result }
+        ensures ready { IsReady self.new }
+        ensures durable { self.new.durable ≡ self.old.durable }
+    {
+        if transfer.ident.number == NODE_STATUS {
+            self.hear_status(transfer)
+        } else {
+            self.hear_discovery(transfer)
+        }
+    }
+
+    fn hear_status(&mut self, transfer: &Transfer) -> Seen
+        requires { IsReady self.old }
+        ensures sees { (offered : Offered) → SeesOn self.old self.new offered offered
+            (reads (λ status. hears_status (delivery_of transfer.now))
+            (node_status_of transfer.now.payload.items)) result }
+        ensures ready { IsReady self.new }
+        ensures durable { self.new.durable ≡ self.old.durable }
+    {
+        let Some(_) = NodeStatus::read(&transfer.payload) else {
+            return Seen::Bad;
+        };
+        self.watch.status(transfer.ident.source, self.latest);
+        Seen::Took
+    }
+
+    fn hear_discovery(&mut self, transfer: &Transfer) -> Seen
+        requires { IsReady self.old }
+        ensures sees { (offered : Offered) → SeesOn self.old self.new offered offered
+            (reads (hears_discovery (delivery_of transfer.now))
+            (discovery_of transfer.now.payload.items)) result }
+        ensures ready { IsReady self.new }
+        ensures durable { self.new.durable ≡ self.old.durable }
+    {
+        a_complete_list_stays();
+        let Some(message) = Discovery::read(&transfer.payload) else {
+            return Seen::Bad;
+        };
+        self.cluster.heard(transfer.ident.source, &message);
+        Seen::Took
+    }
+
+    /// Of the services GetNodeInfo, AppendEntries and RequestVote.
+    fn take_request(&mut self, transfer: &Transfer, offered: &mut Offered) -> Result<Seen, Fault>
+        requires ready { IsReady self.old }
+        requires least { 1 ≤ transfer.now.ident.source }
+        requires most { transfer.now.ident.source ≤ 127 }
+        requires id { transfer.now.id < 32 }
+        requires room { array_vec_len offered.old.sent < 12 }
+        ensures sees { SeesUpTo self.old self.new offered.old offered.new (request offered.old.step
+            (delivery_of transfer.now)) result }
+        ensures ready { OnOk result (IsReady self.new) }
+        ensures lists { ListsUpTo 1 0 offered.old offered.new }
+        ensures faults { CallFaultIsSticky self.old.durable self.new.durable (result_err result) }
+    {
+        if transfer.ident.number == GET_NODE_INFO {
+            Ok(self.tell_info(transfer, offered))
+        } else if transfer.ident.number == APPEND_ENTRIES {
+            self.take_append_request(transfer, offered)
+        } else {
+            self.take_vote_request(transfer, offered)
+        }
+    }
+
+    fn take_response(&mut self, transfer: &Transfer) -> Result<Seen, Fault>
+        requires { IsReady self.old }
+        ensures sees { (offered : Offered) (step : ℕ) →
+            SeesUpTo self.old self.new offered offered (response step
+            (delivery_of transfer.now)) result }
+        ensures ready { OnOk result (IsReady self.new) }
+        ensures faults { CallFaultIsSticky self.old.durable self.new.durable (result_err result) }
+    {
+        if transfer.ident.number == GET_NODE_INFO {
+            Ok(self.hear_info(transfer))
+        } else if transfer.ident.number == APPEND_ENTRIES {
+            self.take_append_answer(transfer)
+        } else {
+            self.take_vote_answer(transfer)
+        }
+    }
+}

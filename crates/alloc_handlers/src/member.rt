@@ -1,0 +1,215 @@
+ghost use Rattle.std.specs.Prelude.{◌≡◌, ◌≤◌, ◌<◌, ℕ, true, List, None, Option, IfSome, IsNone, length};
+ghost use Rattle.arrayvec.specs.ArrayVec.{array_vec_len};
+ghost use Rattle.can_frame.specs.Identifier.{IsIdentifier};
+ghost use Rattle.can_frame.specs.Log.{HasUid, log_limit};
+ghost use Rattle.raft_core.specs.RaftViews.{raft_role};
+ghost use Rattle.can_frame.specs.declared.step.Role.TheVariants.{Leader};
+ghost use Rattle.cluster_discovery.specs.Members.{is_on_list};
+ghost use Rattle.raft_log.specs.DurableViews.{durable_disk, durable_fault, durable_state};
+ghost use Rattle.raft_core.specs.StoredPuts.{store_of};
+ghost use Rattle.raft_model.specs.Messages.{Message};
+ghost use Rattle.raft_model.specs.Moves.Elections.{is_leader};
+ghost use Rattle.alloc_spec.specs.declared.offered.Offered.{Offered};
+ghost use Rattle.alloc_spec.specs.StepState.{with_response_to, with_transfer};
+ghost use Rattle.alloc_spec.specs.Step.{at_sessions, begin_phase};
+ghost use Rattle.transfer_rx.specs.Sessions.{Session};
+ghost use Rattle.alloc_spec.specs.AllocatorState.{AllocatorState, may_propose, members_of, opening, recorded_at, status_of};
+ghost use Rattle.alloc_spec.specs.Transfers.{pair_in, has_room, ident_of};
+ghost use Rattle.transfer_rx.specs.Told.{delivery_of};
+
+use crate::puts::puts_go_on;
+use alloc_exchange::Exchange;
+use alloc_spec::{Offered, Outbox};
+use can_frame::{Role, Uid, What};
+use cluster_discovery::Cluster;
+use disk_model::Disk;
+use dsdl_codec::{NodeStatus, Payload};
+use node_discovery::Watch;
+use raft_core::Raft;
+use raft_log::Durable;
+use transfer_rx::Transfer;
+
+/// A member of the cluster, without its receiver: what is done with whole transfers and with time.
+/// Moments are milliseconds.
+#[derive(Drop)]
+pub struct Member<D: Disk> {
+    pub me: u8,
+
+    /// How many members the cluster has.
+    pub size: u8,
+
+    /// What survives stops.
+    pub durable: Durable<D>,
+
+    pub raft: Raft,
+    pub exchange: Exchange,
+    pub watch: Watch,
+    pub cluster: Cluster,
+    pub outbox: Outbox,
+    pub opened_at: u64,
+
+    /// The greatest moment so far.
+    pub latest: u64,
+
+    /// When the last NodeStatus was due, or the opening.
+    pub status_at: u64,
+}
+
+impl<D: Disk> Member<D> {
+    ghost use Rattle.alloc_handlers.specs.Stands.{GoesOn, IsFresh, IsInStep, IsReady, ListsGiven, ListsUpTo, StandsFor};
+
+    /// A member that opens now, with what it has stored.
+    #[inline(never)]
+    pub fn open(me: u8, size: u8, durable: Durable<D>, now: u64, word: u32) -> Member<D>
+        requires least { 1 ≤ me }
+        requires most { me ≤ 125 }
+        requires some { 1 ≤ size }
+        requires five { size ≤ 5 }
+        requires works { durable_fault durable ≡ None }
+        ensures stands { StandsFor result (opening me size (store_of
+            (durable_state durable)) now word) }
+        ensures ready { IsReady result }
+        ensures durable { result.durable ≡ durable }
+    {
+        Member {
+            me,
+            size,
+            durable,
+            raft: Raft::new(me, size, now, word),
+            exchange: Exchange::new(),
+            watch: Watch::new(),
+            cluster: Cluster::new(me, size, now),
+            outbox: Outbox::new(me),
+            opened_at: now,
+            latest: now,
+            status_at: now,
+        }
+    }
+
+    /// How each step begins: time goes on, never back, and old calls are given up.
+    pub fn begin(&mut self, now: u64)
+        requires { IsReady self.old }
+        ensures step_state { (t : AllocatorState) → StandsFor self.old t → (offered : Offered) →
+            IsFresh offered → (step : ℕ) (sessions : List Session) →
+            IsInStep self.old.durable self.new offered (at_sessions sessions (begin_phase step now t)) }
+        ensures durable { self.new.durable ≡ self.old.durable }
+        ensures ready { IsReady self.new }
+    {
+        puts_go_on::<D>();
+        self.latest = self.latest.max(now);
+        self.raft.expire(self.latest);
+    }
+
+    /// Whether the node is on the member's list.
+    pub fn lists(&self, node: u8) -> bool
+        ensures least { result ≡ true → 1 ≤ node }
+        ensures most { result ≡ true → node ≤ 125 }
+        ensures stands { (t : AllocatorState) → StandsFor self.now t → result ≡ is_on_list (members_of t) node }
+    {
+        self.cluster.members().contains(&node)
+    }
+
+    pub fn leads(&self) -> bool
+        ensures leads { result ≡ true → raft_role self.now.raft ≡ Leader }
+        ensures stands { (t : AllocatorState) → StandsFor self.now t → result ≡ is_leader t.raft_server.memory.role }
+    {
+        self.raft.role() == Role::Leader
+    }
+
+    /// A leader whose log has room may record a pair.
+    pub fn may_propose(&self) -> bool
+        ensures leads { result ≡ true → raft_role self.now.raft ≡ Leader }
+        ensures room { result ≡ true → length (durable_state self.now.durable).log < log_limit }
+        ensures stands { (t : AllocatorState) → StandsFor self.now t → result ≡ may_propose t }
+    {
+        self.leads() && self.durable.last() < 127
+    }
+
+    /// The place, from 0, at which a unique ID stands in the log.
+    pub fn recorded_at(&self, uid: &Uid) -> Option<usize>
+        ensures place { result ≡ recorded_at (durable_state self.now.durable).log uid.now }
+        ensures within { IfSome result (λ place. place < length
+            (durable_state self.now.durable).log) }
+        ensures none { IsNone result → HasUid (durable_state self.now.durable).log uid.now → ⊥ }
+    {
+        self.durable
+            .log()
+            .iter()
+            .position(|entry| entry.uid == *uid)
+    }
+
+    pub fn status(&self) -> NodeStatus
+        requires { self.now.opened_at ≤ self.now.latest }
+        ensures status { (t : AllocatorState) → StandsFor self.now t → result ≡ status_of t }
+        ensures health { result.health ≡ 0 }
+        ensures mode { result.mode ≡ 0 }
+        ensures sub_mode { result.sub_mode ≡ 0 }
+    {
+        NodeStatus {
+            uptime: ((self.latest - self.opened_at) / 1000).min(u64::from(u32::MAX)) as u32,
+            health: 0,
+            mode: 0,
+            sub_mode: 0,
+            vendor: 0,
+        }
+    }
+
+    /// Offers a message, or a request to a node, and lists it. Whether it fitted.
+    pub fn send(&mut self, what: What, to: u8, payload: Payload, offered: &mut Offered) -> bool
+        requires ready { IsReady self.old }
+        requires ident { IsIdentifier (ident_of self.old.me what to) }
+        requires room { array_vec_len offered.old.sent < 12 }
+        ensures fitted { result ≡ has_room self.old.outbox.queue payload.items }
+        ensures gives { (after : Offered) → ListsGiven offered.old offered.new after result what
+            payload.items →
+            (says : Option Message) → GoesOn self.old self.new offered.old after
+            (with_transfer offered.old.step what to payload.items says) }
+        ensures step_state { pair_in what payload.items ≡ None →
+            (says : Option Message) → GoesOn self.old self.new offered.old offered.new
+            (with_transfer offered.old.step what to payload.items says) }
+        ensures rest { self.new ≡ record self.old { outbox = self.new.outbox } }
+        ensures ready { IsReady self.new }
+        ensures lists { ListsUpTo 1 0 offered.old offered.new }
+        ensures given { offered.new.answers ≡ offered.old.answers }
+        ensures durable { self.new.durable ≡ self.old.durable }
+    {
+        let fitted = self.outbox.send(what, to, payload, offered.step);
+        offered.list(what, to, fitted);
+        fitted
+    }
+
+    /// Offers the response to a request, and lists it.
+    pub fn answer(
+        &mut self,
+        what: What,
+        request: &Transfer,
+        payload: Payload,
+        offered: &mut Offered,
+    )
+        requires ready { IsReady self.old }
+        requires ident { IsIdentifier (ident_of self.old.me what request.now.ident.source) }
+        requires id { request.now.id < 32 }
+        requires room { array_vec_len offered.old.sent < 12 }
+        ensures step_state { pair_in what payload.items ≡ None →
+            (says : Option Message) → GoesOn self.old self.new offered.old offered.new
+            (with_response_to offered.old.step what (delivery_of request.now) payload.items says) }
+        ensures rest { self.new ≡ record self.old { outbox = self.new.outbox } }
+        ensures ready { IsReady self.new }
+        ensures lists { ListsUpTo 1 0 offered.old offered.new }
+        ensures durable { self.new.durable ≡ self.old.durable }
+    {
+        let to = request.ident.source;
+        let step = offered.step;
+        let fitted = self
+            .outbox
+            .answer(what, to, request.id, payload, step, request.mark.step);
+        offered.list(what, to, fitted);
+    }
+
+    /// The disk as it stands.
+    pub fn into_disk(self) -> D
+        ensures { result ≡ durable_disk self.durable }
+    {
+        self.durable.into_disk()
+    }
+}

@@ -1,0 +1,78 @@
+//! A whole step of a member.
+
+ghost use Rattle.std.specs.Prelude.{◌≡◌, ◌≤◌, ◌<◌, OnOk};
+ghost use Rattle.std.specs.Result.{result_err};
+ghost use Rattle.arrayvec.specs.ArrayVec.{array_vec_len};
+ghost use Rattle.raft_core.specs.StoredPuts.{CallFaultIsSticky};
+ghost use Rattle.alloc_spec.specs.Step.{Tick, step, takes_answer, with_answer};
+ghost use Rattle.alloc_spec.specs.AllocatorState.{AllocatorState};
+ghost use Rattle.transfer_rx.specs.Ranges.{IfDelivered, IsInRange};
+ghost use Rattle.transfer_rx.specs.Told.{told};
+
+use crate::member::Member;
+use crate::puts::puts_go_on;
+use alloc_spec::Offered;
+use alloc_spec::laws::phases_add_puts;
+use can_frame::Seen;
+use disk_model::Disk;
+use kv_store::Fault;
+use transfer_rx::Took;
+
+impl<D: Disk> Member<D> {
+    ghost use Rattle.alloc_handlers.specs.Stands.{IsFresh, IsReady, ListsUpTo, SeesTo, SeesUpTo, StandsFor};
+
+    /// The step in which it reads its clock. The word is for its next wait for an election.
+    pub fn take_tick(&mut self, now: u64, word: u32, offered: &mut Offered) -> Result<Seen, Fault>
+        requires ready { IsReady self.old }
+        requires fresh { IsFresh offered.old }
+        ensures sees { (t : AllocatorState) → StandsFor self.old t →
+            SeesTo self.old.durable self.new offered.new (step t offered.old.step
+            (Tick now word)) result }
+        ensures ready { OnOk result (IsReady self.new) }
+        ensures faults { CallFaultIsSticky self.old.durable self.new.durable (result_err result) }
+    {
+        puts_go_on::<D>();
+        phases_add_puts();
+        self.begin(now);
+        self.tick(word, offered)?;
+        self.end(offered)?;
+        Ok(Seen::Ticked)
+    }
+
+    /// What its receiver made of a frame, in a step that has begun; then the step ends.
+    pub fn take_answer(&mut self, took: &Took, offered: &mut Offered) -> Result<Seen, Fault>
+        requires ready { IsReady self.old }
+        requires ranges { IfDelivered took.now IsInRange }
+        requires room { array_vec_len offered.old.sent ≤ 5 }
+        requires pairs { array_vec_len offered.old.answers ≡ 0 }
+        ensures sees { SeesUpTo self.old self.new offered.old offered.new
+            (takes_answer offered.old.step (told took.now)) result }
+        ensures ready { OnOk result (IsReady self.new) }
+        ensures faults { CallFaultIsSticky self.old.durable self.new.durable (result_err result) }
+    {
+        puts_go_on::<D>();
+        phases_add_puts();
+        let seen = self.take_delivery(took, offered)?;
+        self.end(offered)?;
+        Ok(seen)
+    }
+
+    /// A transfer that was delivered is taken; of any other frame it is told what it led to.
+    fn take_delivery(&mut self, took: &Took, offered: &mut Offered) -> Result<Seen, Fault>
+        requires ready { IsReady self.old }
+        requires ranges { IfDelivered took.now IsInRange }
+        requires room { array_vec_len offered.old.sent < 12 }
+        requires pairs { array_vec_len offered.old.answers < 2 }
+        ensures sees { SeesUpTo self.old self.new offered.old offered.new
+            (with_answer offered.old.step (told took.now)) result }
+        ensures ready { OnOk result (IsReady self.new) }
+        ensures lists { ListsUpTo 1 1 offered.old offered.new }
+        ensures faults { CallFaultIsSticky self.old.durable self.new.durable (result_err result) }
+    {
+        match took {
+            Took::Delivered(transfer) => self.deliver(transfer, offered),
+            Took::Part => Ok(Seen::Part),
+            Took::Dropped(why) => Ok(Seen::Dropped(*why)),
+        }
+    }
+}

@@ -1,0 +1,52 @@
+-- Whether a frame may be given to a server in a cluster under test: what it would deliver was made by one step, and a
+-- response that a pending call would take answers that very call.
+use Rattle.std.specs.Prelude.{ℕ, ◌-◌, Bool, true, false, not, ◌&&◌, max, nat_eq, nat_le, nat_lt, Option, None, Some, if◌then◌else◌}
+use Rattle.can_frame.specs.declared.identifier.Kind.{Kind}
+use Rattle.can_frame.specs.declared.identifier.Kind.TheVariants.{Anonymous, Message, Request, Response}
+use Rattle.can_frame.specs.declared.step.Judged.{Judged}
+use Rattle.can_frame.specs.declared.step.Judged.TheVariants.{Fine, Stale, Torn}
+use Rattle.raft_core.specs.Times.{Sending}
+use Rattle.raft_model.specs.Messages.{Request as Call}
+use Rattle.transfer_rx.specs.Reassembly.{Answer, Arrival, Continues, Delivery, Drops, Gives, answer}
+use Rattle.alloc_spec.specs.Accepted.{setting_for}
+use Rattle.alloc_spec.specs.AllocatorState.{AllocatorState}
+
+-- 30 for an append request, 31 for a vote request
+abbrev pub service_of : Call → ℕ
+service_of call = if call.append then 30 else 31
+
+-- the call would take the response: it is of its service, under its transfer ID, and the call was sent less than
+-- 1,000 ms before
+abbrev pub would_take : Delivery → ℕ → Call → Sending → Bool
+would_take d now call sending =
+    nat_eq d.ident.number (service_of call) && (nat_eq d.id sending.id && nat_lt (now - sending.moment) 1000)
+
+-- a pending call would take it, and was made in another step than the request that it answers
+abbrev pub misses : Delivery → ℕ → Option Call → Option Sending → Bool
+misses d now (Some call) (Some sending) = would_take d now call sending && not (nat_eq d.mark.re call.step)
+misses d now (Some call) None = false
+misses d now None sending = false
+
+abbrev pub is_response : Kind → Bool
+is_response Message = false
+is_response Anonymous = false
+is_response Request = false
+is_response Response = true
+
+-- members are 1 to 125
+abbrev pub is_stale : AllocatorState → Delivery → ℕ → Bool
+is_stale t d now =
+    (is_response d.ident.kind && nat_le d.ident.source 125)
+    && misses d now (t.raft_server.memory.pending d.ident.source) (t.times.sending d.ident.source)
+
+abbrev pub answer_judgement : AllocatorState → ℕ → ℕ → Answer → Judged
+answer_judgement t step now (Gives d) =
+    if not d.whole && not (nat_eq step 0) then Torn else (if is_stale t d now then Stale else Fine)
+answer_judgement t step now Continues = Fine
+answer_judgement t step now (Drops why) = Fine
+
+-- a frame that comes to the server, judged at the moment that a step would have
+unfoldable pub arrival_judgement : AllocatorState → Arrival → Judged
+arrival_judgement t arrival =
+    answer_judgement t arrival.mark.step (max t.now arrival.moment)
+    (answer (setting_for t.me) t.sessions (record arrival { moment = max t.now arrival.moment }))

@@ -1,5 +1,0 @@
-use Rattle.alloc_step_laws.proofs.QueueContents.{waits}
-use Rattle.alloc_step_laws.proofs.bus.queue_of_a_step.Goals as goal
-
-pub returns : goal.returns
-returns c = waits

@@ -1,0 +1,63 @@
+-- Two lists, one after the other: events of a run, and rows of a world.
+use Rattle.std.proofs.Common.{◌≡◌, ℕ, Bool, List, [], ◌∷◌, ◌++◌, refl, sym, ap, ◌∙◌}
+use Rattle.std.proofs.lemmas.List.{append_assoc}
+use Rattle.std.specs.Prelude.{None}
+use Rattle.raft_model.specs.Runs as machine
+use Rattle.raft_model.specs.Runs.{Event, after, run}
+use Rattle.replay_text.specs.declared.row.Row.{Row}
+use Rattle.replay_text.specs.declared.row.Row.TheVariants.{Open, Tick, Rx, Send, Ext, Crash, Fault, AOpen, ATick, ARx, ASend, AEnd}
+use Rattle.cluster_spec.specs.Cluster.{Cluster, after_rows, after_row}
+use Rattle.cluster_spec.specs.Lawful.{Lawful, cause}
+use Rattle.cluster_spec.specs.Choices.{AgreesWithDisk}
+use Rattle.cluster_spec.specs.Refinement.{events, row_events}
+
+pub run_joined : (w : machine.World) (first rest : List Event) → run w (first ++ rest) ≡ run (run w first) rest
+run_joined w [] rest = refl
+run_joined w (event ∷ events) rest = run_joined (after w event) events rest
+
+pub lawful_joined : (w : machine.World) (first rest : List Event) → machine.Lawful w first → machine.Lawful (run w first) rest → machine.Lawful w (first ++ rest)
+lawful_joined w [] rest early late = late
+lawful_joined w (event ∷ events) rest early late = (early.0, lawful_joined (after w event) events rest early.1 late)
+
+pub lawful_parted : (w : machine.World) (first rest : List Event) → machine.Lawful w (first ++ rest) → machine.Lawful w first × machine.Lawful (run w first) rest
+lawful_parted w [] rest all = (tt, all)
+lawful_parted w (event ∷ events) rest all = let r = lawful_parted (after w event) events rest all.1 in ((all.0, r.0), r.1)
+
+pub rows_joined : (w : Cluster) (rows more : List Row) → after_rows w (rows ++ more) ≡ after_rows (after_rows w rows) more
+rows_joined w [] more = refl
+rows_joined w (row ∷ rows) more = rows_joined (after_row w row) rows more
+
+pub first_lawful : (w : Cluster) (rows more : List Row) → Lawful w (rows ++ more) → Lawful w rows
+first_lawful w [] more all = tt
+first_lawful w (row ∷ rows) more all = (all.0, first_lawful (after_row w row) rows more all.1)
+
+pub cause_at : (w : Cluster) (rows rest : List Row) (row : Row) → Lawful w (rows ++ (row ∷ rest)) → cause (after_rows w rows) row ≡ None
+cause_at w [] rest row all = all.0
+cause_at w (first ∷ rows) rest row all = cause_at (after_row w first) rows rest row all.1
+
+pub first_fits : (choice : ℕ → Bool) (w : Cluster) (rows more : List Row) → AgreesWithDisk choice w (rows ++ more) → AgreesWithDisk choice w rows
+first_fits choice w [] more all = tt
+first_fits choice w (row ∷ rows) more all = (all.0, first_fits choice (after_row w row) rows more all.1)
+
+pub events_joined : (choice : ℕ → Bool) (w : Cluster) (rows more : List Row) → events choice w (rows ++ more) ≡ events choice w rows ++ events choice (after_rows w rows) more
+events_joined choice w [] more = refl
+events_joined choice w (row ∷ rows) more = ap (λ (l : List Event). row_events choice w row ++ l) (events_joined choice (after_row w row) rows more)
+    ∙ sym (append_assoc (row_events choice w row) (events choice (after_row w row) rows) (events choice (after_rows (after_row w row) rows) more))
+
+pub same_ids : (w : Cluster) (row : Row) → (after_row w row).ids ≡ w.ids
+same_ids w (Open n ms word) = refl
+same_ids w (Tick n ms word) = refl
+same_ids w (Rx n k ms) = refl
+same_ids w (Send n) = refl
+same_ids w (Ext frame) = refl
+same_ids w (Crash n calls pattern) = refl
+same_ids w (Fault n call) = refl
+same_ids w (AOpen a uid pref ms word) = refl
+same_ids w (ATick a ms word) = refl
+same_ids w (ARx a k ms word) = refl
+same_ids w (ASend a) = refl
+same_ids w (AEnd a) = refl
+
+pub ids_stay : (w : Cluster) (rows : List Row) → (after_rows w rows).ids ≡ w.ids
+ids_stay w [] = refl
+ids_stay w (row ∷ rows) = ids_stay (after_row w row) rows ∙ same_ids w row

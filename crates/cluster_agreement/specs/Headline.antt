@@ -1,0 +1,97 @@
+-- The headline, which `the_headline` proves (`src/headline.rt`). For 1 to 5 members and every list of lawful rows, so
+-- whatever frames are delivered, lost or repeated, whatever clocks read and wherever inside store writes allocators
+-- stop: each allocator's committed log is always a prefix of one injective, growing list of unique ID and node ID
+-- pairs; every allocation offered to the bus is a pair of it by then; and every later leader, but one of an older term,
+-- has it in its log.
+--
+-- A schedule is cut at any two places: the rows `first` are taken, then `more`, then `rest`. So "now" is after any row,
+-- or before all of them, and "later" is now or after any row from then on. `choice row` says whether the put took
+-- effect that failed in that row, where a stop did not find it yet.
+use Rattle.std.specs.Prelude.{◌≡◌, ◌≢◌, ℕ, ◌<◌, ◌≤◌, nat_lt, Bool, if◌then◌else◌}
+use Rattle.std.specs.Prelude.{List, [], ◌∷◌, ◌++◌, length, slice_index_or}
+use Rattle.can_frame.specs.declared.entry.Entry.{Entry}
+use Rattle.can_frame.specs.Log.{HasPair, IsInjective, IsPrefix, IsWellFormed, blank}
+use Rattle.dsdl_codec.specs.declared.allocation.Allocation.{Allocation}
+use Rattle.dsdl_codec.specs.Entry.{IsEntry}
+use Rattle.kv_store.specs.KeyDisk.{restarted_on}
+use Rattle.outside.specs.declared.pattern.Pattern.{Pattern}
+use Rattle.raft_core.specs.StoredPuts.{store_of}
+use Rattle.raft_model.specs.Lists.{In}
+use Rattle.raft_model.specs.Server.Role.{Leader}
+use Rattle.replay_text.specs.declared.row.Row.{Row}
+use Rattle.alloc_spec.specs.AllocatorState.{AllocatorState}
+use Rattle.transfer_tx.specs.Queue.{Queued}
+use Rattle.cluster_spec.specs.Cluster.{Cluster, cluster, world_of}
+use Rattle.cluster_spec.specs.Logs.{IsFound, IsGivenFrom, IsOfAllocation, IsOffered, committed, stored}
+use Rattle.cluster_spec.specs.Members.MemberStatus.{Up}
+use Rattle.cluster_spec.specs.Choices.{AgreesWithDisk}
+use Rattle.cluster_spec.specs.Refinement.{transfers_of_rows}
+
+-- the one list: the longest that a member has committed. All of them are prefixes of one list (`prefix`), so any two
+-- of one length are equal
+abbrev pub longest : (ℕ → Bool) → Cluster → List ℕ → List Entry
+longest choice w [] = []
+longest choice w (n ∷ ns) =
+    if nat_lt (length (longest choice w ns)) (length (committed choice w n))
+    then committed choice w n
+    else longest choice w ns
+
+abbrev pub the_list : (ℕ → Bool) → Cluster → List Entry
+the_list choice w = longest choice w w.ids
+
+-- the member runs as Leader
+pub record Leads (w : Cluster) (n : ℕ) (server : AllocatorState) : Type 0 where
+  pub runs : (w.member n).status ≡ Up server
+  pub role : server.raft_server.memory.role ≡ Leader
+
+pub record Headline (choice : ℕ → Bool) (now later : Cluster) : Type 0 where
+  -- each committed log is a prefix of the list, and of each that its member has later, through stops and openings
+  pub prefix : (n : ℕ) → In n now.ids → IsPrefix (committed choice now n) (the_list choice now)
+  pub kept : (n : ℕ) → In n now.ids → IsPrefix (committed choice now n) (committed choice later n)
+  -- a member that runs and has not failed goes by what it has stored
+  pub shown : (n : ℕ) (server : AllocatorState) → In n now.ids → (now.member n).status ≡ Up server
+      → server.raft_server.store ≡ stored choice now n
+  -- whatever a restart now would find of a member's disk, by each pattern, is what is stored; after a failed step it is
+  -- one of the two that choices may say
+  pub found : (n : ℕ) (pattern : Pattern) → In n now.ids
+      → IsFound (now.member n).status (now.member n).disk (store_of (restarted_on pattern (now.member n).disk).store)
+  -- each entry of the list is a pair, a reservation or a blank
+  pub formed : (index : ℕ) → index < length (the_list choice now)
+      → IsWellFormed (slice_index_or (the_list choice now) index (blank 0))
+  -- and its unique ID has 16 bytes, its term is below 2^32, and its node ID below 128
+  pub entries : (index : ℕ) → index < length (the_list choice now)
+      → IsEntry (slice_index_or (the_list choice now) index (blank 0))
+  -- no two entries of the list but blanks have one node ID, and no two pairs one unique ID; the list only grows
+  pub injective : IsInjective (the_list choice now)
+  pub grows : IsPrefix (the_list choice now) (the_list choice later)
+  -- no member's own node ID is ever given or kept back
+  pub outside : (index n : ℕ) → index < length (the_list choice now) → In n now.ids
+      → (slice_index_or (the_list choice now) index (blank 0)).node ≢ n
+  -- an Allocation with a node ID, of which all frames wait in the queue of a member that runs and has not failed, is a
+  -- pair of the member's committed log, and so of the list. Of one that is partly sent `bus` speaks
+  pub offered : (n : ℕ) (server : AllocatorState) (answer : Allocation) → In n now.ids
+      → (now.member n).status ≡ Up server
+      → IsOffered server.queue n answer → answer.node ≢ 0
+      → HasPair (committed choice now n) answer.uid.items answer.node
+  -- what a member has committed now begins the log of every Leader later whose term is at least the one that the member
+  -- has stored now. Take as "now" the row in which a place was first committed: the member's term is then the one that
+  -- committed it
+  pub leaders : (n leader : ℕ) (server : AllocatorState) → In n now.ids → In leader now.ids
+      → Leads later leader server
+      → (stored choice now n).term ≤ server.raft_server.store.term
+      → IsPrefix (committed choice now n) server.raft_server.store.log
+
+-- Of a list of rows: the headline holds from each cut of it to each later one, for every choice that agrees with the
+-- disks up to the later one; and there is a choice that agrees with them along all of it, and so up to every cut.
+pub record HasHeadline (ids : List ℕ) (rows : List Row) : Type 0 where
+  pub some : (choice : ℕ → Bool) × AgreesWithDisk choice (cluster ids) rows
+  pub holds : (first more rest : List Row) (choice : ℕ → Bool) → rows ≡ first ++ (more ++ rest)
+      → AgreesWithDisk choice (cluster ids) (first ++ more)
+      → Headline choice (world_of ids first) (world_of ids (first ++ more))
+  -- A frame that ever was on the bus, whose identifier reads as an Allocation of node n, is of a member n, and of an
+  -- Allocation that n made in a step by then; where that Allocation gives a node ID, its pair is in n's committed log.
+  pub bus : (first rest : List Row) (choice : ℕ → Bool) → rows ≡ first ++ rest
+      → AgreesWithDisk choice (cluster ids) first
+      → (frame : Queued) (n : ℕ) → In frame (world_of ids first).frames → IsOfAllocation frame n
+      → In n ids
+      × IsGivenFrom (committed choice (world_of ids first) n) (transfers_of_rows (cluster ids) first []) frame n

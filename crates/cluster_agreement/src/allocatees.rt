@@ -1,0 +1,22 @@
+//! The promise on devices, beside the headline: a law, the contract of a function that does nothing.
+
+ghost use Rattle.std.specs.Prelude.{ℕ, List};
+ghost use Rattle.replay_text.specs.declared.row.Row.{Row};
+ghost use Rattle.cluster_agreement.specs.Allocatees.{HasAllocatees};
+ghost use Rattle.cluster_spec.specs.Cluster.{AreMembers, cluster};
+ghost use Rattle.cluster_spec.specs.Lawful.{Lawful};
+
+use crate::headline::{offers_are_pairs, rows_are_shown, the_headline};
+use raft_model::laws::law_every_run;
+
+/// For every cluster and every list of lawful rows: what an allocatee holds is a pair of the headline's list, from
+/// then on. So two allocatees with different unique IDs never hold the same node ID, at one moment or at two.
+pub fn the_allocatees()
+    ensures { (ids : List ℕ) (rows : List Row) → AreMembers ids → Lawful (cluster ids) rows →
+        HasAllocatees ids rows }
+{
+    law_every_run();
+    offers_are_pairs();
+    rows_are_shown();
+    the_headline();
+}

@@ -1,0 +1,118 @@
+-- A run to its end: from what was handed in to what is left.
+use Rattle.std.proofs.Common.{◌≡◌, ℕ, ◌<◌, List, [], length, take, true, sym, ap, ◌∙◌, subst, arith}
+use Rattle.std.proofs.lemmas.List.{take_all}
+use Rattle.std.specs.Prelude.{Option, Some, None, IsSome, slice_index, slice_index_or}
+use Rattle.disk_model.specs.declared.disk.Disk.{Ghosts}
+use Rattle.outside.specs.Readings.{next_reading}
+use Rattle.outside.specs.declared.received.RawFrame.{RawFrame}
+use Rattle.outside.specs.declared.received.Received.{Received}
+use Rattle.cmd_base.specs.Draws.{next_state, word_at}
+use Rattle.raft_core.specs.StoredPuts.{store_of, vote_of}
+use Rattle.raft_log.specs.declared.durable.Durable.{Durable}
+use Rattle.raft_log.specs.DurableViews.{durable_disk, durable_fault, durable_state}
+use Rattle.raft_log.specs.Opening.{IsReadAs, OpensTo}
+use Rattle.raft_log.specs.Rules.{AlwaysStandsForState, StandsForState}
+use Rattle.raft_log.specs.Stored.{Stored, after_puts, opening_puts}
+use Rattle.alloc_spec.specs.AllocatorState.{opening}
+use Rattle.alloc_server.specs.Server.{StandsFor, durable_of}
+use Rattle.cmd_node.specs.Opening.{Given, together_at_opening, readings_after}
+use Rattle.cmd_node.specs.Run.{AreStopped, AreTelling}
+use Rattle.cmd_node.specs.Stands.{AreOpened, AreOpenedAt, Stand, runner_disk}
+use Rattle.cmd_node.specs.Steps.{Keeps}
+use Rattle.cmd_node.specs.Taking.{KeepsNodes}
+use Rattle.cmd_node.specs.Turns.{Together}
+use Rattle.cmd_node.specs.WholeRun.{HoldsStore, LeavesAll, Tell, TellsState}
+use Rattle.cmd_node.specs.declared.runner.Runner.{Runner}
+use Rattle.cmd_node.specs.declared.steps.LastSteps.{LastSteps}
+use Rattle.cmd_node.proofs.Ending.{an_item, some_same, some_value}
+
+same_store : (a b : Stored) → IsReadAs a b → store_of a ≡ store_of b
+same_store a b is =
+    ap (λ t. record { term = t; vote = vote_of a.vote; log = a.log; commit = a.commit }) is.term
+    ∙ ap (λ v. record { term = b.term; vote = vote_of v; log = a.log; commit = a.commit }) is.vote
+    ∙ ap (λ l. record { term = b.term; vote = vote_of b.vote; log = l; commit = a.commit }) is.log
+    ∙ ap (λ c. record { term = b.term; vote = vote_of b.vote; log = b.log; commit = c }) is.commit
+
+-- an opening leaves what is read of the state as it was
+module _ {D : Type 0} {disk : Ghosts D} (one_state : (image : List ℕ) (a b : Stored) → StandsForState image a → StandsForState image b → a ≡ b)
+    (same : (state : Stored) (count : ℕ) → IsReadAs (after_puts (take count (opening_puts state)) state) state) where
+  pub opened_store : (before : D) (durable : Durable D disk) (state : Stored) → OpensTo before durable → TellsState disk before state →
+      store_of (durable_state durable) ≡ store_of state
+  opened_store before durable state opens told =
+      let found = opens.found in
+      let puts = opening_puts found in
+      ap store_of opens.state
+      ∙ ap (λ l. store_of (after_puts l found)) (sym (take_all (length puts) puts (omega arith)))
+      ∙ same_store (after_puts (take (length puts) puts) found) found (same found (length puts))
+      ∙ ap store_of (one_state (disk.contents before).seen found state (opens.finds.state told.tells) told.stands)
+
+  module _ {F L : Type 0} (coming : L → Option (List Received)) (sent : L → Option (List RawFrame)) (size : ℕ) (ids : List ℕ)
+      (runners : List (Runner D F disk)) (links : List L) (disks : List (Option D)) (readings : Option (List ℕ)) (given : Given)
+      (are : AreOpened runners disks ids) (count : length runners ≡ length ids) (there : (i : ℕ) → i < length ids → IsSome (slice_index_or disks i None))
+      (tell : Tell coming sent disk links disks readings given) where
+    -- the allocators are those that are opened on what was handed in
+    pub all_opened : (after : Option (List ℕ)) (steps : LastSteps) → length links ≡ length ids → after ≡ Some (readings_after (length ids) given.readings) →
+        AreOpenedAt size runners given.readings → Keeps steps [] → Stand coming sent runners links after steps (together_at_opening size ids given)
+    all_opened after steps each read at none = record {
+      each = λ i r l low.
+          let one = are i r low in
+          let taken = some_value (slice_index_or disks i None) (there i (omega (arith, count, low))) in
+          let server = (slice_index_or runners i r).server in
+          let id = (slice_index_or runners i r).id in
+          let node = slice_index ids i in
+          let moment = next_reading (readings_after i given.readings) in
+          let store = opened_store taken.0 (durable_of server) (given.stored i) (one.opens taken.0 taken.1) (tell.stored_is i taken.0 taken.1) in
+          let within : i < length links = omega (arith, count, each, low) in
+          record {
+            id = one.id_is;
+            server = subst (λ n. StandsFor server (opening n size (store_of (given.stored i)) moment (word_at (next_state node)))) one.id_is
+                (subst (λ s. StandsFor server (opening id size s moment (word_at (next_state node)))) store
+                (subst (λ w. StandsFor server (opening id size (store_of (durable_state (durable_of server))) moment (word_at w))) one.draws (at i r low)));
+            draws = one.draws;
+            coming_is = tell.coming_is i l within;
+            sent_is = tell.sent_is i l within;
+          };
+      readings_are = read;
+      lines = none;
+    }
+
+-- the disks of all tell, after turns too
+pub all_telling : {D F L : Type 0} {disk : Ghosts D} (coming : L → Option (List Received)) (sent : L → Option (List RawFrame)) (ids : List ℕ)
+    (runners now : List (Runner D F disk)) (links : List L) (disks : List (Option D)) (readings : Option (List ℕ)) (given : Given) →
+    AreOpened runners disks ids → length runners ≡ length ids → ((i : ℕ) → i < length ids → IsSome (slice_index_or disks i None)) →
+    Tell coming sent disk links disks readings given → KeepsNodes runners now → AreTelling now
+all_telling coming sent ids runners now links disks readings given are count there tell nodes = λ i r low.
+    let same = nodes.count in
+    let first : i < length runners = omega (arith, same, low) in
+    let taken = some_value (slice_index_or disks i None) (there i (omega (arith, count, first))) in
+    (nodes.each i r r first).tells ∙ (are i r first).tells taken.0 taken.1 ∙ (tell.stored_is i taken.0 taken.1).tells
+
+module _ {D F L : Type 0} {disk : Ghosts D} (coming : L → Option (List Received)) (sent : L → Option (List RawFrame))
+    (durable : (store : Durable D disk) → durable_fault store ≡ None → disk.tells (durable_disk store) ≡ true →
+    AlwaysStandsForState (disk.contents (durable_disk store)) (durable_state store)) where
+  -- the disk of an allocator that was stopped
+  pub holds_store : (runner : Runner D F disk) (all : Together) (i : ℕ) (after : D) → StandsFor runner.server (all.running i).allocator →
+      disk.tells (runner_disk runner) ≡ true → runner_disk runner ≡ after → HoldsStore disk after (all.running i).allocator.raft_server.store
+  holds_store runner all i after is told same = subst (λ d. HoldsStore disk d (all.running i).allocator.raft_server.store) same (record {
+    tells = told;
+    state = durable_state (durable_of runner.server);
+    stands = durable (durable_of runner.server) is.works told;
+    store_is = sym is.member.raft.store;
+  })
+
+  pub leaves_all : (runners : List (Runner D F disk)) (links_before links : List L) (old disks : List (Option D)) (readings : Option (List ℕ))
+      (steps : LastSteps) (count : ℕ) (all : Together) → length runners ≡ count → length links_before ≡ count →
+      Stand coming sent runners links readings steps all → AreTelling runners → AreStopped runners old disks →
+      LeavesAll coming sent disk links disks readings count all
+  leaves_all runners links_before links old disks readings steps count all size each stand telling stopped =
+      let within : (i : ℕ) → i < count → i < length runners = λ i low. omega (arith, size, low) in
+      record {
+        coming_is = λ i link low. (stand.each i (an_item runners i (within i low)) link (within i low)).coming_is;
+        sent_is = λ i link low. (stand.each i (an_item runners i (within i low)) link (within i low)).sent_is;
+        stored_is = λ i after low is.
+            let some = an_item runners i (within i low) in
+            let link = an_item links_before i (omega (arith, each, low)) in
+            holds_store (slice_index_or runners i some) all i after (stand.each i some link (within i low)).server (telling i some (within i low))
+            (some_same (sym (stopped.stopped i some (within i low)) ∙ is));
+        readings_are = stand.readings_are;
+      }

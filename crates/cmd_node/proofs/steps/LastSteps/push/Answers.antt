@@ -1,0 +1,14 @@
+use Rattle.std.proofs.Common.{◌∷◌, [], suc, length, map, ap, ◌∙◌, arith, length-append}
+use Rattle.replay_text.specs.Report.{told_line}
+use Rattle.cmd_node.specs.Kept.{kept_line}
+use Rattle.cmd_node.proofs.Kept.{kept_pushed}
+use Rattle.cmd_node.proofs.steps.LastSteps.push.Goals as goal
+
+pub returns-clause-keeps : goal.returns-clause-keeps
+returns-clause-keeps c = λ lines is.
+    let old = c.args.self.now in
+    record {
+      made = let size = length-append lines (told_line (suc (length lines)) c.args.told ∷ []) in omega (arith, is.made, size);
+      last = ap (λ b. map kept_line b.items) c.push_back.ensures.items
+          ∙ kept_pushed old.ring.capacity old.kept old.ring.items lines old.made c.args.told is.made is.last;
+    }

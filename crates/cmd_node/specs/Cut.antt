@@ -1,0 +1,73 @@
+-- The allocators of a run that did not come to its end.
+use Rattle.std.specs.Prelude.{◌≡◌, ℕ, suc, ◌<◌, ◌⊎◌, List, length, Option, Some, None, true}
+use Rattle.std.specs.Prelude.{slice_index, slice_index_or}
+use Rattle.disk_model.specs.declared.disk.Disk.{Ghosts}
+use Rattle.outside.specs.declared.received.RawFrame.{RawFrame}
+use Rattle.outside.specs.declared.received.Received.{Received}
+use Rattle.raft_core.specs.StoredPuts.{PutWithOrigin}
+use Rattle.raft_model.specs.Server.{Store}
+use Rattle.alloc_server.specs.Server.{StandsFor}
+use Rattle.alloc_spec.specs.AllocatorState.{AllocatorState}
+use Rattle.cmd_node.specs.CutRun.{AreCutTurns, HoldsStoreInPart, IsCutRound}
+use Rattle.cmd_node.specs.Ends.{fault_id}
+use Rattle.cmd_node.specs.Opening.{Given, together_at_opening, readings_after}
+use Rattle.cmd_node.specs.Run.{AreTelling}
+use Rattle.cmd_node.specs.Stands.{AreOpened, runner_disk}
+use Rattle.cmd_node.specs.Taking.{IsOf, IsRefused}
+use Rattle.cmd_node.specs.Turns.{Together}
+use Rattle.cmd_node.specs.WholeRun.{Tell}
+use Rattle.cmd_node.specs.declared.fault.Fault.{Fault}
+use Rattle.cmd_node.specs.declared.runner.Runner.{Runner}
+
+module _ {D F : Type 0} {disk : Ghosts D} (runners : List (Runner D F disk)) where
+  -- the allocator at a place stands for one in time; or, if its disk tells what it holds, that disk holds a store after
+  -- some of the first of some puts
+  abbrev pub StandsAt : ℕ → AllocatorState → Type 0
+  StandsAt i t = (runner : Runner D F disk) → StandsFor (slice_index_or runners i runner).server t
+
+  abbrev pub PutsAt : ℕ → Store → List PutWithOrigin → Type 0
+  PutsAt i store puts = (runner : Runner D F disk) → let after = runner_disk (slice_index_or runners i runner) in
+      disk.tells after ≡ true → HoldsStoreInPart disk after store puts
+
+module _ {D F : Type 0} {disk : Ghosts D} {L : Type 0} (coming : L → Option (List Received))
+    (sent : L → Option (List RawFrame)) (runners : List (Runner D F disk)) (links : List L)
+    (readings : Option (List ℕ)) where
+  -- a run of these allocators was cut off in a turn, and in one after all of them had taken some turns
+  abbrev pub IsCutTurn : Together → Fault → Type 0
+  IsCutTurn all fault = IsCutRound coming sent links readings (length runners) (StandsAt runners) (PutsAt runners)
+      (λ place. IsOf runners place (fault_id fault)) all
+
+  abbrev pub AreCutAfterTurns : ℕ → Together → Fault → Type 0
+  AreCutAfterTurns turns all fault = AreCutTurns coming sent links readings (length runners) (StandsAt runners)
+      (PutsAt runners) (λ place. IsOf runners place (fault_id fault)) turns all
+
+module _ {D F : Type 0} {disk : Ghosts D} {L : Type 0} (coming : L → Option (List Received))
+    (sent : L → Option (List RawFrame)) (size turns : ℕ) (ids : List ℕ) (runners : List (Runner D F disk))
+    (links_old links : List L) (disks_old disks : List (Option D)) (readings_old readings : Option (List ℕ))
+    (fault : Fault) where
+  -- a run was cut off at the opening of the next one: those so far were opened, its disk is back, and no link was
+  -- touched
+  pub record IsCutOpening : Type 0 where
+    pub within : length runners < length ids
+    pub id_is : slice_index ids (length runners) ≡ fault_id fault
+    pub untouched : links ≡ links_old
+    pub readings_are : (told : List ℕ) → readings_old ≡ Some told →
+        readings ≡ Some (readings_after (suc (length runners)) told)
+    pub opened : AreOpened runners disks_old ids
+    pub refused : let place = length runners in IsRefused disk (slice_index_or disks_old place None)
+        (slice_index_or disks place None) (slice_index ids place) fault
+    pub behind : (i : ℕ) → length runners < i → slice_index_or disks i None ≡ slice_index_or disks_old i None
+
+  -- all were opened, and a run was cut off in a turn; this is said where links, disks and the clock tell what they have
+  pub record IsCutTurning : Type 0 where
+    pub all : length runners ≡ length ids
+    pub ids_are : (i : ℕ) (runner : Runner D F disk) → i < length runners →
+        (slice_index_or runners i runner).id ≡ slice_index ids i
+    pub telling : (given : Given) → Tell coming sent disk links_old disks_old readings_old given →
+        AreTelling runners
+    pub cut : (given : Given) → Tell coming sent disk links_old disks_old readings_old given →
+        AreCutAfterTurns coming sent runners links readings turns (together_at_opening size ids given) fault
+
+  -- a run was cut off, at an opening or in a turn
+  abbrev pub IsCut : Type 0
+  IsCut = IsCutOpening ⊎ IsCutTurning

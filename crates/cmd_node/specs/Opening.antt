@@ -1,0 +1,43 @@
+-- How the allocators are opened: in order, each with one reading of the clock and one word.
+use Rattle.std.specs.Prelude.{ℕ, zero, suc, List, [], length, slice_index}
+use Rattle.outside.specs.declared.received.RawFrame.{RawFrame}
+use Rattle.outside.specs.declared.received.Received.{Received}
+use Rattle.outside.specs.Readings.{next_reading, readings_behind}
+use Rattle.cmd_base.specs.Draws.{next_state, word_at}
+use Rattle.raft_core.specs.StoredPuts.{store_of}
+use Rattle.raft_log.specs.Stored.{Stored}
+use Rattle.alloc_spec.specs.AllocatorState.{opening}
+use Rattle.cmd_node.specs.Turn.{Running}
+use Rattle.cmd_node.specs.Turns.{Together}
+
+-- what is handed in: by place the state that a disk stands for, the items that come on a link, and what was sent there
+-- before; and the readings of the clock
+pub record Given : Type 0 where
+  pub stored : ℕ → Stored
+  pub coming : ℕ → List Received
+  pub sent : ℕ → List RawFrame
+  pub readings : List ℕ
+
+-- the readings still to come after so many
+abbrev pub readings_after : ℕ → List ℕ → List ℕ
+readings_after zero readings = readings
+readings_after (suc count) readings = readings_behind (readings_after count readings)
+
+-- the generator of an allocator's words stands at its node ID before the first
+abbrev pub opened_at : ℕ → List ℕ → Given → ℕ → Running
+opened_at size ids given place = let id = slice_index ids place in let state = next_state id in record {
+  id = id;
+  allocator = opening id size (store_of (given.stored place))
+      (next_reading (readings_after place given.readings)) (word_at state);
+  draws = state;
+  coming = given.coming place;
+  sent = given.sent place;
+}
+
+-- the allocators of these nodes, of a cluster of a size, opened and before their first turn
+abbrev pub together_at_opening : ℕ → List ℕ → Given → Together
+together_at_opening size ids given = record {
+  running = opened_at size ids given;
+  readings = readings_after (length ids) given.readings;
+  lines = [];
+}

@@ -1,0 +1,76 @@
+-- One turn of an allocator on its link: a step at its clock, the next item of its link, and the next frame of its
+-- queue.
+use Rattle.std.specs.Prelude.{ℕ, suc, List, [], ◌∷◌, ◌++◌, length, Option, Some, None}
+use Rattle.outside.specs.declared.received.RawFrame.{RawFrame}
+use Rattle.outside.specs.declared.received.Received.{Received}
+use Rattle.outside.specs.Traffic.{items_behind, next_item}
+use Rattle.cmd_base.specs.Draws.{next_state, word_at}
+use Rattle.alloc_spec.specs.Delivered.{StepResult}
+use Rattle.alloc_spec.specs.Step.{Event, Tick, after_pop, step}
+use Rattle.alloc_spec.specs.AllocatorState.{AllocatorState, view_of}
+use Rattle.transfer_tx.specs.Queue.{Queued, next_out}
+use Rattle.cluster_spec.specs.Report.{line_of_view}
+use Rattle.cluster_spec.specs.ReportLine.{text_of_line}
+use Rattle.cmd_node.specs.Frames.{event_in, raw_of}
+
+-- an allocator that runs: its server, where the generator of its words stands, the items that its link still has
+-- for it, and the frames that were sent there
+pub record Running : Type 0 where
+  pub id : ℕ
+  pub allocator : AllocatorState
+  pub draws : ℕ
+  pub coming : List Received
+  pub sent : List RawFrame
+
+-- the one whose turn it is, and the lines of the steps that all have made so far, in order
+pub record Turning : Type 0 where
+  pub running : Running
+  pub lines : List (List ℕ)
+
+-- the line of a step: the numbers are those after the step, before a frame goes out
+abbrev pub step_line : ℕ → ℕ → StepResult → List ℕ
+step_line number id step_result =
+    text_of_line number (line_of_view id (view_of step_result.step_state.allocator) step_result)
+
+-- what a step came to, with its line behind all others
+abbrev pub after_step : ℕ → StepResult → Turning → Turning
+after_step number step_result t = record {
+  running = record t.running { allocator = step_result.step_state.allocator };
+  lines = t.lines ++ step_line number t.running.id step_result ∷ [];
+}
+
+-- the next step: they are numbered from 1, over all allocators
+abbrev pub turn_after_step : Event → Turning → Turning
+turn_after_step event t =
+    let number = suc (length t.lines) in after_step number (step t.running.allocator number event) t
+
+-- the allocator reads its clock, with the next word
+abbrev pub turn_after_tick : ℕ → Turning → Turning
+turn_after_tick moment t = let state = next_state t.running.draws in
+    turn_after_step (Tick moment (word_at state)) (record t { running = record t.running { draws = state } })
+
+abbrev pub turn_after_taking : Option Event → Turning → Turning
+turn_after_taking None t = t
+turn_after_taking (Some event) t = turn_after_step event t
+
+-- the next item of its link is taken, and a step is made of it where it is a frame
+abbrev pub turn_after_hearing : ℕ → Turning → Turning
+turn_after_hearing moment t = turn_after_taking (event_in moment (next_item t.running.coming))
+    (record t { running = record t.running { coming = items_behind t.running.coming } })
+
+abbrev pub turn_after_frame : Option Queued → Turning → Turning
+turn_after_frame None t = t
+turn_after_frame (Some frame) t = record t {
+  running = record t.running {
+    allocator = after_pop t.running.allocator;
+    sent = t.running.sent ++ raw_of frame ∷ [];
+  };
+}
+
+-- the next frame of its queue is sent, if there is one
+abbrev pub turn_after_sending : Turning → Turning
+turn_after_sending t = turn_after_frame (next_out t.running.allocator.queue) t
+
+-- a turn, all of it at one reading of the clock
+unfoldable pub turn : ℕ → Turning → Turning
+turn moment t = turn_after_sending (turn_after_hearing moment (turn_after_tick moment t))

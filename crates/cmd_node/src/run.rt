@@ -1,0 +1,176 @@
+ghost use Rattle.std.specs.Prelude.{◌≡◌, ◌<◌, ◌≤◌, ◌⊎◌, ℕ, List, [], length, slice_index_or};
+ghost use Rattle.std.specs.Prelude.{IfErr, IsSome, OnOk};
+ghost use Rattle.std.specs.Io.KnownBytes.{Appends};
+ghost use Rattle.outside.specs.Faults.{Rose};
+ghost use Rattle.cmd_base.specs.Output.{WritesFront};
+ghost use Rattle.alloc_spec.specs.Accepted as accepted;
+ghost use Rattle.transfer_rx.specs.Acceptance.{AnswersByRows, first_signature};
+ghost use Rattle.transfer_rx.specs.Memory.{ReceiverFitsInMemory};
+ghost use Rattle.cluster_spec.specs.Cluster.{AreMembers};
+ghost use Rattle.cmd_node.specs.Cut.{IsCut};
+ghost use Rattle.cmd_node.specs.Opening.{Given};
+ghost use Rattle.cmd_node.specs.Ends.{end_status, fault_status};
+ghost use Rattle.cmd_node.specs.Nodes.{RunsNodes};
+ghost use Rattle.cmd_node.specs.Quiet.{RunQuietly};
+ghost use Rattle.cmd_node.specs.Report.{line_of, report};
+ghost use Rattle.cmd_node.specs.Run.{AreTelling, HasRun};
+ghost use Rattle.cmd_node.specs.Runners.{accepts, runners_of};
+ghost use Rattle.cmd_node.specs.Stands.{Stand};
+ghost use Rattle.cmd_node.specs.Steps.{Keeps, steps_made};
+ghost use Rattle.cmd_node.specs.WholeRun.{Tell, after_turns};
+
+use crate::fault::Fault;
+use crate::runners::Runners;
+use crate::steps::LastSteps;
+use can_frame::Kind;
+use cmd_base::{Output, Status};
+use disk_model::Disk;
+use disk_model::laws::calls_that_succeed_count_no_fault;
+use outside::{Clock, Failed, Link, Sink};
+use raft_log::laws::{a_state_is_durable, an_image_stands_for_one_state, an_opening_goes_on};
+use std::alloc::Global;
+
+/// Runs the allocators of these nodes, of a cluster of `size` members: each on the disk and the link at
+/// its place. Each is opened, takes `turns` turns, and is stopped; its disk is put back. The report goes
+/// to the sink at the end.
+///
+/// `LinkFault`, `DiskFault` and `WriteFault` come only where the link or the disk of that node, or the
+/// sink, counted a fault; `Damaged` where the store of that node is damaged, first at that key, before
+/// any turn. Then one line is all that is written, what was sent is a beginning of what a run to its end
+/// sends, and each store that was opened holds what it then held. At most one link or disk counts a
+/// fault, and the status names it, unless the sink fails too. Where nothing fails it comes to `Done` or
+/// `Damaged`; where the disks tell what they hold, a damaged one ends the run so, and without one it comes to
+/// `Done`. All memory is taken before anything else, that for the last steps at the end: with `Memory` nothing
+/// was touched.
+pub fn node<K: Sink, L: Link, D: Disk, C: Clock>(
+    alloc: Global,
+    size: u8,
+    turns: u64,
+    ids: &[u8],
+    sink: &mut K,
+    links: &mut [L],
+    disks: &mut [Option<D>],
+    clock: &mut C,
+) -> Status
+    requires some { 1 ≤ size }
+    requires five { size ≤ 5 }
+    requires turns { turns ≤ 1000000000 }
+    requires members { AreMembers ids.now }
+    requires links { length links.old ≡ length ids.now }
+    requires disks { length disks.old ≡ length ids.now }
+    requires present { (i : ℕ) → i < length ids.now → IsSome (slice_index_or disks.old i None) }
+    ensures untouched { result ≡ Status.Memory → (sink.new ≡ sink.old) × (links.new ≡ links.old) ×
+        (disks.new ≡ disks.old) × (clock.new ≡ clock.old) }
+    ensures write_fault { result ≡ Status.WriteFault →
+        Rose (K.faults sink.old) (K.faults sink.new) }
+    ensures kept { (result ≡ Status.WriteFault) ⊎ (K.faults sink.new ≡ K.faults sink.old) }
+    // What it leaves and writes, by its status.
+    ensures runs { RunsNodes L.coming L.sent L.faults D.Disk size turns ids.now links.old links.new
+        disks.old disks.new (C.readings clock.old) (C.readings clock.new) (K.faults sink.old)
+        (K.faults sink.new) (K.written sink.old) (K.written sink.new) result }
+{
+    a_state_is_durable::<D>();
+    an_image_stands_for_one_state();
+    an_opening_goes_on();
+    let Some(mut runners) = Runners::new(alloc, accept) else {
+        return Status::Memory;
+    };
+    let Some(mut steps) = LastSteps::new(alloc) else {
+        runners.discard();
+        return Status::Memory;
+    };
+    let ended = run_all(
+        size,
+        turns,
+        ids,
+        &mut runners,
+        links,
+        disks,
+        clock,
+        &mut steps,
+    );
+    runners.stop(disks);
+    finish(ended, turns, steps, sink)
+}
+
+/// What an allocator receives: `alloc_server::accept`, under a name of this crate.
+fn accept(kind: Kind, number: u16) -> Option<u64>
+    ensures { result ≡ first_signature accepted.rows kind number }
+{
+    alloc_server::accept(kind, number)
+}
+
+/// Opens the servers of all nodes, and lets them take their turns.
+fn run_all<F: Fn(Kind, u16) -> Option<u64> + Copy, L: Link, D: Disk, C: Clock>(
+    size: u8,
+    turns: u64,
+    ids: &[u8],
+    runners: &mut Runners<D, F>,
+    links: &mut [L],
+    disks: &mut [Option<D>],
+    clock: &mut C,
+    steps: &mut LastSteps,
+) -> Result<(), Fault>
+    requires memory { ReceiverFitsInMemory F.row 160 128 }
+    requires callable { F.IsAlwaysCallable (accepts runners.old) }
+    requires answers { AnswersByRows (F.post (accepts runners.old)) accepted.rows }
+    requires some { 1 ≤ size }
+    requires five { size ≤ 5 }
+    requires turns { turns ≤ 1000000000 }
+    requires members { AreMembers ids.now }
+    requires links { length links.old ≡ length ids.now }
+    requires disks { length disks.old ≡ length ids.now }
+    requires present { (i : ℕ) → i < length ids.now → IsSome (slice_index_or disks.old i None) }
+    requires none { runners_of runners.old ≡ [] }
+    requires first { steps_made steps.old ≡ 0 }
+    requires keeps { Keeps steps.old [] }
+    ensures run { HasRun L.faults ids.now disks.old disks.new links.old links.new
+        (runners_of runners.new) result }
+    ensures all { OnOk result (length (runners_of runners.new) ≡ length ids.now) }
+    ensures stands { OnOk result ((given : Given) → Tell L.coming L.sent D.Disk links.old disks.old
+        (C.readings clock.old) given → Stand L.coming L.sent (runners_of runners.new) links.new
+        (C.readings clock.new) steps.new (after_turns size turns ids.now given)) }
+    ensures cut { IfErr result (IsCut L.coming L.sent size turns ids.now (runners_of runners.new)
+        links.old links.new disks.old disks.new (C.readings clock.old) (C.readings clock.new)) }
+    ensures tells { OnOk result ((given : Given) → Tell L.coming L.sent D.Disk links.old disks.old
+        (C.readings clock.old) given → AreTelling (runners_of runners.new)) }
+    ensures quiet { RunQuietly L.faults ids.now disks.old disks.new links.old links.new
+        (runners_of runners.new) result }
+{
+    calls_that_succeed_count_no_fault::<D>();
+    an_image_stands_for_one_state();
+    an_opening_goes_on();
+    match runners.open_all(size, ids, disks, clock) {
+        Ok(()) => runners.take_turns(turns, links, clock, steps),
+        Err(fault) => Err(fault),
+    }
+}
+
+/// Writes what a run leaves, and gives its status.
+fn finish<K: Sink>(ended: Result<(), Fault>, turns: u64, steps: LastSteps, sink: &mut K) -> Status
+    ensures write_fault { result ≡ Status.WriteFault →
+        Rose (K.faults sink.old) (K.faults sink.new) }
+    ensures end { (result ≡ Status.WriteFault) ⊎ (result ≡ end_status ended) }
+    ensures kept { (result ≡ Status.WriteFault) ⊎ (K.faults sink.new ≡ K.faults sink.old) }
+    ensures report { OnOk ended ((lines : List (List ℕ)) → Keeps steps lines →
+        (result ≡ Status.WriteFault) ⊎
+        Appends (K.written sink.old) (K.written sink.new) (report turns lines)) }
+    ensures line { IfErr ended (λ fault. (result ≡ Status.WriteFault) ⊎
+        Appends (K.written sink.old) (K.written sink.new) (line_of (fault_status fault))) }
+    ensures report_in_part { result ≡ Status.WriteFault → OnOk ended ((lines : List (List ℕ)) →
+        Keeps steps lines →
+        WritesFront (K.written sink.old) (K.written sink.new) (report turns lines)) }
+    ensures line_in_part { result ≡ Status.WriteFault → IfErr ended (λ fault.
+        WritesFront (K.written sink.old) (K.written sink.new) (line_of (fault_status fault))) }
+{
+    match ended {
+        Ok(()) => match steps.write(turns, sink) {
+            Ok(()) => Status::Done,
+            Err(Failed) => Status::WriteFault,
+        },
+        Err(fault) => match Output::new().last(sink, fault.line().as_bytes()) {
+            Ok(()) => fault.status(),
+            Err(Failed) => Status::WriteFault,
+        },
+    }
+}

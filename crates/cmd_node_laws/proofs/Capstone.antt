@@ -1,0 +1,197 @@
+-- A run of `node` in a trace from the beginning.
+use Rattle.std.proofs.Common.{◌≡◌, ℕ, ◌<◌, Bool, true, false, List, [], ◌∷◌, ◌++◌, length, append_assoc, append-nil, refl, sym, ap, subst, ◌∙◌, arith, Option, Some, inl, inr}
+use Rattle.std.specs.Prelude.{◌==◌, slice_index, if◌then◌else◌}
+use Rattle.std.proofs.lemmas.Bool.Decides.{eqb_tells}
+use Rattle.disk_model.specs.declared.disk.Disk.{Ghosts}
+use Rattle.outside.specs.declared.received.RawFrame.{RawFrame}
+use Rattle.outside.specs.declared.received.Received.{Received}
+use Rattle.raft_core.specs.StoredPuts.{PutWithOrigin, store_of, stored_puts}
+use Rattle.raft_model.specs.Lists.{In}
+use Rattle.raft_model.specs.Members.{HasNoneTwice}
+use Rattle.replay_text.specs.declared.row.Row.{Row}
+use Rattle.cluster_spec.specs.Cluster.{AreMembers, Cluster, after_rows, cluster, is_member}
+use Rattle.cluster_spec.specs.Members.{is_running}
+use Rattle.cmd_node.specs.Opening.{Given}
+use Rattle.cmd_node.specs.CutRun.{HoldsStoreInPart, IsCutAtTurn}
+use Rattle.cmd_node.specs.Puts.{tick_puts, turn_puts}
+use Rattle.cmd_node.specs.Turn.{Running, Turning as Turn}
+use Rattle.cmd_node.specs.Turns.{Together, turning_at}
+use Rattle.outside.specs.Readings.{next_reading}
+use Rattle.outside.specs.Traffic.{next_item}
+use Rattle.raft_log.specs.Rules.{StandsForState}
+use Rattle.raft_log.specs.Stored.{AfterSome, Stored}
+use Rattle.cmd_node.specs.WholeRun.{HoldsStore, LeavesAll, after_turns}
+use Rattle.cmd_node_laws.specs.Traces.{Came, Event, MayAllHappen, Silence, all_rows, rows_of}
+use Rattle.cmd_node_laws.specs.Mirrored.{AreCalm, Carries, IsMirrored, raw_by}
+use Rattle.cmd_node_laws.specs.Processes.{GoesOn, Point, StandAt, place_of, together_at}
+use Rattle.cmd_node_laws.specs.Processes as at_point
+use Rattle.cmd_node_laws.specs.Stands.{IsCutAsTold, IsFollowed, IsFoundKilled, IsRunIn, LeavesAsTold, MayBeKilled, world_after}
+use Rattle.cmd_node_laws.proofs.Final.{at_place, same_ids_of}
+use Rattle.cmd_node_laws.proofs.Places.{after_both}
+use Rattle.cmd_node_laws.proofs.Running.{ids_of, ids_then}
+
+pub record FollowLaws : Type 0 where
+  pub killed : (w : Cluster) (t : Turn) (moment : ℕ) (came : Came) (image : List ℕ) (state : Stored) → AreCalm w → IsMirrored w t.running
+      → store_of (w.member t.running.id).disk.store ≡ store_of state → AfterSome (StandsForState image) (stored_puts (turn_puts moment t) state) state
+      → Carries w.frames (next_item t.running.coming) came → MayBeKilled w t.running moment came → IsFoundKilled image w t.running moment came
+  pub calm : (ids : List ℕ) (trace : List Event) → MayAllHappen trace (cluster ids) → AreCalm (world_after ids trace)
+  pub followed : (mine : List ℕ) (given : Given) (w : Cluster) (trace : List Event) (from to : Point) → HasNoneTwice mine → AreCalm w → place_of from < length mine
+      → MayAllHappen trace w → GoesOn (length w.ids) mine given w trace from to → StandAt (length w.ids) mine given w from → (i : ℕ) → i < length mine
+      → IsFollowed (length w.ids) mine given w (after_rows w (all_rows trace w)) from to (λ n. raw_by n w (all_rows trace w)) i
+  pub stored : (ids : List ℕ) (trace : List Event) (r : Running) → AreMembers ids → MayAllHappen trace (cluster ids) → In r.id ids
+      → let w = world_after ids trace in IsMirrored w r → store_of (w.member r.id).disk.store ≡ r.allocator.raft_server.store
+
+-- ---- a trace behind another
+
+rows_both : (first rest : List Event) (w : Cluster) → all_rows (first ++ rest) w ≡ all_rows first w ++ all_rows rest (after_rows w (all_rows first w))
+rows_both [] rest w = refl
+rows_both (event ∷ first) rest w =
+    ap (λ (l : List Row). rows_of event w ++ l) (rows_both first rest v)
+    ∙ sym (append_assoc (rows_of event w) (all_rows first v) (all_rows rest (after_rows v (all_rows first v))))
+    ∙ ap (λ (u : Cluster). (rows_of event w ++ all_rows first v) ++ all_rows rest u) (sym (after_both w (rows_of event w) (all_rows first v)))
+  where
+    v : Cluster
+    v = after_rows w (rows_of event w)
+
+world_both : (ids : List ℕ) (before during : List Event) → world_after ids (before ++ during) ≡ after_rows (world_after ids before) (all_rows during (world_after ids before))
+world_both ids before during = ap (after_rows (cluster ids)) (rows_both before during (cluster ids)) ∙ after_both (cluster ids) (all_rows before (cluster ids)) (all_rows during (world_after ids before))
+
+may_first : (first rest : List Event) (w : Cluster) → MayAllHappen (first ++ rest) w → MayAllHappen first w
+may_first [] rest w may = tt
+may_first (event ∷ first) rest w may = (may.0, may_first first rest (after_rows w (rows_of event w)) may.1)
+
+may_rest : (first rest : List Event) (w : Cluster) → MayAllHappen (first ++ rest) w → MayAllHappen rest (after_rows w (all_rows first w))
+may_rest [] rest w may = may
+may_rest (event ∷ first) rest w may =
+    subst (MayAllHappen rest) (sym (after_both w (rows_of event w) (all_rows first (after_rows w (rows_of event w))))) (may_rest first rest (after_rows w (rows_of event w)) may.1)
+
+module _ (laws : FollowLaws) (ids mine : List ℕ) (before during : List Event) (size : ℕ) (given : Given) (to : Point) (is : IsRunIn ids before during size mine given to) where
+  abbrev w : Cluster
+  w = world_after ids before
+
+  abbrev v : Cluster
+  v = world_after ids (before ++ during)
+
+  size_is : length w.ids ≡ size
+  size_is = ap length (same_ids_of ids (all_rows before (cluster ids))) ∙ sym is.size_is
+
+  followed : (i : ℕ) → i < length mine → IsFollowed size mine given w v (at_point.Opening 0) to (λ n. raw_by n w (all_rows during w)) i
+  followed i low =
+      subst (λ (u : Cluster). IsFollowed size mine given w u (at_point.Opening 0) to (λ n. raw_by n w (all_rows during w)) i) (sym (world_both ids before during))
+      (subst (λ (count : ℕ). GoesOn count mine given w during (at_point.Opening 0) to → StandAt count mine given w (at_point.Opening 0)
+      → IsFollowed count mine given w (after_rows w (all_rows during w)) (at_point.Opening 0) to (λ n. raw_by n w (all_rows during w)) i) size_is
+      (λ goes stand. laws.followed mine given w during (at_point.Opening 0) to is.once (laws.calm ids before (may_first before during (cluster ids) is.may)) (let h : 0 < length mine = omega (arith, is.some) in h)
+      (may_rest before during (cluster ids) is.may) goes stand i low) is.goes stands)
+    where
+      stands : StandAt size mine given w (at_point.Opening 0)
+      stands i h = (λ e. absurd (omega (arith, e)), λ e. is.waiting i h)
+
+  -- what a member that is in a turn has stored
+  pub stored_there : (r : Running) (i : ℕ) → i < length mine → r.id ≡ slice_index mine i → IsMirrored v r → r.allocator.raft_server.store ≡ store_of (v.member (slice_index mine i)).disk.store
+  stored_there r i low e mirrored =
+      sym (laws.stored ids (before ++ during) r is.members is.may (subst (λ (n : ℕ). In n ids) (sym e) (is.among (slice_index mine i) (at_place mine i low))) mirrored)
+      ∙ ap (λ (n : ℕ). store_of (v.member n).disk.store) e
+
+-- ---- a turn in which nothing comes
+
+abbrev in_silence : Turn → Turn
+in_silence t = record t { running = record t.running { coming = [] } }
+
+silent_puts : (moment : ℕ) (t : Turn) → turn_puts moment (in_silence t) ≡ tick_puts moment t
+unfolding turn_puts
+silent_puts moment t = append-nil (tick_puts moment t)
+
+is_listed : (ids : List ℕ) (n : ℕ) → In n ids → is_member ids n ≡ true
+is_listed [] n listed = absurd listed
+is_listed (id ∷ ids) n (inl e) = elim (eqb_tells id n) [
+  | inl same ↦ ap (λ (b : Bool). if b then true else is_member ids n) same.0
+  | inr apart ↦ absurd (apart.1 (sym e))
+]
+is_listed (id ∷ ids) n (inr rest) = either (id == n) (is_listed ids n rest)
+  where
+    either : (b : Bool) → is_member ids n ≡ true → (if b then true else is_member ids n) ≡ true
+    either true e = refl
+    either false e = e
+
+module _ (laws : FollowLaws) {L D : Type 0} (coming : L → Option (List Received)) (sent : L → Option (List RawFrame)) (disk : Ghosts D) where
+  pub left_as_told : (ids mine : List ℕ) (before during : List Event) (size turns : ℕ) (given : Given) (links : List L) (disks : List (Option D)) (readings : Option (List ℕ))
+      → IsRunIn ids before during size mine given (at_point.Turning turns 0) → LeavesAll coming sent disk links disks readings (length mine) (after_turns size turns mine given)
+      → let w = world_after ids before in LeavesAsTold sent disk links disks mine given w (world_after ids (before ++ during)) (all_rows during w)
+  left_as_told ids mine before during size turns given links disks readings is left = record {
+    sent_is = λ i link low. left.sent_is i link low ∙ ap (λ (l : List RawFrame). some l) (follow i low).frames;
+    stored_is = λ i after low there. subst (HoldsStore disk after) (stored_there laws ids mine before during size given to is (now i) i low (same_id i) (follow i low).stands) (left.stored_is i after low there);
+  }
+    where
+      to : Point
+      to = at_point.Turning turns 0
+
+      now : ℕ → Running
+      now i = (after_turns size turns mine given).running i
+
+      some : List RawFrame → Option (List RawFrame)
+      some l = Some l
+
+      follow : (i : ℕ) → i < length mine → IsFollowed size mine given (world_after ids before) (world_after ids (before ++ during)) (at_point.Opening 0) to (λ n. raw_by n (world_after ids before) (all_rows during (world_after ids before))) i
+      follow i low = followed laws ids mine before during size given to is i low
+
+      same_id : (i : ℕ) → (now i).id ≡ slice_index mine i
+      same_id i = ids_of mine given size turns i
+
+  pub cut_as_told : (ids mine : List ℕ) (before during : List Event) (size taken place : ℕ) (given : Given) (links : List L) (disks : List (Option D)) (readings : Option (List ℕ))
+      → place < length mine → IsRunIn ids before during size mine given (at_point.Turning taken place) → let all = together_at size mine given taken place in
+      IsCutAtTurn coming sent disk links disks readings (length mine) all place
+      → let w = world_after ids before in IsCutAsTold coming sent disk links disks mine given w (world_after ids (before ++ during)) (all_rows during w) all place
+  cut_as_told ids mine before during size taken place given links disks readings within is left = record {
+    sent_is = λ i link low. left.sent_is i link low ∙ ap (λ (l : List RawFrame). some l) (follow i low).frames;
+    stored_is = λ i after low apart there. subst (HoldsStore disk after) (stored_now i low) (left.stored_is i low apart after there);
+    killed = λ link after image there leaves. elim (left.own_is link) [
+      | inl h ↦ let part = h.1 after there in inl (
+        h.0,
+        laws.killed v (in_silence t) moment Silence image part.state calm (record { server = mirrored.server; runs = mirrored.runs; same = mirrored.same }) (stored_as part)
+            (subst (λ (puts : List PutWithOrigin). AfterSome (StandsForState image) (stored_puts puts part.state) part.state) (sym (silent_puts moment t)) (part.stands image leaves))
+            tt (λ puts. (record { member = listed; runs = ap is_running mirrored.runs }, λ still. tt)),
+      )
+      | inr h ↦ let part = h.1 after there in inr (h.0, λ came carries may. laws.killed v t moment came image part.state calm mirrored (stored_as part) (part.stands image leaves) carries may)
+    ];
+  }
+    where
+      to : Point
+      to = at_point.Turning taken place
+
+      all : Together
+      all = together_at size mine given taken place
+
+      v : Cluster
+      v = world_after ids (before ++ during)
+
+      some : List RawFrame → Option (List RawFrame)
+      some l = Some l
+
+      follow : (i : ℕ) → i < length mine → IsFollowed size mine given (world_after ids before) v (at_point.Opening 0) to (λ n. raw_by n (world_after ids before) (all_rows during (world_after ids before))) i
+      follow i low = followed laws ids mine before during size given to is i low
+
+      same_id : (i : ℕ) → (all.running i).id ≡ slice_index mine i
+      same_id i = ids_then mine given size taken place i
+
+      stored_now : (i : ℕ) → i < length mine → (all.running i).allocator.raft_server.store ≡ store_of (v.member (slice_index mine i)).disk.store
+      stored_now i low = stored_there laws ids mine before during size given to is (all.running i) i low (same_id i) (follow i low).stands
+
+      t : Turn
+      t = turning_at place all
+
+      moment : ℕ
+      moment = next_reading all.readings
+
+      calm : AreCalm v
+      calm = laws.calm ids (before ++ during) is.may
+
+      mirrored : IsMirrored v (all.running place)
+      mirrored = (follow place within).stands
+
+      stored_as : {after : D} {puts : List PutWithOrigin} (part : HoldsStoreInPart disk after (all.running place).allocator.raft_server.store puts)
+          → store_of (v.member (all.running place).id).disk.store ≡ store_of part.state
+      stored_as part = ap (λ (n : ℕ). store_of (v.member n).disk.store) (same_id place) ∙ sym (stored_now place within) ∙ sym part.store_is
+
+      listed : is_member v.ids (all.running place).id ≡ true
+      listed = ap (λ (l : List ℕ). is_member l (all.running place).id) (same_ids_of ids (all_rows (before ++ during) (cluster ids)))
+          ∙ is_listed ids (all.running place).id (subst (λ (n : ℕ). In n ids) (sym (same_id place)) (is.among (slice_index mine place) (at_place mine place within)))

@@ -1,0 +1,99 @@
+-- What holds of a trace under its premises.
+use Rattle.std.specs.Prelude.{◌≡◌, ℕ, ◌<◌, ◌≤◌, ◌⊎◌, List, ◌++◌, length, Option, None, Some, slice_index, slice_index_or}
+use Rattle.disk_model.specs.declared.disk.Disk.{Ghosts}
+use Rattle.disk_model.specs.Contents.{MayLeave}
+use Rattle.outside.specs.declared.received.RawFrame.{RawFrame}
+use Rattle.outside.specs.declared.received.Received.{Received}
+use Rattle.outside.specs.Readings.{next_reading}
+use Rattle.outside.specs.Traffic.{items_behind, next_item}
+use Rattle.cmd_base.specs.Draws.{next_state, word_at}
+use Rattle.raft_core.specs.StoredPuts.{store_of}
+use Rattle.raft_log.specs.Rules.{StandsForState}
+use Rattle.raft_log.specs.Stored.{Stored}
+use Rattle.raft_model.specs.Lists.{In}
+use Rattle.raft_model.specs.Members.{HasNoneTwice}
+use Rattle.replay_text.specs.declared.row.Row.{Row}
+use Rattle.cluster_spec.specs.Cluster.{AreMembers, Cluster, after_rows, cluster}
+use Rattle.cluster_spec.specs.Members.MemberStatus.{Down}
+use Rattle.cmd_node.specs.Opening.{Given}
+use Rattle.cmd_node.specs.Turn.{Running}
+use Rattle.cmd_node.specs.Turns.{Together}
+use Rattle.cmd_node.specs.WholeRun.{HoldsStore}
+use Rattle.cmd_node_laws.specs.Traces.{Came, Event, IsKilled, MayAllHappen, MayHappen, Silence, all_rows, rows_of}
+use Rattle.cmd_node_laws.specs.Mirrored.{Carries, raw_by}
+use Rattle.cmd_node_laws.specs.Processes.{GoesOn, IsWaiting, Opening, Point, StandsAt, running_at}
+
+-- the world of a trace
+abbrev pub world_after : List ℕ → List Event → Cluster
+world_after ids trace = after_rows (cluster ids) (all_rows trace (cluster ids))
+
+-- A process went from one point to another, and the world from one to another. The member at a place is in the world
+-- what it is in the process, and its link was sent what the member of the world sent.
+pub record IsFollowed (size : ℕ) (mine : List ℕ) (given : Given) (w v : Cluster) (from to : Point)
+    (sent : ℕ → List RawFrame) (i : ℕ) : Type 0 where
+  pub stands : StandsAt size mine given v to i
+  pub frames : (running_at size mine given to i).sent
+      ≡ (running_at size mine given from i).sent ++ sent (slice_index mine i)
+
+-- a member is stopped, with what an image stands for
+pub record IsFound (image : List ℕ) (w : Cluster) (n : ℕ) : Type 0 where
+  pub down : (w.member n).status ≡ Down
+  pub found : Stored
+  pub stands : StandsForState image found
+  pub same : store_of (w.member n).disk.store ≡ store_of found
+
+-- ---- a run of `node` in a trace
+
+-- The run of these members stands in the trace of a cluster: some events came before it, and some while it went on to a
+-- point. Its members were stopped when it began, and had stored what was handed in.
+pub record IsRunIn (ids : List ℕ) (before during : List Event) (size : ℕ) (mine : List ℕ) (given : Given) (to : Point)
+    : Type 0 where
+  pub members : AreMembers ids
+  pub size_is : size ≡ length ids
+  pub some : 1 ≤ length mine
+  pub once : HasNoneTwice mine
+  pub among : (n : ℕ) → In n mine → In n ids
+  pub may : MayAllHappen (before ++ during) (cluster ids)
+  pub waiting : (i : ℕ) → i < length mine → IsWaiting size mine given (world_after ids before) i
+  pub goes : GoesOn size mine given (world_after ids before) during (Opening 0) to
+
+-- Each link was sent, behind what it was sent before, what these rows send of its member; and whatever a stop leaves of
+-- each disk stands for what the member has stored in the world.
+pub record LeavesAsTold {L D : Type 0} (sent : L → Option (List RawFrame)) (disk : Ghosts D) (links : List L)
+    (disks : List (Option D)) (mine : List ℕ) (given : Given) (w v : Cluster) (rows : List Row) : Type 0 where
+  pub sent_is : (i : ℕ) (link : L) → i < length mine →
+      sent (slice_index_or links i link) ≡ Some (given.sent i ++ raw_by (slice_index mine i) w rows)
+  pub stored_is : (i : ℕ) (after : D) → i < length mine → slice_index_or disks i None ≡ Some after →
+      HoldsStore disk after (store_of (v.member (slice_index mine i)).disk.store)
+
+-- the event of its next turn, in which it is killed after so many puts
+abbrev pub kill_of : Running → ℕ → Came → ℕ → Event
+kill_of r moment came puts = IsKilled r.id moment (word_at (next_state r.draws)) came puts
+
+-- for some number of puts it leaves the member with what the image stands for
+abbrev pub IsFoundKilled : List ℕ → Cluster → Running → ℕ → Came → Type 0
+IsFoundKilled image w r moment came =
+    (puts : ℕ) × IsFound image (after_rows w (rows_of (kill_of r moment came puts) w)) r.id
+
+-- the premises hold of it
+abbrev pub MayBeKilled : Cluster → Running → ℕ → Came → Type 0
+MayBeKilled w r moment came = (puts : ℕ) → MayHappen (kill_of r moment came puts) w
+
+-- A run was cut off in a turn of the member at a place, when all stood like this: each link was sent what the members
+-- of the world sent by then, and each other disk holds what they had stored. Whatever a stop leaves of that member's
+-- own disk, a kill leaves it with that in the world: a kill in a turn in which nothing comes, where the next item of
+-- its link was not taken; else one in a turn in which that item comes, where the premises hold of it.
+pub record IsCutAsTold {L D : Type 0} (coming : L → Option (List Received)) (sent : L → Option (List RawFrame))
+    (disk : Ghosts D) (links : List L) (disks : List (Option D)) (mine : List ℕ) (given : Given) (w v : Cluster)
+    (rows : List Row) (all : Together) (place : ℕ) : Type 0 where
+  pub sent_is : (i : ℕ) (link : L) → i < length mine →
+      sent (slice_index_or links i link) ≡ Some (given.sent i ++ raw_by (slice_index mine i) w rows)
+  pub stored_is : (i : ℕ) (after : D) → i < length mine → (i ≡ place → ⊥) →
+      slice_index_or disks i None ≡ Some after →
+      HoldsStore disk after (store_of (v.member (slice_index mine i)).disk.store)
+  pub killed : (link : L) (after : D) (image : List ℕ) → slice_index_or disks place None ≡ Some after →
+      MayLeave (disk.contents after) image → let r = all.running place in let moment = next_reading all.readings in
+      let left = coming (slice_index_or links place link) in
+      ((left ≡ Some r.coming) × IsFoundKilled image v r moment Silence) ⊎
+      ((left ≡ Some (items_behind r.coming)) × ((came : Came) → Carries v.frames (next_item r.coming) came →
+      MayBeKilled v r moment came → IsFoundKilled image v r moment came))

@@ -1,0 +1,125 @@
+//! Laws of the definitions, each the contract of a function that does nothing.
+
+ghost use Rattle.std.specs.Prelude.{◌≡◌, ◌<◌, ◌++◌, ◌∷◌, [], ℕ, List, Option, length};
+ghost use Rattle.outside.specs.Traffic.{next_item};
+ghost use Rattle.raft_core.specs.StoredPuts.{store_of, stored_puts};
+ghost use Rattle.raft_log.specs.Rules.{StandsForState};
+ghost use Rattle.raft_log.specs.Stored.{AfterSome, Stored};
+ghost use Rattle.raft_model.specs.Lists.{In};
+ghost use Rattle.raft_model.specs.Members.{HasNoneTwice};
+ghost use Rattle.cluster_agreement.specs.Allocatees.{HasAllocatees};
+ghost use Rattle.cluster_agreement.specs.Headline.{HasHeadline};
+ghost use Rattle.cluster_agreement.specs.Safe.{AreSafe};
+ghost use Rattle.cluster_spec.specs.Cluster.{AreMembers, Cluster, after_rows, cluster};
+ghost use Rattle.cluster_spec.specs.Lawful.{Lawful};
+ghost use Rattle.cmd_node.specs.CutRun.{IsCutAtTurn};
+ghost use Rattle.cmd_node.specs.Opening.{Given};
+ghost use Rattle.cmd_node.specs.Puts.{turn_puts};
+ghost use Rattle.cmd_node.specs.Turn.{Running, Turning as Turn};
+ghost use Rattle.cmd_node.specs.WholeRun.{LeavesAll, after_turns};
+ghost use Rattle.cmd_node_laws.specs.Traces.{Came, Event, MayAllHappen, all_rows};
+ghost use Rattle.cmd_node_laws.specs.Example.{first_events, given_then, later_events, two, world_by_then};
+ghost use Rattle.cmd_node_laws.specs.Mirrored.{AreCalm, Carries, IsMirrored, raw_by};
+ghost use Rattle.cmd_node_laws.specs.Processes.{GoesOn, Point, StandAt, Turning, place_of, together_at};
+ghost use Rattle.cmd_node_laws.specs.Stands.{IsCutAsTold, IsFollowed, IsFoundKilled, IsRunIn};
+ghost use Rattle.cmd_node_laws.specs.Stands.{LeavesAsTold, MayBeKilled, world_after};
+
+use alloc_mark_laws::laws::marks_change_marks_alone;
+use cluster_agreement::allocatees::the_allocatees;
+use cluster_agreement::headline::{rows_are_safe, the_headline};
+use disk_model::Disk;
+use outside::Link;
+use raft_core::laws::an_opening_keeps_the_store;
+use transfer_rx::laws::deliveries_are_whole_transfers;
+
+/// Every trace of a cluster of processes that meets the premises stands for a list of lawful rows. So along
+/// these rows the headline holds, what an allocatee holds is a pair of the list, and the run of the message
+/// machine that they show is safe. Between any two events no call of a disk is set to fail.
+pub fn traces_are_lawful()
+    ensures rows { (ids : List ℕ) (trace : List Event) →
+        MayAllHappen trace (cluster ids) → Lawful (cluster ids) (all_rows trace (cluster ids)) }
+    ensures headline { (ids : List ℕ) (trace : List Event) → AreMembers ids →
+        MayAllHappen trace (cluster ids) → HasHeadline ids (all_rows trace (cluster ids)) }
+    ensures allocatees { (ids : List ℕ) (trace : List Event) → AreMembers ids →
+        MayAllHappen trace (cluster ids) → HasAllocatees ids (all_rows trace (cluster ids)) }
+    ensures safe { (ids : List ℕ) (trace : List Event) → AreMembers ids →
+        MayAllHappen trace (cluster ids) → AreSafe ids (all_rows trace (cluster ids)) }
+    ensures calm { (ids : List ℕ) (trace : List Event) → MayAllHappen trace (cluster ids) →
+        AreCalm (world_after ids trace) }
+{
+    deliveries_are_whole_transfers();
+    rows_are_safe();
+    the_allocatees();
+    the_headline();
+}
+
+/// A process goes on in a trace as `cmd_node` says: each of its members is in the world what it is
+/// in the process, but for marks and the numbers of steps, and its link was sent what the member of
+/// the world sent.
+pub fn processes_are_followed()
+    ensures { (mine : List ℕ) (given : Given) (w : Cluster) (trace : List Event)
+        (from to : Point) → HasNoneTwice mine → AreCalm w → place_of from < length mine →
+        MayAllHappen trace w → GoesOn (length w.ids) mine given w trace from to →
+        StandAt (length w.ids) mine given w from → (i : ℕ) → i < length mine →
+        IsFollowed (length w.ids) mine given w (after_rows w (all_rows trace w)) from to
+        (λ n. raw_by n w (all_rows trace w)) i }
+{
+    an_opening_keeps_the_store();
+    deliveries_are_whole_transfers();
+    marks_change_marks_alone();
+}
+
+/// What a member of a process stores, its disk in the world has stored.
+pub fn stores_are_followed()
+    ensures { (ids : List ℕ) (trace : List Event) (r : Running) → AreMembers ids →
+        MayAllHappen trace (cluster ids) → In r.id ids → let w = world_after ids trace in
+        IsMirrored w r → store_of (w.member r.id).disk.store ≡ r.allocator.raft_server.store }
+{
+    traces_are_lawful();
+}
+
+/// A member that is killed in a turn leaves an image that stands for what was stored after some of the
+/// first puts of the turn; and there is an event that leaves just that in the world.
+pub fn kills_are_events()
+    ensures { (w : Cluster) (t : Turn) (moment : ℕ) (came : Came) (image : List ℕ)
+        (state : Stored) → AreCalm w → IsMirrored w t.running →
+        store_of (w.member t.running.id).disk.store ≡ store_of state →
+        AfterSome (StandsForState image) (stored_puts (turn_puts moment t) state) state →
+        Carries w.frames (next_item t.running.coming) came →
+        MayBeKilled w t.running moment came → IsFoundKilled image w t.running moment came }
+{
+    deliveries_are_whole_transfers();
+    marks_change_marks_alone();
+}
+
+/// A run of `node` in a trace, to its end or cut off in a turn: what it leaves on links and disks is what
+/// its members of the world sent and have stored.
+pub fn runs_of_node_are_rows<L: Link, D: Disk>()
+    ensures done { (ids mine : List ℕ) (before during : List Event) (size turns : ℕ)
+        (given : Given) (links : List L) (disks : List (Option D)) (readings : Option (List ℕ)) →
+        IsRunIn ids before during size mine given (Turning turns 0) →
+        LeavesAll L.coming L.sent D.Disk links disks readings (length mine)
+        (after_turns size turns mine given) → let w = world_after ids before in
+        LeavesAsTold L.sent D.Disk links disks mine given w (world_after ids (before ++ during))
+        (all_rows during w) }
+    ensures cut { (ids mine : List ℕ) (before during : List Event) (size taken place : ℕ)
+        (given : Given) (links : List L) (disks : List (Option D)) (readings : Option (List ℕ)) →
+        place < length mine → IsRunIn ids before during size mine given (Turning taken place) →
+        let all = together_at size mine given taken place in
+        IsCutAtTurn L.coming L.sent D.Disk links disks readings (length mine) all place →
+        let w = world_after ids before in
+        IsCutAsTold L.coming L.sent D.Disk links disks mine given w
+        (world_after ids (before ++ during)) (all_rows during w) all place }
+{
+    traces_are_lawful();
+    kills_are_events();
+    processes_are_followed();
+    stores_are_followed();
+}
+
+/// The premises can be met: in this trace a member hears the other one, is killed in a turn behind its first
+/// put, and is opened again by a new process, whose run stands in the trace.
+pub fn premises_can_be_met()
+    ensures run { IsRunIn two first_events later_events 2 (2 ∷ []) given_then (Turning 1 0) }
+    ensures killed { (world_by_then.member 2).disk.store.term ≡ 1 }
+{}
