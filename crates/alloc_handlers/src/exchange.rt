@@ -39,8 +39,8 @@ use transfer_rx::Transfer;
 impl<D: Disk> Member<D> {
     ghost use Rattle.alloc_handlers.specs.Stands.{GoesOn, GoesUpTo, IsReady, SeesUpTo, StandsFor};
 
-    /// A request of the exchange: a follow-up is given, or a whole unique ID is answered or
-    /// recorded.
+    /// Takes a request of the exchange: sends a follow-up, answers or proposes a whole unique ID, or
+    /// ignores it.
     pub fn hear_allocation(
         &mut self,
         transfer: &Transfer,
@@ -64,6 +64,7 @@ impl<D: Disk> Member<D> {
         Ok(Seen::Took)
     }
 
+    /// Answers a request by its stage.
     fn take_allocation(&mut self, message: &Allocation, offered: &mut Offered) -> Result<(), Fault>
         requires ready { IsReady self.old }
         requires room { array_vec_len offered.old.sent < 12 }
@@ -122,8 +123,8 @@ impl<D: Disk> Member<D> {
         self.send(What::Alloc, 0, allocation(0, bytes), offered);
     }
 
-    /// A recorded pair is answered again once it is committed, whatever the role. Another unique ID
-    /// is recorded, unless it is zeros.
+    /// Answers a whole unique ID: where it is recorded and committed its pair is sent again, whatever the
+    /// role. Any other, but zeros, is proposed if this member leads, has room and knows every online node.
     fn hear_whole(&mut self, uid: &Uid, preference: u8, offered: &mut Offered) -> Result<(), Fault>
         requires ready { IsReady self.old }
         requires room { array_vec_len offered.old.sent < 12 }
@@ -146,7 +147,7 @@ impl<D: Disk> Member<D> {
         }
     }
 
-    /// The pair at a place of the log, counted from 0, once it is committed.
+    /// Offers the pair at an index of the log, counted from 0, if it is committed.
     fn answer_again(&mut self, place: usize, offered: &mut Offered)
         requires ready { IsReady self.old }
         requires within { place < length (durable_state self.old.durable).log }
@@ -166,7 +167,8 @@ impl<D: Disk> Member<D> {
         self.send_pair(&entry.uid, entry.node, offered);
     }
 
-    /// A leader with room gives a free node ID, unless an online node is not known.
+    /// A leader with room appends a pair with a free node ID to its log; the device is answered once the
+    /// pair is committed. Nothing is done while an online node is unknown, or where no ID is free.
     fn record(&mut self, uid: &Uid, preference: u8) -> Result<(), Fault>
         requires ready { IsReady self.old }
         requires some { uid.now ≢ zeros }
@@ -197,8 +199,8 @@ impl<D: Disk> Member<D> {
         self.may_propose() && !self.watch.unknown(&self.known(), self.latest)
     }
 
-    /// Offers the Allocation of a node ID to a unique ID, and lists the pair where it fitted.
-    /// Whether it fitted.
+    /// Queues the Allocation of a node ID to a unique ID, and lists the pair, if it fits. Returns whether
+    /// it fitted.
     pub fn send_pair(&mut self, uid: &Uid, node: u8, offered: &mut Offered) -> bool
         requires ready { IsReady self.old }
         requires node { node < 128 }

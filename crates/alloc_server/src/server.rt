@@ -56,8 +56,8 @@ impl<D: Disk, F: Fn(Kind, u16) -> Option<u64> + Copy> Server<D, F> {
     ghost use Rattle.alloc_server.specs.Server.{StandsFor, StepsTo, accepts, disk_of, durable_of, event_of, fault_of, queued};
 
     /// A server of the node `me`, in a cluster of `size` members, with what its disk has stored, which
-    /// is brought to version 2 of the store. The word makes its wait for an election differ from the
-    /// others'.
+    /// is brought to version 2 of the store. `word` is random: it sets how long the server waits before it
+    /// stands for election.
     #[inline(never)]
     pub fn open(
         me: u8,
@@ -80,7 +80,7 @@ impl<D: Disk, F: Fn(Kind, u16) -> Option<u64> + Copy> Server<D, F> {
             (durable_state (durable_of server))) now word)) }
         ensures accepts { IfOk result (λ server. accepts server ≡ accept) }
 
-        // What was read is found and the puts of the opening are made, and a stop leaves the state after them.
+        // The state is the one that was read, after the puts of the opening; any later stop leaves that state.
         ensures opens { IfOk result (λ server. OpensTo disk (durable_of server)) }
         ensures durable { IfOk result (λ server. D.tells disk ≡ true →
             AlwaysStandsForState (D.contents (disk_of server)) (durable_state (durable_of server))) }
@@ -112,7 +112,7 @@ impl<D: Disk, F: Fn(Kind, u16) -> Option<u64> + Copy> Server<D, F> {
         }
     }
 
-    /// Takes an event, in a step with a number. Where the disk fails, the step ends, what waited
+    /// Runs the step with this number on an event. Where the disk fails, the step ends, what waited
     /// for the bus is lost, and the server answers the same fault from then on.
     pub fn step(&mut self, event: Event, step: u64) -> Result<Outcome, Fault>
         requires memory { ReceiverFitsInMemory F.row 160 128 }
@@ -152,7 +152,7 @@ impl<D: Disk, F: Fn(Kind, u16) -> Option<u64> + Copy> Server<D, F> {
         }
     }
 
-    /// The next frame for the bus.
+    /// Removes and returns the next frame for the bus.
     pub fn pop(&mut self) -> Option<Marked>
         ensures next { option_map queued_of result ≡ next_out (queued self.old) }
         ensures rest { (t : AllocatorState) → StandsFor self.old t → StandsFor self.new (after_pop t) }
@@ -166,8 +166,8 @@ impl<D: Disk, F: Fn(Kind, u16) -> Option<u64> + Copy> Server<D, F> {
         self.member.outbox.pop()
     }
 
-    /// What it shows of itself. Of a server that failed this is what it kept, and the role that it had
-    /// come to.
+    /// The role, the numbers of the stored state and the length of the queue. After a fault they are those
+    /// of the moment of the fault.
     pub fn view(&self) -> View
         ensures stands { (t : AllocatorState) → StandsFor self.now t → result ≡ view_of t }
         ensures role { result.role ≡ raft_role self.now.member.raft }
@@ -204,7 +204,7 @@ impl<D: Disk, F: Fn(Kind, u16) -> Option<u64> + Copy> Server<D, F> {
         self.fault.is_some()
     }
 
-    /// The disk as it stands.
+    /// Lets the server go and returns its disk, unchanged.
     pub fn stop(self) -> D
         ensures { result ≡ disk_of self }
     {
@@ -216,7 +216,7 @@ impl<F: Fn(Kind, u16) -> Option<u64> + Copy> Server<MemoryDisk, F> {
     ghost use Rattle.disk_model.specs.Memory.{memory_calls, memory_contents};
     ghost use Rattle.alloc_server.specs.Server.{StandsFor as StandsForTimed, accepts as accept_of, disk_of as disk_in, durable_of as durable_in, fault_of as fault_in};
 
-    /// `MemoryDisk::stop_at` of the disk. All else stays.
+    /// Calls `MemoryDisk::stop_at` of the disk; nothing else changes.
     pub fn stop_at(&mut self, call: u64)
         ensures calls { memory_calls (disk_in self.new) ≡ record (memory_calls (disk_in self.old))
             { stop_in = call } }
@@ -231,7 +231,7 @@ impl<F: Fn(Kind, u16) -> Option<u64> + Copy> Server<MemoryDisk, F> {
         self.member.durable.stop_at(call);
     }
 
-    /// `MemoryDisk::fail_at` of the disk. All else stays.
+    /// Calls `MemoryDisk::fail_at` of the disk; nothing else changes.
     pub fn fail_at(&mut self, call: u64)
         ensures calls { memory_calls (disk_in self.new) ≡ record (memory_calls (disk_in self.old))
             { fail_in = call } }

@@ -54,7 +54,7 @@ append_call_bytes request = append_request_bytes (record {
   entry = request.entry;
 }) 0
 
--- the request goes out, by a move where it fits
+-- the request is queued and its move made, if it fits; else it is only listed as not fitted
 abbrev pub calls_by : ℕ → What → ℕ → Move → Request → List ℕ → StepState → StepState
 calls_by step what peer move request payload g =
     if has_room g.allocator.queue payload

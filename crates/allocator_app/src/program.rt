@@ -1,7 +1,7 @@
 ghost use Rattle.std.specs.Prelude.{◌≡◌, ◌≤◌, ◌↔◌, ◌⊎◌, ℕ, Bool, List, [], Some, length, map, string_bytes, IsTrue};
 ghost use Rattle.cmd_decode.specs.Ends.{Decodes};
-ghost use Rattle.cmd_logs.specs.Converted.{Converts};
-ghost use Rattle.cmd_logs.specs.Watched.{Watches};
+ghost use Rattle.cmd_bus_logs.specs.Converted.{Converts};
+ghost use Rattle.cmd_bus_logs.specs.Watched.{Watches};
 ghost use Rattle.outside.specs.Faults.{Rose};
 ghost use Rattle.replay_text.specs.declared.row.Row.{Row};
 ghost use Rattle.replay_text.specs.Lines.{ReadsRows};
@@ -25,8 +25,8 @@ use crate::words::plan;
 use cluster_agreement::allocatees::the_allocatees;
 use cluster_agreement::headline::{rows_are_safe, the_headline};
 use cmd_base::Status;
+use cmd_bus_logs::{convert, watch};
 use cmd_decode::decode;
-use cmd_logs::{convert, watch};
 use cmd_node::node;
 use cmd_node_laws::laws::{runs_of_node_are_rows, traces_are_lawful};
 use cmd_soak::laws::rows_are_lawful;
@@ -71,7 +71,7 @@ use store_audit::audit_stores;
 /// what they agree on, or `Differ` with the line that names two that differ (`Audits` of `store_audit`).
 ///
 /// `watch <format> <lines> <id>..` lists the transfers of a log that comes from the source (`Watches` of
-/// `cmd_logs`), and `convert <format> <format> <lines>` writes the log in the other form or the same
+/// `cmd_bus_logs`), and `convert <format> <format> <lines>` writes the log in the other form or the same
 /// (`Converts`). `decode <name> <part> <hex>` writes the numbers of a payload under the part of a type that the
 /// text of the source describes (`Decodes` of `cmd_decode`); it is `NoPart` where the text has no such part, and
 /// `NoValue` where the payload has no reading. These four take no memory, and come to the end that their input

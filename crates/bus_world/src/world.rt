@@ -106,10 +106,11 @@ impl<F: Fn(Kind, u16) -> Option<u64> + Copy, G: Fn(Kind, u16) -> Option<u64> + C
     /// Takes a row and tells what it did. A row that is refused changes nothing. Whatever pair a step
     /// offers to a device is one of its member's committed log when the row is done.
     ///
-    /// Along all rows that a world took, what its members commit is a beginning of one list that only
-    /// grows, gives no ID twice and has no member's node ID; every allocation that they offer, in a queue
-    /// or on the bus, is a pair of it by then, and every later leader holds it (`HasHeadline` of
-    /// `cluster_agreement`). The run of the message machine that the rows show is lawful and safe (`AreSafe`).
+    /// Along all rows that a world took, what its members commit is a prefix of one list that only grows,
+    /// gives no ID twice and has no member's node ID; every Allocation that they offer with a node ID other
+    /// than 0, in a queue or on the bus, is a pair of it by then; and what a member has committed is a prefix
+    /// of the log of every later leader whose term is at least that member's stored term (`HasHeadline` of
+    /// `cluster_agreement`). The run of the Raft model that the rows show is lawful and safe (`AreSafe`).
     /// Each step does its duty: a leader commits as far as a quorum lets it and tells one place where there
     /// is room, who has waited stands for election, and who counts a quorum leads (`AreDutiful`). What an
     /// allocatee holds is a pair of that list from then on, so two with different unique IDs never hold the

@@ -1,12 +1,16 @@
--- The headline, which `the_headline` proves (`src/headline.rt`). For 1 to 5 members and every list of lawful rows, so
--- whatever frames are delivered, lost or repeated, whatever clocks read and wherever inside store writes allocators
--- stop: each allocator's committed log is always a prefix of one injective, growing list of unique ID and node ID
--- pairs; every allocation offered to the bus is a pair of it by then; and every later leader, but one of an older term,
--- has it in its log.
+-- The main theorem, which `the_headline` proves (`src/headline.rt`): `HasHeadline` at the end of this page, by way of
+-- `Headline` for one pair of cuts. For 1 to 5 members and every list of lawful rows, which no cause of `Lawful` refuses,
+-- so whatever frames are delivered, lost or repeated, whatever clocks read and wherever inside store writes allocators
+-- stop: each allocator's committed log is always a prefix of one growing list of entries, in which no node ID and no
+-- unique ID is given twice; every Allocation offered to the bus with a node ID other than 0 is a pair of it by then;
+-- and every later leader whose term is at least a member's stored term has in its log what that member has committed.
+-- Of devices `HasAllocatees` speaks.
 --
 -- A schedule is cut at any two places: the rows `first` are taken, then `more`, then `rest`. So "now" is after any row,
--- or before all of them, and "later" is now or after any row from then on. `choice row` says whether the put took
--- effect that failed in that row, where a stop did not find it yet.
+-- or before all of them, and "later" is now or after any row from then on. A member that runs and has not failed is
+-- `Up`; one whose step met a write error is `Failed`, and does nothing until it is stopped. `choice row` says whether
+-- the put that failed in that row took effect, until a stop shows it. `committed choice w n` is the log that the member
+-- n has stored, up to its stored commit index, whether it runs, is stopped or has failed.
 use Rattle.std.specs.Prelude.{◌≡◌, ◌≢◌, ℕ, ◌<◌, ◌≤◌, nat_lt, Bool, if◌then◌else◌}
 use Rattle.std.specs.Prelude.{List, [], ◌∷◌, ◌++◌, length, slice_index_or}
 use Rattle.can_frame.specs.declared.entry.Entry.{Entry}

@@ -1,6 +1,6 @@
--- What is stored of a step that failed, while its member runs: so many of its puts are done for sure, and whether the
--- next one is, only a stop finds. Till then a choice says so, by the number of the row; it fits where the member's
--- disk agrees once the member stops.
+-- What a member has stored after a step that failed, while it is not stopped: a known number of the step's puts took
+-- effect; whether the next one did is unknown until a stop. A choice says so, by the number of the row; it agrees with
+-- the disk where the disk shows the same once the member stops.
 use Rattle.std.specs.Prelude.{◌≡◌, ⊤, ℕ, ◌==◌, Bool, true, false, List, [], ◌∷◌}
 use Rattle.kv_store.specs.KeyDisk.{restarted_on}
 use Rattle.raft_core.specs.StoredPuts.{store_of}
@@ -26,7 +26,7 @@ StopAgreesWithDisk choice Down found = ⊤
 StopAgreesWithDisk choice (Up server) found = ⊤
 StopAgreesWithDisk choice (Failed failure) found = chosen_store choice failure ≡ store_of found
 
--- only a stop at once finds anything
+-- only a stop at once (`crash` with 0 calls) shows what a failed put left
 abbrev pub CrashAgreesWithDisk : Bool → (ℕ → Bool) → MemberStatus → Stored → Type 0
 CrashAgreesWithDisk true choice status found = StopAgreesWithDisk choice status found
 CrashAgreesWithDisk false choice status found = ⊤

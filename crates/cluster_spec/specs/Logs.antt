@@ -21,8 +21,8 @@ use Rattle.cluster_spec.specs.Members.{MemberStatus, stored_after}
 use Rattle.cluster_spec.specs.Members.MemberStatus.{Down, Up, Failed}
 use Rattle.cluster_spec.specs.Choices.{chosen_store}
 
--- What a member has stored, running or stopped: what its disk stands for. Of a failed step so many puts are done for
--- sure; whether the next one is, only a stop finds, and till then the choice says.
+-- What a member has stored, running or stopped: what its disk stands for. After a failed step a known number of puts
+-- took effect; whether the next one did is unknown until a stop, and the choice fixes it.
 abbrev pub stored_on : (ℕ → Bool) → MemberStatus → KeyDisk Stored → Store
 stored_on choice Down disk = store_of disk.store
 stored_on choice (Up server) disk = store_of disk.store

@@ -41,7 +41,7 @@ use outside::{Failed, Link};
 use raft_log::laws::a_state_is_durable;
 use replay_text::Told;
 
-/// An allocator that runs, with the words that it is given. It is let go by [`Runner::stop`] alone, so
+/// A running allocator, with its generator of random words. It is let go by [`Runner::stop`] alone, so
 /// that no disk is lost.
 pub(crate) struct Runner<D: Disk, F> {
     pub(crate) id: u8,
@@ -117,8 +117,7 @@ impl<D: Disk, F: Fn(Kind, u16) -> Option<u64> + Copy> Runner<D, F> {
         ensures turned { OnOk result ((t : Turning) →
             IsTurning self.old (L.coming link.old) (L.sent link.old) steps.old t →
             IsTurning self.new (L.coming link.new) (L.sent link.new) steps.new (turn now t)) }
-        // One that is cut off has sent nothing, and has made the first of its puts, with at most one item
-        // taken.
+        // A turn that fails sends nothing, takes at most one item and has made a prefix of its puts.
         ensures unsent { OnErr result (L.sent link.new ≡ L.sent link.old) }
         ensures cut { (t : Turning) →
             IsTurning self.old (L.coming link.old) (L.sent link.old) steps.old t →

@@ -28,7 +28,7 @@ is_free taken id = not (get_or taken id true)
 abbrev pub chosen : List Bool → ℕ → Option ℕ
 chosen taken preferred = find (is_free taken) (candidates preferred)
 
--- a device may have this ID, and nobody has it
+-- the ID is 1 to 125 and not taken
 pub record IsFree (taken : List Bool) (id : ℕ) : Type 0 where
   pub least : 1 ≤ id
   pub most : id ≤ 125

@@ -51,7 +51,7 @@ impl<D: Disk> Store<D> {
         ensures fault { IfErr result (λ refused. (fault : Fault) → refused.why ≡ DiskFault fault →
             (fault.count ≡ D.faults refused.disk) × Rose (D.faults disk) (D.faults refused.disk)) }
 
-        // It adds no image, also where it refuses.
+        // An opening, also one that is refused, adds no image that a stop may leave.
         ensures images { IfOk result (λ store. D.tells disk ≡ true →
             AddsNoImage (D.contents disk) (D.contents (store_disk store))) }
         ensures refused { IfErr result (λ refused. D.tells disk ≡ true →
@@ -161,7 +161,7 @@ impl<D: Disk> Store<D> {
         }
     }
 
-    /// The disk as it stands.
+    /// Lets the store go and returns its disk, unchanged.
     pub fn into_disk(self) -> D
         ensures { result ≡ store_disk self }
     {
@@ -173,7 +173,7 @@ impl Store<MemoryDisk> {
     ghost use Rattle.kv_store.specs.StoreViews.{store_map, store_disk, store_fault, store_copy};
     ghost use Rattle.disk_model.specs.Memory.{memory_calls, memory_contents};
 
-    /// `MemoryDisk::stop_at` of the disk. All else stays.
+    /// Calls `MemoryDisk::stop_at` of the disk; nothing else changes.
     pub fn stop_at(&mut self, call: u64)
         ensures calls { memory_calls (store_disk self.new)
             ≡ record (memory_calls (store_disk self.old)) { stop_in = call } }
@@ -186,7 +186,7 @@ impl Store<MemoryDisk> {
         self.disk.stop_at(call);
     }
 
-    /// `MemoryDisk::fail_at` of the disk. All else stays.
+    /// Calls `MemoryDisk::fail_at` of the disk; nothing else changes.
     pub fn fail_at(&mut self, call: u64)
         ensures calls { memory_calls (store_disk self.new)
             ≡ record (memory_calls (store_disk self.old)) { fail_in = call } }

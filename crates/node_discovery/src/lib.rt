@@ -13,7 +13,7 @@
 //! the list with what the call took in front, and answers what the list says, for each list that the
 //! watch stands for.
 //!
-//! A node is offline 3,000 ms after its last status (`uavcan.protocol.NodeStatus`). Nodes are asked by
+//! A node is offline once its last status (`uavcan.protocol.NodeStatus`) is more than 3,000 ms old. Nodes are asked by
 //! `uavcan.protocol.GetNodeInfo`; a query waits 1,000 ms for its answer, and a node is asked again no
 //! sooner. A node that has answered none of five queries or more of its spell is silent 1,000 ms after
 //! the last of them. Who is asked next, whether someone is unknown and who is silent are said twice, as

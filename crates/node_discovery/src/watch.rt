@@ -5,7 +5,7 @@ use crate::node::Node;
 use can_frame::{NodeId, Uid};
 
 /// The nodes of the bus: who is online, who is to be asked for its unique ID, and who told which.
-/// Moments are milliseconds, and may fall.
+/// Moments are milliseconds, and may go backwards.
 #[derive(Drop)]
 pub struct Watch {
     /// By node ID.

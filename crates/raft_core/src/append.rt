@@ -39,8 +39,8 @@ impl Raft {
     ghost use Rattle.raft_core.specs.Stands.{StandsFor, role_of};
 
     /// A leader's append request came from the node `from`. A request of a lower term is refused, and one
-    /// of the member's own term while it leads; any other begins the wait and makes it Follower, also
-    /// where the log or the entry refuses it then.
+    /// of the member's own term while it leads. Any other resets the wait for an election and makes the
+    /// member a Follower, even if the rules on the log refuse it then.
     pub fn on_append_request<D: Disk>(
         &mut self,
         d: &mut Durable<D>,
@@ -82,8 +82,8 @@ impl Raft {
         })
     }
 
-    /// An answer to an append request came from the node `from` under a transfer ID. Whether it was
-    /// taken: where the append call to that node waits under this transfer ID. Else nothing changes.
+    /// An answer to an append request came from the node `from` under a transfer ID. Returns whether it was
+    /// taken, which is so if the append call to that node waits under this transfer ID. Else nothing changes.
     pub fn on_append_answer<D: Disk>(
         &mut self,
         d: &mut Durable<D>,
@@ -136,7 +136,7 @@ impl Raft {
         self.role == Role::Leader && ans.term == term
     }
 
-    /// A leader knows from an answer up to where a node has its log, and what it is sent next.
+    /// Updates the matched and the next index of a peer from its answer.
     fn move_on(&mut self, from: u8, reach: u8, success: bool)
         requires most { from ≤ 125 }
         requires reach { reach ≤ 127 }
@@ -170,7 +170,7 @@ impl Raft {
     }
 }
 
-/// The rules on the log and the entry, with the puts of what they say; whether they accept the request.
+/// Applies the rules on the log to the request, and makes their puts. Returns whether it is accepted.
 fn accept<D: Disk>(d: &mut Durable<D>, req: &AppendRequest) -> Result<bool, Fault>
     requires { req.now.term ≡ (durable_state d.old).term }
     ensures puts { (step from to : ℕ) (verdict : Verdict) →
@@ -192,7 +192,7 @@ fn accept<D: Disk>(d: &mut Durable<D>, req: &AppendRequest) -> Result<bool, Faul
     }
 }
 
-/// The entry of a request that stands on the log.
+/// Takes the entry of a request whose previous entry is in the log. Returns whether it is accepted.
 fn take_entry<D: Disk>(d: &mut Durable<D>, req: &AppendRequest, entry: Entry) -> Result<bool, Fault>
     requires term { req.now.term ≡ (durable_state d.old).term }
     requires entry { req.now.entry ≡ Some entry }
@@ -222,7 +222,7 @@ fn take_entry<D: Disk>(d: &mut Durable<D>, req: &AppendRequest, entry: Entry) ->
     hold(d, req.commit.min(previous + 1))
 }
 
-/// The request stands on the log.
+/// Whether the log has the previous entry of the request.
 fn has_previous<D: Disk>(d: &Durable<D>, req: &AppendRequest) -> bool
     ensures { IsTrue result ↔ ((req.now.prev_index ≤ length (durable_state d.now).log) ×
         (term_at (durable_state d.now).log req.now.prev_index ≡ req.now.prev_term)) }
@@ -238,7 +238,7 @@ fn is_there<D: Disk>(d: &Durable<D>, previous: u8, term: u32) -> bool
     previous < d.last() && d.entry(previous + 1).term == term
 }
 
-/// The entry may come into the log after the previous place, which is cut there.
+/// Whether the log may be cut after the previous place and the entry appended.
 fn may_add<D: Disk>(d: &Durable<D>, previous: u8, entry: &Entry) -> bool
     requires { previous ≤ length (durable_state d.now).log }
     ensures { IsTrue result ↔ ((previous < log_limit) × ((durable_state d.now).commit ≤ previous) ×

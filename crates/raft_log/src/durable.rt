@@ -88,6 +88,7 @@ impl<D: Disk> Durable<D> {
         }
     }
 
+    /// The stored term.
     pub fn term(&self) -> u32
         ensures { result ≡ (durable_state self.now).term }
     {
@@ -211,7 +212,7 @@ impl<D: Disk> Durable<D> {
         self.make(Change::Commit(place))
     }
 
-    /// The disk as it stands.
+    /// Lets the stored state go and returns its disk, unchanged.
     pub fn into_disk(self) -> D
         ensures { result ≡ durable_disk self }
     {
@@ -297,7 +298,7 @@ impl<D: Disk> Durable<D> {
         Ok(())
     }
 
-    /// The same of the entry at a place, counted from 0.
+    /// Puts the entry at an index of the log, counted from 0, once more with the origin 0, if it has none.
     fn put_origin(&mut self, place: u8) -> Result<(), Fault>
         requires works { durable_fault self.old ≡ None }
         requires there { place < length (durable_state self.old).log }
@@ -332,7 +333,7 @@ impl Durable<MemoryDisk> {
     ghost use Rattle.disk_model.specs.Memory.{memory_calls, memory_contents};
     ghost use Rattle.raft_log.specs.DurableViews.{durable_state, durable_disk, durable_fault, durable_copies};
 
-    /// `MemoryDisk::stop_at` of the disk. All else stays.
+    /// Calls `MemoryDisk::stop_at` of the disk; nothing else changes.
     pub fn stop_at(&mut self, call: u64)
         ensures calls { memory_calls (durable_disk self.new) ≡
             record (memory_calls (durable_disk self.old)) { stop_in = call } }
@@ -345,7 +346,7 @@ impl Durable<MemoryDisk> {
         self.store.stop_at(call);
     }
 
-    /// `MemoryDisk::fail_at` of the disk. All else stays.
+    /// Calls `MemoryDisk::fail_at` of the disk; nothing else changes.
     pub fn fail_at(&mut self, call: u64)
         ensures calls { memory_calls (durable_disk self.new) ≡
             record (memory_calls (durable_disk self.old)) { fail_in = call } }

@@ -15,7 +15,8 @@ pub record Store : Type 0 where
   pub log : List Entry
   pub commit : ℕ
 
--- what a stop loses; per peer a next index, a matched index and the pending call
+-- what a stop loses; `told` is the last index that a leader announced (Raft's lastApplied); per peer a next index, a
+-- matched index and the pending call
 pub record Memory : Type 0 where
   pub up : Bool
   pub role : Role
@@ -60,7 +61,7 @@ abbrev pub put_all : Store → List Put → Store
 put_all store [] = store
 put_all store (first ∷ rest) = put_all (put store first) rest
 
--- last is raised only by the entry that was put just before
+-- `PutLonger entry` comes only directly after `PutEntry entry`
 abbrev pub AreWritten : Option Entry → List Put → Type 0
 AreWritten written [] = ⊤
 AreWritten written (PutEntry entry ∷ rest) = AreWritten (Some entry) rest
@@ -86,7 +87,7 @@ memory_when_down = record {
   pending = λ peer. None;
 }
 
--- memory after opening: Follower, told 0, nothing counted, no calls
+-- memory after opening: Follower, nothing announced, no votes counted, no calls
 abbrev pub memory_when_opened : Memory
 memory_when_opened = record {
   up = true;

@@ -32,7 +32,7 @@ same_piece a b = pointwise nat_eq a.bytes b.bytes && same_tail a.tail b.tail
 abbrev pub cut_again : ℕ → ℕ → List Piece → List Piece
 cut_again signature id pieces = frames_of signature id (payload_of pieces)
 
--- no payload has frames of these lengths
+-- no payload has frames of these lengths, or the payload is longer than the longest
 unfoldable pub fits_no_payload : ℕ → ℕ → List Piece → Bool
 fits_no_payload signature id pieces =
     not (pointwise nat_eq (sizes pieces) (sizes (cut_again signature id pieces))) || nat_lt 376

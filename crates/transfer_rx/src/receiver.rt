@@ -117,8 +117,8 @@ impl<F: Fn(Kind, u16) -> Option<u64> + Copy, const S: usize, const N: usize> Rec
     }
 
     /// The number of the chain that has the bytes of the session of a kind, number and source, each
-    /// frame without its tail; None where there is no such session. A session that is too old is one
-    /// until the next frame of a session comes.
+    /// frame without its tail; None where there is no such session. An expired session still counts until
+    /// the next frame that belongs to a session.
     pub fn chain_of(&self, kind: Kind, number: u16, source: u8) -> Option<usize>
         ensures chain { result ≡
             chain_of self.now (record { kind = kind; number = number; source = source }) }
