@@ -1,6 +1,6 @@
 -- A transfer that comes in order, in time and with room for its blocks is delivered.
 use Rattle.std.proofs.Common.{◌≡◌, ◌≢◌, ℕ, suc, ◌+◌, ◌-◌, ◌*◌, ◌<◌, ◌≤◌, Bool, true, false, not, ◌&&◌, cond, List, [], ◌∷◌, ◌++◌, length, map, get_or, refl, sym, ap, ◌∙◌, arith, subst, inl, inr, nat_eq, append_assoc, append-nil, length-append}
-use Rattle.std.specs.Prelude.{Option, None, Some, Result, Ok, Err, AllPairs}
+use Rattle.std.specs.Prelude.{Option, None, Some, Result, Ok, Err, MatchOption, AllPairs}
 use Rattle.std.proofs.lemmas.Bool.{cases_Bool, eq-eqb, le-leb}
 use Rattle.std.proofs.lemmas.List.{map-append}
 use Rattle.std.proofs.lemmas.List.Elements.{filter-append}
@@ -16,7 +16,7 @@ use Rattle.transfer_rx.specs.Marks.{is_whole}
 use Rattle.transfer_rx.specs.Outcome.{Delivers, Grows, lacks_blocks, out_of_turn, outcome}
 use Rattle.transfer_rx.specs.Parts.{IsPart}
 use Rattle.transfer_rx.specs.Reassembly.{Arrival, Gives, Setting, Step, answer, at_session, grown, in_turn, next, piece_in, session_after, session_step}
-use Rattle.transfer_rx.specs.Run.{ComesWhole, MayBegin, has_session_key, is_of, of_key, run}
+use Rattle.transfer_rx.specs.Run.{AwaitsTransfer, ComesWhole, MayBegin, has_session_key, is_of, of_key, run}
 use Rattle.transfer_rx.specs.Sessions.{Session, continued, is_recent, next_id, new_session, others, recent_sessions, restarted_session, restarts, session_for, session_of}
 use Rattle.transfer_rx.proofs.Cuts.{CarryWhatIsCut, SameFrames, SamePayload, Uncut}
 use Rattle.transfer_rx.proofs.Comes.{for-key, opens}
@@ -129,32 +129,35 @@ pub record Begins (most : ℕ) (key : Key) (tail : Tail) (now : ℕ) (sessions :
   pub taken : session.taken ≡ []
   pub marks : session.marks ≡ []
 
-finds_first : (setting : Setting) (sessions : List Session) (key : Key) (first : Arrival) → MayBegin setting sessions key first → (piece_in first).tail.start ≡ true →
-    Begins setting.sessions key (piece_in first).tail first.moment (recent_sessions first.moment sessions)
-finds_first setting sessions key first (inl new) start = record {
-  session = new_session key (piece_in first).tail first.moment;
-  there = opens setting.sessions [] key (piece_in first).tail first.moment [] (recent_sessions first.moment sessions) new.0 start new.1;
+begins_by : (most : ℕ) (key : Key) (tail : Tail) (now : ℕ) (recent : List Session) → tail.start ≡ true → (found : Option Session) →
+    session_of key recent ≡ found → MatchOption found (length recent < most) (AwaitsTransfer tail) → Begins most key tail now recent
+begins_by most key tail now recent start None none room = record {
+  session = new_session key tail now;
+  there = opens most [] key tail now [] recent none start room;
   expected = refl;
   taken = refl;
   marks = refl;
 }
-finds_first setting sessions key first (inr old) start = elim old.2 [
-  | inl idle ↦ record {
-    session = old.0;
-    there = finds setting.sessions key (piece_in first).tail first.moment (recent_sessions first.moment sessions) old.0 old.1 ∙ ap as_ok (stays (piece_in first).tail old.0 (sym idle.0));
-    expected = idle.0;
-    taken = idle.1;
-    marks = idle.2;
-  }
-  | inr anew ↦ record {
-    session = record old.0 { expected = (piece_in first).tail.id; taken = []; marks = [] };
-    there = finds setting.sessions key (piece_in first).tail first.moment (recent_sessions first.moment sessions) old.0 old.1
-        ∙ ap (λ b. as_ok (cond b (record old.0 { expected = (piece_in first).tail.id; taken = []; marks = [] }) old.0)) anew;
-    expected = refl;
-    taken = refl;
-    marks = refl;
-  }
-]
+begins_by most key tail now recent start (Some session) there (inl idle) = record {
+  session = session;
+  there = finds most key tail now recent session there ∙ ap as_ok (stays tail session (sym idle.0));
+  expected = idle.0;
+  taken = idle.1;
+  marks = idle.2;
+}
+begins_by most key tail now recent start (Some session) there (inr anew) = record {
+  session = record session { expected = tail.id; taken = []; marks = [] };
+  there = finds most key tail now recent session there ∙ ap (λ b. as_ok (cond b (record session { expected = tail.id; taken = []; marks = [] }) session)) anew;
+  expected = refl;
+  taken = refl;
+  marks = refl;
+}
+
+finds_first : (setting : Setting) (sessions : List Session) (key : Key) (first : Arrival) → MayBegin setting sessions key first → (piece_in first).tail.start ≡ true →
+    Begins setting.sessions key (piece_in first).tail first.moment (recent_sessions first.moment sessions)
+finds_first setting sessions key first may start =
+    let recent : List Session = recent_sessions first.moment sessions in
+    begins_by setting.sessions key (piece_in first).tail first.moment recent start (session_of key recent) refl may
 
 own_step : (setting : Setting) (sessions : List Session) (arrival : Arrival) (key : Key) (s : Session) → IsOwn setting key arrival →
     session_for setting.sessions key (piece_in arrival).tail arrival.moment (recent_sessions arrival.moment sessions) ≡ Ok s →

@@ -1,6 +1,7 @@
 -- A transfer among all the frames that come to a receiver.
-use Rattle.std.specs.Prelude.{◌≡◌, ℕ, ◌-◌, ◌<◌, ◌≤◌, ◌⊎◌, if◌then◌else◌, Bool, true, false, List, [], ◌∷◌, ◌++◌, length, map, filter, Some, None, Result, Ok, Err, AllPairs}
+use Rattle.std.specs.Prelude.{◌≡◌, ℕ, ◌-◌, ◌<◌, ◌≤◌, ◌⊎◌, if◌then◌else◌, Bool, true, false, List, [], ◌∷◌, ◌++◌, length, map, filter, Result, Ok, Err, MatchOption, AllPairs}
 use Rattle.can_frame.specs.declared.step.Why.{Why}
+use Rattle.can_frame.specs.declared.tail.Tail.{Tail}
 use Rattle.can_frame.specs.Cutting.{IsCutting}
 use Rattle.transfer_rx.specs.declared.accept.Wanted.{Wanted}
 use Rattle.transfer_rx.specs.declared.key.Key.{Key}
@@ -26,15 +27,17 @@ is_of setting key arrival = has_session_key key (wanted setting.rows setting.me 
 abbrev pub of_key : Setting → Key → List Arrival → List Arrival
 of_key setting key arrivals = filter (is_of setting key) arrivals
 
--- a first frame may begin a transfer: it opens a session for which there is room, or its session waits for this ID
--- and has nothing in progress, or is begun anew by this ID
+-- a session waits for the transfer with this tail: nothing is in progress and its ID is expected, or the session is
+-- begun anew by it
+abbrev pub AwaitsTransfer : Tail → Session → Type 0
+AwaitsTransfer tail session = ((session.expected ≡ tail.id) × (session.taken ≡ []) × (session.marks ≡ []))
+    ⊎ (restarts tail session ≡ true)
+
+-- a first frame may begin a transfer: the session of its key waits for it, or there is none, and room for one
 abbrev pub MayBegin : Setting → List Session → Key → Arrival → Type 0
 MayBegin setting sessions key first =
-    ((session_of key (recent_sessions first.moment sessions) ≡ None)
-    × (length (recent_sessions first.moment sessions) < setting.sessions))
-    ⊎ ((session : Session) × (session_of key (recent_sessions first.moment sessions) ≡ Some session)
-    × (((session.expected ≡ (piece_in first).tail.id) × (session.taken ≡ []) × (session.marks ≡ []))
-    ⊎ (restarts (piece_in first).tail session ≡ true)))
+    let recent : List Session = recent_sessions first.moment sessions in
+    MatchOption (session_of key recent) (length recent < setting.sessions) (AwaitsTransfer (piece_in first).tail)
 
 -- from its first frame to its last, a transfer comes in order, among frames of other sessions
 pub record ComesWhole (setting : Setting) (sessions : List Session) (w : Wanted) (payload : List ℕ)
