@@ -117,18 +117,12 @@ LeadsWith world member term count =
     × (count ≤ length (world.history.list term))
 
 -- the member acknowledged so many places of the term: it leads the term, or answered an append request of it that
--- reaches so far or further
-abbrev pub Acknowledged : World → ℕ → ℕ → ℕ → Type 0
-Acknowledged world member term count = LeadsWith world member term count
+-- reaches so far. To reach so far is to reach this place or a further one where the relation is ≤, and just this place
+-- where it is ≡: that is the usual form, and ≤, which is carried through a run, has it as a special case
+abbrev pub Acknowledged : (ℕ → ℕ → Type 0) → World → ℕ → ℕ → ℕ → Type 0
+Acknowledged IsReached world member term count = LeadsWith world member term count
     ⊎ ((answer : Answer) × In (Answers answer) world.bag × (answer.from ≡ member) × (answer.success ≡ true)
-    × (answer.request.append ≡ true) × (answer.request.term ≡ term) × (count ≤ reach answer.request))
-
--- the member acknowledged just so many places: a request that reaches no further. This is the usual form; the one above
--- is carried, and this follows
-abbrev pub AcknowledgedExactly : World → ℕ → ℕ → ℕ → Type 0
-AcknowledgedExactly world member term count = LeadsWith world member term count
-    ⊎ ((answer : Answer) × In (Answers answer) world.bag × (answer.from ≡ member) × (answer.success ≡ true)
-    × (answer.request.append ≡ true) × (answer.request.term ≡ term) × (count ≡ reach answer.request))
+    × (answer.request.append ≡ true) × (answer.request.term ≡ term) × IsReached count (reach answer.request))
 
 -- some term between these two has a list that does not begin with so many places of the first one's
 abbrev pub Diverges : History → ℕ → ℕ → ℕ → Type 0
@@ -147,24 +141,15 @@ abbrev pub HasVotedWith : World → KeptVote → ℕ → ℕ → Type 0
 HasVotedWith world kept term count = Same count kept.log (world.history.list term)
     ⊎ Diverges world.history term count kept.term
 
-abbrev pub AcknowledgedKept : World → Type 0
-AcknowledgedKept world = (member term count : ℕ) → Acknowledged world member term count →
+-- what a member acknowledged it has kept, and has voted with
+abbrev pub AcknowledgedKept : (ℕ → ℕ → Type 0) → World → Type 0
+AcknowledgedKept IsReached world = (member term count : ℕ) → Acknowledged IsReached world member term count →
     HasKept world member term count
 
-abbrev pub AcknowledgedVoted : World → Type 0
-AcknowledgedVoted world = (kept : KeptVote) (term count : ℕ) → In kept world.history.kept →
+abbrev pub AcknowledgedVoted : (ℕ → ℕ → Type 0) → World → Type 0
+AcknowledgedVoted IsReached world = (kept : KeptVote) (term count : ℕ) → In kept world.history.kept →
     kept.led ≡ false → term < kept.term
-    → Acknowledged world kept.voter term count → HasVotedWith world kept term count
-
--- what holds of just so many places, which follows from what holds of so many or more
-abbrev pub ExactlyKept : World → Type 0
-ExactlyKept world = (member term count : ℕ) → AcknowledgedExactly world member term count →
-    HasKept world member term count
-
-abbrev pub ExactlyVoted : World → Type 0
-ExactlyVoted world = (kept : KeptVote) (term count : ℕ) → In kept world.history.kept → kept.led ≡ false →
-    term < kept.term
-    → AcknowledgedExactly world kept.voter term count → HasVotedWith world kept term count
+    → Acknowledged IsReached world kept.voter term count → HasVotedWith world kept term count
 
 -- Commit.
 
@@ -258,8 +243,8 @@ pub record Invariants (world : World) : Type 0 where
   pub votes : VotesBound world
   pub leaders : LeadersElected world
   pub logs : LogsMatch world
-  pub kept : AcknowledgedKept world
-  pub voted : AcknowledgedVoted world
+  pub kept : AcknowledgedKept ◌≤◌ world
+  pub voted : AcknowledgedVoted ◌≤◌ world
   pub complete : LeadersComplete world
   pub commits : CommitsSettled world
   pub calls : CallsSound world

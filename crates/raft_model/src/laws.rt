@@ -23,7 +23,7 @@ ghost use Rattle.raft_model.specs.Stops.{AllEnabled, LocalState, state_after_mov
 ghost use Rattle.raft_model.specs.Runs.{Event, FromEachMoment, InEveryRun, Lawful, MayOccur, World, after, initial_world, run, local_state_after};
 ghost use Rattle.raft_model.specs.Runs.Event.{Steps, Stops, StopsWithin};
 ghost use Rattle.raft_model.specs.Rows.{IsAtWork, IsReady, MayTake};
-ghost use Rattle.raft_model.specs.Invariants.{AcknowledgedKept, AcknowledgedVoted, CallsSound, CommitsSettled, ExactlyKept, ExactlyVoted, Invariants, LeadersComplete, LeadersElected, LogsMatch, StaysSettled, StoresSound, VotesBound};
+ghost use Rattle.raft_model.specs.Invariants.{AcknowledgedKept, AcknowledgedVoted, CallsSound, CommitsSettled, Invariants, LeadersComplete, LeadersElected, LogsMatch, StaysSettled, StoresSound, VotesBound};
 ghost use Rattle.raft_model.specs.Safety.{IsGivenOnce, IsSafe, Lasts};
 
 use can_frame::laws::node_ids_are_given_once;
@@ -61,10 +61,10 @@ pub fn law_matching()
 /// What a member acknowledged it keeps, and takes into its later votes, unless a later leader diverges: any
 /// number of places up to the reach of its answer, and so just those of its reach.
 pub fn law_acknowledged()
-    ensures kept { InEveryRun AcknowledgedKept }
-    ensures voted { InEveryRun AcknowledgedVoted }
-    ensures kept_exactly { InEveryRun ExactlyKept }
-    ensures voted_exactly { InEveryRun ExactlyVoted }
+    ensures kept { InEveryRun (AcknowledgedKept ◌≤◌) }
+    ensures voted { InEveryRun (AcknowledgedVoted ◌≤◌) }
+    ensures kept_exactly { InEveryRun (AcknowledgedKept ◌≡◌) }
+    ensures voted_exactly { InEveryRun (AcknowledgedVoted ◌≡◌) }
 {}
 
 /// What a quorum acknowledged stands in the list of every later leader, and only that is committed. It stays
