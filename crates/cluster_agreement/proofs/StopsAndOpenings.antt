@@ -2,7 +2,7 @@
 use Rattle.std.proofs.Common.{◌≡◌, ℕ, ◌+◌, ◌≤◌, Bool, true, false, List, [], ◌∷◌, length, take, refl, sym, ap, subst, ◌∙◌, arith, inl, inr, Option, Some, None}
 use Rattle.std.specs.Prelude.{◌&&◌, if◌then◌else◌}
 use Rattle.disk_model.specs.Calls.{acts, after_call}
-use Rattle.kv_store.specs.KeyDisk.{Unsynced, KeyDisk, after_three, after_two, is_opened, is_put, keeps, opened_on, put_on, restarted_on, settled_by, turned_to}
+use Rattle.kv_store.specs.KeyDisk.{Unsynced, KeyDisk, after_calls, is_opened, is_put, keeps, opened_on, put_on, restarted_on, settled_by, turned_to}
 use Rattle.outside.specs.declared.pattern.Pattern.{Pattern}
 use Rattle.outside.specs.declared.pattern.Pattern.TheVariants.{New, Old}
 use Rattle.raft_core.specs.StoredPuts.{store_of}
@@ -154,20 +154,20 @@ module _ (choice : ℕ → Bool) (made : List SentTransfer) (w : Cluster) (run :
 -- ---- what an opening makes of a disk
 
 put_done : {S : Type 0} (key : ℕ) (later : S) (key_disk : KeyDisk S) → is_put key_disk.calls ≡ true
-    → put_on key later key_disk ≡ turned_to key later key_disk None (after_call (after_three key_disk.calls))
+    → put_on key later key_disk ≡ turned_to key later key_disk None (after_calls 4 key_disk.calls)
 put_done {S} key later key_disk e =
-    let first = both (acts key_disk.calls) (acts (after_call key_disk.calls) && (acts (after_two key_disk.calls) && acts (after_three key_disk.calls))) e in
-    let second = both (acts (after_call key_disk.calls)) (acts (after_two key_disk.calls) && acts (after_three key_disk.calls)) first.1 in
-    let third = both (acts (after_two key_disk.calls)) (acts (after_three key_disk.calls)) second.1 in
+    let first = both (acts key_disk.calls) (acts (after_call key_disk.calls) && (acts (after_calls 2 key_disk.calls) && acts (after_calls 3 key_disk.calls))) e in
+    let second = both (acts (after_call key_disk.calls)) (acts (after_calls 2 key_disk.calls) && acts (after_calls 3 key_disk.calls)) first.1 in
+    let third = both (acts (after_calls 2 key_disk.calls)) (acts (after_calls 3 key_disk.calls)) second.1 in
     rw (first.0, second.0, third.0, third.1) refl
 
 pub firm_after : (puts : List Put) (key_disk : KeyDisk Stored) → are_put puts key_disk.calls ≡ true → key_disk.unsynced ≡ None → (puts_on puts key_disk).unsynced ≡ None
 firm_after [] key_disk e none = none
 firm_after (put ∷ puts) key_disk e none =
-    let r = both (is_put key_disk.calls) (are_put puts (after_call (after_three key_disk.calls))) e in
-    let done : put_state_on put key_disk ≡ turned_to (key_of put key_disk.store) (after_put put key_disk.store) key_disk None (after_call (after_three key_disk.calls))
+    let r = both (is_put key_disk.calls) (are_put puts (after_calls 4 key_disk.calls)) e in
+    let done : put_state_on put key_disk ≡ turned_to (key_of put key_disk.store) (after_put put key_disk.store) key_disk None (after_calls 4 key_disk.calls)
     = put_done (key_of put key_disk.store) (after_put put key_disk.store) key_disk r.0 in
-    let rest = firm_after puts (turned_to (key_of put key_disk.store) (after_put put key_disk.store) key_disk None (after_call (after_three key_disk.calls))) r.1 refl in
+    let rest = firm_after puts (turned_to (key_of put key_disk.store) (after_put put key_disk.store) key_disk None (after_calls 4 key_disk.calls)) r.1 refl in
     ap (λ (b : Bool). (if b then puts_on puts (put_state_on put key_disk) else put_state_on put key_disk).unsynced) r.0
     ∙ (ap (λ (s : KeyDisk Stored). (puts_on puts s).unsynced) done ∙ rest)
 
@@ -185,7 +185,7 @@ pub record DiskLaws : Type 0 where
 
 module _ (laws : DiskLaws) (disk : KeyDisk Stored) where
   abbrev read : KeyDisk Stored
-  read = record disk { unsynced = None; calls = after_two disk.calls }
+  read = record disk { unsynced = None; calls = after_calls 2 disk.calls }
 
   -- the disk once it is synced and read
   is_read : acts disk.calls ≡ true → opened_on disk ≡ read
@@ -198,8 +198,8 @@ module _ (laws : DiskLaws) (disk : KeyDisk Stored) where
       ∙ ap (puts_on (opening_puts disk.store)) (is_read r.0)
 
   module _ (e : is_open_on disk ≡ true) where
-    parts : (is_opened disk.calls ≡ true) × (are_put (opening_puts disk.store) (after_two disk.calls) ≡ true)
-    parts = both (is_opened disk.calls) (are_put (opening_puts disk.store) (after_two disk.calls)) e
+    parts : (is_opened disk.calls ≡ true) × (are_put (opening_puts disk.store) (after_calls 2 disk.calls) ≡ true)
+    parts = both (is_opened disk.calls) (are_put (opening_puts disk.store) (after_calls 2 disk.calls)) e
 
     pub opened_store : store_of (opening_on disk).store ≡ store_of disk.store
     opened_store = ap (λ (s : KeyDisk Stored). store_of s.store) (opened_is parts.0)
@@ -216,7 +216,7 @@ module _ (laws : DiskLaws) (disk : KeyDisk Stored) where
     | inl e ↦
         ap (λ (s : KeyDisk Stored). store_of (restarted_on pattern s).store) (opened_is e)
         ∙ (ap store_of (laws.found_again (opening_puts disk.store) read pattern refl)
-        ∙ (laws.keeps_store disk.store (done_on (opening_puts disk.store) (after_two disk.calls) + found_by pattern (puts_on (opening_puts disk.store) read))
+        ∙ (laws.keeps_store disk.store (done_on (opening_puts disk.store) (after_calls 2 disk.calls) + found_by pattern (puts_on (opening_puts disk.store) read))
         ∙ finds_stored disk store finds))
     | inr e ↦
         ap (λ (b : Bool). store_of (restarted_on pattern (if b then puts_on (opening_puts disk.store) (opened_on disk) else opened_on disk)).store) e

@@ -4,7 +4,7 @@ use Rattle.std.specs.Prelude.{◌-◌, ◌==◌, ◌&&◌, ◌||◌, not, if◌t
 use Rattle.std.proofs.lemmas.Bool.Decides.{eqb_tells}
 use Rattle.disk_model.specs.declared.calls.Calls.{Calls}
 use Rattle.disk_model.specs.Calls.{acts, after_call}
-use Rattle.kv_store.specs.KeyDisk.{KeyDisk, after_three, after_two, is_put, turned_to}
+use Rattle.kv_store.specs.KeyDisk.{KeyDisk, after_calls, is_put, turned_to}
 use Rattle.outside.specs.Faults.{one_more}
 use Rattle.raft_log.specs.DeviceCalls.{key_of}
 use Rattle.raft_log.specs.KeyDisk.{are_put, put_state_on, puts_on}
@@ -38,13 +38,13 @@ passed call faults = λ i. record {
 abbrev five : ℕ → ℕ
 five call = suc (suc (suc (suc (suc call))))
 
-two_passed : (call faults : ℕ) → after_two (armed (five call) faults) ≡ armed (suc (suc (suc call))) faults
+two_passed : (call faults : ℕ) → after_calls 2 (armed (five call) faults) ≡ armed (suc (suc (suc call))) faults
 two_passed call faults = ap after_call (passed (suc (suc (suc call))) faults) ∙ passed (suc (suc call)) faults
 
-three_passed : (call faults : ℕ) → after_three (armed (five call) faults) ≡ armed (suc (suc call)) faults
+three_passed : (call faults : ℕ) → after_calls 3 (armed (five call) faults) ≡ armed (suc (suc call)) faults
 three_passed call faults = ap after_call (two_passed call faults) ∙ passed (suc call) faults
 
-four_passed : (call faults : ℕ) → after_call (after_three (armed (five call) faults)) ≡ armed (suc call) faults
+four_passed : (call faults : ℕ) → after_calls 4 (armed (five call) faults) ≡ armed (suc call) faults
 four_passed call faults = ap after_call (three_passed call faults) ∙ passed call faults
 
 first_acts : (call faults : ℕ) → acts (armed (five call) faults) ≡ true
@@ -53,10 +53,10 @@ first_acts call faults = acts_later (suc (suc (suc call))) faults
 second_acts : (call faults : ℕ) → acts (after_call (armed (five call) faults)) ≡ true
 second_acts call faults = ap acts (passed (suc (suc (suc call))) faults) ∙ acts_later (suc (suc call)) faults
 
-third_acts : (call faults : ℕ) → acts (after_two (armed (five call) faults)) ≡ true
+third_acts : (call faults : ℕ) → acts (after_calls 2 (armed (five call) faults)) ≡ true
 third_acts call faults = ap acts (two_passed call faults) ∙ acts_later (suc call) faults
 
-fourth_acts : (call faults : ℕ) → acts (after_three (armed (five call) faults)) ≡ true
+fourth_acts : (call faults : ℕ) → acts (after_calls 3 (armed (five call) faults)) ≡ true
 fourth_acts call faults = ap acts (three_passed call faults) ∙ acts_later call faults
 
 put_acts : (call faults : ℕ) → is_put (armed (five call) faults) ≡ true
@@ -68,11 +68,12 @@ put_there put call faults key_disk = turned_to (key_of put key_disk.store) (afte
 
 put_passed : (put : Put) (call faults : ℕ) (key_disk : KeyDisk Stored) → put_state_on put (armed_on (five call) faults key_disk) ≡ put_there put call faults key_disk
 put_passed put call faults key_disk = λ i.
-    if not (first_acts call faults i) then record x { calls = after_call c } else
-    if not (second_acts call faults i) then record x { calls = after_two c } else
-    if not (third_acts call faults i) then record x { calls = after_three c } else
-    turned_to (key_of put key_disk.store) (after_put put key_disk.store) x
+    if first_acts call faults i then if second_acts call faults i then if third_acts call faults i
+    then turned_to (key_of put key_disk.store) (after_put put key_disk.store) x
     (if fourth_acts call faults i then None else Some (record { key = key_of put key_disk.store; before = key_disk.store })) (four_passed call faults i)
+    else record x { calls = after_calls 3 c }
+    else record x { calls = after_calls 2 c }
+    else record x { calls = after_call c }
   where
     c : Calls
     c = armed (five call) faults

@@ -4,7 +4,7 @@ use Rattle.std.proofs.lemmas.Bool.{eq-eqb}
 use Rattle.std.specs.Prelude.{◌==◌, ◌||◌, ◌&&◌, not, is_some, if◌then◌else◌}
 use Rattle.disk_model.specs.declared.calls.Calls.{Calls}
 use Rattle.disk_model.specs.Calls.{acts, after_call, stops}
-use Rattle.kv_store.specs.KeyDisk.{KeyDisk, after_three, after_two, is_opened, is_put, opened_on, turned_to, Unsynced}
+use Rattle.kv_store.specs.KeyDisk.{KeyDisk, Unsynced, after_calls, is_opened, is_put, opened_on, turned_to}
 use Rattle.outside.specs.declared.pattern.Pattern.{Pattern}
 use Rattle.raft_core.specs.StoredPuts.{store_of}
 use Rattle.raft_log.specs.KeyDisk.{are_put, is_open_on, opening_on, put_state_on, puts_on}
@@ -53,17 +53,16 @@ stops_it calls e f = first_stops (stops calls) (calls.fail_in == 1) (ap (λ n. n
 
 module _ (a b c d : Bool) (w x y z : KeyDisk Stored) where
   abbrev up_to : KeyDisk Stored
-  up_to = if not a then w else if not b then x else if not c then y else z
+  up_to = if a then if b then if c then z else y else x else w
 
   unset_up_to : IsUnset w.calls → IsUnset x.calls → IsUnset y.calls → IsUnset z.calls → IsUnset up_to.calls
   unset_up_to p q r s =
       let P : KeyDisk Stored → Type 0 = λ key_disk. IsUnset key_disk.calls in
-      pick P (not a) w (if not b then x else if not c then y else z) p
-      (pick P (not b) x (if not c then y else z) q (pick P (not c) y z r s))
+      pick P a (if b then if c then z else y else x) w (pick P b (if c then z else y) x (pick P c z y s r) q) p
 
 stops_up_to : (a b c d : Bool) (w x y z : KeyDisk Stored) → (a ≡ false → w.calls.stopped ≡ true) → (b ≡ false → x.calls.stopped ≡ true) →
     (c ≡ false → y.calls.stopped ≡ true) → (d ≡ false → z.calls.stopped ≡ true) → (a && (b && (c && d))) ≡ false →
-    (if not a then w else if not b then x else if not c then y else z).calls.stopped ≡ true
+    (if a then if b then if c then z else y else x else w).calls.stopped ≡ true
 stops_up_to false b c d w x y z p q r s e = p refl
 stops_up_to true false c d w x y z p q r s e = q refl
 stops_up_to true true false d w x y z p q r s e = r refl
@@ -71,7 +70,7 @@ stops_up_to true true true false w x y z p q r s e = s refl
 stops_up_to true true true true w x y z p q r s e = absurd (cc (e))
 
 goes_up_to : (a b c d : Bool) (w x y z : KeyDisk Stored) → (a && (b && (c && d))) ≡ true →
-    (if not a then w else if not b then x else if not c then y else z) ≡ z
+    (if a then if b then if c then z else y else x else w) ≡ z
 goes_up_to false b c d w x y z e = absurd (cc (e))
 goes_up_to true false c d w x y z e = absurd (cc (e))
 goes_up_to true true false d w x y z e = absurd (cc (e))
@@ -82,10 +81,10 @@ module _ (put : Put) (key_disk : KeyDisk Stored) where
   one = after_call key_disk.calls
 
   abbrev two : Calls
-  two = after_two key_disk.calls
+  two = after_calls 2 key_disk.calls
 
   abbrev three : Calls
-  three = after_three key_disk.calls
+  three = after_calls 3 key_disk.calls
 
   abbrev unsynced : Option (Unsynced Stored)
   unsynced = if acts three then None else Some (record { key = key_of put key_disk.store; before = key_disk.store })
@@ -134,7 +133,7 @@ stops_puts (put ∷ puts) key_disk e f =
     pick_by P (is_put key_disk.calls) (puts_on puts (put_state_on put key_disk)) (put_state_on put key_disk)
     (λ done. stops_puts puts (put_state_on put key_disk) (unset_put put key_disk e)
     (ap (λ s. are_put puts s.calls) (goes_put put key_disk done)
-    ∙ second_fails (is_put key_disk.calls) (are_put puts (after_call (after_three key_disk.calls))) done f))
+    ∙ second_fails (is_put key_disk.calls) (are_put puts (after_calls 4 key_disk.calls)) done f))
     (λ cut. stops_put put key_disk e cut)
 
 -- ---- an opening, a restart
@@ -143,7 +142,7 @@ unset_opened : (key_disk : KeyDisk Stored) → IsUnset key_disk.calls → IsUnse
 unset_opened key_disk e =
     let P : KeyDisk Stored → Type 0 = λ s. IsUnset s.calls in
     let first = unset_after key_disk.calls e in
-    pick P (acts key_disk.calls) (record key_disk { unsynced = None; calls = after_two key_disk.calls }) (record key_disk { calls = after_call key_disk.calls })
+    pick P (acts key_disk.calls) (record key_disk { unsynced = None; calls = after_calls 2 key_disk.calls }) (record key_disk { calls = after_call key_disk.calls })
     (unset_after (after_call key_disk.calls) first) first
 
 unset_opening : (key_disk : KeyDisk Stored) → IsUnset key_disk.calls → IsUnset (opening_on key_disk).calls

@@ -14,7 +14,7 @@ use Rattle.outside.specs.declared.pattern.Pattern.{Pattern}
 use Rattle.outside.specs.declared.pattern.Pattern.TheVariants.{Old, New, Bytes}
 use Rattle.disk_model.specs.Memory.{DoesInMemory, Restarts, memory_calls, memory_contents, nothing_set}
 use Rattle.kv_store.specs.Image.{chosen_copy, copy_bytes, copy_start, open_calls, put_calls, put_in, turned}
-use Rattle.kv_store.specs.KeyDisk.{IsUnsynced, IsOn, IsReady, Unsynced, KeyDisk, Shows, after_three, after_two, is_opened, is_put, keeps, opened_on, put_on, restarted_on, turned_to}
+use Rattle.kv_store.specs.KeyDisk.{IsUnsynced, IsOn, IsReady, Unsynced, KeyDisk, Shows, after_calls, is_opened, is_put, keeps, opened_on, put_on, restarted_on, turned_to}
 use Rattle.kv_store.proofs.DeviceCalls.{only_image}
 use Rattle.kv_store.proofs.PutTurns.{copy_synced, copy_written, selector_loose, selector_seen, turned_bits}
 
@@ -66,18 +66,18 @@ module _ (key : ℕ) (value : List ℕ) (key_disk : KeyDisk Map) where
   first_fails : acts key_disk.calls ≡ false → (put_on key (put_in key_disk.store key value) key_disk ≡ record key_disk { calls = after_call key_disk.calls }) × (is_put key_disk.calls ≡ false)
   first_fails e0 = (rw e0 refl, rw e0 refl)
 
-  second_fails : acts key_disk.calls ≡ true → acts (after_call key_disk.calls) ≡ false → (put_on key (put_in key_disk.store key value) key_disk ≡ record key_disk { calls = after_two key_disk.calls }) × (is_put key_disk.calls ≡ false)
+  second_fails : acts key_disk.calls ≡ true → acts (after_call key_disk.calls) ≡ false → (put_on key (put_in key_disk.store key value) key_disk ≡ record key_disk { calls = after_calls 2 key_disk.calls }) × (is_put key_disk.calls ≡ false)
   second_fails e0 e1 = (rw (e0, e1) refl, rw (e0, e1) refl)
 
-  third_fails : acts key_disk.calls ≡ true → acts (after_call key_disk.calls) ≡ true → acts (after_two key_disk.calls) ≡ false → (put_on key (put_in key_disk.store key value) key_disk ≡ record key_disk { calls = after_three key_disk.calls }) × (is_put key_disk.calls ≡ false)
+  third_fails : acts key_disk.calls ≡ true → acts (after_call key_disk.calls) ≡ true → acts (after_calls 2 key_disk.calls) ≡ false → (put_on key (put_in key_disk.store key value) key_disk ≡ record key_disk { calls = after_calls 3 key_disk.calls }) × (is_put key_disk.calls ≡ false)
   third_fails e0 e1 e2 = (rw (e0, e1, e2) refl, rw (e0, e1, e2) refl)
 
-  fourth_fails : acts key_disk.calls ≡ true → acts (after_call key_disk.calls) ≡ true → acts (after_two key_disk.calls) ≡ true → acts (after_three key_disk.calls) ≡ false
-      → (put_on key (put_in key_disk.store key value) key_disk ≡ turned_to key (put_in key_disk.store key value) key_disk (Some (record { key = key; before = key_disk.store })) (after_call (after_three key_disk.calls))) × (is_put key_disk.calls ≡ false)
+  fourth_fails : acts key_disk.calls ≡ true → acts (after_call key_disk.calls) ≡ true → acts (after_calls 2 key_disk.calls) ≡ true → acts (after_calls 3 key_disk.calls) ≡ false
+      → (put_on key (put_in key_disk.store key value) key_disk ≡ turned_to key (put_in key_disk.store key value) key_disk (Some (record { key = key; before = key_disk.store })) (after_calls 4 key_disk.calls)) × (is_put key_disk.calls ≡ false)
   fourth_fails e0 e1 e2 e3 = (rw (e0, e1, e2, e3) refl, rw (e0, e1, e2, e3) refl)
 
-  none_fails : acts key_disk.calls ≡ true → acts (after_call key_disk.calls) ≡ true → acts (after_two key_disk.calls) ≡ true → acts (after_three key_disk.calls) ≡ true
-      → (put_on key (put_in key_disk.store key value) key_disk ≡ turned_to key (put_in key_disk.store key value) key_disk None (after_call (after_three key_disk.calls))) × (is_put key_disk.calls ≡ true)
+  none_fails : acts key_disk.calls ≡ true → acts (after_call key_disk.calls) ≡ true → acts (after_calls 2 key_disk.calls) ≡ true → acts (after_calls 3 key_disk.calls) ≡ true
+      → (put_on key (put_in key_disk.store key value) key_disk ≡ turned_to key (put_in key_disk.store key value) key_disk None (after_calls 4 key_disk.calls)) × (is_put key_disk.calls ≡ true)
   none_fails e0 e1 e2 e3 = (rw (e0, e1, e2, e3) refl, rw (e0, e1, e2, e3) refl)
 
 module _ (old new : MemoryDisk) (key_disk : KeyDisk Map) (key : ℕ) (value : List ℕ) (ok : Bool) (ready : IsReady old key_disk) (exists : key < 132) (short : length value ≤ 32) where
@@ -105,12 +105,12 @@ module _ (old new : MemoryDisk) (key_disk : KeyDisk Map) (key : ℕ) (value : Li
         let n = next m1 new Sync false (after_call key_disk.calls) n1.0 does in
         let e = second_fails key value key_disk n1.1 n.1 in
         let same : memory_contents new ≡ memory_contents m1 = does.failed refl in
-        failed_as (record key_disk { calls = after_two key_disk.calls }) bad e.0 e.1
-        (firm_on new (record key_disk { calls = after_two key_disk.calls }) ready.nothing_unsynced n.0 ready.on.bits
+        failed_as (record key_disk { calls = after_calls 2 key_disk.calls }) bad e.0 e.1
+        (firm_on new (record key_disk { calls = after_calls 2 key_disk.calls }) ready.nothing_unsynced n.0 ready.on.bits
         (λ image left. written1 image (subst (λ c. MayLeave c image) same left)))
 
     module _ (m2 : MemoryDisk) (synced : DoesInMemory m1 Sync true m2) where
-      n2 : (memory_calls m2 ≡ after_two key_disk.calls) × (acts (after_call key_disk.calls) ≡ true)
+      n2 : (memory_calls m2 ≡ after_calls 2 key_disk.calls) × (acts (after_call key_disk.calls) ≡ true)
       n2 = next m1 m2 Sync true (after_call key_disk.calls) n1.0 synced
 
       shows2 : Shows (memory_contents m2).seen key_disk.store key_disk.copies
@@ -122,16 +122,16 @@ module _ (old new : MemoryDisk) (key_disk : KeyDisk Map) (key : ℕ) (value : Li
 
       at_third : ok ≡ false → DoesInMemory m2 (Write (67 * key) ((1 - key_disk.copies key) ∷ [])) false new → IsPut new key_disk key value ok
       at_third bad does =
-          let n = next m2 new (Write (67 * key) ((1 - key_disk.copies key) ∷ [])) false (after_two key_disk.calls) n2.0 does in
+          let n = next m2 new (Write (67 * key) ((1 - key_disk.copies key) ∷ [])) false (after_calls 2 key_disk.calls) n2.0 does in
           let e = third_fails key value key_disk n1.1 n2.1 n.1 in
           let same : memory_contents new ≡ memory_contents m2 = does.failed refl in
-          failed_as (record key_disk { calls = after_three key_disk.calls }) bad e.0 e.1
-          (settled_on new (record key_disk { calls = after_three key_disk.calls }) ready.nothing_unsynced n.0 ready.on.bits
+          failed_as (record key_disk { calls = after_calls 3 key_disk.calls }) bad e.0 e.1
+          (settled_on new (record key_disk { calls = after_calls 3 key_disk.calls }) ready.nothing_unsynced n.0 ready.on.bits
           (subst (λ c. IsSettled c) (sym same) settled2) (subst (λ (c : Contents). Shows c.seen key_disk.store key_disk.copies) (sym same) shows2))
 
       module _ (m3 : MemoryDisk) (turns : DoesInMemory m2 (Write (67 * key) ((1 - key_disk.copies key) ∷ [])) true m3) where
-        n3 : (memory_calls m3 ≡ after_three key_disk.calls) × (acts (after_two key_disk.calls) ≡ true)
-        n3 = next m2 m3 (Write (67 * key) ((1 - key_disk.copies key) ∷ [])) true (after_two key_disk.calls) n2.0 turns
+        n3 : (memory_calls m3 ≡ after_calls 3 key_disk.calls) × (acts (after_calls 2 key_disk.calls) ≡ true)
+        n3 = next m2 m3 (Write (67 * key) ((1 - key_disk.copies key) ∷ [])) true (after_calls 2 key_disk.calls) n2.0 turns
 
         shows3 : Shows (memory_contents m3).seen (put_in key_disk.store key value) (turned key key_disk.copies)
         shows3 = selector_seen key_disk.store key_disk.copies value key exists short ready.on.bits (memory_contents old) (memory_contents m1) (sound_of old) ready.settled ready.on.seen (sound_of m1) (wrote.acted refl)
@@ -143,10 +143,10 @@ module _ (old new : MemoryDisk) (key_disk : KeyDisk Map) (key : ℕ) (value : Li
 
         at_fourth : ok ≡ false → DoesInMemory m3 Sync false new → IsPut new key_disk key value ok
         at_fourth bad does =
-            let n = next m3 new Sync false (after_three key_disk.calls) n3.0 does in
+            let n = next m3 new Sync false (after_calls 3 key_disk.calls) n3.0 does in
             let e = fourth_fails key value key_disk n1.1 n2.1 n3.1 n.1 in
             let same : memory_contents new ≡ memory_contents m3 = does.failed refl in
-            failed_as (turned_to key (put_in key_disk.store key value) key_disk (Some (record { key = key; before = key_disk.store })) (after_call (after_three key_disk.calls))) bad e.0 e.1 (record {
+            failed_as (turned_to key (put_in key_disk.store key value) key_disk (Some (record { key = key; before = key_disk.store })) (after_calls 4 key_disk.calls)) bad e.0 e.1 (record {
               calls = n.0;
               bits = turned_bits key key_disk.copies ready.on.bits;
               seen = subst (λ (c : Contents). Shows c.seen (put_in key_disk.store key value) (turned key key_disk.copies)) (sym same) shows3;
@@ -157,10 +157,10 @@ module _ (old new : MemoryDisk) (key_disk : KeyDisk Map) (key : ℕ) (value : Li
         at_end : (m4 : MemoryDisk) → ok ≡ true → new ≡ m4 → DoesInMemory m3 Sync true m4 → IsPut new key_disk key value ok
         at_end m4 good is does' =
             let does : DoesInMemory m3 Sync true new = subst (λ m. DoesInMemory m3 Sync true m) (sym is) does' in
-            let n = next m3 new Sync true (after_three key_disk.calls) n3.0 does in
+            let n = next m3 new Sync true (after_calls 3 key_disk.calls) n3.0 does in
             let e = none_fails key value key_disk n1.1 n2.1 n3.1 n.1 in
             let sync = does.acted refl in
-            let after : KeyDisk Map = turned_to key (put_in key_disk.store key value) key_disk None (after_call (after_three key_disk.calls)) in
+            let after : KeyDisk Map = turned_to key (put_in key_disk.store key value) key_disk None (after_calls 4 key_disk.calls) in
             let here : IsOn new (put_on key (put_in key_disk.store key value) key_disk) = subst (λ s. IsOn new s) (sym e.0) (settled_on new after refl n.0 (turned_bits key key_disk.copies ready.on.bits) sync.settled
             (subst (λ xs. Shows xs (put_in key_disk.store key value) (turned key key_disk.copies)) (sym sync.seen) shows3)) in
             (here, good ∙ sym e.1, λ y. record { on = here; settled = sync.settled; nothing_unsynced = ap (λ (s : KeyDisk Map). s.unsynced) e.0 })
@@ -209,11 +209,11 @@ module _ (old new : MemoryDisk) (key_disk : KeyDisk Map) (ok : Bool) (on : IsOn 
         let n1 = next old m1 Sync true key_disk.calls on.calls synced in
         let n2 = next m1 m (Read 0 8844) done (after_call key_disk.calls) n1.0 does in
         let sync = synced.acted refl in
-        let is : opened_on key_disk ≡ record key_disk { unsynced = None; calls = after_two key_disk.calls } = rw n1.1 refl in
+        let is : opened_on key_disk ≡ record key_disk { unsynced = None; calls = after_calls 2 key_disk.calls } = rw n1.1 refl in
         let answer : is_opened key_disk.calls ≡ done = rw (n1.1, n2.1) refl in
         let settled : IsSettled (memory_contents m) = subst (λ c. IsSettled c) (sym same) sync.settled in
         let shows : Shows (memory_contents m).seen key_disk.store key_disk.copies = subst (λ (c : Contents). Shows c.seen key_disk.store key_disk.copies) (sym same) (subst (λ xs. Shows xs key_disk.store key_disk.copies) (sym sync.seen) on.seen) in
-        let here : IsOn m (opened_on key_disk) = subst (λ s. IsOn m s) (sym is) (settled_on m (record key_disk { unsynced = None; calls = after_two key_disk.calls }) refl n2.0 on.bits settled shows) in (
+        let here : IsOn m (opened_on key_disk) = subst (λ s. IsOn m s) (sym is) (settled_on m (record key_disk { unsynced = None; calls = after_calls 2 key_disk.calls }) refl n2.0 on.bits settled shows) in (
           subst (λ m. IsOn m (opened_on key_disk)) (sym is_new) here,
           is_done ∙ sym answer,
           λ good. subst (λ m. IsReady m (opened_on key_disk)) (sym is_new) (record { on = here; settled = settled; nothing_unsynced = ap (λ (s : KeyDisk Map). s.unsynced) is }),

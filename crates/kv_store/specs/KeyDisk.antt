@@ -1,7 +1,7 @@
 -- The disk by keys: in place of the bytes of a disk in memory what its reads store, the copy that each
 -- selector chooses, the one selector that was written and not synced, and which device calls fail. It says
 -- exactly what each put, opening and restart makes of it.
-use Rattle.std.specs.Prelude.{◌≡◌, ℕ, ◌-◌, ◌*◌, ◌%◌, ◌<◌, ◌==◌, ◌&&◌, Bool, true, false, not, List, Option, None, Some, IfSome, slice_index, if◌then◌else◌}
+use Rattle.std.specs.Prelude.{◌≡◌, ℕ, zero, suc, ◌-◌, ◌*◌, ◌%◌, ◌<◌, ◌==◌, ◌&&◌, Bool, true, false, List, Option, None, Some, IfSome, slice_index, if◌then◌else◌}
 use Rattle.disk_model.specs.declared.calls.Calls.{Calls}
 use Rattle.disk_model.specs.declared.memory.MemoryDisk.{MemoryDisk}
 use Rattle.disk_model.specs.Calls.{acts, after_call}
@@ -24,20 +24,18 @@ pub record KeyDisk (S : Type 0) : Type 0 where
   pub unsynced : Option (Unsynced S)
   pub calls : Calls
 
--- the settings after two and after three device calls
-abbrev pub after_two : Calls → Calls
-after_two calls = after_call (after_call calls)
-
-abbrev pub after_three : Calls → Calls
-after_three calls = after_call (after_two calls)
+-- the settings after so many device calls
+abbrev pub after_calls : ℕ → Calls → Calls
+after_calls zero calls = calls
+after_calls (suc count) calls = after_calls count (after_call calls)
 
 -- whether all four device calls of a put act
 abbrev pub is_put : Calls → Bool
-is_put calls = acts calls && (acts (after_call calls) && (acts (after_two calls) && acts (after_three calls)))
+is_put calls = acts calls && (acts (after_calls 1 calls) && (acts (after_calls 2 calls) && acts (after_calls 3 calls)))
 
 -- whether both device calls of an opening act
 abbrev pub is_opened : Calls → Bool
-is_opened calls = acts calls && acts (after_call calls)
+is_opened calls = acts calls && acts (after_calls 1 calls)
 
 -- whether a restart leaves a selector that was written and not synced, and chooses this copy, as it was
 -- written: it is a run of its own, so a pattern of bytes gives it the first
@@ -47,27 +45,29 @@ keeps New copy = true
 keeps (Bytes bytes) copy = (slice_index bytes.items 0 % 2) == copy
 
 module _ {S : Type 0} where
-  -- the shelf after a selector was turned
+  -- the disk after a selector was turned
   abbrev pub turned_to : ℕ → S → KeyDisk S → Option (Unsynced S) → Calls → KeyDisk S
   turned_to key store key_disk unsynced calls =
       record { store = store; copies = turned key key_disk.copies; unsynced = unsynced; calls = calls }
 
-  -- a put at a key, after which this is stored: it writes the copy, syncs, writes the selector, which turns
-  -- it, and syncs, up to the first that fails
+  -- what follows so many device calls, unless one of them fails: then the settings alone have changed
+  abbrev pub unless_one_fails : ℕ → (KeyDisk S → KeyDisk S) → KeyDisk S → KeyDisk S
+  unless_one_fails zero follows key_disk = follows key_disk
+  unless_one_fails (suc count) follows key_disk =
+      let called : KeyDisk S = record key_disk { calls = after_call key_disk.calls } in
+      if acts key_disk.calls then unless_one_fails count follows called else called
+
+  -- a put at a key, after which this is stored. It writes the copy, syncs and writes the selector: where these three
+  -- device calls act, the selector is turned, and it is synced where the fourth acts
   abbrev pub put_on : ℕ → S → KeyDisk S → KeyDisk S
-  put_on key after key_disk =
-      if not (acts key_disk.calls) then record key_disk { calls = after_call key_disk.calls }
-      else if not (acts (after_call key_disk.calls)) then record key_disk { calls = after_two key_disk.calls }
-      else if not (acts (after_two key_disk.calls)) then record key_disk { calls = after_three key_disk.calls }
-      else turned_to key after key_disk (if acts (after_three key_disk.calls) then None
-      else Some (record { key = key; before = key_disk.store })) (after_call (after_three key_disk.calls))
+  put_on key after = unless_one_fails 3 (λ disk. turned_to key after disk
+      (if acts disk.calls then None else Some (record { key = key; before = disk.store })) (after_call disk.calls))
 
   -- an opening: it syncs and reads
   abbrev pub opened_on : KeyDisk S → KeyDisk S
-  opened_on key_disk = if acts key_disk.calls then record key_disk { unsynced = None; calls = after_two key_disk.calls }
-      else record key_disk { calls = after_call key_disk.calls }
+  opened_on = unless_one_fails 1 (λ disk. record disk { unsynced = None; calls = after_call disk.calls })
 
-  -- what a restart with this pattern makes of a loose selector
+  -- what a restart with this pattern makes of a selector that was written and not synced
   abbrev pub settled_by : Pattern → Option (Unsynced S) → KeyDisk S → KeyDisk S
   settled_by pattern None key_disk = record key_disk { unsynced = None }
   settled_by pattern (Some unsynced) key_disk =
@@ -98,7 +98,7 @@ pub record IsUnsynced (disk : Contents) (map : ℕ → List ℕ) (copies : ℕ �
   pub written : disk.written (67 * unsynced.key) ≡ true
   pub alone : run_start disk.written (67 * unsynced.key) ≡ 67 * unsynced.key
 
--- the disk in memory is the one that the shelf tells of
+-- the disk in memory is the one that the disk by keys tells of
 pub record IsOn (disk : MemoryDisk) (key_disk : KeyDisk (ℕ → List ℕ)) : Type 0 where
   pub calls : memory_calls disk ≡ key_disk.calls
   pub bits : (key : ℕ) → key_disk.copies key < 2

@@ -6,7 +6,7 @@ use Rattle.disk_model.specs.Calls.{acts, after_call}
 use Rattle.disk_model.specs.Device.{Makes}
 use Rattle.disk_model.specs.Memory.{DoesInMemory}
 use Rattle.kv_store.specs.Image.{key_count, open_calls}
-use Rattle.kv_store.specs.KeyDisk.{IsOn as IsOnKeys, IsReady as IsReadyKeys, Unsynced, KeyDisk, after_two, is_opened, keeps, opened_on, restarted_on, settled_by}
+use Rattle.kv_store.specs.KeyDisk.{IsOn as IsOnKeys, IsReady as IsReadyKeys, Unsynced, KeyDisk, after_calls, is_opened, keeps, opened_on, restarted_on, settled_by}
 use Rattle.outside.specs.declared.pattern.Pattern.{Pattern}
 use Rattle.outside.specs.declared.pattern.Pattern.TheVariants.{New}
 use Rattle.raft_log.specs.DeviceCalls.{copies_after, device_calls}
@@ -20,7 +20,7 @@ use Rattle.raft_log.proofs.StatesOnShelf.{LawOfPuts, Map, and_false, and_true, b
 
 -- the shelf after both device calls of an opening
 abbrev pub read_shelf : KeyDisk Stored → KeyDisk Stored
-read_shelf key_disk = record key_disk { unsynced = None; calls = after_two key_disk.calls }
+read_shelf key_disk = record key_disk { unsynced = None; calls = after_calls 2 key_disk.calls }
 
 opened_by : (b : Bool) (key_disk : KeyDisk Stored) → b ≡ true → (if b then read_shelf key_disk else record key_disk { calls = after_call key_disk.calls }) ≡ read_shelf key_disk
 opened_by b key_disk is = rw is refl
@@ -39,7 +39,7 @@ opening_is key_disk is = opening_by true key_disk is ∙ ap (puts_on (opening_pu
 pub opening_whole : (key_disk : KeyDisk Stored) → is_open_on key_disk ≡ true
     → ((opening_on key_disk).store ≡ after_puts (opening_puts key_disk.store) key_disk.store) × ((opening_on key_disk).copies ≡ copies_after (opening_puts key_disk.store) key_disk.store key_disk.copies)
 opening_whole key_disk e =
-    let tests = both_true (is_opened key_disk.calls) (are_put (opening_puts key_disk.store) (after_two key_disk.calls)) e in
+    let tests = both_true (is_opened key_disk.calls) (are_put (opening_puts key_disk.store) (after_calls 2 key_disk.calls)) e in
     let all = puts_done (opening_puts key_disk.store) (read_shelf key_disk) tests.1 in
     let is = opening_is key_disk tests.0 in (ap (λ (x : KeyDisk Stored). x.store) is ∙ all.0, ap (λ (x : KeyDisk Stored). x.copies) is ∙ all.1)
 
@@ -62,17 +62,17 @@ done_by false n m h = omega arith
 
 pub opening_most : (key_disk : KeyDisk Stored) → opening_done key_disk ≤ length (opening_puts key_disk.store)
 opening_most key_disk =
-    done_by (is_opened key_disk.calls) (done_on (opening_puts key_disk.store) (after_two key_disk.calls)) (length (opening_puts key_disk.store)) (done_most (opening_puts key_disk.store) (after_two key_disk.calls))
+    done_by (is_opened key_disk.calls) (done_on (opening_puts key_disk.store) (after_calls 2 key_disk.calls)) (length (opening_puts key_disk.store)) (done_most (opening_puts key_disk.store) (after_calls 2 key_disk.calls))
 
 pub opening_all : (key_disk : KeyDisk Stored) → is_open_on key_disk ≡ true → opening_done key_disk ≡ length (opening_puts key_disk.store)
 opening_all key_disk e =
-    let tests = both_true (is_opened key_disk.calls) (are_put (opening_puts key_disk.store) (after_two key_disk.calls)) e in
-    ap (λ (b : Bool). if b then done_on (opening_puts key_disk.store) (after_two key_disk.calls) else 0) tests.0 ∙ all_done (opening_puts key_disk.store) (after_two key_disk.calls) tests.1
+    let tests = both_true (is_opened key_disk.calls) (are_put (opening_puts key_disk.store) (after_calls 2 key_disk.calls)) e in
+    ap (λ (b : Bool). if b then done_on (opening_puts key_disk.store) (after_calls 2 key_disk.calls) else 0) tests.0 ∙ all_done (opening_puts key_disk.store) (after_calls 2 key_disk.calls) tests.1
 
 pub opening_less : (key_disk : KeyDisk Stored) → is_opened key_disk.calls ≡ true → is_open_on key_disk ≡ false → opening_done key_disk < length (opening_puts key_disk.store)
 opening_less key_disk is e =
-    let left = some_left (opening_puts key_disk.store) (after_two key_disk.calls) (sym (and_true (is_opened key_disk.calls) (are_put (opening_puts key_disk.store) (after_two key_disk.calls)) is) ∙ e) in
-    subst (λ n. n < length (opening_puts key_disk.store)) (sym (ap (λ (b : Bool). if b then done_on (opening_puts key_disk.store) (after_two key_disk.calls) else 0) is)) left
+    let left = some_left (opening_puts key_disk.store) (after_calls 2 key_disk.calls) (sym (and_true (is_opened key_disk.calls) (are_put (opening_puts key_disk.store) (after_calls 2 key_disk.calls)) is) ∙ e) in
+    subst (λ n. n < length (opening_puts key_disk.store)) (sym (ap (λ (b : Bool). if b then done_on (opening_puts key_disk.store) (after_calls 2 key_disk.calls) else 0) is)) left
 
 -- a restart that keeps all that was written
 kept_all : (unsynced : Option (Unsynced Stored)) (key_disk : KeyDisk Stored) → (settled_by New unsynced key_disk).store ≡ key_disk.store
@@ -92,8 +92,8 @@ module _ (pattern : Pattern) (key_disk : KeyDisk Stored) where
   unread_by false unsynced none = subst (λ (l : Option (Unsynced Stored)). Finds (record key_disk { unsynced = l; calls = after_call key_disk.calls }) 0) (sym (none refl)) refl
 
   finds_by : (acts key_disk.calls ≡ false → key_disk.unsynced ≡ None) → (b : Bool) → is_opened key_disk.calls ≡ b
-      → Finds (if b then puts_on (opening_puts key_disk.store) (opened_on key_disk) else opened_on key_disk) (if b then done_on (opening_puts key_disk.store) (after_two key_disk.calls) else 0)
-  finds_by none true is = subst (λ (x : KeyDisk Stored). Finds (puts_on (opening_puts key_disk.store) x) (done_on (opening_puts key_disk.store) (after_two key_disk.calls))) (sym (opened_is key_disk is))
+      → Finds (if b then puts_on (opening_puts key_disk.store) (opened_on key_disk) else opened_on key_disk) (if b then done_on (opening_puts key_disk.store) (after_calls 2 key_disk.calls) else 0)
+  finds_by none true is = subst (λ (x : KeyDisk Stored). Finds (puts_on (opening_puts key_disk.store) x) (done_on (opening_puts key_disk.store) (after_calls 2 key_disk.calls))) (sym (opened_is key_disk is))
       (restart_finds (opening_puts key_disk.store) (read_shelf key_disk) pattern refl)
   finds_by none false is = unread_by (acts key_disk.calls) key_disk.unsynced none
 
@@ -130,7 +130,7 @@ module _ (reads : LawOfReads) (puts : LawOfPuts) (old new : MemoryDisk) (key_dis
       let k = reads old new key_disk false on failed.1 in
       let not : is_opened key_disk.calls ≡ false = sym k.1 in (
         subst (λ x. IsOn new x) (sym (opening_by false key_disk not)) k.0,
-        failed.0 ∙ sym (and_false (is_opened key_disk.calls) (are_put (opening_puts key_disk.store) (after_two key_disk.calls)) not),
+        failed.0 ∙ sym (and_false (is_opened key_disk.calls) (are_put (opening_puts key_disk.store) (after_calls 2 key_disk.calls)) not),
         λ good. absurd (cc (good, failed.0)),
       )
   by_part (inr more) =
@@ -140,7 +140,7 @@ module _ (reads : LawOfReads) (puts : LawOfPuts) (old new : MemoryDisk) (key_dis
       let m = puts more.0 new (read_shelf key_disk) copies (opening_puts key_disk.store) ok ready agree (allowed_opening on.map key_disk.store on.stores narrow) more.2 in
       let is = opening_is key_disk done in (
         subst (λ x. IsOn new x) (sym is) m.0,
-        m.1 ∙ sym (and_true (is_opened key_disk.calls) (are_put (opening_puts key_disk.store) (after_two key_disk.calls)) done),
+        m.1 ∙ sym (and_true (is_opened key_disk.calls) (are_put (opening_puts key_disk.store) (after_calls 2 key_disk.calls)) done),
         λ good. subst (λ x. IsReady new x) (sym is) (m.2 good),
       )
 
@@ -149,4 +149,4 @@ module _ (reads : LawOfReads) (puts : LawOfPuts) (old new : MemoryDisk) (key_dis
 
 -- an opening that could not read
 pub cut_opening : (key_disk : KeyDisk Stored) → is_opened key_disk.calls ≡ false → (opening_on key_disk ≡ opened_on key_disk) × (is_open_on key_disk ≡ false)
-cut_opening key_disk not = (opening_by false key_disk not, and_false (is_opened key_disk.calls) (are_put (opening_puts key_disk.store) (after_two key_disk.calls)) not)
+cut_opening key_disk not = (opening_by false key_disk not, and_false (is_opened key_disk.calls) (are_put (opening_puts key_disk.store) (after_calls 2 key_disk.calls)) not)

@@ -1,9 +1,9 @@
 -- What a restart finds.
 use Rattle.std.proofs.Common.{◌≡◌, ℕ, suc, ◌+◌, ◌<◌, ◌≤◌, length, Bool, true, false, List, [], ◌∷◌, take, refl, sym, ap, subst, ◌∙◌, arith}
-use Rattle.std.specs.Prelude.{Option, None, Some, ◌&&◌, not, if◌then◌else◌}
+use Rattle.std.specs.Prelude.{Option, None, Some, ◌&&◌, if◌then◌else◌}
 use Rattle.disk_model.specs.declared.calls.Calls.{Calls}
 use Rattle.disk_model.specs.Calls.{acts, after_call}
-use Rattle.kv_store.specs.KeyDisk.{Unsynced, KeyDisk, after_three, after_two, is_put, keeps, restarted_on, turned_to}
+use Rattle.kv_store.specs.KeyDisk.{Unsynced, KeyDisk, after_calls, is_put, keeps, restarted_on, turned_to}
 use Rattle.kv_store.specs.Image.{turned}
 use Rattle.outside.specs.declared.pattern.Pattern.{Pattern}
 use Rattle.raft_log.specs.DeviceCalls.{key_of}
@@ -33,20 +33,21 @@ module _ (put : Put) (s : Stored) (copies : ℕ → ℕ) where
   -- the shelf after a put, by which of its device calls act
   abbrev by_calls : Bool → Bool → Bool → Bool → Calls → KeyDisk Stored
   by_calls a b c d calls =
-      if not a then nothing_unsynced s copies (after_call calls)
-      else if not b then nothing_unsynced s copies (after_two calls)
-      else if not c then nothing_unsynced s copies (after_three calls)
-      else turned_to (key_of put s) (after_put put s) (nothing_unsynced s copies calls) (if d then None else Some (record { key = key_of put s; before = s })) (after_call (after_three calls))
+      if a then if b then if c
+      then turned_to (key_of put s) (after_put put s) (nothing_unsynced s copies calls) (if d then None else Some (record { key = key_of put s; before = s })) (after_calls 4 calls)
+      else nothing_unsynced s copies (after_calls 3 calls)
+      else nothing_unsynced s copies (after_calls 2 calls)
+      else nothing_unsynced s copies (after_call calls)
 
   any_found : (pattern : Pattern) (a b c d : Bool) (calls : Calls) → (a && (b && (c && d))) ≡ false → IsFound pattern put s (by_calls a b c d calls)
   any_found pattern false b c d calls e = refl
   any_found pattern true false c d calls e = refl
   any_found pattern true true false d calls e = refl
-  any_found pattern true true true false calls e = loose_found pattern put s copies (after_call (after_three calls))
+  any_found pattern true true true false calls e = loose_found pattern put s copies (after_calls 4 calls)
   any_found pattern true true true true calls e = absurd (cc e)
 
   failed_found : (pattern : Pattern) (calls : Calls) → is_put calls ≡ false → IsFound pattern put s (put_state_on put (nothing_unsynced s copies calls))
-  failed_found pattern calls e = any_found pattern (acts calls) (acts (after_call calls)) (acts (after_two calls)) (acts (after_three calls)) calls e
+  failed_found pattern calls e = any_found pattern (acts calls) (acts (after_call calls)) (acts (after_calls 2 calls)) (acts (after_calls 3 calls)) calls e
 
 none_left : (puts : List Put) → take 0 puts ≡ []
 none_left [] = refl
@@ -70,10 +71,10 @@ module _ (put : Put) (puts : List Put) (s : Stored) (copies : ℕ → ℕ) (call
   on = put_state_on put (nothing_unsynced s copies calls)
 
   abbrev next : KeyDisk Stored
-  next = nothing_unsynced (after_put put s) (turned (key_of put s) copies) (after_call (after_three calls))
+  next = nothing_unsynced (after_put put s) (turned (key_of put s) copies) (after_calls 4 calls)
 
   abbrev later : ℕ
-  later = done_on puts (after_call (after_three calls))
+  later = done_on puts (after_calls 4 calls)
 
   abbrev Later : Type 0
   Later = (restarted_on pattern (puts_on puts next)).store ≡ after_puts (take (later + found_by pattern (puts_on puts next)) puts) (after_put put s)
@@ -97,7 +98,7 @@ module _ (put : Put) (puts : List Put) (s : Stored) (copies : ℕ → ℕ) (call
 pub finds : (puts : List Put) (s : Stored) (copies : ℕ → ℕ) (calls : Calls) (pattern : Pattern)
     → (restarted_on pattern (puts_on puts (nothing_unsynced s copies calls))).store ≡ after_puts (take (done_on puts calls + found_by pattern (puts_on puts (nothing_unsynced s copies calls))) puts) s
 finds [] s copies calls pattern = refl
-finds (put ∷ puts) s copies calls pattern = step put puts s copies calls pattern (finds puts (after_put put s) (turned (key_of put s) copies) (after_call (after_three calls)) pattern)
+finds (put ∷ puts) s copies calls pattern = step put puts s copies calls pattern (finds puts (after_put put s) (turned (key_of put s) copies) (after_calls 4 calls) pattern)
 
 -- no more are done than there are
 one_more : (n m : ℕ) (b : Bool) → n ≤ m → (if b then 1 + n else 0) ≤ m + 1
@@ -107,14 +108,14 @@ one_more n m false h = omega arith
 pub done_most : (puts : List Put) (calls : Calls) → done_on puts calls ≤ length puts
 done_most [] calls = omega arith
 done_most (put ∷ puts) calls =
-    let rest = one_more (done_on puts (after_call (after_three calls))) (length puts) (is_put calls) (done_most puts (after_call (after_three calls))) in omega (arith, rest)
+    let rest = one_more (done_on puts (after_calls 4 calls)) (length puts) (is_put calls) (done_most puts (after_calls 4 calls)) in omega (arith, rest)
 
 pub all_done : (puts : List Put) (calls : Calls) → are_put puts calls ≡ true → done_on puts calls ≡ length puts
 all_done [] calls e = refl
 all_done (put ∷ puts) calls e =
-    let tests = both_true (is_put calls) (are_put puts (after_call (after_three calls))) e in
-    let rest : done_on puts (after_call (after_three calls)) ≡ length puts = all_done puts (after_call (after_three calls)) tests.1 in
-    ap (λ (b : Bool). if b then 1 + done_on puts (after_call (after_three calls)) else 0) tests.0 ∙ omega (arith, rest)
+    let tests = both_true (is_put calls) (are_put puts (after_calls 4 calls)) e in
+    let rest : done_on puts (after_calls 4 calls) ≡ length puts = all_done puts (after_calls 4 calls) tests.1 in
+    ap (λ (b : Bool). if b then 1 + done_on puts (after_calls 4 calls) else 0) tests.0 ∙ omega (arith, rest)
 
 less_by : (n m : ℕ) (a b : Bool) → (b ≡ false → n < m) → (a && b) ≡ false → (if a then 1 + n else 0) < m + 1
 less_by n m true b less e = let h : n < m = less e in omega (arith, h)
@@ -123,7 +124,7 @@ less_by n m false b less e = omega arith
 pub some_left : (puts : List Put) (calls : Calls) → are_put puts calls ≡ false → done_on puts calls < length puts
 some_left [] calls e = absurd (cc e)
 some_left (put ∷ puts) calls e =
-    let rest = less_by (done_on puts (after_call (after_three calls))) (length puts) (is_put calls) (are_put puts (after_call (after_three calls))) (some_left puts (after_call (after_three calls))) e in omega (arith, rest)
+    let rest = less_by (done_on puts (after_calls 4 calls)) (length puts) (is_put calls) (are_put puts (after_calls 4 calls)) (some_left puts (after_calls 4 calls)) e in omega (arith, rest)
 
 pub restart_finds : (puts : List Put) (key_disk : KeyDisk Stored) (pattern : Pattern) → key_disk.unsynced ≡ None
     → (restarted_on pattern (puts_on puts key_disk)).store ≡ after_puts (take (done_on puts key_disk.calls + found_by pattern (puts_on puts key_disk)) puts) key_disk.store

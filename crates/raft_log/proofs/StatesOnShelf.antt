@@ -1,5 +1,5 @@
 -- The disk by keys with stored states, step by step.
-use Rattle.std.proofs.Common.{◌≡◌, ◌⊎◌, inl, inr, ℕ, ◌-◌, ◌<◌, ◌≤◌, ◌&&◌, Bool, true, false, not, List, [], ◌∷◌, ◌++◌, length, refl, sym, ap, subst, ◌∙◌, arith}
+use Rattle.std.proofs.Common.{◌≡◌, ◌⊎◌, inl, inr, ℕ, ◌-◌, ◌<◌, ◌≤◌, ◌&&◌, Bool, true, false, List, [], ◌∷◌, ◌++◌, length, refl, sym, ap, subst, ◌∙◌, arith}
 use Rattle.std.specs.Prelude.{Option, None, Some, if◌then◌else◌}
 use Rattle.std.proofs.lemmas.Bool.Decides.{eqb_tells}
 use Rattle.disk_model.specs.declared.calls.Calls.{Calls}
@@ -8,7 +8,7 @@ use Rattle.disk_model.specs.Calls.{acts, after_call}
 use Rattle.disk_model.specs.Device.{DeviceCall, Makes}
 use Rattle.disk_model.specs.Memory.{DoesInMemory, memory_contents, nothing_set}
 use Rattle.kv_store.specs.Image.{chosen_copy, key_count, put_calls, put_in, turned, value_in, value_limit}
-use Rattle.kv_store.specs.KeyDisk.{IsOn as IsOnKeys, IsReady as IsReadyKeys, Unsynced, KeyDisk, Shows, after_three, after_two, is_put, keeps, opened_on, put_on, restarted_on, turned_to}
+use Rattle.kv_store.specs.KeyDisk.{IsOn as IsOnKeys, IsReady as IsReadyKeys, Unsynced, KeyDisk, Shows, after_calls, is_put, keeps, opened_on, put_on, restarted_on, turned_to}
 use Rattle.outside.specs.declared.pattern.Pattern.{Pattern}
 use Rattle.raft_log.specs.Allowed.{AreAllowed, IsNext, next_after}
 use Rattle.raft_log.specs.DeviceCalls.{bytes_of, copies_after, device_calls, key_of}
@@ -79,10 +79,11 @@ bits_of image key = omega arith
 -- a put by the tests of its device calls
 abbrev put_by : {S : Type 0} → Bool → Bool → Bool → Bool → ℕ → S → KeyDisk S → KeyDisk S
 put_by b0 b1 b2 b3 key after key_disk =
-    if not b0 then record key_disk { calls = after_call key_disk.calls }
-    else if not b1 then record key_disk { calls = after_two key_disk.calls }
-    else if not b2 then record key_disk { calls = after_three key_disk.calls }
-    else turned_to key after key_disk (if b3 then None else Some (record { key = key; before = key_disk.store })) (after_call (after_three key_disk.calls))
+    if b0 then if b1 then if b2
+    then turned_to key after key_disk (if b3 then None else Some (record { key = key; before = key_disk.store })) (after_calls 4 key_disk.calls)
+    else record key_disk { calls = after_calls 3 key_disk.calls }
+    else record key_disk { calls = after_calls 2 key_disk.calls }
+    else record key_disk { calls = after_call key_disk.calls }
 
 module _ (m m' : Map) (s s' : Stored) (copies : ℕ → ℕ) (before : Option (Unsynced Map)) (unsynced : Option (Unsynced Stored)) (calls : Calls) (has : Stores m s) (same : SameUnsynced before unsynced) where
   abbrev of_maps : KeyDisk Map
@@ -100,9 +101,9 @@ module _ (m m' : Map) (s s' : Stored) (copies : ℕ → ℕ) (before : Option (U
     put_fits_by true true true true = record { store = has'; unsynced = tt; copies = refl; calls = refl }
 
     put_fits : Fit (put_on key m' of_maps) (put_on key s' of_states)
-    put_fits = put_fits_by (acts calls) (acts (after_call calls)) (acts (after_two calls)) (acts (after_three calls))
+    put_fits = put_fits_by (acts calls) (acts (after_call calls)) (acts (after_calls 2 calls)) (acts (after_calls 3 calls))
 
-  opened_fits_by : (b : Bool) → Fit (if b then record of_maps { unsynced = None; calls = after_two calls } else record of_maps { calls = after_call calls }) (if b then record of_states { unsynced = None; calls = after_two calls } else record of_states { calls = after_call calls })
+  opened_fits_by : (b : Bool) → Fit (if b then record of_maps { unsynced = None; calls = after_calls 2 calls } else record of_maps { calls = after_call calls }) (if b then record of_states { unsynced = None; calls = after_calls 2 calls } else record of_states { calls = after_call calls })
   opened_fits_by true = record { store = has; unsynced = tt; copies = refl; calls = refl }
   opened_fits_by false = record { store = has; unsynced = same; copies = refl; calls = refl }
 
@@ -141,11 +142,11 @@ pub both_true : (a b : Bool) → (a && b) ≡ true → (a ≡ true) × (b ≡ tr
 both_true true b e = (refl, e)
 both_true false b e = absurd (cc (e))
 
-pub put_done : {S : Type 0} (key : ℕ) (after : S) (key_disk : KeyDisk S) → is_put key_disk.calls ≡ true → put_on key after key_disk ≡ turned_to key after key_disk None (after_call (after_three key_disk.calls))
+pub put_done : {S : Type 0} (key : ℕ) (after : S) (key_disk : KeyDisk S) → is_put key_disk.calls ≡ true → put_on key after key_disk ≡ turned_to key after key_disk None (after_calls 4 key_disk.calls)
 put_done {S} key after key_disk e =
-    let first = both_true (acts key_disk.calls) (acts (after_call key_disk.calls) && (acts (after_two key_disk.calls) && acts (after_three key_disk.calls))) e in
-    let second = both_true (acts (after_call key_disk.calls)) (acts (after_two key_disk.calls) && acts (after_three key_disk.calls)) first.1 in
-    let third = both_true (acts (after_two key_disk.calls)) (acts (after_three key_disk.calls)) second.1 in
+    let first = both_true (acts key_disk.calls) (acts (after_call key_disk.calls) && (acts (after_calls 2 key_disk.calls) && acts (after_calls 3 key_disk.calls))) e in
+    let second = both_true (acts (after_call key_disk.calls)) (acts (after_calls 2 key_disk.calls) && acts (after_calls 3 key_disk.calls)) first.1 in
+    let third = both_true (acts (after_calls 2 key_disk.calls)) (acts (after_calls 3 key_disk.calls)) second.1 in
     rw (first.0, second.0, third.0, third.1) refl
 
 chosen_true : {S : Type 0} (b : Bool) (x y : S) → b ≡ true → (if b then x else y) ≡ x
@@ -180,8 +181,8 @@ pub puts_done : (puts : List Put) (key_disk : KeyDisk Stored) → are_put puts k
     → ((puts_on puts key_disk).store ≡ after_puts puts key_disk.store) × ((puts_on puts key_disk).copies ≡ copies_after puts key_disk.store key_disk.copies)
 puts_done [] key_disk e = (refl, refl)
 puts_done (put ∷ puts) key_disk e =
-    let tests = both_true (is_put key_disk.calls) (are_put puts (after_call (after_three key_disk.calls))) e in
-    let next : KeyDisk Stored = turned_to (key_of put key_disk.store) (after_put put key_disk.store) key_disk None (after_call (after_three key_disk.calls)) in
+    let tests = both_true (is_put key_disk.calls) (are_put puts (after_calls 4 key_disk.calls)) e in
+    let next : KeyDisk Stored = turned_to (key_of put key_disk.store) (after_put put key_disk.store) key_disk None (after_calls 4 key_disk.calls) in
     let is : puts_on (put ∷ puts) key_disk ≡ puts_on puts next =
     chosen_true (is_put key_disk.calls) (puts_on puts (put_state_on put key_disk)) (put_state_on put key_disk) tests.0 ∙ ap (λ x. puts_on puts x) (put_done (key_of put key_disk.store) (after_put put key_disk.store) key_disk tests.0) in
     let rest = puts_done puts next tests.1 in
@@ -197,25 +198,25 @@ module _ (put : Put) (tried others : List Put) (key_disk : KeyDisk Stored) where
   here = put_state_on put key_disk
 
   abbrev done_shelf : KeyDisk Stored
-  done_shelf = turned_to (key_of put key_disk.store) (after_put put key_disk.store) key_disk None (after_call (after_three key_disk.calls))
+  done_shelf = turned_to (key_of put key_disk.store) (after_put put key_disk.store) key_disk None (after_calls 4 key_disk.calls)
 
   none_behind_by : NoneBehind tried others done_shelf → (b : Bool) → is_put key_disk.calls ≡ b → NoneBehind (put ∷ tried) others key_disk
   none_behind_by later false is e = (
     chosen_false (is_put key_disk.calls) (puts_on (tried ++ others) here) here is ∙ sym (chosen_false (is_put key_disk.calls) (puts_on tried here) here is),
-    and_false (is_put key_disk.calls) (are_put (tried ++ others) (after_call (after_three key_disk.calls))) is,
+    and_false (is_put key_disk.calls) (are_put (tried ++ others) (after_calls 4 key_disk.calls)) is,
   )
   none_behind_by later true is e =
       let done : here ≡ done_shelf = put_done (key_of put key_disk.store) (after_put put key_disk.store) key_disk is in
-      let rest = later (sym (and_true (is_put key_disk.calls) (are_put tried (after_call (after_three key_disk.calls))) is) ∙ e) in (
+      let rest = later (sym (and_true (is_put key_disk.calls) (are_put tried (after_calls 4 key_disk.calls)) is) ∙ e) in (
         chosen_true (is_put key_disk.calls) (puts_on (tried ++ others) here) here is
             ∙ (subst (λ x. puts_on (tried ++ others) x ≡ puts_on tried x) (sym done) rest.0 ∙ sym (chosen_true (is_put key_disk.calls) (puts_on tried here) here is)),
-        and_true (is_put key_disk.calls) (are_put (tried ++ others) (after_call (after_three key_disk.calls))) is ∙ rest.1,
+        and_true (is_put key_disk.calls) (are_put (tried ++ others) (after_calls 4 key_disk.calls)) is ∙ rest.1,
       )
 
 pub none_behind : (tried others : List Put) (key_disk : KeyDisk Stored) → NoneBehind tried others key_disk
 none_behind [] others key_disk e = absurd (cc e)
 none_behind (put ∷ tried) others key_disk e =
-    none_behind_by put tried others key_disk (none_behind tried others (turned_to (key_of put key_disk.store) (after_put put key_disk.store) key_disk None (after_call (after_three key_disk.calls)))) (is_put key_disk.calls) refl e
+    none_behind_by put tried others key_disk (none_behind tried others (turned_to (key_of put key_disk.store) (after_put put key_disk.store) key_disk None (after_calls 4 key_disk.calls))) (is_put key_disk.calls) refl e
 
 abbrev pub LawOfPuts : Type 0
 LawOfPuts = (old new : MemoryDisk) (key_disk : KeyDisk Stored) (copies : ℕ → ℕ) (puts : List Put) (ok : Bool) →
@@ -247,10 +248,10 @@ module _ (keys_put : (old new : MemoryDisk) (key_disk : KeyDisk Map) (key : ℕ)
     after_keys = put_on (key_of put s) (put_in m (key_of put s) (bytes_of put)) keys
 
     abbrev done_keys : KeyDisk Map
-    done_keys = turned_to (key_of put s) (put_in m (key_of put s) (bytes_of put)) keys None (after_call (after_three calls))
+    done_keys = turned_to (key_of put s) (put_in m (key_of put s) (bytes_of put)) keys None (after_calls 4 calls)
 
     module _ (ready : IsReadyKeys old keys) (has : Stores m s) (stepped : Stores (put_in m (key_of put s) (bytes_of put)) (after_put put s)) (exists : key_of put s < 132) (short : length (bytes_of put) ≤ 32)
-        (later : (between : MemoryDisk) → IsReadyKeys between done_keys → Makes DoesInMemory later_calls ok between new → Made puts new (after_put put s) (turned (key_of put s) copies) (after_call (after_three calls)) ok) where
+        (later : (between : MemoryDisk) → IsReadyKeys between done_keys → Makes DoesInMemory later_calls ok between new → Made puts new (after_put put s) (turned (key_of put s) copies) (after_calls 4 calls) ok) where
       fit : Fit after_keys (put_state_on put states)
       fit = put_fits m (put_in m (key_of put s) (bytes_of put)) s (after_put put s) copies None None calls has tt (key_of put s) stepped
 
@@ -261,7 +262,7 @@ module _ (keys_put : (old new : MemoryDisk) (key_disk : KeyDisk Map) (key : ℕ)
           let not : is_put calls ≡ false = sym k.1 in
           let is : puts_on (put ∷ puts) states ≡ put_state_on put states = chosen_false (is_put calls) (puts_on puts (put_state_on put states)) (put_state_on put states) not in (
             subst (λ x. IsOn new x) (sym is) (by_keys new after_keys (put_state_on put states) fit k.0),
-            failed.0 ∙ sym (and_false (is_put calls) (are_put puts (after_call (after_three calls))) not),
+            failed.0 ∙ sym (and_false (is_put calls) (are_put puts (after_calls 4 calls)) not),
             not_both ok (IsReady new (puts_on (put ∷ puts) states)) failed.0,
           )
       by_part (inr more) =
@@ -269,10 +270,10 @@ module _ (keys_put : (old new : MemoryDisk) (key_disk : KeyDisk Map) (key : ℕ)
           let done : is_put calls ≡ true = sym k.1 in
           let then_ready : IsReadyKeys more.0 done_keys = subst (λ (x : KeyDisk Map). IsReadyKeys more.0 x) (put_done (key_of put s) (put_in m (key_of put s) (bytes_of put)) keys done) (k.2 refl) in
           let rest = later more.0 then_ready more.2 in
-          let is : puts_on (put ∷ puts) states ≡ puts_on puts (turned_to (key_of put s) (after_put put s) states None (after_call (after_three calls))) =
+          let is : puts_on (put ∷ puts) states ≡ puts_on puts (turned_to (key_of put s) (after_put put s) states None (after_calls 4 calls)) =
           chosen_true (is_put calls) (puts_on puts (put_state_on put states)) (put_state_on put states) done ∙ ap (λ x. puts_on puts x) (put_done (key_of put s) (after_put put s) states done) in (
             subst (λ x. IsOn new x) (sym is) rest.0,
-            rest.1 ∙ sym (and_true (is_put calls) (are_put puts (after_call (after_three calls))) done),
+            rest.1 ∙ sym (and_true (is_put calls) (are_put puts (after_calls 4 calls)) done),
             λ good. subst (λ x. IsReady new x) (sym is) (rest.2 good),
           )
 
@@ -286,7 +287,7 @@ module _ (keys_put : (old new : MemoryDisk) (key_disk : KeyDisk Map) (key : ℕ)
   puts_made (put ∷ puts) old new m s next copies calls ok ready has at allowed made =
       let stepped = step m s next put has at allowed.0 in
       by_part put puts old new m s next copies calls ok ready has stepped.0 (key_exists s next put has.storable.room allowed.0) (value_short s next put allowed.0)
-      (λ between then_ready rest. puts_made puts between new (put_in m (key_of put s) (bytes_of put)) (after_put put s) (next_after put next) (turned (key_of put s) copies) (after_call (after_three calls)) ok then_ready stepped.0 stepped.1 allowed.1 rest)
+      (λ between then_ready rest. puts_made puts between new (put_in m (key_of put s) (bytes_of put)) (after_put put s) (next_after put next) (turned (key_of put s) copies) (after_calls 4 calls) ok then_ready stepped.0 stepped.1 allowed.1 rest)
       (calls_parted DoesInMemory (put_calls (key_of put s) (1 - copies (key_of put s)) (bytes_of put)) (device_calls puts (after_put put s) (turned (key_of put s) copies)) ok old new made)
 
   pub puts_on_shelf : LawOfPuts

@@ -7,7 +7,7 @@ use Rattle.disk_model.specs.Calls.{after_call}
 use Rattle.disk_model.specs.Contents.{IsSettled}
 use Rattle.disk_model.specs.Memory.{memory_contents}
 use Rattle.kv_store.specs.Image.{key_count}
-use Rattle.kv_store.specs.KeyDisk.{IsOn as IsOnKeys, Unsynced, KeyDisk, after_three, after_two, is_opened, is_put, keeps, opened_on, put_on}
+use Rattle.kv_store.specs.KeyDisk.{IsOn as IsOnKeys, Unsynced, KeyDisk, after_calls, is_opened, is_put, keeps, opened_on, put_on}
 use Rattle.outside.specs.declared.pattern.Pattern.{Pattern}
 use Rattle.raft_log.specs.declared.durable.Durable.{Durable}
 use Rattle.raft_log.specs.DeviceCalls.{key_of}
@@ -28,12 +28,12 @@ puts_on (put ∷ puts) key_disk =
 -- whether all of them are done
 abbrev pub are_put : List Put → Calls → Bool
 are_put [] calls = true
-are_put (put ∷ puts) calls = is_put calls && are_put puts (after_call (after_three calls))
+are_put (put ∷ puts) calls = is_put calls && are_put puts (after_calls 4 calls)
 
 -- how many of them are done: those before the first that fails
 abbrev pub done_on : List Put → Calls → ℕ
 done_on [] calls = 0
-done_on (put ∷ puts) calls = if is_put calls then 1 + done_on puts (after_call (after_three calls)) else 0
+done_on (put ∷ puts) calls = if is_put calls then 1 + done_on puts (after_calls 4 calls) else 0
 
 -- an opening: where the disk is read, its puts follow
 abbrev pub opening_on : KeyDisk Stored → KeyDisk Stored
@@ -42,12 +42,12 @@ opening_on key_disk =
 
 -- whether all of it is done
 abbrev pub is_open_on : KeyDisk Stored → Bool
-is_open_on key_disk = is_opened key_disk.calls && are_put (opening_puts key_disk.store) (after_two key_disk.calls)
+is_open_on key_disk = is_opened key_disk.calls && are_put (opening_puts key_disk.store) (after_calls 2 key_disk.calls)
 
 -- how many of its puts are done
 abbrev pub opening_done : KeyDisk Stored → ℕ
 opening_done key_disk =
-    if is_opened key_disk.calls then done_on (opening_puts key_disk.store) (after_two key_disk.calls) else 0
+    if is_opened key_disk.calls then done_on (opening_puts key_disk.store) (after_calls 2 key_disk.calls) else 0
 
 -- whether a restart with this pattern finds the put done that failed: 1 where its selector was written and
 -- is kept, else 0
@@ -65,7 +65,7 @@ SameUnsynced None (Some state) = ⊥
 SameUnsynced (Some map) None = ⊥
 SameUnsynced (Some map) (Some state) = (map.key ≡ state.key) × Stores map.before state.before
 
--- the disk in memory is the one that the shelf tells of: by keys it stores maps of these states
+-- the disk in memory is the one that the disk by keys tells of: it stores maps of these states
 pub record IsOn (disk : MemoryDisk) (key_disk : KeyDisk Stored) : Type 0 where
   pub map : ℕ → List ℕ
   pub before : Option (Unsynced (ℕ → List ℕ))
@@ -79,7 +79,7 @@ pub record IsReady (disk : MemoryDisk) (key_disk : KeyDisk Stored) : Type 0 wher
   pub settled : IsSettled (memory_contents disk)
   pub nothing_unsynced : key_disk.unsynced ≡ None
 
--- the stored state of a running member is that of the shelf, and its disk the one that the shelf tells of
+-- the stored state of a running member is that of the disk by keys, and its disk the one that this tells of
 pub record IsKeyDisk {ghosts : Ghosts MemoryDisk} (durable : Durable MemoryDisk ghosts)
     (key_disk : KeyDisk Stored) : Type 0 where
   pub works : durable_fault durable ≡ None
