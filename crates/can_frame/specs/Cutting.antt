@@ -1,5 +1,5 @@
 -- Cutting a transfer into frames (UAVCAN v0 specification, "Transfer payload"). Sending and receiving both mean this.
-use Rattle.std.specs.Prelude.{◌≡◌, ◌≤◌, ℕ, zero, suc, ◌+◌, ◌-◌, ◌/◌, ◌%◌, nat_eq, nat_le, cond, if◌then◌else◌, Bool, true, false, List, [], ◌∷◌, ◌++◌, length, map, take, drop, get_or, flat_map}
+use Rattle.std.specs.Prelude.{◌≡◌, ◌≤◌, ℕ, zero, suc, ◌+◌, ◌-◌, ◌/◌, ◌%◌, nat_eq, nat_le, if◌then◌else◌, Bool, true, false, List, [], ◌∷◌, ◌++◌, length, map, take, drop, slice_index_or, flat_map}
 use Rattle.can_frame.specs.declared.tail.Tail.{Tail}
 use Rattle.can_frame.specs.Tail.{tail_byte, tail_of}
 use Rattle.can_frame.specs.TransferCrc.{transfer_crc}
@@ -17,7 +17,7 @@ frame_bytes piece = piece.bytes ++ tail_byte piece.tail ∷ []
 abbrev pub piece_from : List ℕ → Piece
 piece_from bytes = record {
   bytes = take (length bytes - 1) bytes;
-  tail = tail_of (get_or bytes (length bytes - 1) 0);
+  tail = tail_of (slice_index_or bytes (length bytes - 1) 0);
 }
 
 -- the CRC of a payload, low byte first
@@ -26,7 +26,7 @@ crc_bytes signature payload = (transfer_crc signature payload % 256) ∷ (transf
 
 -- what is cut: a payload of at most 7 bytes alone, a longer one behind its CRC
 abbrev pub bytes_cut : ℕ → List ℕ → List ℕ
-bytes_cut signature payload = cond (nat_le (length payload) 7) payload (crc_bytes signature payload ++ payload)
+bytes_cut signature payload = if nat_le (length payload) 7 then payload else crc_bytes signature payload ++ payload
 
 -- start is set in the first frame alone, end in the last alone; the toggle is 0 in the first and alternates
 abbrev pub tail_at : ℕ → ℕ → Bool → Tail
@@ -52,7 +52,7 @@ joined pieces = flat_map (λ piece. piece.bytes) pieces
 
 -- the only payload that frames can be the cutting of: behind the CRC where they are several
 unfoldable pub payload_of : List Piece → List ℕ
-payload_of pieces = cond (nat_le (length pieces) 1) (joined pieces) (drop 2 (joined pieces))
+payload_of pieces = if nat_le (length pieces) 1 then joined pieces else drop 2 (joined pieces)
 
 -- how many bytes are cut for a payload of so many: itself, or behind the two bytes of the CRC
 abbrev pub cut_length : ℕ → ℕ

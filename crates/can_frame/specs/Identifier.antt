@@ -4,7 +4,7 @@
 --   message     priority      type ID, high   type ID, low                    0   source
 --   anonymous   priority      discriminator in bits 23..10, the type ID's two low bits in 9..8; bits 7..0 are 0
 --   service     priority      type ID         1 request or 0 response, dest   1   source
-use Rattle.std.specs.Prelude.{◌≡◌, ℕ, ◌+◌, ◌*◌, ◌/◌, ◌%◌, ◌^◌, ◌<◌, ◌||◌, nat_eq, cond, Option, Some, None}
+use Rattle.std.specs.Prelude.{◌≡◌, ℕ, ◌+◌, ◌*◌, ◌/◌, ◌%◌, ◌^◌, ◌<◌, ◌||◌, nat_eq, Option, Some, None, if◌then◌else◌}
 use Rattle.can_frame.specs.declared.identifier.Ident.{Ident}
 use Rattle.can_frame.specs.declared.identifier.Kind.{Kind}
 use Rattle.can_frame.specs.declared.identifier.Kind.TheVariants.{Message, Anonymous, Request, Response}
@@ -43,9 +43,9 @@ pub record Spells (ident : Ident) (id : ℕ) : Type 0 where
 
 -- a service frame names its two nodes, and neither is 0
 abbrev pub service_of : ℕ → Option Ident
-service_of id = cond (nat_eq (id % 128) 0 || nat_eq (id / 256 % 128) 0) None (Some record {
+service_of id = if nat_eq (id % 128) 0 || nat_eq (id / 256 % 128) 0 then None else Some (record {
   priority = id / 16777216;
-  kind = cond (nat_eq (id / 32768 % 2) 1) Request Response;
+  kind = if nat_eq (id / 32768 % 2) 1 then Request else Response;
   number = id / 65536 % 256;
   source = id % 128;
   dest = id / 256 % 128;
@@ -54,24 +54,24 @@ service_of id = cond (nat_eq (id % 128) 0 || nat_eq (id / 256 % 128) 0) None (So
 
 -- a message from node 0 is anonymous
 abbrev pub message_of : ℕ → Ident
-message_of id = cond (nat_eq (id % 128) 0)
-    (record {
+message_of id = if nat_eq (id % 128) 0
+    then record {
       priority = id / 16777216;
       kind = Anonymous;
       number = id / 256 % 4;
       source = 0;
       dest = 0;
       discriminator = id / 1024 % 16384;
-    })
-    (record {
+    }
+    else record {
       priority = id / 16777216;
       kind = Message;
       number = id / 256 % 65536;
       source = id % 128;
       dest = 0;
       discriminator = 0;
-    })
+    }
 
 -- the fields of a number, where it has any; bit 7 tells services from messages
 unfoldable pub identifier_of : ℕ → Option Ident
-identifier_of id = cond (nat_eq (id / 128 % 2) 1) (service_of id) (Some (message_of id))
+identifier_of id = if nat_eq (id / 128 % 2) 1 then service_of id else Some (message_of id)

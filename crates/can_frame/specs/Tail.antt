@@ -1,10 +1,10 @@
 -- The tail byte as a table of fields: bit 7 start, bit 6 end, bit 5 toggle, bits 4 to 0 the transfer ID.
-use Rattle.std.specs.Prelude.{ℕ, ◌+◌, ◌/◌, ◌%◌, Bool, nat_eq, cond}
+use Rattle.std.specs.Prelude.{ℕ, ◌+◌, ◌/◌, ◌%◌, Bool, nat_eq, if◌then◌else◌}
 use Rattle.can_frame.specs.declared.tail.Tail.{Tail}
 
 -- what a bit is worth
 abbrev pub worth : Bool → ℕ → ℕ
-worth bit weight = cond bit weight 0
+worth bit weight = if bit then weight else 0
 
 -- the byte of the fields
 abbrev pub tail_byte : Tail → ℕ

@@ -1,6 +1,6 @@
 -- The CRC of a transfer (UAVCAN v0 specification, "Payload data: transfer CRC"), as a remainder of polynomials
 -- whose coefficients are 0 and 1. A polynomial is the list of its coefficients, the highest first.
-use Rattle.std.specs.Prelude.{ℕ, zero, suc, ◌+◌, ◌^◌, List, [], ◌∷◌, ◌++◌, length, flat_map, Bool, true, false, not, cond, nat_eq}
+use Rattle.std.specs.Prelude.{ℕ, zero, suc, ◌+◌, ◌^◌, List, [], ◌∷◌, ◌++◌, length, flat_map, Bool, true, false, not, nat_eq, if◌then◌else◌}
 use Rattle.std.specs.Int.{bit_at, w64, to_le_bytes}
 
 -- the sum of two coefficients
@@ -23,7 +23,7 @@ divisor = false ∷ false ∷ false ∷ true ∷ false ∷ false ∷ false ∷ f
 unfoldable pub divide : ℕ → List Bool → List Bool
 divide zero bits = bits
 divide (suc n) [] = []
-divide (suc n) (b ∷ bits) = divide n (cond b (add_front divisor bits) bits)
+divide (suc n) (b ∷ bits) = divide n (if b then add_front divisor bits else bits)
 
 abbrev pub zeros : List Bool
 zeros = false ∷ false ∷ false ∷ false ∷ false ∷ false ∷ false ∷ false ∷ false ∷ false ∷ false
@@ -45,7 +45,7 @@ bits_of (suc k) x = nat_eq (bit_at x k) 1 ∷ bits_of k x
 -- the number of bits, the highest first
 unfoldable pub number_of : List Bool → ℕ
 number_of [] = 0
-number_of (b ∷ bits) = cond b (2 ^ length bits) 0 + number_of bits
+number_of (b ∷ bits) = (if b then 2 ^ length bits else 0) + number_of bits
 
 -- the bits of bytes, one after the other
 abbrev pub message_bits : List ℕ → List Bool

@@ -2,7 +2,7 @@
 --
 --   uint7 node_id, bool first_part_of_unique_id    one byte
 --   uint8[<=16] unique_id                          what is left
-use Rattle.std.specs.Prelude.{◌≡◌, ℕ, ◌+◌, ◌*◌, ◌/◌, ◌%◌, ◌<◌, ◌≤◌, nat_eq, nat_le, cond, List, [], ◌∷◌, length, Option, Some, None}
+use Rattle.std.specs.Prelude.{◌≡◌, ℕ, ◌+◌, ◌*◌, ◌/◌, ◌%◌, ◌<◌, ◌≤◌, nat_eq, nat_le, List, [], ◌∷◌, length, Option, Some, None, if◌then◌else◌}
 use Rattle.dsdl_codec.specs.declared.allocation.Allocation.{Allocation}
 
 -- the values that have bytes
@@ -12,7 +12,7 @@ pub record IsAllocation (allocation : Allocation) : Type 0 where
 
 -- the bytes of a value
 abbrev pub allocation_bytes : Allocation → List ℕ
-allocation_bytes allocation = (allocation.node * 2 + cond allocation.first_part 1 0) ∷ allocation.uid.items
+allocation_bytes allocation = (allocation.node * 2 + (if allocation.first_part then 1 else 0)) ∷ allocation.uid.items
 
 -- these are the bytes of the value
 pub record SpellsAllocation (allocation : Allocation) (bytes : List ℕ) : Type 0 where
@@ -22,6 +22,6 @@ pub record SpellsAllocation (allocation : Allocation) (bytes : List ℕ) : Type 
 -- the value of bytes, where they are some value's
 abbrev pub allocation_of : List ℕ → Option Allocation
 allocation_of [] = None
-allocation_of (first ∷ rest) = cond (nat_le (length rest) 16)
-    (Some (record { node = first / 2; first_part = nat_eq (first % 2) 1; uid = record { items = rest } }))
-    None
+allocation_of (first ∷ rest) = if nat_le (length rest) 16
+    then Some (record { node = first / 2; first_part = nat_eq (first % 2) 1; uid = record { items = rest } })
+    else None

@@ -2,7 +2,7 @@
 --
 --   uint8 configured_cluster_size   one byte
 --   uint8[<=5] known_nodes          what is left
-use Rattle.std.specs.Prelude.{◌≡◌, ℕ, ◌≤◌, nat_le, cond, List, [], ◌∷◌, length, Option, Some, None}
+use Rattle.std.specs.Prelude.{◌≡◌, ℕ, ◌≤◌, nat_le, List, [], ◌∷◌, length, Option, Some, None, if◌then◌else◌}
 use Rattle.dsdl_codec.specs.declared.discovery.Discovery.{Discovery}
 
 -- the values that have bytes
@@ -22,4 +22,4 @@ pub record SpellsDiscovery (discovery : Discovery) (bytes : List ℕ) : Type 0 w
 abbrev pub discovery_of : List ℕ → Option Discovery
 discovery_of [] = None
 discovery_of (size ∷ rest) =
-    cond (nat_le (length rest) 5) (Some (record { size = size; known = record { items = rest } })) None
+    if nat_le (length rest) 5 then Some (record { size = size; known = record { items = rest } }) else None

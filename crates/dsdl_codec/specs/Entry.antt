@@ -3,7 +3,7 @@
 --   uint32 term           four bytes, the low one first
 --   uint8[16] unique_id   sixteen bytes
 --   void1, uint7 node_id  one byte, whose high bit is padding
-use Rattle.std.specs.Prelude.{◌≡◌, ℕ, ◌+◌, ◌*◌, ◌/◌, ◌%◌, ◌^◌, ◌<◌, nat_eq, cond, List, [], ◌∷◌, ◌++◌, length, take, slice_index_or, Option, Some, None, IfSome}
+use Rattle.std.specs.Prelude.{◌≡◌, ℕ, ◌+◌, ◌*◌, ◌/◌, ◌%◌, ◌^◌, ◌<◌, nat_eq, List, [], ◌∷◌, ◌++◌, length, take, slice_index_or, Option, Some, None, IfSome, if◌then◌else◌}
 use Rattle.std.specs.Option.{option_map}
 use Rattle.std.specs.Int.{to_le_bytes, from_le_bytes, w32}
 use Rattle.can_frame.specs.declared.entry.Entry.{Entry}
@@ -39,13 +39,13 @@ pub record SpellsOptionalEntry (entry : Option Entry) (bytes : List ℕ) : Type 
 
 -- the entry of bytes, where they are some entry's
 abbrev pub entry_of : List ℕ → Option Entry
-entry_of (a ∷ b ∷ c ∷ d ∷ rest) = cond (nat_eq (length rest) 17)
-    (Some (record {
+entry_of (a ∷ b ∷ c ∷ d ∷ rest) = if nat_eq (length rest) 17
+    then Some (record {
       term = from_le_bytes w32 (a ∷ b ∷ c ∷ d ∷ []);
       uid = take 16 rest;
       node = slice_index_or rest 16 0 % 128;
-    }))
-    None
+    })
+    else None
 entry_of _ = None
 
 -- the entry of what is left, if anything is left

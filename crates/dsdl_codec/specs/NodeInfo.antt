@@ -4,7 +4,7 @@
 --   SoftwareVersion software_version    15 bytes
 --   HardwareVersion hardware_version    19 bytes and the certificate
 --   uint8[<=80] name                    what is left
-use Rattle.std.specs.Prelude.{◌≡◌, ℕ, ◌+◌, ◌≤◌, ◌^◌, ◌<◌, ◌&&◌, nat_le, cond, Bool, List, ◌++◌, length, take, drop, slice_index_or, Option, Some, None}
+use Rattle.std.specs.Prelude.{◌≡◌, ℕ, ◌+◌, ◌≤◌, ◌^◌, ◌<◌, ◌&&◌, nat_le, Bool, List, ◌++◌, length, take, drop, slice_index_or, Option, Some, None, if◌then◌else◌}
 use Rattle.dsdl_codec.specs.NodeStatus.{IsNodeStatus, node_status_bytes, node_status_of}
 use Rattle.dsdl_codec.specs.SoftwareVersion.{software_version_bytes, software_version_of}
 use Rattle.dsdl_codec.specs.HardwareVersion.{hardware_version_bytes}
@@ -74,6 +74,6 @@ node_info_from _ _ _ = None
 
 -- the value of bytes, where they are some value's
 unfoldable pub node_info_of : List ℕ → Option NodeInfo
-node_info_of bytes = cond (has_node_info_size bytes)
-    (node_info_from (node_status_of (take 7 bytes)) (software_version_of (take 15 (drop 7 bytes))) (drop 22 bytes))
-    None
+node_info_of bytes = if has_node_info_size bytes
+    then node_info_from (node_status_of (take 7 bytes)) (software_version_of (take 15 (drop 7 bytes))) (drop 22 bytes)
+    else None

@@ -1,6 +1,6 @@
 -- The numbers of a value: those of its fields in order, a flag as 0 or 1, each list of variable length behind its
 -- count, and an optional entry as a count and an entry.
-use Rattle.std.specs.Prelude.{ℕ, Bool, cond, List, [], ◌∷◌, ◌++◌, length, Option, Some, None}
+use Rattle.std.specs.Prelude.{ℕ, Bool, List, [], ◌∷◌, ◌++◌, length, Option, Some, None, if◌then◌else◌}
 use Rattle.can_frame.specs.declared.entry.Entry.{Entry}
 use Rattle.dsdl_codec.specs.declared.allocation.Allocation.{Allocation}
 use Rattle.dsdl_codec.specs.declared.append_answer.AppendAnswer.{AppendAnswer}
@@ -13,7 +13,7 @@ use Rattle.dsdl_codec.specs.declared.vote_request.VoteRequest.{VoteRequest}
 
 -- a flag
 abbrev pub flag_number : Bool → ℕ
-flag_number flag = cond flag 1 0
+flag_number flag = if flag then 1 else 0
 
 -- a list behind its count
 abbrev pub counted : List ℕ → List ℕ

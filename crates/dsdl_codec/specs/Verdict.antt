@@ -2,12 +2,12 @@
 --
 --   uint32 term   four bytes, the low one first
 --   bool          the high bit of a byte; the seven bits below it are padding
-use Rattle.std.specs.Prelude.{◌≡◌, ℕ, ◌+◌, ◌%◌, ◌^◌, ◌<◌, nat_le, cond, Bool, List, [], ◌∷◌, ◌++◌, slice_index_or, Option, Some, None}
+use Rattle.std.specs.Prelude.{◌≡◌, ℕ, ◌+◌, ◌%◌, ◌^◌, ◌<◌, nat_le, Bool, List, [], ◌∷◌, ◌++◌, slice_index_or, Option, Some, None, if◌then◌else◌}
 use Rattle.std.specs.Int.{to_le_bytes, from_le_bytes, w32}
 
 -- the bytes of a term and a flag, with these padding bits
 abbrev pub verdict_bytes : ℕ → Bool → ℕ → List ℕ
-verdict_bytes term flag padding = to_le_bytes w32 term ++ (cond flag 128 0 + padding) ∷ []
+verdict_bytes term flag padding = to_le_bytes w32 term ++ ((if flag then 128 else 0) + padding) ∷ []
 
 -- the padding bits that stand in bytes
 abbrev pub verdict_padding : List ℕ → ℕ

@@ -1,5 +1,5 @@
 -- Which frames a receiver wants.
-use Rattle.std.specs.Prelude.{◌≡◌, ℕ, ◌<◌, ◌^◌, nat_eq, cond, Bool, true, false, not, ◌&&◌, ◌||◌, List, Option, Some, None, Result, Ok, Err, find, option_map}
+use Rattle.std.specs.Prelude.{◌≡◌, ℕ, ◌<◌, ◌^◌, nat_eq, Bool, true, false, not, ◌&&◌, ◌||◌, List, Option, Some, None, Result, Ok, Err, find, option_map, if◌then◌else◌}
 use Rattle.can_frame.specs.Identifier.{identifier_of}
 use Rattle.can_frame.specs.declared.identifier.Ident.{Ident}
 use Rattle.can_frame.specs.declared.identifier.Kind.{Kind}
@@ -39,7 +39,7 @@ with_signature ident (Some signature) = Ok (record { ident = ident; signature = 
 abbrev pub accepted : List AcceptRow → ℕ → Option Ident → Result Wanted Why
 accepted rows me None = Err BadIdent
 accepted rows me (Some ident) =
-    cond (is_for me ident) (with_signature ident (first_signature rows ident.kind ident.number)) (Err NotWanted)
+    if is_for me ident then with_signature ident (first_signature rows ident.kind ident.number) else Err NotWanted
 
 -- the fields and the signature of a frame that is wanted, or why it is not
 unfoldable pub wanted : List AcceptRow → ℕ → ℕ → Result Wanted Why

@@ -1,5 +1,5 @@
 -- Which chain of a receiver's pool has the bytes of which session.
-use Rattle.std.specs.Prelude.{◌≡◌, ◌↔◌, ℕ, ◌<◌, Bool, false, List, [], get_or, Option, Some, None}
+use Rattle.std.specs.Prelude.{◌≡◌, ◌↔◌, ℕ, ◌<◌, Bool, false, List, [], slice_index_or, Option, Some, None}
 use Rattle.std.specs.List.{position}
 use Rattle.can_frame.specs.Cutting.{joined}
 use Rattle.transfer_rx.specs.declared.key.Key.{Key}
@@ -21,10 +21,10 @@ pub record HaveChains (most : ℕ) (number : Key → Option ℕ) (chains : List 
   -- the chain of a session has the bytes of the frames that it took, without their tails
   pub each : (key : Key) (session : Session) → session_of key sessions ≡ Some session →
       (chain : ℕ) × (number key ≡ Some chain) × (chain < most)
-      × (get_or chains chain [] ≡ joined session.taken)
+      × (slice_index_or chains chain [] ≡ joined session.taken)
   -- two sessions have different ones
   pub different : (a b : Key) (chain : ℕ) → number a ≡ Some chain → number b ≡ Some chain → a ≡ b
   -- a key has none exactly where there is no session of it
   pub none : (key : Key) → (number key ≡ None) ↔ (session_of key sessions ≡ None)
   -- a chain that is no session's is empty
-  pub empty : (chain : ℕ) → ((key : Key) → number key ≡ Some chain → ⊥) → get_or chains chain [] ≡ []
+  pub empty : (chain : ℕ) → ((key : Key) → number key ≡ Some chain → ⊥) → slice_index_or chains chain [] ≡ []

@@ -1,5 +1,5 @@
 -- The running CRC of each session: what was taken is never read again for it.
-use Rattle.std.specs.Prelude.{◌≡◌, ℕ, ◌<◌, List, [], drop, get_or, Option, Some, None}
+use Rattle.std.specs.Prelude.{⊤, ◌≡◌, ℕ, ◌<◌, List, [], drop, slice_index_or, Option, Some, None}
 use Rattle.can_frame.specs.TransferCrc.{transfer_crc}
 use Rattle.transfer_rx.specs.declared.accept.AcceptRow.{AcceptRow}
 use Rattle.transfer_rx.specs.declared.key.Key.{Key}
@@ -21,22 +21,22 @@ HasOwnCrc signature_of progress chain =
 -- the sessions at all places have it
 abbrev pub HaveCrcs : (Key → Option ℕ) → List (Option Progress) → List (List ℕ) → Type 0
 HaveCrcs signature_of progress chains =
-    (place : ℕ) (there : Progress) → get_or progress place None ≡ Some there →
-    HasOwnCrc signature_of there (get_or chains place [])
+    (place : ℕ) (there : Progress) → slice_index_or progress place None ≡ Some there →
+    HasOwnCrc signature_of there (slice_index_or chains place [])
 
 -- the sessions of one key have it
 abbrev pub HaveCrcsOf : Key → ℕ → List (Option Progress) → List (List ℕ) → Type 0
 HaveCrcsOf key signature progress chains =
-    (place : ℕ) (there : Progress) → get_or progress place None ≡ Some there → there.key ≡ key →
-    HasCrc signature there (get_or chains place [])
+    (place : ℕ) (there : Progress) → slice_index_or progress place None ≡ Some there → there.key ≡ key →
+    HasCrc signature there (slice_index_or chains place [])
 
 -- what was found is of a key, and has its CRC
 pub record IsUnder (key : Key) (signature : ℕ) (chains : List (List ℕ)) (found : Found) : Type 0 where
   pub own : found.progress.key ≡ key
-  pub crc : HasCrc signature found.progress (get_or chains found.place [])
+  pub crc : HasCrc signature found.progress (slice_index_or chains found.place [])
 
 abbrev pub IsTurnUnder : Key → ℕ → List (List ℕ) → Turn → Type 0
-IsTurnUnder key signature chains (Refused why) = Unit {0}
+IsTurnUnder key signature chains (Refused why) = ⊤
 IsTurnUnder key signature chains (Out found why) = IsUnder key signature chains found
 IsTurnUnder key signature chains (Next found verdict) = IsUnder key signature chains found
 

@@ -1,5 +1,5 @@
 -- How the chains of a receiver's pool go with what is kept of its sessions.
-use Rattle.std.specs.Prelude.{◌≡◌, ℕ, ◌+◌, ◌*◌, ◌<◌, ◌≤◌, nat_eq, if◌then◌else◌, List, [], length, get_or, set, Option, Some, None}
+use Rattle.std.specs.Prelude.{◌≡◌, ℕ, ◌+◌, ◌*◌, ◌<◌, ◌≤◌, nat_eq, if◌then◌else◌, List, [], length, slice_index_or, set, Option, Some, None}
 use Rattle.std.specs.List.{sum_by}
 use Rattle.transfer_rx.specs.declared.progress.Progress.{Progress}
 use Rattle.transfer_rx.specs.Outcome.{blocks_for}
@@ -14,7 +14,7 @@ taken_at (Some progress) = progress.taken
 abbrev pub AreFilled : List (Option Progress) → List (List ℕ) → Type 0
 AreFilled progress chains =
     (place : ℕ) → place < length progress →
-    length (get_or chains place []) ≡ 7 * taken_at (get_or progress place None)
+    length (slice_index_or chains place []) ≡ 7 * taken_at (slice_index_or progress place None)
 
 -- where frames were taken, the chain has their bytes
 abbrev pub Fills : Progress → List ℕ → Type 0

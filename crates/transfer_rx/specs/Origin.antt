@@ -1,5 +1,5 @@
 -- Where the frames that a session keeps came from.
-use Rattle.std.specs.Prelude.{◌≡◌, ◌⊎◌, true, List, [], ◌∷◌, ◌++◌, map, Some, Contains}
+use Rattle.std.specs.Prelude.{⊤, ◌≡◌, ◌⊎◌, true, List, [], ◌∷◌, ◌++◌, map, Some, Contains}
 use Rattle.can_frame.specs.declared.mark.Mark.{Mark}
 use Rattle.can_frame.specs.Cutting.{Piece}
 use Rattle.transfer_rx.specs.declared.key.Key.{Key}
@@ -32,7 +32,7 @@ pub record IsKeptAfter (setting : Setting) (sessions : List Session) (arrival : 
 
 -- these stand in a list, in this order
 abbrev pub AreAmong : List Arrival → List Arrival → Type 0
-AreAmong [] all = Unit {0}
+AreAmong [] all = ⊤
 AreAmong (arrival ∷ arrivals) all = (front : List Arrival) × (back : List Arrival)
     × (all ≡ front ++ arrival ∷ back) × AreAmong arrivals back
 

@@ -1,5 +1,5 @@
 -- Which place of a receiver keeps which session. No clause on what a receiver answers speaks of places.
-use Rattle.std.specs.Prelude.{◌≡◌, ℕ, ◌<◌, if◌then◌else◌, Bool, true, false, List, [], ◌∷◌, length, get_or, map, Option, Some, None, Result, Ok, Err}
+use Rattle.std.specs.Prelude.{◌≡◌, ℕ, ◌<◌, if◌then◌else◌, Bool, true, false, List, [], ◌∷◌, length, slice_index_or, map, Option, Some, None, Result, Ok, Err}
 use Rattle.can_frame.specs.declared.step.Why.{Why}
 use Rattle.transfer_rx.specs.declared.key.Key.{Key}
 use Rattle.transfer_rx.specs.declared.progress.Progress.{Progress}
@@ -17,7 +17,8 @@ Places = List (Option Session)
 pub record KeepPlaces (progress : List (Option Progress)) (bytes : List (List ℕ)) (places : Places) : Type 0 where
   pub size : length places ≡ length progress
   pub each : (place : ℕ) → place < length progress →
-      IsProgressAt (get_or progress place None) (get_or bytes place []) (get_or places place None)
+      IsProgressAt (slice_index_or progress place None) (slice_index_or bytes place [])
+      (slice_index_or places place None)
 
 -- the places without the sessions that are too old
 abbrev pub kept : ℕ → Option Session → Option Session
@@ -48,7 +49,7 @@ pub record KeepSessions (progress : List (Option Progress)) (bytes : List (List 
 -- a place for a key: it has the session of the key, or is free where there is none
 pub record IsPlaceFor (key : Key) (places : Places) (sessions : List Session) (place : ℕ) : Type 0 where
   pub present : place < length places
-  pub same : get_or places place None ≡ session_of key sessions
+  pub same : slice_index_or places place None ≡ session_of key sessions
 
 abbrev pub has_key : Key → Option Session → Bool
 has_key key None = false
@@ -62,7 +63,7 @@ is_free (Some session) = false
 pub record IsSessionFound (bytes : List (List ℕ)) (key : Key) (places : Places) (sessions : List Session)
     (found : Found) (session : Session) : Type 0 where
   pub place : IsPlaceFor key places sessions found.place
-  pub keeps : IsProgressOf found.progress (get_or bytes found.place []) session
+  pub keeps : IsProgressOf found.progress (slice_index_or bytes found.place []) session
 
 abbrev pub IsSearchResult : List (List ℕ) → Key → Places → List Session → Result Found Why →
     Result Session Why → Type 0
@@ -82,9 +83,9 @@ pub record IsSessionOfKey (bytes : List (List ℕ)) (key : Key) (places : Places
 -- a session of the key is at the place
 pub record IsSessionAtPlace (bytes : List (List ℕ)) (key : Key) (places : Places) (found : Found) : Type 0 where
   pub session : Session
-  pub there : get_or places found.place None ≡ Some session
+  pub there : slice_index_or places found.place None ≡ Some session
   pub own : session.key ≡ key
-  pub keeps : IsProgressOf found.progress (get_or bytes found.place []) session
+  pub keeps : IsProgressOf found.progress (slice_index_or bytes found.place []) session
 
 -- what is counted of the session at a place, 0 where it is free
 abbrev pub counted : (Session → ℕ) → Option Session → ℕ

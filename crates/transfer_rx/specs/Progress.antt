@@ -1,5 +1,5 @@
 -- What the code keeps of a session.
-use Rattle.std.specs.Prelude.{◌≡◌, ℕ, ◌*◌, List, [], ◌∷◌, length, take, Option, Some, None}
+use Rattle.std.specs.Prelude.{⊤, ◌≡◌, ℕ, ◌*◌, List, [], ◌∷◌, length, take, Option, Some, None}
 use Rattle.can_frame.specs.declared.mark.Mark.{Mark}
 use Rattle.can_frame.specs.Cutting.{joined}
 use Rattle.transfer_rx.specs.declared.progress.Progress.{Progress}
@@ -9,7 +9,7 @@ use Rattle.transfer_rx.specs.Sessions.{Session}
 
 -- the step of the first mark, where there is one
 abbrev pub Begins : ℕ → List Mark → Type 0
-Begins step [] = Unit {0}
+Begins step [] = ⊤
 Begins step (mark ∷ marks) = mark.step ≡ step
 
 -- a place's progress and bytes stand for a session
@@ -25,7 +25,7 @@ pub record IsProgressOf (progress : Progress) (bytes : List ℕ) (session : Sess
   pub whole : progress.whole ≡ is_whole session.marks
 
 abbrev pub IsProgressAt : Option Progress → List ℕ → Option Session → Type 0
-IsProgressAt None bytes None = Unit {0}
+IsProgressAt None bytes None = ⊤
 IsProgressAt None bytes (Some session) = ⊥
 IsProgressAt (Some progress) bytes None = ⊥
 IsProgressAt (Some progress) bytes (Some session) = IsProgressOf progress bytes session

@@ -1,5 +1,5 @@
 -- The ranges of what is delivered.
-use Rattle.std.specs.Prelude.{◌<◌}
+use Rattle.std.specs.Prelude.{⊤, ◌<◌}
 use Rattle.can_frame.specs.Identifier.{IsIdentifier}
 use Rattle.transfer_rx.specs.declared.transfer.Transfer.{Transfer}
 use Rattle.transfer_rx.specs.declared.transfer.Took.{Took}
@@ -13,5 +13,5 @@ pub record IsInRange (transfer : Transfer) : Type 0 where
 -- what holds of the transfer, where one is delivered
 abbrev pub IfDelivered : Took → (Transfer → Type 0) → Type 0
 IfDelivered (Delivered transfer) holds = holds transfer
-IfDelivered Part holds = Unit {0}
-IfDelivered (Dropped why) holds = Unit {0}
+IfDelivered Part holds = ⊤
+IfDelivered (Dropped why) holds = ⊤

@@ -1,6 +1,6 @@
 -- The sessions of a receiver (UAVCAN v0 specification, "CAN bus transport layer", reception of transfers): one for each
 -- kind, number and source. They are a list with different keys, found by their key; its order means nothing.
-use Rattle.std.specs.Prelude.{◌≡◌, ℕ, ◌+◌, ◌-◌, ◌%◌, nat_eq, nat_le, nat_lt, if◌then◌else◌, not, Bool, ◌&&◌, List, [], ◌∷◌, length, filter, find, Option, Some, None, Result, Ok, Err}
+use Rattle.std.specs.Prelude.{⊤, ◌≡◌, ℕ, ◌+◌, ◌-◌, ◌%◌, nat_eq, nat_le, nat_lt, if◌then◌else◌, not, Bool, ◌&&◌, List, [], ◌∷◌, length, filter, find, Option, Some, None, Result, Ok, Err}
 use Rattle.can_frame.specs.declared.mark.Mark.{Mark}
 use Rattle.can_frame.specs.declared.step.Why.{Why}
 use Rattle.can_frame.specs.declared.step.Why.TheVariants.{Start, NoSession}
@@ -28,7 +28,7 @@ others key sessions = filter (λ session. not (same_key key session.key)) sessio
 
 -- no key stands twice
 abbrev pub AreDifferent : List Session → Type 0
-AreDifferent [] = Unit {0}
+AreDifferent [] = ⊤
 AreDifferent (session ∷ sessions) = (session_of session.key sessions ≡ None) × AreDifferent sessions
 
 -- a session of more than 2,000 ms is forgotten; a falling clock makes none older

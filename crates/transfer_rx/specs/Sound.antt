@@ -1,5 +1,5 @@
 -- What holds of the sessions of a receiver after every step, and of what it delivers.
-use Rattle.std.specs.Prelude.{◌≡◌, ◌≤◌, ◌⊎◌, true, List, [], ◌∷◌, ◌++◌, length, Ok}
+use Rattle.std.specs.Prelude.{⊤, ◌≡◌, ◌≤◌, ◌⊎◌, true, List, [], ◌∷◌, ◌++◌, length, Ok}
 use Rattle.can_frame.specs.Cutting.{IsCutting}
 use Rattle.transfer_rx.specs.declared.accept.Wanted.{Wanted}
 use Rattle.transfer_rx.specs.Acceptance.{wanted}
@@ -15,7 +15,7 @@ pub record IsSound (session : Session) : Type 0 where
   pub marks : length session.marks ≡ length session.taken
 
 abbrev pub AreSound : List Session → Type 0
-AreSound [] = Unit {0}
+AreSound [] = ⊤
 AreSound (session ∷ sessions) = IsSound session × AreSound sessions
 
 -- sessions that a receiver can have

@@ -1,5 +1,5 @@
 -- Where a frame comes, in the code and in the definition.
-use Rattle.std.specs.Prelude.{◌≡◌, ℕ, ◌<◌, false, length, get_or, [], List, Some, None, Ok, Err}
+use Rattle.std.specs.Prelude.{⊤, ◌≡◌, ℕ, ◌<◌, false, length, slice_index_or, [], List, Some, None, Ok, Err}
 use Rattle.can_frame.specs.Cutting.{Piece}
 use Rattle.transfer_rx.specs.declared.key.Key.{Key}
 use Rattle.transfer_rx.specs.declared.progress.Found.{Found}
@@ -19,11 +19,12 @@ pub record GoesOn (found : Found) (piece : Piece) : Type 0 where
 
 -- what can be done without a look at the definition
 abbrev pub IsRoomy : ℕ → List (List ℕ) → Piece → Turn → Type 0
-IsRoomy places chains piece (Refused why) = Unit {0}
+IsRoomy places chains piece (Refused why) = ⊤
 IsRoomy places chains piece (Out found why) = (found.place < places)
-    × Fills found.progress (get_or chains found.place [])
+    × Fills found.progress (slice_index_or chains found.place [])
 IsRoomy places chains piece (Next found verdict) =
-    (found.place < places) × Fills found.progress (get_or chains found.place []) × IfPart verdict (GoesOn found piece)
+    (found.place < places) × Fills found.progress (slice_index_or chains found.place [])
+    × IfPart verdict (GoesOn found piece)
 
 -- a frame comes to its session
 pub record ComesTo (most : ℕ) (bytes : List (List ℕ)) (key : Key) (piece : Piece) (now : ℕ) (places : Places)

@@ -1,5 +1,5 @@
 -- What a verdict says.
-use Rattle.std.specs.Prelude.{ℕ, Option, Some, None, Result, Ok, Err}
+use Rattle.std.specs.Prelude.{⊤, ℕ, Option, Some, None, Result, Ok, Err}
 use Rattle.arrayvec.specs.ArrayVec.{ArrayVec}
 use Rattle.can_frame.specs.declared.step.Why.{Why}
 use Rattle.transfer_rx.specs.Outcome.{Outcome, Delivers, Grows, Spoils}
@@ -15,6 +15,6 @@ says (Err why) = Spoils why
 
 -- what holds where a transfer goes on
 abbrev pub IfPart : Verdict → Type 0 → Type 0
-IfPart (Ok (Some payload)) p = Unit {0}
+IfPart (Ok (Some payload)) p = ⊤
 IfPart (Ok None) p = p
-IfPart (Err why) p = Unit {0}
+IfPart (Err why) p = ⊤
