@@ -25,3 +25,4 @@ pub mod Room
 pub mod Soundness
 pub mod Steps
 pub mod Unmarking
+pub mod Used

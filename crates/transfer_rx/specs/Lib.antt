@@ -19,5 +19,6 @@ pub mod Sound
 pub mod Told
 pub mod Turns
 pub mod Unmarked
+pub mod Used
 pub mod Verdicts
 pub mod Views

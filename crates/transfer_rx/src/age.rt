@@ -7,6 +7,7 @@ ghost use Rattle.transfer_rx.specs.Crcs.{HaveCrcs};
 ghost use Rattle.transfer_rx.specs.Places.{Places, KeepPlaces, kept, left};
 ghost use Rattle.transfer_rx.specs.Progress.{IsProgressAt};
 ghost use Rattle.transfer_rx.specs.Sessions.{Session};
+ghost use Rattle.transfer_rx.specs.Used.{AreUnused};
 
 use crate::progress::Progress;
 use crate::sessions::Sessions;
@@ -25,7 +26,7 @@ impl<const S: usize, const N: usize> Sessions<S, N> {
             return;
         }
         self.clear_old(now);
-        self.oldest = oldest_of(&self.progress);
+        self.oldest = oldest_of(&self.progress, self.used);
     }
 
     /// Whether even the oldest session is not too old.
@@ -45,7 +46,7 @@ impl<const S: usize, const N: usize> Sessions<S, N> {
             HaveCrcs signature_of self.old.progress self.old.pool →
             HaveCrcs signature_of self.new.progress self.new.pool }
     {
-        for place in 0..S {
+        for place in 0..self.used {
             if self.progress[place].is_none() {
                 continue;
             }
@@ -56,12 +57,14 @@ impl<const S: usize, const N: usize> Sessions<S, N> {
 }
 
 /// The moment of the oldest session, and the last of all moments where there is none.
-fn oldest_of<const S: usize>(kept: &[Option<Progress>; S]) -> u64
+fn oldest_of<const S: usize>(kept: &[Option<Progress>; S], used: usize) -> u64
+    requires within { used ≤ S }
+    requires unused { AreUnused used kept.now }
     ensures { AreSince result kept.now }
 {
     let mut oldest = u64::MAX;
-    for there in kept {
-        if let Some(progress) = there {
+    for place in 0..used {
+        if let Some(progress) = kept[place] {
             oldest = oldest.min(progress.moment);
         }
     }

@@ -29,6 +29,7 @@ impl<const S: usize, const N: usize> Sessions<S, N> {
             HaveCrcs signature_of self.new.progress self.new.pool }
     {
         self.oldest = self.oldest.min(progress.moment);
+        self.used = self.used.max(place + 1);
         set_place(&mut self.progress, &mut self.pool, place, progress);
     }
 
@@ -63,6 +64,7 @@ impl<const S: usize, const N: usize> Sessions<S, N> {
         let grown = progress.grown(mark, now, signature, more);
         let cut = progress.cut_off(now);
         self.oldest = self.oldest.min(now);
+        self.used = self.used.max(place + 1);
         add_frame(
             &mut self.progress,
             &mut self.pool,
@@ -76,9 +78,10 @@ impl<const S: usize, const N: usize> Sessions<S, N> {
 
     /// Keeps what is at a place, or clears it.
     pub fn keep(&mut self, place: usize, progress: Option<Progress>)
-        requires place { place < S }
+        requires place { place < self.old.used }
         requires same { IfSome progress (λ p. get_or self.old.progress place None ≡ Some p) }
         ensures progress { self.new.progress ≡ set self.old.progress place progress }
+        ensures used { self.new.used ≡ self.old.used }
         ensures others { (i : ℕ) → i ≢ place →
             get_or self.new.pool i [] ≡ get_or self.old.pool i [] }
         ensures kept { IfSome progress (λ p. get_or self.new.pool place [] ≡

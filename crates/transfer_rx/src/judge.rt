@@ -120,7 +120,7 @@ impl<const S: usize, const N: usize> Sessions<S, N> {
         if self.has_none_old(now) {
             return free;
         }
-        for place in 0..S {
+        for place in 0..self.used {
             free += self.old_blocks_at(place, now);
         }
         free

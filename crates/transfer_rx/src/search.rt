@@ -65,7 +65,7 @@ impl<const S: usize, const N: usize> Sessions<S, N> {
             MatchOption result (session_of key sessions ≡ None)
             (IsSessionOfKey self.now.pool key (left now places) sessions) }
     {
-        for place in 0..S {
+        for place in 0..self.used {
             if let Some(found) = self.find_at(place, key, now) {
                 return Some(found);
             }
@@ -100,12 +100,15 @@ impl<const S: usize, const N: usize> Sessions<S, N> {
             MatchOption result (length sessions ≡ S)
             (λ place. (length sessions < S) × (get_or (left now places) place None ≡ None)) }
     {
-        for place in 0..S {
+        for place in 0..self.used {
             if self.recent(place, now).is_none() {
                 return Some(place);
             }
         }
-        None
+        if self.used == S {
+            return None;
+        }
+        Some(self.used)
     }
 
     /// The session at a place, unless it is too old.

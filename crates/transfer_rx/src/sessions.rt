@@ -15,6 +15,7 @@ ghost use Rattle.transfer_rx.specs.Sessions.{Session, session_for};
 ghost use Rattle.transfer_rx.specs.Progress.{IsProgressOf};
 ghost use Rattle.transfer_rx.specs.Told.{told};
 ghost use Rattle.transfer_rx.specs.Turns.{GoesOn, IsRoomy, IsTurn};
+ghost use Rattle.transfer_rx.specs.Used.{AreUnused};
 ghost use Rattle.transfer_rx.specs.Verdicts.{IfPart, says};
 
 use crate::accept::Wanted;
@@ -34,11 +35,16 @@ pub struct Sessions<const S: usize, const N: usize> {
 
     /// No session took its last frame before this moment, in ms.
     pub oldest: u64,
+
+    /// No place from this one on has a session: none of them is looked at.
+    pub used: usize,
     pub ghost few: { S ≤ 1024 },
     pub ghost blocks: { N ≤ 1024 },
     pub ghost chains: { length pool ≡ S },
     pub ghost filled: { AreFilled progress pool },
     pub ghost since: { AreSince oldest progress } by { Prim.hlevel props },
+    pub ghost within: { used ≤ S },
+    pub ghost unused: { AreUnused used progress } by { Prim.hlevel props },
 }
 
 impl<const S: usize, const N: usize> Sessions<S, N> {
@@ -53,6 +59,7 @@ impl<const S: usize, const N: usize> Sessions<S, N> {
             progress: [None; S],
             pool: BlockPool::new(),
             oldest: u64::MAX,
+            used: 0,
         }
     }
 

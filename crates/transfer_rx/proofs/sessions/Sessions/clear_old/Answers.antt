@@ -1,8 +1,10 @@
-use Rattle.std.proofs.Common.{◌≡◌, ◌≢◌, length, get_or, None, [], ap, arith, rules, subst, sym, ◌∙◌}
+use Rattle.std.proofs.Common.{◌≡◌, ◌≢◌, length, get_or, None, [], ap, arith, inl, inr, rules, subst, sym, ◌∙◌}
 use Rattle.std.proofs.lemmas.List.{get_or-set_other, get_or_default, length-set}
+use Rattle.std.proofs.lemmas.Bool.Decides.{leb_tells}
 use Rattle.transfer_rx.specs.Progress.{IsProgressAt}
 use Rattle.transfer_rx.proofs.Crcs.{kept_crcs, same_there}
 use Rattle.transfer_rx.proofs.Places.{all_left, one_more_kept}
+use Rattle.transfer_rx.proofs.Used.{none_there}
 use Rattle.transfer_rx.proofs.sessions.Sessions.clear_old.Goals as goal
 
 pub loop-place-preserved : goal.loop-place-preserved
@@ -34,6 +36,7 @@ loop-place-preserved g c =
           rw c.keep.ensures.progress
           (kept_crcs signature_of c.loop-place.self.progress c.loop-place.self.pool c.keep.new.self.pool c.loop-place.place c.unless_old-progress.result
           (c.loop-place.invariant.crcs signature_of h) (omega arith) (same_there c.unless_old-progress.result _ _ here c.unless_old-progress.ensures.same) c.keep.ensures.others c.keep.ensures.kept);
+      used = c.keep.ensures.used ∙ c.loop-place.invariant.used;
       size = ap length c.keep.ensures.progress ∙ length-set c.loop-place.self.progress c.loop-place.place c.unless_old-progress.result ∙ same;
     }
 
@@ -41,4 +44,10 @@ pub returns-clause-places : goal.returns-clause-places
 returns-clause-places g c = λ places s.
     let size : length c.args.self.now.progress ≡ g.row.S = search rules in
     all_left c.args.now places _ _ (s.size ∙ sym c.loop-place.invariant.size)
-    (λ i h. c.loop-place.invariant.done places s i (omega (arith, c.loop-place.invariant.size)))
+    (λ i h. elim (leb_tells c.args.self.now.used i) [
+      | inl past ↦
+          let there = none_there c.args.self.now.used c.args.self.now.progress c.args.self.now.pool places c.args.self.now.unused s i past.1 in
+          let none = c.loop-place.self.unused i (omega (arith, c.loop-place.invariant.used, past.1)) in
+          rw (none, there) tt
+      | inr within ↦ let below = within.1 in c.loop-place.invariant.done places s i (omega arith)
+    ])

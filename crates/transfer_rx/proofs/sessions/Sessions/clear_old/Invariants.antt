@@ -13,5 +13,6 @@ invariant-loop-place g l = record {
   left : (i : ℕ) → l.place ≤ i → get_or l.self.progress i None ≡ get_or l.fn.self.progress i None;
   chains : (i : ℕ) → l.place ≤ i → get_or l.self.pool i [] ≡ get_or l.fn.self.pool i [];
   crcs : (signature_of : Key → Option ℕ) → HaveCrcs signature_of l.fn.self.progress l.fn.self.pool → HaveCrcs signature_of l.self.progress l.self.pool;
+  used : l.self.used ≡ l.fn.self.used;
   size : length l.self.progress ≡ length l.fn.self.progress;
 }

@@ -3,6 +3,7 @@ use Rattle.std.proofs.lemmas.List.{length-map}
 use Rattle.transfer_rx.specs.Places.{kept, left}
 use Rattle.transfer_rx.proofs.Arrangement.{has_room, is_full}
 use Rattle.transfer_rx.proofs.Comes.{free_here, taken_here}
+use Rattle.transfer_rx.proofs.Used.{none_left}
 use Rattle.transfer_rx.proofs.sessions.Sessions.free.Goals as goal
 
 pub returns-then-is_none-clause-free : goal.returns-then-is_none-clause-free
@@ -22,6 +23,17 @@ loop-place-preserved g c = λ places s.
 
 pub returns-clause-free : goal.returns-clause-free
 returns-clause-free g c = λ places sessions s a.
+    let size : length c.args.self.now.progress ≡ g.row.S = search rules in
+    let same : length (left c.args.now places) ≡ length places = length-map places (kept c.args.now) in
+    let within = c.args.self.now.within in
+    let free : get_or (left c.args.now places) c.args.self.now.used None ≡ None =
+    none_left c.args.self.now.used c.args.self.now.progress c.args.self.now.pool places c.args.self.now.unused s c.args.now c.args.self.now.used (omega arith) in
+    let room : length sessions < length (left c.args.now places) =
+    has_room (left c.args.now places) sessions c.args.self.now.used a (omega (arith, s.size)) free in
+    (omega (arith, s.size), free)
+
+pub returns-then-self-clause-free : goal.returns-then-self-clause-free
+returns-then-self-clause-free g c = λ places sessions s a.
     let size : length c.args.self.now.progress ≡ g.row.S = search rules in
     let same : length (left c.args.now places) ≡ length places = length-map places (kept c.args.now) in
     let full : length sessions ≡ length (left c.args.now places) =

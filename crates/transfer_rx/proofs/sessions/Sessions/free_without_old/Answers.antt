@@ -1,10 +1,11 @@
 use Rattle.std.proofs.Common.{◌≡◌, length, sym, ◌∙◌, ap, arith, rules, subst}
 use Rattle.std.specs.List.{sum_by}
-use Rattle.std.proofs.lemmas.List.{length-map, take_all}
+use Rattle.std.proofs.lemmas.List.{length-map}
 use Rattle.transfer_rx.specs.Filled.{IsFree}
 use Rattle.transfer_rx.specs.Places.{blocks_at, kept, left}
 use Rattle.transfer_rx.proofs.Blocks.{more}
 use Rattle.transfer_rx.proofs.Filled.{same_blocks}
+use Rattle.transfer_rx.proofs.Used.{front_counted, none_left, none_there}
 use Rattle.transfer_rx.proofs.sessions.Sessions.free_without_old.Goals as goal
 
 pub loop-place-init : goal.loop-place-init
@@ -33,8 +34,10 @@ pub returns-clause-free : goal.returns-clause-free
 returns-clause-free g c = λ places s.
     let size : length c.args.self.now.progress ≡ g.row.S = search rules in
     let same : length (left c.args.now places) ≡ length places = length-map places (kept c.args.now) in
-    let all = ap (sum_by blocks_at) (take_all c.loop-place.place (left c.args.now places) (omega (arith, s.size))) in
-    let rest = ap (sum_by blocks_at) (take_all c.loop-place.place places (omega (arith, s.size))) in
+    let all = front_counted c.loop-place.place (left c.args.now places) (λ i past.
+    none_left c.args.self.now.used c.args.self.now.progress c.args.self.now.pool places c.args.self.now.unused s c.args.now i (omega arith)) in
+    let rest = front_counted c.loop-place.place places (λ i past.
+    none_there c.args.self.now.used c.args.self.now.progress c.args.self.now.pool places c.args.self.now.unused s i (omega arith)) in
     omega (arith, c.loop-place.invariant.old places s)
 
 pub returns-then-has_none_old-clause-free : goal.returns-then-has_none_old-clause-free

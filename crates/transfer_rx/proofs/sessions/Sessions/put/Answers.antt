@@ -4,6 +4,7 @@ use Rattle.transfer_rx.proofs.Ages.{earlier, set_since}
 use Rattle.transfer_rx.proofs.Crcs.{emptied_own, set_crcs}
 use Rattle.transfer_rx.proofs.Filled.{emptied_keeps, emptied_other, exact, length-emptied, set_filled}
 use Rattle.transfer_rx.proofs.Places.{set_stands}
+use Rattle.transfer_rx.proofs.Used.{set_unused}
 use Rattle.transfer_rx.proofs.sessions.Sessions.put.Goals as goal
 
 pub invariant_of-self : goal.invariant_of-self
@@ -23,6 +24,10 @@ invariant_of-self g c =
           rw c.set_place.ensures.kept
           (set_since c.min-self.result c.args.self.now.progress c.args.place (Some c.args.progress) (omega arith)
           (earlier c.args.self.now.oldest c.min-self.result c.args.self.now.progress (omega arith) c.args.self.now.since) (omega arith));
+      within = omega (arith, c.args.self.now.within);
+      unused =
+          rw c.set_place.ensures.kept
+          (set_unused c.args.self.now.used c.max-self.result c.args.self.now.progress c.args.place (Some c.args.progress) (omega arith) (omega arith) c.args.self.now.unused);
     }
 
 pub returns-clause-session : goal.returns-clause-session
