@@ -38,6 +38,11 @@ pub record PartGivesNumbers {T : Type 0} (text : Text) (name : List ℕ) (part :
   pub found : part_named (types_in text) name part ≡ Some fields
   pub give : GiveNumbers fields numbers value_of
 
+-- so it is with the text of these bytes
+abbrev pub TextGivesNumbers : {T : Type 0} → List ℕ → List ℕ → ℕ → (T → List ℕ) → (List ℕ → Option T) → Type 0
+TextGivesNumbers bytes name part numbers value_of =
+    (text : Text) → IsText bytes text → PartGivesNumbers text name part numbers value_of
+
 -- ---- the text of the types that allocators and allocatees exchange
 
 abbrev one_part : List ℕ → List Layout → DataType

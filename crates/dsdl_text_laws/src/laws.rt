@@ -12,7 +12,7 @@ ghost use Rattle.dsdl_codec.specs.Numbers as numbers;
 ghost use Rattle.dsdl_codec.specs.VoteAnswer.{vote_answer_of};
 ghost use Rattle.dsdl_codec.specs.VoteRequest.{vote_request_of};
 ghost use Rattle.dsdl_text.specs.Text.{Text};
-ghost use Rattle.dsdl_text_laws.specs.Profile.{IsText, PartGivesNumbers, profile};
+ghost use Rattle.dsdl_text_laws.specs.Profile.{IsText, TextGivesNumbers, profile};
 
 use dsdl_text::PROFILE;
 
@@ -24,48 +24,40 @@ pub fn the_profile_is_a_text()
 
 /// An Allocation.
 pub fn allocations()
-    ensures { (text : Text) → IsText PROFILE.now text →
-        PartGivesNumbers text (codes "Allocation") 1 numbers.allocation_numbers allocation_of }
+    ensures { TextGivesNumbers PROFILE.now (codes "Allocation") 1 numbers.allocation_numbers allocation_of }
 {}
 
 /// A Discovery.
 pub fn discoveries()
-    ensures { (text : Text) → IsText PROFILE.now text →
-        PartGivesNumbers text (codes "Discovery") 1 numbers.discovery_numbers discovery_of }
+    ensures { TextGivesNumbers PROFILE.now (codes "Discovery") 1 numbers.discovery_numbers discovery_of }
 {}
 
 /// A request of AppendEntries.
 pub fn append_requests()
-    ensures { (text : Text) → IsText PROFILE.now text →
-        PartGivesNumbers text (codes "AppendEntries") 1 numbers.append_request_numbers append_request_of }
+    ensures { TextGivesNumbers PROFILE.now (codes "AppendEntries") 1 numbers.append_request_numbers append_request_of }
 {}
 
 /// A response of AppendEntries.
 pub fn append_answers()
-    ensures { (text : Text) → IsText PROFILE.now text →
-        PartGivesNumbers text (codes "AppendEntries") 2 numbers.append_answer_numbers append_answer_of }
+    ensures { TextGivesNumbers PROFILE.now (codes "AppendEntries") 2 numbers.append_answer_numbers append_answer_of }
 {}
 
 /// A request of RequestVote.
 pub fn vote_requests()
-    ensures { (text : Text) → IsText PROFILE.now text →
-        PartGivesNumbers text (codes "RequestVote") 1 numbers.vote_request_numbers vote_request_of }
+    ensures { TextGivesNumbers PROFILE.now (codes "RequestVote") 1 numbers.vote_request_numbers vote_request_of }
 {}
 
 /// A response of RequestVote.
 pub fn vote_answers()
-    ensures { (text : Text) → IsText PROFILE.now text →
-        PartGivesNumbers text (codes "RequestVote") 2 numbers.vote_answer_numbers vote_answer_of }
+    ensures { TextGivesNumbers PROFILE.now (codes "RequestVote") 2 numbers.vote_answer_numbers vote_answer_of }
 {}
 
 /// A NodeStatus.
 pub fn node_statuses()
-    ensures { (text : Text) → IsText PROFILE.now text →
-        PartGivesNumbers text (codes "NodeStatus") 1 numbers.node_status_numbers node_status_of }
+    ensures { TextGivesNumbers PROFILE.now (codes "NodeStatus") 1 numbers.node_status_numbers node_status_of }
 {}
 
 /// A response of GetNodeInfo.
 pub fn node_infos()
-    ensures { (text : Text) → IsText PROFILE.now text →
-        PartGivesNumbers text (codes "GetNodeInfo") 2 numbers.node_info_numbers node_info_of }
+    ensures { TextGivesNumbers PROFILE.now (codes "GetNodeInfo") 2 numbers.node_info_numbers node_info_of }
 {}
