@@ -147,7 +147,8 @@ behind numbers None = None
 behind numbers (Some read) =
     if nat_le (length numbers + length read.0) 400 then Some (numbers ++ read.0, read.1) else None
 
--- what a reader answers that puts numbers behind those that are there: the bits behind a reading for which there is room
+-- what a reader answers that puts numbers behind those that are there: the bits behind a reading for which there is
+-- room
 abbrev pub Gives : Option (Bor (List Bool)) → List ℕ → List ℕ → Reading → Type 0
 Gives None old new read = behind old read ≡ None
 Gives (Some rest) old new read = behind old read ≡ Some (new, rest.now)

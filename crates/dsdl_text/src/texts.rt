@@ -25,7 +25,8 @@ impl Texts {
     #[tactic(auto, using(crate::proofs::Types::types_of_push, crate::proofs::Types::append_none))]
     pub(crate) fn new(earlier: ArrayVec<Section, 16>, latest: Option<Section>) -> Texts
         requires { length earlier.items + count_of latest ≤ 16 }
-        ensures { data_types result ≡ types_of earlier.items ++ option_to_list (latest_of (types_of earlier.items) latest) }
+        ensures { data_types result ≡
+            types_of earlier.items ++ option_to_list (latest_of (types_of earlier.items) latest) }
     {
         match latest {
             None => Texts { sections: earlier },
