@@ -20,8 +20,8 @@ pub(crate) const OUTSIDE: Mark = Mark {
     place: 0,
 };
 
-/// A moment, a word, what happens then (`tick`, `send`, or the row of a schedule that puts a frame on the bus), and what
-/// the report says of it.
+/// A moment, a word, what happens then (`tick`, `send`, or the row of a schedule that puts a frame on the bus), and
+/// what the report says of it.
 pub(crate) type Case = (u64, u32, &'static str, &'static str);
 
 /// The device takes each event of the table in turn, in steps from 1 on, and does what stands beside it.

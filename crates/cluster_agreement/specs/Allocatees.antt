@@ -1,7 +1,7 @@
--- Devices, beside the headline. Whatever frames are delivered, lost or repeated, whatever clocks read and wherever inside
--- store writes allocators stop: the node ID that an allocatee holds is the one that the headline's list has for its
--- unique ID, from then on. So two allocatees with different unique IDs never hold the same node ID, at one moment or at
--- two; and allocatees with one unique ID never hold two node IDs.
+-- Devices, beside the headline. Whatever frames are delivered, lost or repeated, whatever clocks read and wherever
+-- inside store writes allocators stop: the node ID that an allocatee holds is the one that the headline's list has for
+-- its unique ID, from then on. So two allocatees with different unique IDs never hold the same node ID, at one moment
+-- or at two; and allocatees with one unique ID never hold two node IDs.
 --
 -- A schedule is cut at any two places, as for the headline: "now" is after any row, or before all of them, and "later"
 -- is now or after any row from then on. What is held now need not be held later: the allocatee may have left.

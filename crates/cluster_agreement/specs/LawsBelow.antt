@@ -25,29 +25,42 @@ use Rattle.transfer_tx.specs.declared.outgoing.Outgoing.{Outgoing}
 pub record FrameLaws : Type 0 where
   pub ident_read : (ident : Ident) → IsIdentifier ident → identifier_of (identifier_number ident) ≡ Some ident
   pub piece_read : (piece : Piece) → piece.tail.id < 32 → piece_from (frame_bytes piece) ≡ piece
-  pub cut_count : (signature id : ℕ) (payload : List ℕ) → length (frames_of signature id payload) ≡ frame_count (length payload)
-  pub count : (signature id : ℕ) (payload : List ℕ) → length (frames_of signature id payload) ≡ suc (frames_before_last signature payload)
+  pub cut_count : (signature id : ℕ) (payload : List ℕ)
+      → length (frames_of signature id payload) ≡ frame_count (length payload)
+  pub count : (signature id : ℕ) (payload : List ℕ)
+      → length (frames_of signature id payload) ≡ suc (frames_before_last signature payload)
   pub before_last : (signature id k : ℕ) (payload : List ℕ) (d : Piece) → k < frames_before_last signature payload
-      → get_or (frames_of signature id payload) k d ≡ record { bytes = take 7 (drop (7 * k) (bytes_cut signature payload)); tail = tail_at id k false }
+      → get_or (frames_of signature id payload) k d ≡ record {
+        bytes = take 7 (drop (7 * k) (bytes_cut signature payload));
+        tail = tail_at id k false;
+      }
   pub last : (signature id : ℕ) (payload : List ℕ) (d : Piece)
-      → get_or (frames_of signature id payload) (frames_before_last signature payload) d
-      ≡ record { bytes = drop (7 * frames_before_last signature payload) (bytes_cut signature payload); tail = tail_at id (frames_before_last signature payload) true }
+      → get_or (frames_of signature id payload) (frames_before_last signature payload) d ≡ record {
+        bytes = drop (7 * frames_before_last signature payload) (bytes_cut signature payload);
+        tail = tail_at id (frames_before_last signature payload) true;
+      }
   pub payload : (signature id : ℕ) (payload : List ℕ) → payload_of (frames_of signature id payload) ≡ payload
-  pub queued_count : (what : Outgoing) (step re : ℕ) → length (queued_frames what step re) ≡ frame_count (length what.payload.items)
-  pub queued_frame : (what : Outgoing) (step re place : ℕ) (d : Queued) (e : Piece) → place < frame_count (length what.payload.items)
+  pub queued_count : (what : Outgoing) (step re : ℕ)
+      → length (queued_frames what step re) ≡ frame_count (length what.payload.items)
+  pub queued_frame : (what : Outgoing) (step re place : ℕ) (d : Queued) (e : Piece)
+      → place < frame_count (length what.payload.items)
       → slice_index_or (queued_frames what step re) place d ≡ record {
         id = identifier_number what.ident;
         bytes = frame_bytes (slice_index_or (frames_of what.signature what.id what.payload.items) place e);
         mark = record { step = step; re = re; place = place };
       }
-  pub delivered : (setting : Setting) (sessions : List Session) (arrival : Arrival) (delivery : Delivery) → answer setting sessions arrival ≡ Gives delivery
-      → IsDelivered setting sessions arrival delivery
+  pub delivered : (setting : Setting) (sessions : List Session) (arrival : Arrival) (delivery : Delivery)
+      → answer setting sessions arrival ≡ Gives delivery → IsDelivered setting sessions arrival delivery
   pub comes : (most now : ℕ) (key : Key) (tail : Tail) (sessions : List Session) (session : Session)
       → session_for most key tail now sessions ≡ Ok session → IsIdleOrOf key sessions session
 
 -- bytes are read as what they say
 pub record CodecLaws : Type 0 where
-  pub vote_requests : (request : VoteRequest) → IsVoteRequest request → vote_request_of (vote_request_bytes request) ≡ Some request
-  pub append_requests : (request : AppendRequest) → IsAppendRequest request → append_request_of (append_request_bytes request 0) ≡ Some request
-  pub vote_answers : (answer : VoteAnswer) → answer.term < 2 ^ 32 → vote_answer_of (vote_answer_bytes answer 0) ≡ Some answer
-  pub append_answers : (answer : AppendAnswer) → answer.term < 2 ^ 32 → append_answer_of (append_answer_bytes answer 0) ≡ Some answer
+  pub vote_requests : (request : VoteRequest) → IsVoteRequest request
+      → vote_request_of (vote_request_bytes request) ≡ Some request
+  pub append_requests : (request : AppendRequest) → IsAppendRequest request
+      → append_request_of (append_request_bytes request 0) ≡ Some request
+  pub vote_answers : (answer : VoteAnswer) → answer.term < 2 ^ 32
+      → vote_answer_of (vote_answer_bytes answer 0) ≡ Some answer
+  pub append_answers : (answer : AppendAnswer) → answer.term < 2 ^ 32
+      → append_answer_of (append_answer_bytes answer 0) ≡ Some answer

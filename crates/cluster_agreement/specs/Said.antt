@@ -63,8 +63,8 @@ pub record AreAnswered (made : List SentTransfer) : Type 0 where
   pub appends : AnswersEach made App AppQ
 
 -- a pending call was made, under the transfer ID that the server keeps beside it
-pub record IsCalled (made : List SentTransfer) (server : AllocatorState) (peer : ℕ) (request : Request) (sending : Sending)
-    (service : What) : Type 0 where
+pub record IsCalled (made : List SentTransfer) (server : AllocatorState) (peer : ℕ) (request : Request)
+    (sending : Sending) (service : What) : Type 0 where
   pub call : SentTransfer
   pub was_made : In call made
   pub what : call.offer.what ≡ service

@@ -50,7 +50,8 @@ pub record IsInRun (ids : List ℕ) (run : machine.World) (m : ℕ) (server : Al
 
 -- what it made, heard and called: the frames that wait in its queue are of transfers that it made; its sessions keep
 -- frames of the bus; its pending calls were made; it lists members alone
-pub record IsAtWork (made : List SentTransfer) (ids : List ℕ) (frames : List Queued) (m : ℕ) (server : AllocatorState) : Type 0 where
+pub record IsAtWork (made : List SentTransfer) (ids : List ℕ) (frames : List Queued) (m : ℕ)
+    (server : AllocatorState) : Type 0 where
   pub queue : (frame : Queued) → In frame server.queue → IsPiece made m frame
   pub heard : AreHeard frames (setting_for m) server.sessions
   pub called : AreCalled made server

@@ -38,10 +38,12 @@ use Rattle.cluster_discovery.specs.Members as discovery
 pub record StepLaws : Type 0 where
   pub one : (t : AllocatorState) (number : ℕ) (event : Event) → OneByName (step t number event).step_state.offers
   pub me : (t : AllocatorState) (number : ℕ) (event : Event) → (step t number event).step_state.allocator.me ≡ t.me
-  pub says : (t : AllocatorState) (number : ℕ) (event : Event) (offer : Offer) → In offer (step t number event).step_state.offers
+  pub says : (t : AllocatorState) (number : ℕ) (event : Event) (offer : Offer)
+      → In offer (step t number event).step_state.offers
       → IsSaid number t.me offer.what offer.to offer.re offer.payload offer.says
   pub responses : (t : AllocatorState) (number : ℕ) (event : Event) → ResponsesAnswer t number event
-  pub called : (t : AllocatorState) (number : ℕ) (event : Event) → CallsAreMade number t (step t number event).step_state
+  pub called : (t : AllocatorState) (number : ℕ) (event : Event)
+      → CallsAreMade number t (step t number event).step_state
   pub queue : (t : AllocatorState) (number : ℕ) (event : Event)
       → (step t number event).step_state.allocator.queue ≡ t.queue
       ++ all_frames_put number t.me (step t number event).step_state.offers
@@ -50,15 +52,18 @@ pub record StepLaws : Type 0 where
       ≡ next (setting_for t.me) t.sessions (record arrival { moment = max t.now arrival.moment })
   pub ticked : (t : AllocatorState) (number now word : ℕ)
       → (step t number (Tick now word)).step_state.allocator.sessions ≡ t.sessions
-  pub kept : (setting : Setting) (before arrivals : List Arrival) (sessions : List Session) → All (CameWithKey setting before) sessions
+  pub kept : (setting : Setting) (before arrivals : List Arrival) (sessions : List Session)
+      → All (CameWithKey setting before) sessions
       → All (CameWithKey setting (before ++ arrivals)) (rx_run.run setting sessions arrivals)
 
 -- what a step keeps, and what of it is stored
 pub record MoreLaws : Type 0 where
-  pub moves : (t : AllocatorState) (number : ℕ) (event : Event) (members : List ℕ) (bag : List Message) → MayStep t number event members bag
+  pub moves : (t : AllocatorState) (number : ℕ) (event : Event) (members : List ℕ) (bag : List Message)
+      → MayStep t number event members bag
       → (local_state : LocalState) → Begins t local_state
       → IsOfTheMachine members t.me number bag local_state (step t number event).step_state
-  pub keeps : (t : AllocatorState) (number : ℕ) (event : Event) (members : List ℕ) (bag : List Message) → MayStep t number event members bag
+  pub keeps : (t : AllocatorState) (number : ℕ) (event : Event) (members : List ℕ) (bag : List Message)
+      → MayStep t number event members bag
       → KeepsOrder (step t number event).step_state.allocator
   pub sound : (t : AllocatorState) (number : ℕ) (event : Event) → IsSound t → IsOnTheBus event
       → IsSound (step t number event).step_state.allocator
@@ -73,16 +78,20 @@ pub record MoreLaws : Type 0 where
       → In node (members_of t) ⊎ IsNamed t number event node
   pub uids : (t : AllocatorState) (number : ℕ) (event : Event) → HasUids t.watch
       → HasUids (step t number event).step_state.allocator.watch
-  pub records : (t : AllocatorState) (number : ℕ) (event : Event) → HasUids t.watch → RecordsUids (step t number event).step_state
+  pub records : (t : AllocatorState) (number : ℕ) (event : Event) → HasUids t.watch
+      → RecordsUids (step t number event).step_state
   pub tells : (t : AllocatorState) (number : ℕ) (event : Event) → TellsMembers t (step t number event).step_state.offers
   pub given : (t : AllocatorState) (number : ℕ) (event : Event)
       → t.raft_server.store.commit ≤ length t.raft_server.store.log
-      → (offer : Offer) (given : Given) → In offer (step t number event).step_state.offers → Gives offer.what offer.payload given
+      → (offer : Offer) (given : Given) → In offer (step t number event).step_state.offers
+      → Gives offer.what offer.payload given
       → IsGivenIn (committed (step t number event).step_state.allocator.raft_server.store) given
-  pub list : (start : Start) (events : List discovery.Event) → IsStart start → IsMemberList start.me start.size (discovery.members start events)
-  pub done : (key_disk : KeyDisk Stored) (puts : List StoredPut) → are_put puts key_disk.calls ≡ true → ((puts_on puts key_disk).store ≡ after_puts puts key_disk.store)
-  pub votes : (members : List ℕ) (member number : ℕ) (server : RaftServer) (moves : List Move) → 1 ≤ member → AreOfNodes moves
-      → VoteForNodes (puts_of_all members member number server moves)
+  pub list : (start : Start) (events : List discovery.Event) → IsStart start
+      → IsMemberList start.me start.size (discovery.members start events)
+  pub done : (key_disk : KeyDisk Stored) (puts : List StoredPut) → are_put puts key_disk.calls ≡ true
+      → (puts_on puts key_disk).store ≡ after_puts puts key_disk.store
+  pub votes : (members : List ℕ) (member number : ℕ) (server : RaftServer) (moves : List Move)
+      → 1 ≤ member → AreOfNodes moves → VoteForNodes (puts_of_all members member number server moves)
   pub same : (puts : List PutWithOrigin) (state : Stored) → VoteForNodes (puts_alone puts)
       → store_of (after_puts (stored_puts puts state) state) ≡ put_all (store_of state) (puts_alone puts)
   pub raft_server : (members : List ℕ) (member number : ℕ) (moves : List Move) (local_state : LocalState)

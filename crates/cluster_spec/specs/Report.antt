@@ -63,7 +63,8 @@ line_of_sending n k (Some frame) = HasSent n k frame.id frame.bytes
 -- a step of an allocatee: what it holds and how many frames wait after it, what it saw, and what it offered
 abbrev pub line_of_asking : ℕ → device.StepResult → ReportLine
 line_of_asking a step_result =
-    HasAsked a step_result.device.asking.holds (length step_result.device.asking.queue) step_result.seen step_result.sent
+    HasAsked a step_result.device.asking.holds (length step_result.device.asking.queue)
+    step_result.seen step_result.sent
 
 -- no step of one that is not there is lawful
 abbrev pub line_of_step_at : ℕ → ℕ → device.Event → Option Device → ReportLine

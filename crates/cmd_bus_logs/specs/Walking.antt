@@ -104,8 +104,8 @@ FailsBehind form limit taken waiting left left_now =
     (ahead : List ℕ) → left ≡ Some ahead → ComesToNone form limit taken waiting ahead left_now
 
 -- what comes next, the source having been read behind what waited
-pub record ReadsNext (form : Form) (limit taken taken_now : ℕ) (waiting waits : List ℕ) (left left_now : Option (List ℕ))
-    (next : Next) : Type 0 where
+pub record ReadsNext (form : Form) (limit taken taken_now : ℕ) (waiting waits : List ℕ)
+    (left left_now : Option (List ℕ)) (next : Next) : Type 0 where
   pub counted : Counts limit taken taken_now next
   pub few : length waits ≤ 4096
   pub comes : Comes form limit taken waiting waits left left_now next

@@ -42,7 +42,8 @@ pub record Appends {D : Type 0} {disk : Ghosts D} (raft : Raft) (uid : List ℕ)
       IsTried result ↔ MayPropose server (proposal server.store.term uid node)
   -- and then its puts are made
   pub puts : IsTried result →
-      CallWrites (with_origin origin (entry_puts (proposal (durable_state old).term uid node))) old new (result_err result)
+      CallWrites (with_origin origin (entry_puts (proposal (durable_state old).term uid node)))
+      old new (result_err result)
   pub moves : (members : List ℕ) (step : ℕ) (server : RaftServer) (times : Times) →
       StandsFor raft members (durable_state old) server times →
       (given : Given) → given.origin ≡ origin →
