@@ -159,38 +159,3 @@ impl Link for MemoryLink<'_> {
         Ok(())
     }
 }
-
-#[cfg(test)]
-mod tests {
-    use super::*;
-
-    const FRAME: RawFrame = RawFrame {
-        id: 0x1e01_5501,
-        len: 8,
-        bytes: [4, 0, 0, 0, 0, 0, 0, 0xc0],
-    };
-
-    #[test]
-    fn a_link_in_memory_gives_its_items_and_then_nothing(rt: HostRuntime) {
-        let items = [Received::Frame(FRAME), Received::Nothing, Received::Junk];
-        let mut link = MemoryLink::new(&items, Some(2));
-        assert_eq!(rt; link.recv(), Ok(Received::Frame(FRAME)));
-        assert_eq!(rt; link.recv(), Err(Failed));
-        assert_eq!(rt; link.recv(), Ok(Received::Nothing));
-        assert_eq!(rt; link.recv(), Ok(Received::Junk));
-        assert_eq!(rt; link.recv(), Ok(Received::Nothing));
-    }
-
-    #[test]
-    fn a_link_in_memory_keeps_256_frames(rt: HostRuntime) {
-        let mut link = MemoryLink::new(&[], Some(2));
-        assert_eq!(rt; link.send(&FRAME), Ok(()));
-        assert_eq!(rt; link.send(&FRAME), Err(Failed));
-        for _ in 0..255 {
-            assert_eq!(rt; link.send(&FRAME), Ok(()));
-        }
-        assert_eq!(rt; link.send(&FRAME), Err(Failed));
-        assert_eq!(rt; link.sent().len(), 256);
-        assert_eq!(rt; link.sent().last(), Some(&FRAME));
-    }
-}
