@@ -1,7 +1,7 @@
 -- The session that a frame comes to, in the code and in the definition.
-use Rattle.std.proofs.Common.{◌≡◌, ℕ, ◌<◌, true, false, Bool, List, [], length, get_or, cond, nat_lt, refl, sym, ap, ◌∙◌, arith, subst}
+use Rattle.std.proofs.Common.{◌≡◌, ℕ, ◌<◌, true, false, Bool, List, [], length, get_or, cond, nat_lt, refl, sym, ap, ◌∙◌, arith, inl, inr, subst}
 use Rattle.std.specs.Prelude.{Option, None, Some, Result, Ok, Err, is_some}
-use Rattle.std.proofs.lemmas.Bool.{lt-ltb, le-ltb}
+use Rattle.std.proofs.lemmas.Bool.{cases_Bool, lt-ltb, le-ltb}
 use Rattle.can_frame.specs.declared.step.Why.{Why}
 use Rattle.can_frame.specs.declared.step.Why.TheVariants.{NoSession, Start}
 use Rattle.can_frame.specs.declared.tail.Tail.{Tail}
@@ -9,8 +9,10 @@ use Rattle.can_frame.specs.Cutting.{Piece}
 use Rattle.transfer_rx.specs.declared.key.Key.{Key}
 use Rattle.transfer_rx.specs.declared.progress.Progress.{Progress}
 use Rattle.transfer_rx.specs.declared.progress.Found.{Found}
-use Rattle.transfer_rx.specs.Places.{Arranged, IsSearchResult, IsSessionOfKey, IsSessionAtPlace, Places, is_free}
-use Rattle.transfer_rx.specs.Sessions.{Session, begun, continued, new_session, restarted_session, restarts, session_for, session_of}
+use Rattle.transfer_rx.specs.Chains.{is_of_key}
+use Rattle.transfer_rx.specs.Keys.{same_key}
+use Rattle.transfer_rx.specs.Places.{Arranged, IsSearchResult, IsSessionOfKey, IsSessionAtPlace, Places, has_key, is_free, kept}
+use Rattle.transfer_rx.specs.Sessions.{Session, begun, continued, is_recent, new_session, restarted_session, restarts, session_for, session_of}
 use Rattle.transfer_rx.specs.Progress.{IsProgressAt, IsProgressOf}
 use Rattle.transfer_rx.proofs.Arrangement.{there}
 use Rattle.transfer_rx.specs.Turns.{ComesTo}
@@ -27,6 +29,30 @@ pub taken_here : (recent : Option Progress) (bytes : List ℕ) (there : Option S
 taken_here None bytes there h t = absurd cc
 taken_here (Some progress) bytes None h t = absurd h
 taken_here (Some progress) bytes (Some session) h t = refl
+
+-- a session that is kept at a place is there
+module _ (bytes : List (List ℕ)) (key : Key) (places : Places) (place : ℕ) (progress : Progress) (same : progress.key ≡ key) where
+  there_as : (there : Option Session) → get_or places place None ≡ there → IsProgressAt (Some progress) (get_or bytes place []) there →
+      IsSessionAtPlace bytes key places (record { place = place; progress = progress })
+  there_as None is keeps = absurd keeps
+  there_as (Some session) is keeps = record { session = session; there = is; own = sym keeps.key ∙ same; keeps = keeps }
+
+  pub at_place : IsProgressAt (Some progress) (get_or bytes place []) (get_or places place None) →
+      IsSessionAtPlace bytes key places (record { place = place; progress = progress })
+  at_place keeps = there_as (get_or places place None) refl keeps
+
+-- where the session of another key stands, or none, there is none of this key
+pub of_other : (key : Key) (now : ℕ) (p : Option Progress) (bytes : List ℕ) (there : Option Session) → IsProgressAt p bytes there →
+    is_of_key key p ≡ false → has_key key (kept now there) ≡ false
+of_other key now None bytes None h other = refl
+of_other key now None bytes (Some session) h other = absurd h
+of_other key now (Some p) bytes None h other = absurd h
+of_other key now (Some p) bytes (Some session) h other =
+    let own : same_key key session.key ≡ false = subst (λ k. same_key key k ≡ false) h.key other in
+    elim (cases_Bool (is_recent now session)) [
+      | inl t ↦ let t' : is_recent now session ≡ true = t in rw t' own
+      | inr f ↦ let f' : is_recent now session ≡ false = f in rw f' refl
+    ]
 
 pub own_found : (bytes : List (List ℕ)) (key : Key) (places : Places) (sessions : List Session) (found : Found) → Arranged places sessions →
     found.place < length places → IsSessionAtPlace bytes key places found → IsSessionOfKey bytes key places sessions found

@@ -5,8 +5,7 @@ use Rattle.std.proofs.lemmas.Bool.Decides.{leb_tells}
 use Rattle.std.proofs.lemmas.List.{get_or-set_other, get_or_past}
 use Rattle.std.proofs.lemmas.List.Sums.{sum_by-cons}
 use Rattle.transfer_rx.specs.declared.progress.Progress.{Progress}
-use Rattle.transfer_rx.specs.declared.key.Key.{Key}
-use Rattle.transfer_rx.specs.Places.{Places, KeepPlaces, IsSessionAtPlace, blocks_at, kept, left}
+use Rattle.transfer_rx.specs.Places.{Places, KeepPlaces, blocks_at, kept, left}
 use Rattle.transfer_rx.specs.Progress.{IsProgressAt}
 use Rattle.transfer_rx.specs.Sessions.{Session}
 use Rattle.transfer_rx.specs.Used.{AreUnused}
@@ -49,14 +48,3 @@ front_counted (suc n) [] h = refl
 front_counted (suc n) (o ∷ places) h =
     sum_by-cons blocks_at o (take n places) ∙ (λ i. blocks_at o + front_counted n places (λ j l. h (suc j) (omega arith)) i)
     ∙ sym (sum_by-cons blocks_at o places)
-
--- a session that is kept at a place is there
-module _ (bytes : List (List ℕ)) (key : Key) (places : Places) (place : ℕ) (progress : Progress) (same : progress.key ≡ key) where
-  there_as : (there : Option Session) → get_or places place None ≡ there → IsProgressAt (Some progress) (get_or bytes place []) there →
-      IsSessionAtPlace bytes key places (record { place = place; progress = progress })
-  there_as None is keeps = absurd keeps
-  there_as (Some session) is keeps = record { session = session; there = is; own = sym keeps.key ∙ same; keeps = keeps }
-
-  pub at_place : IsProgressAt (Some progress) (get_or bytes place []) (get_or places place None) →
-      IsSessionAtPlace bytes key places (record { place = place; progress = progress })
-  at_place keeps = there_as (get_or places place None) refl keeps

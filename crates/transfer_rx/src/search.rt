@@ -85,9 +85,12 @@ impl<const S: usize, const N: usize> Sessions<S, N> {
             MatchOption result (has_key key (get_or (left now places) place None) ≡ false)
             (IsSessionAtPlace self.now.pool key (left now places)) }
     {
+        if !is_of_key(&self.progress[place], key) {
+            return None;
+        }
         match self.recent(place, now) {
-            Some(progress) if progress.key == key => Some(Found { place, progress }),
-            _ => None,
+            Some(progress) => Some(Found { place, progress }),
+            None => None,
         }
     }
 

@@ -82,13 +82,11 @@ impl<const S: usize, const N: usize> Sessions<S, N> {
             Ok(found) => found,
             Err(why) => return Turn::Refused(why),
         };
-        match found.progress.out_of_turn(&tail) {
-            Some(why) => Turn::Out(found, why),
-            None => {
-                let verdict = self.verdict(&found, frame, wanted.signature, now, free);
-                Turn::Next(found, verdict)
-            }
+        if let Some(why) = found.progress.out_of_turn(&tail) {
+            return Turn::Out(found, why);
         }
+        let verdict = self.verdict(&found, frame, wanted.signature, now, free);
+        Turn::Next(found, verdict)
     }
 
     /// Does what a turn says, and tells it.

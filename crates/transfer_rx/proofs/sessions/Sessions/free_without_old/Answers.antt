@@ -1,8 +1,7 @@
-use Rattle.std.proofs.Common.{◌≡◌, length, sym, ◌∙◌, ap, arith, rules, subst}
-use Rattle.std.specs.List.{sum_by}
+use Rattle.std.proofs.Common.{◌≡◌, length, sym, ◌∙◌, arith, rules, subst}
 use Rattle.std.proofs.lemmas.List.{length-map}
 use Rattle.transfer_rx.specs.Filled.{IsFree}
-use Rattle.transfer_rx.specs.Places.{blocks_at, kept, left}
+use Rattle.transfer_rx.specs.Places.{kept, left}
 use Rattle.transfer_rx.proofs.Blocks.{more}
 use Rattle.transfer_rx.proofs.Filled.{same_blocks}
 use Rattle.transfer_rx.proofs.Used.{front_counted, none_left, none_there}
