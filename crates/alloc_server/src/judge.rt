@@ -1,6 +1,8 @@
 //! Whether a frame may be given to a server in a cluster under test.
 
-ghost use Rattle.std.specs.Prelude.{◌≡◌, ◌&&◌, Some, IsSome, nat_eq, not, if◌then◌else◌};
+ghost use Rattle.std.specs.Prelude.{◌≡◌, ◌&&◌, true, false, Some, IsSome, nat_eq, not, if◌then◌else◌};
+ghost use Rattle.can_frame.specs.declared.identifier.Ident.{Ident as IdentValue};
+ghost use Rattle.can_frame.specs.Identifier.{identifier_of};
 ghost use Rattle.raft_core.specs.Calls.{IsPending};
 ghost use Rattle.raft_core.specs.Times.{Sending};
 ghost use Rattle.raft_model.specs.Messages.{Request};
@@ -14,7 +16,7 @@ ghost use Rattle.transfer_rx.specs.Memory.{ReceiverFitsInMemory};
 ghost use Rattle.alloc_spec.specs.AllocatorState.{AllocatorState};
 
 use crate::server::Server;
-use can_frame::{Frame, Judged, Kind, Mark};
+use can_frame::{Frame, Ident, Judged, Kind, Mark};
 use disk_model::Disk;
 use raft_core::Pending;
 use transfer_rx::Transfer;
@@ -43,7 +45,8 @@ impl<D: Disk, F: Fn(Kind, u16) -> Option<u64> + Copy> Server<D, F> {
         self.judge_last(frame, mark, now)
     }
 
-    /// Judges the last frame of a transfer. No other frame is to pay for the place of a transfer.
+    /// Judges the last frame of a transfer. No other frame is to pay for the place of a transfer, nor one
+    /// that is fine whatever it delivers.
     fn judge_last(&self, frame: &Frame, mark: Mark, now: u64) -> Judged
         requires memory { ReceiverFitsInMemory F.row 160 128 }
         requires callable { F.IsAlwaysCallable (accepts self.now) }
@@ -51,6 +54,9 @@ impl<D: Disk, F: Fn(Kind, u16) -> Option<u64> + Copy> Server<D, F> {
         ensures { (t : AllocatorState) → StandsFor self.now t →
             result ≡ arrival_judgement t (arrival_of frame.now mark now) }
     {
+        if is_fine(frame, mark) {
+            return Judged::Fine;
+        }
         let now = self.member.latest.max(now);
         let Some(transfer) = self.receiver.peek(frame, mark, now) else {
             return Judged::Fine;
@@ -74,6 +80,26 @@ impl<D: Disk, F: Fn(Kind, u16) -> Option<u64> + Copy> Server<D, F> {
             Some(call) => misses(&call, transfer, now),
             None => false,
         }
+    }
+}
+
+/// Whether a frame is from outside, where nothing is torn, and of no response, where nothing is stale.
+fn is_fine(frame: &Frame, mark: Mark) -> bool
+    ensures outside { result ≡ true → mark.step ≡ 0 }
+    ensures other { result ≡ true → (ident : IdentValue) →
+        identifier_of frame.now.id ≡ Some ident → is_response ident.kind ≡ false }
+{
+    mark.step == 0 && !is_of_response(frame)
+}
+
+/// Whether a frame has the identifier of a response.
+fn is_of_response(frame: &Frame) -> bool
+    ensures { result ≡ false → (ident : IdentValue) →
+        identifier_of frame.now.id ≡ Some ident → is_response ident.kind ≡ false }
+{
+    match Ident::read(frame.id) {
+        Some(ident) => is_response(ident.kind),
+        None => false,
     }
 }
 

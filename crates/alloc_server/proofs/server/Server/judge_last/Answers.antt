@@ -7,6 +7,7 @@ use Rattle.transfer_rx.specs.declared.transfer.Transfer.{Transfer}
 use Rattle.transfer_rx.specs.Acceptance.{first_signature}
 use Rattle.transfer_rx.specs.Reassembly.{Arrival, Delivery, arrival_of}
 use Rattle.transfer_rx.specs.Told.{delivery_of}
+use Rattle.alloc_server.proofs.Outside.{judges_fine}
 use Rattle.alloc_server.proofs.Verdicts.{foretold, judges_none, judges_some}
 use Rattle.alloc_server.proofs.server.Server.judge_last.Goals as goal
 
@@ -18,6 +19,11 @@ peek-requires g c = (
     λ kind number below signature gives. c.requires.answers kind number below signature gives ∙ ap (λ (rows : List AcceptRow). first_signature rows kind number) (sym c.args.self.now.rows),
   ),
 )
+
+pub returns-then-is_fine : goal.returns-then-is_fine
+returns-then-is_fine g c t h =
+    sym (judges_fine t (arrival_of c.args.frame.now c.args.mark c.args.now)
+    (c.is_fine.ensures.outside c.if-is_fine.true) (c.is_fine.ensures.other c.if-is_fine.true))
 
 pub returns-in_default : goal.returns-in_default
 returns-in_default g c t h =
