@@ -45,89 +45,60 @@ counts_same r list later state server times h same = record {
 }
 
 module _ {D : Type 0} {disk : Ghosts D} (start : Durable D disk) (member : Member D disk) (offered : Offered) (g : StepState) (h : IsInStep start member offered g) where
-  -- it heard or sent a Discovery, and counts the members that it counted before
-  pub noted_cluster : (k : Cluster) (events : List Heard) → cluster.StandsFor k (start_of g.allocator) events
-      → raft.StandsFor member.raft (members (start_of g.allocator) events) (durable_state member.durable) g.allocator.raft_server g.allocator.times
-      → IsInStep start (record member { cluster = k }) offered (record g { allocator = record g.allocator { heard = events } })
-  noted_cluster k events knows counts = record {
+  -- other parts of it stand for another exchange, watch and list of members, and another moment of its NodeStatus
+  noted : (x : Exchange) (accepted : List Accepted) → exchange.StandsFor x accepted
+      → (w : Watch) (watched : List Watched) → watch.StandsFor w watched
+      → (k : Cluster) (heard : List Heard) → cluster.StandsFor k (start_of g.allocator) heard
+      → raft.StandsFor member.raft (members (start_of g.allocator) heard) (durable_state member.durable) g.allocator.raft_server g.allocator.times
+      → (at status_at : ℕ) → at ≡ status_at
+      → IsInStep start (record member { exchange = x; watch = w; cluster = k; status_at = at }) offered (record g {
+        allocator = record g.allocator { accepted = accepted; watch = watched; heard = heard; status_at = status_at };
+      })
+  noted x accepted requests w watched watches k heard knows counts at status_at same = record {
     stands = record {
       me = h.stands.me;
       size = h.stands.size;
       raft = counts;
-      exchange = h.stands.exchange;
-      watch = h.stands.watch;
+      exchange = requests;
+      watch = watches;
       cluster = knows;
       outbox = h.stands.outbox;
       opened_at = h.stands.opened_at;
       now = h.stands.now;
-      status_at = h.stands.status_at;
+      status_at = same;
     };
     sent = h.sent;
     given = h.given;
     puts = h.puts;
   }
+
+  -- it heard or sent a Discovery, and counts the members that it counted before
+  pub noted_cluster : (k : Cluster) (events : List Heard) → cluster.StandsFor k (start_of g.allocator) events
+      → raft.StandsFor member.raft (members (start_of g.allocator) events) (durable_state member.durable) g.allocator.raft_server g.allocator.times
+      → IsInStep start (record member { cluster = k }) offered (record g { allocator = record g.allocator { heard = events } })
+  noted_cluster k events knows counts =
+      noted member.exchange g.allocator.accepted h.stands.exchange member.watch g.allocator.watch h.stands.watch k events knows counts
+      member.status_at g.allocator.status_at h.stands.status_at
 
   -- something happened with a node
   pub noted_watch : (w : Watch) (events : List Watched) → watch.StandsFor w events
       → IsInStep start (record member { watch = w }) offered (record g { allocator = record g.allocator { watch = events } })
-  noted_watch w events knows = record {
-    stands = record {
-      me = h.stands.me;
-      size = h.stands.size;
-      raft = h.stands.raft;
-      exchange = h.stands.exchange;
-      watch = knows;
-      cluster = h.stands.cluster;
-      outbox = h.stands.outbox;
-      opened_at = h.stands.opened_at;
-      now = h.stands.now;
-      status_at = h.stands.status_at;
-    };
-    sent = h.sent;
-    given = h.given;
-    puts = h.puts;
-  }
+  noted_watch w events knows =
+      noted member.exchange g.allocator.accepted h.stands.exchange w events knows member.cluster g.allocator.heard h.stands.cluster h.stands.raft
+      member.status_at g.allocator.status_at h.stands.status_at
 
   -- a request of the exchange was heard
   pub noted_request : (x : Exchange) (accepted : List Accepted) → exchange.StandsFor x accepted
       → IsInStep start (record member { exchange = x }) offered (record g { allocator = record g.allocator { accepted = accepted } })
-  noted_request x accepted knows = record {
-    stands = record {
-      me = h.stands.me;
-      size = h.stands.size;
-      raft = h.stands.raft;
-      exchange = knows;
-      watch = h.stands.watch;
-      cluster = h.stands.cluster;
-      outbox = h.stands.outbox;
-      opened_at = h.stands.opened_at;
-      now = h.stands.now;
-      status_at = h.stands.status_at;
-    };
-    sent = h.sent;
-    given = h.given;
-    puts = h.puts;
-  }
+  noted_request x accepted knows =
+      noted x accepted knows member.watch g.allocator.watch h.stands.watch member.cluster g.allocator.heard h.stands.cluster h.stands.raft
+      member.status_at g.allocator.status_at h.stands.status_at
 
   -- its NodeStatus was sent
   pub noted_status : (now : ℕ) → now ≡ g.allocator.now → IsInStep start (record member { status_at = now }) offered (record g { allocator = record g.allocator { status_at = g.allocator.now } })
-  noted_status now at = record {
-    stands = record {
-      me = h.stands.me;
-      size = h.stands.size;
-      raft = h.stands.raft;
-      exchange = h.stands.exchange;
-      watch = h.stands.watch;
-      cluster = h.stands.cluster;
-      outbox = h.stands.outbox;
-      opened_at = h.stands.opened_at;
-      now = h.stands.now;
-      status_at = at;
-    };
-    sent = h.sent;
-    given = h.given;
-    puts = h.puts;
-  }
+  noted_status now at =
+      noted member.exchange g.allocator.accepted h.stands.exchange member.watch g.allocator.watch h.stands.watch member.cluster g.allocator.heard
+      h.stands.cluster h.stands.raft now g.allocator.now at
 
   -- moves without puts were made
   pub noted_moves : (step : ℕ) (given : Given) (moves : List Move) (r : Raft)
