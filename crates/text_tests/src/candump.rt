@@ -1,7 +1,7 @@
 //! Lines of the logs of `candump`.
 
+use crate::frames::first_request;
 use arrayvec::ArrayVec;
-use can_frame::Frame;
 use can_logs::laws::read_lines_are_writable;
 use can_logs::{LogLine, read_candump, write_candump};
 use std::test::Fail;
@@ -19,8 +19,7 @@ fn lines_with_a_frame(rt: HostRuntime) -> Result<(), Fail> {
         b"(1345212884.318850)  can0 1E000500#FB000102030405C0 R",
     ];
     for line in lines {
-        let frame = Frame::from_parts(0x1e00_0500, &[0xfb, 0, 1, 2, 3, 4, 5, 0xc0]);
-        let frame = frame.ok().ok_or("no frame")?;
+        let frame = first_request()?;
         let read = LogLine::Data {
             sec: 1_345_212_884,
             micros: 318_850,

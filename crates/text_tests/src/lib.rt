@@ -7,6 +7,8 @@ mod candump;
 #[cfg(test)]
 mod descriptions;
 #[cfg(test)]
+mod frames;
+#[cfg(test)]
 mod payloads;
 #[cfg(test)]
 mod reports;

@@ -1,5 +1,6 @@
+use crate::frames::{first_request, frame_of};
 use arrayvec::ArrayVec;
-use can_frame::{Frame, NodeId, Role, Seen, Sent, What, Why};
+use can_frame::{NodeId, Role, Seen, Sent, What, Why};
 use replay_text::{Told, write_told};
 use std::test::Fail;
 
@@ -34,8 +35,7 @@ fn stepped(
 
 #[test]
 fn lines_of_an_allocatee(rt: HostRuntime) -> Result<(), Fail> {
-    let frame = Frame::from_parts(0x1e00_0500, &[0xfb, 0, 1, 2, 3, 4, 5, 0xc0]);
-    let frame = frame.ok().ok_or("no frame")?;
+    let frame = first_request()?;
     let mut asked = ArrayVec::new();
     asked.push(Sent {
         what: What::Alloc,
@@ -81,8 +81,7 @@ fn lines_of_an_allocatee(rt: HostRuntime) -> Result<(), Fail> {
 
 #[test]
 fn lines_of_a_report(rt: HostRuntime) -> Result<(), Fail> {
-    let frame = Frame::from_parts(0x1e1e_0182, &[1, 0, 0, 0, 0x80, 0xc0]);
-    let frame = frame.ok().ok_or("no frame")?;
+    let frame = frame_of(0x1e1e_0182, &[1, 0, 0, 0, 0x80, 0xc0])?;
     let lines = [
         (
             1,

@@ -1,4 +1,4 @@
-use can_frame::Frame;
+use crate::frames::first_request;
 use outside::Pattern;
 use replay_text::{Row, read_bytes, read_row};
 use std::test::Fail;
@@ -46,8 +46,7 @@ fn lines_that_are_no_rows(rt: HostRuntime) {
 
 #[test]
 fn a_row_of_each_kind(rt: HostRuntime) -> Result<(), Fail> {
-    let frame = Frame::from_parts(0x1e00_0500, &[0xfb, 0, 1, 2, 3, 4, 5, 0xc0]);
-    let frame = frame.ok().ok_or("no frame")?;
+    let frame = first_request()?;
     let pattern = read_bytes::<16>(b"5A").ok_or("no bytes")?;
     let rows = [
         (

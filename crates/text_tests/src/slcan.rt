@@ -1,6 +1,6 @@
 //! Lines of serial adapters.
 
-use can_frame::Frame;
+use crate::frames::{first_request, frame_of};
 use can_logs::{SlLine, read_slcan, write_slcan};
 use std::test::Fail;
 
@@ -12,8 +12,7 @@ fn lines_with_a_frame(rt: HostRuntime) -> Result<(), Fail> {
         (b"T1e0005008fb000102030405c00000", Some(0)),
     ];
     for (line, stamp) in lines {
-        let frame = Frame::from_parts(0x1e00_0500, &[0xfb, 0, 1, 2, 3, 4, 5, 0xc0]);
-        let frame = frame.ok().ok_or("no frame")?;
+        let frame = first_request()?;
         assert_eq!(rt; read_slcan(line), Some(SlLine::Data { frame, stamp }));
     }
     Ok(())
@@ -59,9 +58,7 @@ fn lines_without_a_frame(rt: HostRuntime) {
 
 #[test]
 fn a_line_is_written(rt: HostRuntime) -> Result<(), Fail> {
-    let frame = Frame::from_parts(0x1e00_0500, &[0xfb, 0x0a])
-        .ok()
-        .ok_or("no frame")?;
+    let frame = frame_of(0x1e00_0500, &[0xfb, 0x0a])?;
     let line = SlLine::Data {
         frame,
         stamp: Some(0x0fab),
