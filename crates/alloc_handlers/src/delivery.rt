@@ -13,8 +13,8 @@ ghost use Rattle.alloc_spec.specs.Delivered.{delivery_phase, hears_discovery, he
 ghost use Rattle.transfer_rx.specs.Told.{delivery_of};
 
 use crate::member::Member;
-use alloc_spec::{APPEND_ENTRIES, GET_NODE_INFO, NODE_STATUS, Offered};
-use can_frame::{Kind, Seen};
+use alloc_spec::Offered;
+use can_frame::{APPEND_ENTRIES, GET_NODE_INFO, Kind, NODE_STATUS, Seen};
 use cluster_discovery::laws::a_complete_list_stays;
 use disk_model::Disk;
 use dsdl_codec::{Discovery, NodeStatus};
@@ -53,7 +53,7 @@ impl<D: Disk> Member<D> {
         ensures ready { IsReady self.new }
         ensures durable { self.new.durable ≡ self.old.durable }
     {
-        if transfer.ident.number == NODE_STATUS {
+        if transfer.ident.number == NODE_STATUS.number {
             self.hear_status(transfer)
         } else {
             self.hear_discovery(transfer)
@@ -104,9 +104,9 @@ impl<D: Disk> Member<D> {
         ensures lists { ListsUpTo 1 0 offered.old offered.new }
         ensures faults { CallFaultIsSticky self.old.durable self.new.durable (result_err result) }
     {
-        if transfer.ident.number == GET_NODE_INFO {
+        if transfer.ident.number == GET_NODE_INFO.number {
             Ok(self.tell_info(transfer, offered))
-        } else if transfer.ident.number == APPEND_ENTRIES {
+        } else if transfer.ident.number == APPEND_ENTRIES.number {
             self.take_append_request(transfer, offered)
         } else {
             self.take_vote_request(transfer, offered)
@@ -121,9 +121,9 @@ impl<D: Disk> Member<D> {
         ensures ready { OnOk result (IsReady self.new) }
         ensures faults { CallFaultIsSticky self.old.durable self.new.durable (result_err result) }
     {
-        if transfer.ident.number == GET_NODE_INFO {
+        if transfer.ident.number == GET_NODE_INFO.number {
             Ok(self.hear_info(transfer))
-        } else if transfer.ident.number == APPEND_ENTRIES {
+        } else if transfer.ident.number == APPEND_ENTRIES.number {
             self.take_append_answer(transfer)
         } else {
             self.take_vote_answer(transfer)

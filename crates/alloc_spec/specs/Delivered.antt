@@ -4,6 +4,7 @@ use Rattle.can_frame.specs.declared.identifier.Kind.{Kind}
 use Rattle.can_frame.specs.declared.identifier.Kind.TheVariants.{Anonymous, Message, Request, Response}
 use Rattle.can_frame.specs.declared.step.Seen.{Seen}
 use Rattle.can_frame.specs.declared.step.Seen.TheVariants.{Bad, Took}
+use Rattle.can_frame.specs.DataTypes.{append_entries, get_node_info, node_status}
 use Rattle.cluster_discovery.specs.Members.{Heard}
 use Rattle.dsdl_codec.specs.declared.discovery.Discovery.{Discovery}
 use Rattle.dsdl_codec.specs.Allocation.{allocation_of}
@@ -52,20 +53,22 @@ asks_info step d (byte ∷ bytes) g = bad g
 -- of the messages NodeStatus and Discovery are received
 abbrev pub message : Delivery → StepState → StepResult
 message d g =
-    if nat_eq d.ident.number 341 then reads (λ status. hears_status d) (node_status_of d.payload) g
+    if nat_eq d.ident.number node_status.number then reads (λ status. hears_status d) (node_status_of d.payload) g
     else reads (hears_discovery d) (discovery_of d.payload) g
 
 -- of the services GetNodeInfo, AppendEntries and RequestVote
 abbrev pub request : ℕ → Delivery → StepState → StepResult
 request step d g =
-    if nat_eq d.ident.number 1 then asks_info step d d.payload g
-    else (if nat_eq d.ident.number 30 then reads (takes_append_request step d) (append_request_of d.payload) g
+    if nat_eq d.ident.number get_node_info.number then asks_info step d d.payload g
+    else (if nat_eq d.ident.number append_entries.number
+    then reads (takes_append_request step d) (append_request_of d.payload) g
     else reads (takes_vote_request step d) (vote_request_of d.payload) g)
 
 abbrev pub response : ℕ → Delivery → StepState → StepResult
 response step d g =
-    if nat_eq d.ident.number 1 then reads (hears_info d) (node_info_of d.payload) g
-    else (if nat_eq d.ident.number 30 then reads (takes_append_answer step d) (append_answer_of d.payload) g
+    if nat_eq d.ident.number get_node_info.number then reads (hears_info d) (node_info_of d.payload) g
+    else (if nat_eq d.ident.number append_entries.number
+    then reads (takes_append_answer step d) (append_answer_of d.payload) g
     else reads (takes_vote_answer step d) (vote_answer_of d.payload) g)
 
 abbrev pub by_kind : ℕ → Delivery → Kind → StepState → StepResult

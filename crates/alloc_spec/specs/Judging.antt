@@ -5,15 +5,16 @@ use Rattle.can_frame.specs.declared.identifier.Kind.{Kind}
 use Rattle.can_frame.specs.declared.identifier.Kind.TheVariants.{Anonymous, Message, Request, Response}
 use Rattle.can_frame.specs.declared.step.Judged.{Judged}
 use Rattle.can_frame.specs.declared.step.Judged.TheVariants.{Fine, Stale, Torn}
+use Rattle.can_frame.specs.DataTypes.{append_entries, request_vote}
 use Rattle.raft_core.specs.Times.{Sending}
 use Rattle.raft_model.specs.Messages.{Request as Call}
 use Rattle.transfer_rx.specs.Reassembly.{Answer, Arrival, Continues, Delivery, Drops, Gives, answer}
 use Rattle.alloc_spec.specs.Accepted.{setting_for}
 use Rattle.alloc_spec.specs.AllocatorState.{AllocatorState}
 
--- 30 for an append request, 31 for a vote request
+-- the number of the service that it calls
 abbrev pub service_of : Call → ℕ
-service_of call = if call.append then 30 else 31
+service_of call = if call.append then append_entries.number else request_vote.number
 
 -- the call would take the response: it is of its service, under its transfer ID, and the call was sent less than
 -- 1,000 ms before

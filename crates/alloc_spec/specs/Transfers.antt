@@ -2,7 +2,6 @@
 use Rattle.std.specs.Prelude.{ℕ, ◌+◌, ◌%◌, Bool, ◌&&◌, nat_eq, nat_le, List, length, Option, None, Some, replicate, slice_index, slice_set, if◌then◌else◌}
 use Rattle.can_frame.specs.declared.identifier.Ident.{Ident}
 use Rattle.can_frame.specs.declared.identifier.Kind.{Kind}
-use Rattle.can_frame.specs.declared.identifier.Kind.TheVariants.{Message as Broadcast, Request, Response}
 use Rattle.can_frame.specs.declared.step.Sent.{Sent}
 use Rattle.can_frame.specs.declared.step.What.{What}
 use Rattle.can_frame.specs.declared.step.What.TheVariants.{Alloc, Disc, Stat, InfoQ, Info, VoteQ, Vote, AppQ, App}
@@ -12,42 +11,19 @@ use Rattle.raft_model.specs.Messages.{Message}
 use Rattle.raft_model.specs.Messages.Message.{Pairs}
 use Rattle.transfer_tx.specs.declared.outgoing.Outgoing.{Outgoing}
 use Rattle.can_frame.specs.Cutting.{frame_count}
+use Rattle.can_frame.specs.DataTypes.{type_of}
 use Rattle.transfer_tx.specs.Queue.{Queued, queued_frames}
 
 -- ---- on the bus (uavcan.protocol; priority 30 for everything that an allocator sends)
 
 abbrev pub kind_of : What → Kind
-kind_of Alloc = Broadcast
-kind_of Disc = Broadcast
-kind_of Stat = Broadcast
-kind_of InfoQ = Request
-kind_of Info = Response
-kind_of VoteQ = Request
-kind_of Vote = Response
-kind_of AppQ = Request
-kind_of App = Response
+kind_of what = (type_of what).kind
 
 abbrev pub number_of : What → ℕ
-number_of Alloc = 1
-number_of Disc = 390
-number_of Stat = 341
-number_of InfoQ = 1
-number_of Info = 1
-number_of VoteQ = 31
-number_of Vote = 31
-number_of AppQ = 30
-number_of App = 30
+number_of what = (type_of what).data_type.number
 
 abbrev pub signature_of : What → ℕ
-signature_of Alloc = 0x0b2a812620a11d40
-signature_of Disc = 0x821ae2f525f69f21
-signature_of Stat = 0x0f0868d0c1a7c6f1
-signature_of InfoQ = 0xee468a8121c46a9e
-signature_of Info = 0xee468a8121c46a9e
-signature_of VoteQ = 0xcdde07bb89a56356
-signature_of Vote = 0xcdde07bb89a56356
-signature_of AppQ = 0x8032c7097b48a3cc
-signature_of App = 0x8032c7097b48a3cc
+signature_of what = (type_of what).data_type.signature
 
 -- from a member to a node, which is 0 for a message
 abbrev pub ident_of : ℕ → What → ℕ → Ident

@@ -26,7 +26,4 @@ pub use event::{Event, Outcome, View};
 pub use offered::Offered;
 pub use outbox::Outbox;
 pub use rows::{accept, accept_rows};
-pub use transfers::{
-    ALLOCATION, APPEND_ENTRIES, DISCOVERY, GET_NODE_INFO, NODE_STATUS, REQUEST_VOTE, ident_of,
-    signature_of,
-};
+pub use transfers::ident_of;

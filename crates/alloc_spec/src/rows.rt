@@ -2,13 +2,10 @@ ghost use Rattle.std.specs.Prelude.{◌≡◌};
 ghost use Rattle.transfer_rx.specs.Acceptance.{first_signature};
 ghost use Rattle.alloc_spec.specs.Accepted as accepted;
 
-use crate::transfers::{
-    ALLOCATION, ALLOCATION_SIGNATURE, APPEND_ENTRIES, APPEND_ENTRIES_SIGNATURE, DISCOVERY,
-    DISCOVERY_SIGNATURE, GET_NODE_INFO, GET_NODE_INFO_SIGNATURE, NODE_STATUS,
-    NODE_STATUS_SIGNATURE, REQUEST_VOTE, REQUEST_VOTE_SIGNATURE,
-};
 use arrayvec::ArrayVec;
-use can_frame::Kind;
+use can_frame::{
+    ALLOCATION, APPEND_ENTRIES, DISCOVERY, DataType, GET_NODE_INFO, Kind, NODE_STATUS, REQUEST_VOTE,
+};
 use transfer_rx::AcceptRow;
 
 /// The kinds and numbers of transfers that an allocator receives, with the signatures of their
@@ -18,15 +15,15 @@ pub fn accept_rows() -> ArrayVec<AcceptRow, 16>
     ensures { result.items ≡ accepted.rows }
 {
     let rows = [
-        row(Kind::Anonymous, ALLOCATION, ALLOCATION_SIGNATURE),
-        row(Kind::Message, NODE_STATUS, NODE_STATUS_SIGNATURE),
-        row(Kind::Message, DISCOVERY, DISCOVERY_SIGNATURE),
-        row(Kind::Request, GET_NODE_INFO, GET_NODE_INFO_SIGNATURE),
-        row(Kind::Response, GET_NODE_INFO, GET_NODE_INFO_SIGNATURE),
-        row(Kind::Request, APPEND_ENTRIES, APPEND_ENTRIES_SIGNATURE),
-        row(Kind::Response, APPEND_ENTRIES, APPEND_ENTRIES_SIGNATURE),
-        row(Kind::Request, REQUEST_VOTE, REQUEST_VOTE_SIGNATURE),
-        row(Kind::Response, REQUEST_VOTE, REQUEST_VOTE_SIGNATURE),
+        row(Kind::Anonymous, ALLOCATION),
+        row(Kind::Message, NODE_STATUS),
+        row(Kind::Message, DISCOVERY),
+        row(Kind::Request, GET_NODE_INFO),
+        row(Kind::Response, GET_NODE_INFO),
+        row(Kind::Request, APPEND_ENTRIES),
+        row(Kind::Response, APPEND_ENTRIES),
+        row(Kind::Request, REQUEST_VOTE),
+        row(Kind::Response, REQUEST_VOTE),
     ];
     match ArrayVec::try_from(rows.as_slice()) {
         Ok(rows) => rows,
@@ -34,13 +31,13 @@ pub fn accept_rows() -> ArrayVec<AcceptRow, 16>
     }
 }
 
-fn row(kind: Kind, number: u16, signature: u64) -> AcceptRow
-    ensures { result ≡ accepted.row kind number signature }
+fn row(kind: Kind, data_type: DataType) -> AcceptRow
+    ensures { result ≡ accepted.row kind data_type }
 {
     AcceptRow {
         kind,
-        number,
-        signature,
+        number: data_type.number,
+        signature: data_type.signature,
     }
 }
 
@@ -60,9 +57,10 @@ pub fn accept(kind: Kind, number: u16) -> Option<u64>
 fn of_anonymous(number: u16) -> Option<u64>
     ensures { result ≡ first_signature accepted.rows Kind.Anonymous number }
 {
-    match number {
-        ALLOCATION => Some(ALLOCATION_SIGNATURE),
-        _ => None,
+    if number == ALLOCATION.number {
+        Some(ALLOCATION.signature)
+    } else {
+        None
     }
 }
 
@@ -70,10 +68,12 @@ fn of_anonymous(number: u16) -> Option<u64>
 fn of_message(number: u16) -> Option<u64>
     ensures { result ≡ first_signature accepted.rows Kind.Message number }
 {
-    match number {
-        NODE_STATUS => Some(NODE_STATUS_SIGNATURE),
-        DISCOVERY => Some(DISCOVERY_SIGNATURE),
-        _ => None,
+    if number == NODE_STATUS.number {
+        Some(NODE_STATUS.signature)
+    } else if number == DISCOVERY.number {
+        Some(DISCOVERY.signature)
+    } else {
+        None
     }
 }
 
@@ -81,10 +81,13 @@ fn of_message(number: u16) -> Option<u64>
 fn of_service(number: u16) -> Option<u64>
     ensures { result ≡ first_signature accepted.rows Kind.Request number }
 {
-    match number {
-        GET_NODE_INFO => Some(GET_NODE_INFO_SIGNATURE),
-        APPEND_ENTRIES => Some(APPEND_ENTRIES_SIGNATURE),
-        REQUEST_VOTE => Some(REQUEST_VOTE_SIGNATURE),
-        _ => None,
+    if number == GET_NODE_INFO.number {
+        Some(GET_NODE_INFO.signature)
+    } else if number == APPEND_ENTRIES.number {
+        Some(APPEND_ENTRIES.signature)
+    } else if number == REQUEST_VOTE.number {
+        Some(REQUEST_VOTE.signature)
+    } else {
+        None
     }
 }

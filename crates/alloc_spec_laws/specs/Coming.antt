@@ -3,6 +3,7 @@ use Rattle.std.specs.Prelude.{◌≡◌, ◌≢◌, ⊤, ℕ, true, false, List,
 use Rattle.can_frame.specs.declared.entry.Entry.{Entry}
 use Rattle.can_frame.specs.declared.identifier.Kind.{Kind}
 use Rattle.can_frame.specs.declared.identifier.Kind.TheVariants.{Anonymous, Message as Broadcast, Request as RequestKind, Response}
+use Rattle.can_frame.specs.DataTypes.{append_entries, get_node_info}
 use Rattle.can_frame.specs.Log.{IsInjective}
 use Rattle.dsdl_codec.specs.declared.append_answer.AppendAnswer.{AppendAnswer}
 use Rattle.dsdl_codec.specs.declared.append_request.AppendRequest.{AppendRequest}
@@ -34,25 +35,25 @@ use Rattle.alloc_spec.specs.Step.{Event, at_step, begin_phase}
 use Rattle.alloc_spec.specs.Step.Event.{Rx, Tick}
 use Rattle.alloc_spec.specs.AllocatorState.{AllocatorState, knows_all, members_of}
 
--- ---- what a delivered transfer of a member says is in the bag; service 1 is GetNodeInfo, 30 AppendEntries, the
--- other RequestVote
+-- ---- what a delivered transfer of a member says is in the bag; a service that is neither GetNodeInfo nor
+-- AppendEntries is RequestVote
 
 pub record RequestsFrom (bag : List Message) (me : ℕ) (d : Delivery) : Type 0 where
-  pub votes : d.ident.number ≢ 1 → d.ident.number ≢ 30
+  pub votes : d.ident.number ≢ get_node_info.number → d.ident.number ≢ append_entries.number
       → (request : VoteRequest) → vote_request_of d.payload ≡ Some request
       → In (Requests (handled.vote_request_of request d.mark.step d.ident.source me)) bag
-  pub appends : d.ident.number ≡ 30
+  pub appends : d.ident.number ≡ append_entries.number
       → (request : AppendRequest) → append_request_of d.payload ≡ Some request
       → In (Requests (handled.append_request_of request d.mark.step d.ident.source me)) bag
 
 -- a response that the pending call takes answers that very call
 pub record AnswersFrom (bag : List Message) (raft_server : RaftServer) (times : Times) (d : Delivery)
     (call : Request) : Type 0 where
-  pub votes : d.ident.number ≢ 1 → d.ident.number ≢ 30
+  pub votes : d.ident.number ≢ get_node_info.number → d.ident.number ≢ append_entries.number
       → (says : VoteAnswer) → vote_answer_of d.payload ≡ Some says →
       is_awaited raft_server times d.ident.source false d.id ≡ true
       → In (Answers (handled.answer_of d.mark.step d.ident.source call says.term says.granted)) bag
-  pub appends : d.ident.number ≡ 30
+  pub appends : d.ident.number ≡ append_entries.number
       → (says : AppendAnswer) → append_answer_of d.payload ≡ Some says →
       is_awaited raft_server times d.ident.source true d.id ≡ true
       → In (Answers (handled.answer_of d.mark.step d.ident.source call says.term says.success)) bag

@@ -1,6 +1,7 @@
 -- What a step makes of the list of members.
 use Rattle.std.specs.Prelude.{◌≡◌, ℕ, false, nat_eq, Some}
 use Rattle.can_frame.specs.declared.identifier.Kind.TheVariants.{Message as Broadcast}
+use Rattle.can_frame.specs.DataTypes.{node_status}
 use Rattle.cluster_discovery.specs.Members.{Names}
 use Rattle.dsdl_codec.specs.declared.discovery.Discovery.{Discovery}
 use Rattle.dsdl_codec.specs.Discovery.{discovery_of}
@@ -18,10 +19,10 @@ pub record IsDelivered (t : AllocatorState) (number : ℕ) (event : Event) (d : 
   pub gives : let then_ = (begin_phase number (moment_of event) t).allocator in
       answer (setting_for then_.me) then_.sessions (at_step then_ arrival) ≡ Gives d
 
--- a delivered transfer is this Discovery; of the messages that are received only NodeStatus, 341, is none
+-- a delivered transfer is this Discovery; of the messages that are received only NodeStatus is none
 pub record IsDiscovery (d : Delivery) (message : Discovery) : Type 0 where
   pub kind : d.ident.kind ≡ Broadcast
-  pub number : nat_eq d.ident.number 341 ≡ false
+  pub number : nat_eq d.ident.number node_status.number ≡ false
   pub says : discovery_of d.payload ≡ Some message
 
 -- a Discovery that the step is delivered names the node

@@ -2,12 +2,13 @@
 -- one, which are answers of allocators.
 use Rattle.std.specs.Prelude.{List, [], ◌∷◌}
 use Rattle.can_frame.specs.declared.identifier.Kind.TheVariants.{Anonymous, Message}
+use Rattle.can_frame.specs.DataTypes.{allocation}
 use Rattle.transfer_rx.specs.declared.accept.AcceptRow.{AcceptRow}
 use Rattle.transfer_rx.specs.Reassembly.{Setting}
 
 unfoldable pub rows : List AcceptRow
-rows = record { kind = Anonymous; number = 1; signature = 0x0b2a812620a11d40 }
-    ∷ record { kind = Message; number = 1; signature = 0x0b2a812620a11d40 }
+rows = record { kind = Anonymous; number = allocation.number; signature = allocation.signature }
+    ∷ record { kind = Message; number = allocation.number; signature = allocation.signature }
     ∷ []
 
 -- the receiver of an allocatee: without a node ID of its own it drops no frame as its own

@@ -8,6 +8,7 @@ use Rattle.can_frame.specs.declared.identifier.Kind.TheVariants.{Anonymous}
 use Rattle.can_frame.specs.declared.step.Sent.{Sent}
 use Rattle.can_frame.specs.declared.step.What.TheVariants.{Alloc}
 use Rattle.can_frame.specs.Cutting.{frame_count}
+use Rattle.can_frame.specs.DataTypes.{allocation}
 use Rattle.dsdl_codec.specs.Allocation.{allocation_bytes}
 use Rattle.dsdl_codec.specs.declared.allocation.Allocation.{Allocation}
 use Rattle.transfer_tx.specs.declared.outgoing.Outgoing.{Outgoing}
@@ -75,7 +76,7 @@ abbrev pub ident_of : ℕ → Ident
 ident_of word = record {
   priority = 30;
   kind = Anonymous;
-  number = 1;
+  number = allocation.number;
   source = 0;
   dest = 0;
   discriminator = word % 16384;
@@ -84,7 +85,7 @@ ident_of word = record {
 abbrev pub outgoing : ℕ → ℕ → List ℕ → Outgoing
 outgoing word id payload = record {
   ident = ident_of word;
-  signature = 0x0b2a812620a11d40;
+  signature = allocation.signature;
   id = id;
   payload = record { items = payload };
 }

@@ -6,10 +6,9 @@ ghost use Rattle.transfer_tx.specs.Views.{queued_of};
 ghost use Rattle.allocatee.specs.Asking.{after_answer, asking_from, first_stage, at_moment, begins_with, due, with_follow_up, with_node_id, next_stage, has_room, after_allocation, ident_of, after_interruption, request_offer, outgoing, request_bytes, request_wait, without_first_frame, clock_phase, with_timer_restarted};
 ghost use Rattle.allocatee.specs.Asking as asking;
 
-use crate::rows::{ALLOCATION, ALLOCATION_SIGNATURE};
 use crate::timer::{FollowUp, Timer};
 use arrayvec::ArrayVec;
-use can_frame::{Ident, Kind, NodeId, Sent, Uid, What};
+use can_frame::{ALLOCATION, Ident, Kind, NodeId, Sent, Uid, What};
 use dsdl_codec::{Allocation, Payload};
 use std::marker::Model;
 use transfer_tx::{Marked, NoRoom, Outgoing, Sender};
@@ -197,7 +196,7 @@ impl Applicant {
     {
         let transfer = Outgoing {
             ident: ident_of(word),
-            signature: ALLOCATION_SIGNATURE,
+            signature: ALLOCATION.signature,
             id: self.id,
             payload,
         };
@@ -322,7 +321,7 @@ fn ident_of(word: u32) -> Ident
     Ident {
         priority: 30,
         kind: Kind::Anonymous,
-        number: ALLOCATION,
+        number: ALLOCATION.number,
         source: 0,
         dest: 0,
         discriminator: (word % 16384) as u16,

@@ -3,13 +3,8 @@ ghost use Rattle.transfer_rx.specs.Acceptance.{first_signature};
 ghost use Rattle.allocatee.specs.Accepted as accepted;
 
 use arrayvec::ArrayVec;
-use can_frame::Kind;
+use can_frame::{ALLOCATION, Kind};
 use transfer_rx::AcceptRow;
-
-/// Message type `uavcan.protocol.dynamic_node_id.Allocation`.
-pub(crate) const ALLOCATION: u16 = 1;
-
-pub(crate) const ALLOCATION_SIGNATURE: u64 = 0x0b2a_8126_20a1_1d40;
 
 /// The kinds and numbers of transfers that an allocatee receives, with the signature of their type.
 #[tactic(auto, unfolding(crate::specs::Accepted::rows))]
@@ -19,13 +14,13 @@ pub fn allocatee_rows() -> ArrayVec<AcceptRow, 16>
     let rows = [
         AcceptRow {
             kind: Kind::Anonymous,
-            number: ALLOCATION,
-            signature: ALLOCATION_SIGNATURE,
+            number: ALLOCATION.number,
+            signature: ALLOCATION.signature,
         },
         AcceptRow {
             kind: Kind::Message,
-            number: ALLOCATION,
-            signature: ALLOCATION_SIGNATURE,
+            number: ALLOCATION.number,
+            signature: ALLOCATION.signature,
         },
     ];
     match ArrayVec::try_from(rows.as_slice()) {
@@ -50,8 +45,9 @@ fn of_message(number: u16) -> Option<u64>
     ensures anonymous { result ≡ first_signature accepted.rows Kind.Anonymous number }
     ensures message { result ≡ first_signature accepted.rows Kind.Message number }
 {
-    match number {
-        ALLOCATION => Some(ALLOCATION_SIGNATURE),
-        _ => None,
+    if number == ALLOCATION.number {
+        Some(ALLOCATION.signature)
+    } else {
+        None
     }
 }

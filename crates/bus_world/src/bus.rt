@@ -12,8 +12,9 @@ ghost use Rattle.cluster_spec.specs.Lawful.{cause, is_forged, no_node, not_runni
 
 use crate::members::Members;
 use alloc_server::Event;
-use alloc_spec::{ALLOCATION, APPEND_ENTRIES, DISCOVERY, REQUEST_VOTE};
-use can_frame::{Frame, Ident, Judged, Kind, Mark};
+use can_frame::{
+    ALLOCATION, APPEND_ENTRIES, DISCOVERY, Frame, Ident, Judged, Kind, Mark, REQUEST_VOTE,
+};
 use cluster_spec::Unlawful;
 use replay_text::Told;
 use transfer_tx::Marked;
@@ -133,13 +134,13 @@ impl<F: Fn(Kind, u16) -> Option<u64> + Copy> Members<F> {
             Kind::Anonymous => false,
             Kind::Message => {
                 self.is_member(ident.source)
-                    || ident.number == DISCOVERY
-                    || ident.number == ALLOCATION
+                    || ident.number == DISCOVERY.number
+                    || ident.number == ALLOCATION.number
             }
             Kind::Request | Kind::Response => {
                 self.is_member(ident.source)
-                    || ident.number == APPEND_ENTRIES
-                    || ident.number == REQUEST_VOTE
+                    || ident.number == APPEND_ENTRIES.number
+                    || ident.number == REQUEST_VOTE.number
             }
         }
     }

@@ -1,4 +1,5 @@
 pub mod Cutting
+pub mod DataTypes
 pub mod Identifier
 pub mod Log
 pub mod Piece

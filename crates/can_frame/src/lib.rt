@@ -6,11 +6,14 @@
 //! what is sent is such a cutting, and what is received is the payload of which the frames are one.
 //! Its CRC is the remainder of a division of polynomials (`specs/TransferCrc.antt`). `specs/Log.antt`
 //! has entries and logs: an entry is a blank, a reservation or a pair, and a log gives node IDs to unique
-//! IDs, none of them twice, and never one that it reserves. [`laws`] has what follows from the definitions.
+//! IDs, none of them twice, and never one that it reserves. The data types stand in one table, with what
+//! each transfer of an allocator is ([`DataType`], `specs/DataTypes.antt`). [`laws`] has what follows from
+//! the definitions.
 //!
 //! The rules are those of the UAVCAN v0 specification, "CAN bus transport layer".
 #![tactic(auto)]
 
+mod data_type;
 mod entry;
 mod frame;
 mod identifier;
@@ -21,6 +24,10 @@ mod step;
 mod tail;
 mod transfer_crc;
 
+pub use data_type::{
+    ALLOCATION, APPEND_ENTRIES, DISCOVERY, DataType, GET_NODE_INFO, NODE_STATUS, REQUEST_VOTE,
+    TransferType,
+};
 pub use entry::{Entry, Uid, has_node_id, has_uid, is_zero};
 pub use frame::{BadFrame, Frame};
 pub use identifier::{Ident, Kind};

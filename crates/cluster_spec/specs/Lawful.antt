@@ -5,6 +5,7 @@ use Rattle.can_frame.specs.declared.identifier.Kind.{Kind}
 use Rattle.can_frame.specs.declared.identifier.Kind.TheVariants.{Message, Anonymous, Request, Response}
 use Rattle.can_frame.specs.declared.step.Judged.{Judged}
 use Rattle.can_frame.specs.declared.step.Judged.TheVariants.{Fine, Torn, Stale}
+use Rattle.can_frame.specs.DataTypes.{allocation, append_entries, discovery, request_vote}
 use Rattle.can_frame.specs.Identifier.{identifier_of}
 use Rattle.replay_text.specs.declared.row.Row.{Row}
 use Rattle.replay_text.specs.declared.row.Row.TheVariants.{Open, Tick, Rx, Send, Ext, Crash, Fault, AOpen, ATick, ARx, ASend, AEnd}
@@ -63,14 +64,21 @@ nothing_to_send (Some frame) = None
 
 -- ---- frames from outside: by what their identifier says of their source and data type
 
--- A member is the source, or it has a source and is of a data type that members alone send: Discovery (message 390),
--- Allocation (message 1), AppendEntries and RequestVote (services 30 and 31). An anonymous frame has no source: it is
--- none of these, and an anonymous Allocation is a request of some device.
+-- the data types that members alone send, by number
+
+abbrev pub is_members_message : ℕ → Bool
+is_members_message number = (number == discovery.number) || (number == allocation.number)
+
+abbrev pub is_members_service : ℕ → Bool
+is_members_service number = (number == append_entries.number) || (number == request_vote.number)
+
+-- A member is the source, or it has a source and is of a data type that members alone send. An anonymous frame has no
+-- source: it is none of these, and an anonymous Allocation is a request of some device.
 abbrev pub is_forged_by : List ℕ → Kind → Ident → Bool
 is_forged_by ids Anonymous ident = false
-is_forged_by ids Message ident = is_member ids ident.source || ((ident.number == 390) || (ident.number == 1))
-is_forged_by ids Request ident = is_member ids ident.source || ((ident.number == 30) || (ident.number == 31))
-is_forged_by ids Response ident = is_member ids ident.source || ((ident.number == 30) || (ident.number == 31))
+is_forged_by ids Message ident = is_member ids ident.source || is_members_message ident.number
+is_forged_by ids Request ident = is_member ids ident.source || is_members_service ident.number
+is_forged_by ids Response ident = is_member ids ident.source || is_members_service ident.number
 
 -- an identifier that has no reading is nobody's
 abbrev pub is_forged : List ℕ → Option Ident → Bool

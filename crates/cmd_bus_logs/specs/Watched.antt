@@ -2,14 +2,13 @@
 use Rattle.std.specs.Prelude.{ℕ, ◌+◌, ◌*◌, ◌/◌, ◌==◌, cond, suc, Bool, List, [], ◌∷◌, ◌++◌, Option, None, Some, codes, decimal}
 use Rattle.std.specs.List.{list_any}
 use Rattle.hex.specs.Hex.{encode_lower}
+use Rattle.can_frame.specs.DataTypes.{allocation, append_entries, discovery, get_node_info, node_status, request_vote}
 use Rattle.can_frame.specs.Identifier.{identifier_of}
 use Rattle.can_frame.specs.declared.identifier.Ident.{Ident}
 use Rattle.can_frame.specs.declared.identifier.Kind.{Kind}
 use Rattle.can_frame.specs.declared.identifier.Kind.TheVariants.{Anonymous, Message, Request, Response}
 use Rattle.can_frame.specs.declared.mark.Mark.{Mark}
-use Rattle.can_frame.specs.declared.step.What.TheVariants.{Alloc, Disc, Stat, InfoQ, Info, VoteQ, Vote, AppQ, App}
 use Rattle.alloc_spec.specs.Accepted.{row}
-use Rattle.alloc_spec.specs.Transfers.{signature_of}
 use Rattle.cmd_base.specs.declared.status.Status.{Status}
 use Rattle.transfer_rx.specs.declared.accept.AcceptRow.{AcceptRow}
 use Rattle.transfer_rx.specs.Acceptance.{is_service}
@@ -25,20 +24,20 @@ use Rattle.cmd_bus_logs.specs.Report.{Reports}
 
 -- the messages: Allocation, also from nodes without an ID, NodeStatus and Discovery
 unfoldable pub broadcast_rows : List AcceptRow
-broadcast_rows = row Anonymous 1 (signature_of Alloc)
-    ∷ row Message 1 (signature_of Alloc)
-    ∷ row Message 341 (signature_of Stat)
-    ∷ row Message 390 (signature_of Disc)
+broadcast_rows = row Anonymous allocation
+    ∷ row Message allocation
+    ∷ row Message node_status
+    ∷ row Message discovery
     ∷ []
 
 -- the services: both directions of GetNodeInfo, AppendEntries and RequestVote
 unfoldable pub service_rows : List AcceptRow
-service_rows = row Request 1 (signature_of InfoQ)
-    ∷ row Response 1 (signature_of Info)
-    ∷ row Request 30 (signature_of AppQ)
-    ∷ row Response 30 (signature_of App)
-    ∷ row Request 31 (signature_of VoteQ)
-    ∷ row Response 31 (signature_of Vote)
+service_rows = row Request get_node_info
+    ∷ row Response get_node_info
+    ∷ row Request append_entries
+    ∷ row Response append_entries
+    ∷ row Request request_vote
+    ∷ row Response request_vote
     ∷ []
 
 -- how they are made: the first takes the messages of all nodes, each other one the services for its node

@@ -3,11 +3,10 @@ ghost use Rattle.transfer_rx.specs.Acceptance.{first_signature};
 ghost use Rattle.alloc_spec.specs.Accepted.{row as row_of};
 ghost use Rattle.cmd_bus_logs.specs.Watched.{broadcast_rows, service_rows};
 
-use alloc_spec::{
-    ALLOCATION, APPEND_ENTRIES, DISCOVERY, GET_NODE_INFO, NODE_STATUS, REQUEST_VOTE, signature_of,
-};
 use arrayvec::ArrayVec;
-use can_frame::{Kind, What};
+use can_frame::{
+    ALLOCATION, APPEND_ENTRIES, DISCOVERY, DataType, GET_NODE_INFO, Kind, NODE_STATUS, REQUEST_VOTE,
+};
 use transfer_rx::AcceptRow;
 
 /// The messages that are watched.
@@ -16,10 +15,10 @@ pub(crate) fn message_rows() -> ArrayVec<AcceptRow, 16>
     ensures { result.items ≡ broadcast_rows }
 {
     let rows = [
-        row(Kind::Anonymous, ALLOCATION, signature_of(What::Alloc)),
-        row(Kind::Message, ALLOCATION, signature_of(What::Alloc)),
-        row(Kind::Message, NODE_STATUS, signature_of(What::Stat)),
-        row(Kind::Message, DISCOVERY, signature_of(What::Disc)),
+        row(Kind::Anonymous, ALLOCATION),
+        row(Kind::Message, ALLOCATION),
+        row(Kind::Message, NODE_STATUS),
+        row(Kind::Message, DISCOVERY),
     ];
     match ArrayVec::try_from(rows.as_slice()) {
         Ok(rows) => rows,
@@ -33,12 +32,12 @@ pub(crate) fn service_rows() -> ArrayVec<AcceptRow, 16>
     ensures { result.items ≡ service_rows }
 {
     let rows = [
-        row(Kind::Request, GET_NODE_INFO, signature_of(What::InfoQ)),
-        row(Kind::Response, GET_NODE_INFO, signature_of(What::Info)),
-        row(Kind::Request, APPEND_ENTRIES, signature_of(What::AppQ)),
-        row(Kind::Response, APPEND_ENTRIES, signature_of(What::App)),
-        row(Kind::Request, REQUEST_VOTE, signature_of(What::VoteQ)),
-        row(Kind::Response, REQUEST_VOTE, signature_of(What::Vote)),
+        row(Kind::Request, GET_NODE_INFO),
+        row(Kind::Response, GET_NODE_INFO),
+        row(Kind::Request, APPEND_ENTRIES),
+        row(Kind::Response, APPEND_ENTRIES),
+        row(Kind::Request, REQUEST_VOTE),
+        row(Kind::Response, REQUEST_VOTE),
     ];
     match ArrayVec::try_from(rows.as_slice()) {
         Ok(rows) => rows,
@@ -46,13 +45,13 @@ pub(crate) fn service_rows() -> ArrayVec<AcceptRow, 16>
     }
 }
 
-fn row(kind: Kind, number: u16, signature: u64) -> AcceptRow
-    ensures { result ≡ row_of kind number signature }
+fn row(kind: Kind, data_type: DataType) -> AcceptRow
+    ensures { result ≡ row_of kind data_type }
 {
     AcceptRow {
         kind,
-        number,
-        signature,
+        number: data_type.number,
+        signature: data_type.signature,
     }
 }
 
@@ -62,16 +61,24 @@ pub(crate) fn accept_message(kind: Kind, number: u16) -> Option<u64>
     ensures { result ≡ first_signature broadcast_rows kind number }
 {
     match kind {
-        Kind::Anonymous => match number {
-            ALLOCATION => Some(signature_of(What::Alloc)),
-            _ => None,
-        },
-        Kind::Message => match number {
-            ALLOCATION => Some(signature_of(What::Alloc)),
-            NODE_STATUS => Some(signature_of(What::Stat)),
-            DISCOVERY => Some(signature_of(What::Disc)),
-            _ => None,
-        },
+        Kind::Anonymous => {
+            if number == ALLOCATION.number {
+                Some(ALLOCATION.signature)
+            } else {
+                None
+            }
+        }
+        Kind::Message => {
+            if number == ALLOCATION.number {
+                Some(ALLOCATION.signature)
+            } else if number == NODE_STATUS.number {
+                Some(NODE_STATUS.signature)
+            } else if number == DISCOVERY.number {
+                Some(DISCOVERY.signature)
+            } else {
+                None
+            }
+        }
         Kind::Request | Kind::Response => None,
     }
 }
@@ -82,12 +89,17 @@ pub(crate) fn accept_service(kind: Kind, number: u16) -> Option<u64>
     ensures { result ≡ first_signature service_rows kind number }
 {
     match kind {
-        Kind::Request | Kind::Response => match number {
-            GET_NODE_INFO => Some(signature_of(What::Info)),
-            APPEND_ENTRIES => Some(signature_of(What::App)),
-            REQUEST_VOTE => Some(signature_of(What::Vote)),
-            _ => None,
-        },
+        Kind::Request | Kind::Response => {
+            if number == GET_NODE_INFO.number {
+                Some(GET_NODE_INFO.signature)
+            } else if number == APPEND_ENTRIES.number {
+                Some(APPEND_ENTRIES.signature)
+            } else if number == REQUEST_VOTE.number {
+                Some(REQUEST_VOTE.signature)
+            } else {
+                None
+            }
+        }
         Kind::Anonymous | Kind::Message => None,
     }
 }

@@ -7,9 +7,8 @@ use Rattle.can_frame.specs.declared.step.Why.{Why}
 use Rattle.can_frame.specs.declared.step.Why.TheVariants.{NotWanted, Start, Toggle, TransferId, Crc, Length, NoBlock, NoSession, BadIdent}
 use Rattle.can_frame.specs.declared.step.Seen.{Seen}
 use Rattle.can_frame.specs.declared.step.Seen.TheVariants.{Ticked, Took, Bad, Part, Dropped}
-use Rattle.can_frame.specs.declared.step.What.{What}
-use Rattle.can_frame.specs.declared.step.What.TheVariants.{Alloc, Disc, Stat, InfoQ, Info, VoteQ, Vote, AppQ, App}
 use Rattle.can_frame.specs.declared.step.Sent.{Sent}
+use Rattle.can_frame.specs.DataTypes.{type_of}
 use Rattle.replay_text.specs.declared.told.Told.{Told}
 use Rattle.replay_text.specs.declared.told.Told.TheVariants.{Opened, Stepped, Failed, Stopped, Armed, Popped, Outside, AOpened, AStepped, APopped, AEnded}
 use Rattle.replay_text.specs.Words.{identifier_bytes}
@@ -38,21 +37,10 @@ seen_word Bad = codes "bad"
 seen_word Part = codes "part"
 seen_word (Dropped why) = codes "drop:" ++ decimal (cause_number why)
 
-abbrev pub transfer_name : What → List ℕ
-transfer_name Alloc = codes "alloc"
-transfer_name Disc = codes "disc"
-transfer_name Stat = codes "stat"
-transfer_name InfoQ = codes "infoq"
-transfer_name Info = codes "info"
-transfer_name VoteQ = codes "voteq"
-transfer_name Vote = codes "vote"
-transfer_name AppQ = codes "appq"
-transfer_name App = codes "app"
-
 -- a transfer's mark behind a space: whether it fitted, its name, and its destination
 abbrev pub sent_mark : Sent → List ℕ
 sent_mark sent =
-    codes " " ++ cond sent.fitted (codes "+") (codes "-") ++ transfer_name sent.what ++ codes ":" ++ decimal sent.to
+    codes " " ++ cond sent.fitted (codes "+") (codes "-") ++ (type_of sent.what).name ++ codes ":" ++ decimal sent.to
 
 -- the number of the row and that of its node, with which most lines begin
 abbrev pub line_head : ℕ → ℕ → List ℕ

@@ -1,11 +1,11 @@
 ghost use Rattle.std.specs.Prelude.{◌≡◌, ◌≤◌, ◌<◌, ◌+◌, ◌*◌, ◌++◌, codes, length, decimal, flat_map};
 ghost use Rattle.hex.specs.Hex.{encode_lower};
 ghost use Rattle.replay_text.specs.Words.{identifier_bytes};
-ghost use Rattle.replay_text.specs.Report.{role_letter, seen_word, sent_mark, state_word, told_line, transfer_name};
+ghost use Rattle.replay_text.specs.Report.{role_letter, seen_word, sent_mark, state_word, told_line};
 
 use crate::{Line, Told};
 use arrayvec::ArrayVec;
-use can_frame::{Frame, NodeId, Role, Seen, Sent, What};
+use can_frame::{Frame, NodeId, Role, Seen, Sent};
 
 /// The line that tells what row number `row` did, its line feed included. The longest is that of a step
 /// that offered twelve transfers, with 189 bytes: 56 to `drop:9`, 11 for each transfer as ` +alloc:255`,
@@ -151,23 +151,6 @@ fn letter(role: Role) -> &'static [u8]
     }
 }
 
-fn name(what: What) -> &'static [u8]
-    ensures name { result.now ≡ transfer_name what }
-    ensures short { length result.now ≤ 5 }
-{
-    match what {
-        What::Alloc => b"alloc",
-        What::Disc => b"disc",
-        What::Stat => b"stat",
-        What::InfoQ => b"infoq",
-        What::Info => b"info",
-        What::VoteQ => b"voteq",
-        What::Vote => b"vote",
-        What::AppQ => b"appq",
-        What::App => b"app",
-    }
-}
-
 fn write_seen(line: &mut Line, seen: Seen)
     requires { length line.old + 26 ≤ 400 }
     ensures text { line.new ≡ line.old ++ codes " " ++ seen_word seen }
@@ -202,7 +185,7 @@ fn write_mark(line: &mut Line, transfer: Sent)
     ensures len { length line.new ≤ length line.old + 11 }
 {
     line.text(if transfer.fitted { b" +" } else { b" -" });
-    line.text(name(transfer.what));
+    line.text(transfer.what.transfer_type().name);
     line.text(b":");
     line.number(u64::from(transfer.to));
 }
