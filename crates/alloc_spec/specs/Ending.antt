@@ -16,7 +16,7 @@ use Rattle.raft_model.specs.Moves.Move.{CallForVote, CallToAppend, TellNothing, 
 use Rattle.raft_model.specs.Server.{RaftServer}
 use Rattle.alloc_spec.specs.Transfers.{has_room, id_of}
 use Rattle.alloc_spec.specs.AllocatorState.{is_zero, members_of}
-use Rattle.alloc_spec.specs.StepState.{StepState, with_transfer, with_moves}
+use Rattle.alloc_spec.specs.StepState.{StepState, with_move_if, with_moves, with_transfer}
 use Rattle.alloc_spec.specs.Exchange.{gives_pair}
 
 abbrev pub commit_phase : ℕ → StepState → StepState
@@ -57,10 +57,9 @@ append_call_bytes request = append_request_bytes (record {
 -- the request is queued and its move made, if it fits; else it is only listed as not fitted
 abbrev pub calls_by : ℕ → What → ℕ → Move → Request → List ℕ → StepState → StepState
 calls_by step what peer move request payload g =
-    if has_room g.allocator.queue payload
-    then with_moves step (given_call g.allocator.now (id_of g.allocator.ids what peer)) (move ∷ [])
+    with_move_if (has_room g.allocator.queue payload) step
+    (given_call g.allocator.now (id_of g.allocator.ids what peer)) move
     (with_transfer step what peer payload (Some (Requests request)) g)
-    else with_transfer step what peer payload (Some (Requests request)) g
 
 abbrev pub asks_vote : ℕ → ℕ → Request → StepState → StepState
 asks_vote step peer request g = calls_by step VoteQ peer (CallForVote peer) request (vote_call_bytes request) g

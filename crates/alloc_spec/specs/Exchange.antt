@@ -1,5 +1,5 @@
 -- What a server does with a request of a node that has no ID.
-use Rattle.std.specs.Prelude.{ℕ, Bool, false, not, ◌&&◌, ◌||◌, nat_eq, nat_lt, List, ◌∷◌, [], length, Option, None, Some, slice_index_or, if◌then◌else◌}
+use Rattle.std.specs.Prelude.{ℕ, Bool, false, not, ◌&&◌, ◌||◌, nat_eq, nat_lt, List, length, Option, None, Some, slice_index_or, if◌then◌else◌}
 use Rattle.alloc_exchange.specs.declared.heard.Heard.{Heard}
 use Rattle.alloc_exchange.specs.declared.heard.Heard.TheVariants.{Denied, FollowUp, Ignored, Whole}
 use Rattle.alloc_exchange.specs.Exchange.{after, answer}
@@ -16,7 +16,7 @@ use Rattle.raft_model.specs.Moves.Elections.{is_leader}
 use Rattle.raft_model.specs.Moves.Move.{AnswerAgain}
 use Rattle.alloc_spec.specs.Transfers.{has_room}
 use Rattle.alloc_spec.specs.AllocatorState.{AllocatorState, is_zero, known, may_propose, recorded_at, taken}
-use Rattle.alloc_spec.specs.StepState.{StepState, with_transfer, with_moves}
+use Rattle.alloc_spec.specs.StepState.{StepState, with_move_if, with_transfer}
 use Rattle.alloc_spec.specs.Tick.{proposes}
 
 -- ---- Allocations: a node ID, or 0 in a follow-up, and bytes of the unique ID
@@ -25,13 +25,12 @@ abbrev pub allocation_payload : ℕ → List ℕ → List ℕ
 allocation_payload node uid =
     allocation_bytes (record { node = node; first_part = false; uid = record { items = uid } })
 
--- the Allocation of an entry, given by a move where it fits: without room nothing is noted
+-- the Allocation of an entry, given by a move
 abbrev pub gives_entry : ℕ → Move → Entry → StepState → StepState
 gives_entry step move entry g =
-    if has_room g.allocator.queue (allocation_payload entry.node entry.uid)
-    then with_moves step (given_at g.allocator.now) (move ∷ [])
-    (with_transfer step Alloc 0 (allocation_payload entry.node entry.uid) None g)
-    else with_transfer step Alloc 0 (allocation_payload entry.node entry.uid) None g
+    let payload : List ℕ = allocation_payload entry.node entry.uid in
+    with_move_if (has_room g.allocator.queue payload) step (given_at g.allocator.now) move
+    (with_transfer step Alloc 0 payload None g)
 
 -- the entry that has so many before it
 abbrev pub gives_pair : ℕ → Move → ℕ → StepState → StepState

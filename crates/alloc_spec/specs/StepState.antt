@@ -10,8 +10,7 @@ use Rattle.raft_model.specs.Handlers.{server_after_all}
 use Rattle.raft_model.specs.Messages.{Message}
 use Rattle.raft_model.specs.Moves.{Move}
 use Rattle.transfer_rx.specs.Reassembly.{Delivery}
-use Rattle.transfer_tx.specs.Queue.{queued_frames}
-use Rattle.alloc_spec.specs.Transfers.{Given, Offer, pair_in, has_room, id_of, message_of, outgoing, sent_of}
+use Rattle.alloc_spec.specs.Transfers.{Given, Offer, frames_of, has_room, id_of, message_of, pair_in, sent_of}
 use Rattle.alloc_spec.specs.Outbox.{counted_if, queued_if}
 use Rattle.alloc_spec.specs.AllocatorState.{AllocatorState, members_of}
 
@@ -45,40 +44,53 @@ with_moves step given moves g = record g {
   puts = g.puts ++ puts_with_origins (members_of g.allocator) g.allocator.me step given g.allocator.raft_server moves;
 }
 
--- ---- transfers: all frames go into the queue where there is room, and it is listed either way
+-- a move that goes with a transfer is made where that fitted: else nothing is noted
+abbrev pub with_move_if : Bool → ℕ → HandedIn → Move → StepState → StepState
+with_move_if fitted step given move g = if fitted then with_moves step given (move ∷ []) g else g
 
--- a message, or a request to a node; its counter goes on where it fitted
+-- ---- transfers
+
+-- a step offers a transfer: all its frames go into the queue where there is room, and it is listed either way
+abbrev pub with_offer : ℕ → Offer → StepState → StepState
+with_offer step offer g = record g {
+  allocator = record g.allocator {
+    queue = queued_if offer.fitted g.allocator.queue
+        (frames_of (record { step = step; by = g.allocator.me; offer = offer }));
+  };
+  offers = g.offers ++ (offer ∷ []);
+}
+
+-- its counter goes on where it fitted
+abbrev pub with_counter : Bool → What → ℕ → StepState → StepState
+with_counter fitted what to g =
+    record g { allocator = record g.allocator { ids = counted_if fitted what to g.allocator.ids } }
+
+-- a message, or a request to a node, under the next transfer ID
 abbrev pub with_transfer : ℕ → What → ℕ → List ℕ → Option Message → StepState → StepState
 with_transfer step what to payload says g =
-    let t : AllocatorState = g.allocator in
-    let id : ℕ = id_of t.ids what to in
-    let fitted : Bool = has_room t.queue payload in
-    record g {
-      allocator = record t {
-        queue = queued_if fitted t.queue (queued_frames (outgoing t.me what to id payload) step 0);
-        ids = counted_if fitted what to t.ids;
-      };
-      offers = g.offers
-          ++ (record { what = what; to = to; id = id; payload = payload; re = 0; says = says; fitted = fitted } ∷ []);
-    }
+    let fitted : Bool = has_room g.allocator.queue payload in with_counter fitted what to
+    (with_offer step
+    (record {
+      what = what;
+      to = to;
+      id = id_of g.allocator.ids what to;
+      payload = payload;
+      re = 0;
+      says = says;
+      fitted = fitted;
+    }) g)
 
 -- a response, to a node, under the transfer ID of its request, which the step `re` made
 abbrev pub with_response : ℕ → What → ℕ → ℕ → List ℕ → ℕ → Option Message → StepState → StepState
-with_response step what to id payload re says g =
-    let t : AllocatorState = g.allocator in let fitted : Bool = has_room t.queue payload in record g {
-      allocator =
-          record t { queue = queued_if fitted t.queue (queued_frames (outgoing t.me what to id payload) step re) };
-      offers = g.offers
-          ++ (record {
-            what = what;
-            to = to;
-            id = id;
-            payload = payload;
-            re = re;
-            says = says;
-            fitted = fitted;
-          } ∷ []);
-    }
+with_response step what to id payload re says g = with_offer step (record {
+  what = what;
+  to = to;
+  id = id;
+  payload = payload;
+  re = re;
+  says = says;
+  fitted = has_room g.allocator.queue payload;
+}) g
 
 -- the response to a request that was delivered
 abbrev pub with_response_to : ℕ → What → Delivery → List ℕ → Option Message → StepState → StepState

@@ -96,17 +96,19 @@ record_phase step g = if may_propose g.allocator then records_node step (candida
 
 -- ---- a query for a unique ID, to the least node that is due; the request of GetNodeInfo is empty
 
--- a query that fitted is noted; any other is owed again
 abbrev pub with_query : ℕ → ℕ → StepState → StepState
 with_query node id g =
     record g { allocator = record g.allocator { watch = of_node node (Asked id g.allocator.now) ∷ g.allocator.watch } }
 
+-- a query that fitted is noted; any other is owed again
+abbrev pub with_query_if : Bool → ℕ → ℕ → StepState → StepState
+with_query_if fitted node id g = if fitted then with_query node id g else g
+
 abbrev pub asks : ℕ → Option ℕ → StepState → StepState
 asks step None g = g
 asks step (Some node) g =
-    if has_room g.allocator.queue []
-    then with_query node (id_of g.allocator.ids InfoQ node) (with_transfer step InfoQ node [] None g)
-    else with_transfer step InfoQ node [] None g
+    with_query_if (has_room g.allocator.queue []) node (id_of g.allocator.ids InfoQ node)
+    (with_transfer step InfoQ node [] None g)
 
 abbrev pub query_phase : ℕ → StepState → StepState
 query_phase step g =
