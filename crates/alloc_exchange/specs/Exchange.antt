@@ -2,6 +2,7 @@
 -- "Dynamic node ID allocation"; uavcan.protocol.dynamic_node_id.Allocation). What is answered depends on the
 -- requests that were accepted since the last clearing, newest first.
 use Rattle.std.specs.Prelude.{ℕ, ◌+◌, ◌≡◌, ◌⊎◌, ⊤, List, [], ◌∷◌, ◌++◌, length, Bool, not, ◌&&◌, if◌then◌else◌, nat_lt, nat_eq}
+use Rattle.can_frame.specs.Timing.{stage_timeout}
 use Rattle.dsdl_codec.specs.declared.allocation.Allocation.{Allocation}
 use Rattle.alloc_exchange.specs.declared.stage.Stage.{Stage}
 use Rattle.alloc_exchange.specs.declared.stage.Stage.TheVariants.{First, Second, Third}
@@ -24,9 +25,9 @@ abbrev pub last_moment : List Accepted → ℕ
 last_moment [] = 0
 last_moment (last ∷ earlier) = last.moment
 
--- the requests that still count: none of them once more than 500 ms have passed since the last one
+-- the requests that still count: none of them once the last one is too old
 abbrev pub recent_requests : List Accepted → ℕ → List Accepted
-recent_requests accepted now = if nat_lt (last_moment accepted + 500) now then [] else accepted
+recent_requests accepted now = if nat_lt (last_moment accepted + stage_timeout) now then [] else accepted
 
 -- a request is of the first stage by its flag, else of the second with 6 bytes, else of the third
 abbrev pub stage_of : Allocation → Stage

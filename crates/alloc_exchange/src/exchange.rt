@@ -4,6 +4,7 @@ ghost use Rattle.arrayvec.specs.ArrayVec.{array_vec_len};
 use crate::heard::{Heard, Ignore};
 use crate::stage::Stage;
 use arrayvec::ArrayVec;
+use can_frame::timing::STAGE_TIMEOUT;
 use dsdl_codec::Allocation;
 
 /// What an allocator has heard of the unique ID of a node without an ID.
@@ -61,7 +62,7 @@ impl Exchange {
         ensures { (accepted : List Accepted) → StandsFor self.old accepted →
             StandsFor self.new (recent_requests accepted now) }
     {
-        if now > self.last.saturating_add(500) {
+        if now > self.last.saturating_add(STAGE_TIMEOUT) {
             *self = Exchange::new();
         }
     }

@@ -1,6 +1,7 @@
 //! Laws of the definitions, each the contract of a function that does nothing.
 
 ghost use Rattle.std.specs.Prelude.{◌≡◌, ◌≤◌, ◌+◌, ◌++◌, ℕ, List, [], length, Bool, true, false};
+ghost use Rattle.can_frame.specs.Timing.{stage_timeout};
 ghost use Rattle.dsdl_codec.specs.declared.allocation.Allocation.{Allocation};
 ghost use Rattle.alloc_exchange.specs.declared.heard.Ignore.{Ignore};
 ghost use Rattle.alloc_exchange.specs.declared.heard.Heard.TheVariants.{Ignored, Denied, Whole};
@@ -35,8 +36,8 @@ pub fn the_end_clears()
 pub fn three_requests_tell_the_unique_id()
     ensures { (a b c : Allocation) (x y z : ℕ) → a.first_part ≡ true → b.first_part ≡ false →
         c.first_part ≡ false →
-        length a.uid.items ≡ 6 → length b.uid.items ≡ 6 → length c.uid.items ≡ 4 → y ≤ x + 500 →
-        z ≤ y + 500 →
+        length a.uid.items ≡ 6 → length b.uid.items ≡ 6 → length c.uid.items ≡ 4 → y ≤ x + stage_timeout →
+        z ≤ y + stage_timeout →
         answer (after (after [] a x true) b y true) c z true
         ≡ Whole ((a.uid.items ++ b.uid.items) ++ c.uid.items) c.node }
 {}

@@ -5,5 +5,6 @@ pub mod Log
 pub mod Piece
 pub mod Register
 pub mod Tail
+pub mod Timing
 pub mod TransferCrc
 pub mod Zeros

@@ -7,8 +7,8 @@
 //! Its CRC is the remainder of a division of polynomials (`specs/TransferCrc.antt`). `specs/Log.antt`
 //! has entries and logs: an entry is a blank, a reservation or a pair, and a log gives node IDs to unique
 //! IDs, none of them twice, and never one that it reserves. The data types stand in one table, with what
-//! each transfer of an allocator is ([`DataType`], `specs/DataTypes.antt`). [`laws`] has what follows from
-//! the definitions.
+//! each transfer of an allocator is ([`DataType`], `specs/DataTypes.antt`), and times of an allocator in
+//! another ([`timing`], `specs/Timing.antt`). [`laws`] has what follows from the definitions.
 //!
 //! The rules are those of the UAVCAN v0 specification, "CAN bus transport layer".
 #![tactic(auto)]
@@ -22,6 +22,7 @@ mod mark;
 mod node_id;
 mod step;
 mod tail;
+pub mod timing;
 mod transfer_crc;
 
 pub use data_type::{

@@ -2,6 +2,7 @@
 -- (UAVCAN v0 specification, "Redundant allocators"; uavcan.protocol.dynamic_node_id.server.Discovery).
 use Rattle.std.specs.Prelude.{ℕ, ◌≡◌, ◌≢◌, ◌⊎◌, ◌<◌, ◌≤◌, ◌+◌, ◌-◌, ◌/◌, Bool, true, false, if◌then◌else◌, not, ◌&&◌, ◌||◌, nat_le, nat_lt, nat_eq, List, [], ◌∷◌, ◌++◌, length, slice_index_or, Contains}
 use Rattle.std.specs.List.{list_any}
+use Rattle.can_frame.specs.Timing.{discovery_interval}
 use Rattle.dsdl_codec.specs.declared.discovery.Discovery.{Discovery}
 
 -- how the member began
@@ -103,4 +104,4 @@ last_sent start (Sent moment ∷ events) = moment
 -- owed, or the list is not complete; and 1,000 ms have passed
 abbrev pub is_due : Start → List Event → ℕ → Bool
 is_due start events now =
-    (owes start events || not (is_complete start events)) && nat_le 1000 (now - last_sent start events)
+    (owes start events || not (is_complete start events)) && nat_le discovery_interval (now - last_sent start events)

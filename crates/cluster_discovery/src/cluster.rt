@@ -2,6 +2,7 @@ ghost use Rattle.std.specs.Prelude.{◌≡◌, ◌∷◌, ◌+◌, ◌/◌, ◌<
 ghost use Rattle.arrayvec.specs.ArrayVec.{array_vec_len};
 
 use arrayvec::ArrayVec;
+use can_frame::timing::DISCOVERY_INTERVAL;
 use dsdl_codec::Discovery;
 
 /// What a member knows of its cluster. Moments are milliseconds, and may fall.
@@ -90,7 +91,7 @@ impl Cluster {
         ensures { (start : Start) (events : List Event) → StandsFor self.now start events →
             result ≡ is_due start events now }
     {
-        (self.owes || !self.complete()) && now.saturating_sub(self.last) >= 1000
+        (self.owes || !self.complete()) && now.saturating_sub(self.last) >= DISCOVERY_INTERVAL
     }
 
     /// The member's own Discovery was sent, or found no room: nothing is owed from now on.

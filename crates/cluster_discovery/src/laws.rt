@@ -1,6 +1,7 @@
 //! What the definitions mean for a member, in laws, each the contract of a function that does nothing.
 
 ghost use Rattle.std.specs.Prelude.{◌≡◌, ◌⊎◌, ◌∷◌, ◌<◌, ◌+◌, ℕ, Contains, List, true, false, length};
+ghost use Rattle.can_frame.specs.Timing.{discovery_interval};
 ghost use Rattle.dsdl_codec.specs.declared.discovery.Discovery.{Discovery};
 ghost use Rattle.can_frame.specs.Log.{IsPrefix};
 ghost use Rattle.cluster_discovery.specs.Members.{Event, Heard, Sent, IsMemberList, IsStart, Names, Start, counts, is_complete, is_due, learns, members, owes};
@@ -63,6 +64,6 @@ pub fn a_shorter_list_is_owed_a_discovery()
 pub fn a_discovery_ends_what_is_owed()
     ensures owes { (start : Start) (events : List Event) (moment : ℕ) →
         owes start (Sent moment ∷ events) ≡ false }
-    ensures waits { (start : Start) (events : List Event) (moment now : ℕ) → now < moment + 1000 →
+    ensures waits { (start : Start) (events : List Event) (moment now : ℕ) → now < moment + discovery_interval →
         is_due start (Sent moment ∷ events) now ≡ false }
 {}

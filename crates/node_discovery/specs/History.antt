@@ -1,5 +1,6 @@
 -- What happened with one node, newest event first, and what follows from it.
 use Rattle.std.specs.Prelude.{ℕ, suc, ◌-◌, ◌≡◌, ◌≤◌, Bool, true, false, if◌then◌else◌, ◌&&◌, nat_le, nat_lt, nat_eq, List, [], ◌∷◌, Option, Some, None, is_none}
+use Rattle.can_frame.specs.Timing.{online_timeout, query_interval, query_limit}
 use Rattle.node_discovery.specs.declared.query.Query.{Query}
 
 pub data Event : Type 0 where
@@ -32,9 +33,9 @@ last_status (Status moment ∷ events) = Some moment
 last_status (Asked transfer_id moment ∷ events) = last_status events
 last_status (Taken uid moment ∷ events) = last_status events
 
--- online: the last status is at most 3,000 ms old
+-- online: the last status is recent
 abbrev pub is_online : List Event → ℕ → Bool
-is_online events now = is_within 3000 now (last_status events)
+is_online events now = is_within online_timeout now (last_status events)
 
 -- the events of the node's spell: those since its last status that came while it was not online,
 -- and all before its first status
@@ -73,13 +74,13 @@ unanswered (Status moment ∷ events) = unanswered events
 unanswered (Asked transfer_id moment ∷ events) = Some (record { transfer_id = transfer_id; moment = moment })
 unanswered (Taken uid moment ∷ events) = None
 
--- a query waits less than 1,000 ms for an answer with its transfer ID
+-- a query waits for an answer with its transfer ID until the next may be asked
 abbrev pub is_answered_by : Option Query → ℕ → ℕ → Bool
 is_answered_by None transfer_id now = false
-is_answered_by (Some query) transfer_id now = nat_eq query.transfer_id transfer_id && nat_lt (age query.moment now) 1000
+is_answered_by (Some query) transfer_id now =
+    nat_eq query.transfer_id transfer_id && nat_lt (age query.moment now) query_interval
 
--- an answer is taken: the last query of the spell has its transfer ID, is less than 1,000 ms old and had no answer
--- taken since
+-- an answer is taken: the last query of the spell has its transfer ID, still waits and had no answer taken since
 abbrev pub takes : List Event → ℕ → ℕ → Bool
 takes events transfer_id now = is_answered_by (unanswered (spell events)) transfer_id now
 
@@ -90,9 +91,9 @@ last_query (Status moment ∷ events) = last_query events
 last_query (Asked transfer_id moment ∷ events) = Some moment
 last_query (Taken uid moment ∷ events) = last_query events
 
--- 1,000 ms or more have passed since the last query, or the node was never asked
+-- the interval has passed since the last query, or the node was never asked
 abbrev pub may_be_asked : List Event → ℕ → Bool
-may_be_asked events now = has_passed 1000 now (last_query events)
+may_be_asked events now = has_passed query_interval now (last_query events)
 
 -- ---- silence
 
@@ -103,17 +104,17 @@ query_count (Status moment ∷ events) = query_count events
 query_count (Asked transfer_id moment ∷ events) = suc (query_count events)
 query_count (Taken uid moment ∷ events) = query_count events
 
--- silent: online, and in its spell it told no unique ID and was asked five times or more, the last time 1,000 ms ago
--- or more
+-- silent: online, and in its spell it told no unique ID and was asked so many times or more, and the last query waits
+-- no longer
 pub record IsSilent (events : List Event) (now : ℕ) : Type 0 where
   pub online : is_online events now ≡ true
   pub untold : unique_id events ≡ None
-  pub asked : 5 ≤ query_count (spell events)
+  pub asked : query_limit ≤ query_count (spell events)
   pub moment : ℕ
   pub last : last_query (spell events) ≡ Some moment
-  pub waited : 1000 ≤ age moment now
+  pub waited : query_interval ≤ age moment now
 
 -- whether it is silent
 abbrev pub is_silent : List Event → ℕ → Bool
 is_silent events now = is_nameless events now
-    && (nat_le 5 (query_count (spell events)) && has_passed 1000 now (last_query (spell events)))
+    && (nat_le query_limit (query_count (spell events)) && has_passed query_interval now (last_query (spell events)))

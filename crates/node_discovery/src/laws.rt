@@ -1,6 +1,7 @@
 //! What the definitions mean for a node, in laws, each the contract of a function that does nothing.
 
 ghost use Rattle.std.specs.Prelude.{◌≡◌, ◌∷◌, ◌<◌, ◌+◌, [], ℕ, List, Bool, true, false, Option, Some};
+ghost use Rattle.can_frame.specs.Timing.{query_interval};
 ghost use Rattle.node_discovery.specs.History.{Event, Status, Asked, Taken, IsSilent, identity, is_nameless, is_online, is_silent, may_be_asked, query_count, spell, takes, unique_id};
 ghost use Rattle.node_discovery.specs.Watch.{HearsDevicesAlone, IsNextQuery, IsSomeUnknown, NoneIsUnknown, Watched, next_query, some_unknown};
 
@@ -23,7 +24,7 @@ pub fn a_spell_begins_anew()
 /// A node that was asked is not asked again for 1,000 ms, whatever statuses come and whatever it
 /// answers.
 pub fn a_query_waits()
-    ensures once { (events : List Event) (transfer_id moment now : ℕ) → now < moment + 1000 →
+    ensures once { (events : List Event) (transfer_id moment now : ℕ) → now < moment + query_interval →
         may_be_asked (Asked transfer_id moment ∷ events) now ≡ false }
     ensures status { (events : List Event) (moment now : ℕ) →
         may_be_asked (Status moment ∷ events) now ≡ may_be_asked events now }

@@ -3,6 +3,7 @@ ghost use Rattle.node_discovery.specs.History.{is_within, has_passed};
 
 use crate::query::{Query, is_answered_by};
 use can_frame::Uid;
+use can_frame::timing::{ONLINE_TIMEOUT, QUERY_INTERVAL, QUERY_LIMIT};
 
 /// What is kept of one node.
 #[derive(Clone, Copy)]
@@ -87,14 +88,14 @@ impl Node {
     pub fn is_online(&self, now: u64) -> bool
         ensures { (events : List Event) → Tells self.now events → result ≡ is_online events now }
     {
-        is_within(3000, now, self.heard)
+        is_within(ONLINE_TIMEOUT, now, self.heard)
     }
 
     /// Whether the node was never asked, or 1,000 ms or more have passed since.
     pub fn may_be_asked(&self, now: u64) -> bool
         ensures { (events : List Event) → Tells self.now events → result ≡ may_be_asked events now }
     {
-        has_passed(1000, now, self.asked)
+        has_passed(QUERY_INTERVAL, now, self.asked)
     }
 
     /// Whether the node is online and has not told its unique ID.
@@ -109,7 +110,7 @@ impl Node {
     pub fn is_silent(&self, now: u64) -> bool
         ensures { (events : List Event) → Tells self.now events → result ≡ is_silent events now }
     {
-        self.is_nameless(now) && self.queries >= 5 && self.may_be_asked(now)
+        self.is_nameless(now) && self.queries >= QUERY_LIMIT && self.may_be_asked(now)
     }
 
     /// The unique ID that the node told, where it is online.

@@ -1,5 +1,7 @@
 ghost use Rattle.std.specs.Prelude.{◌≡◌};
 
+use can_frame::timing::QUERY_INTERVAL;
+
 /// A query for the unique ID of a node.
 #[derive(Clone, Copy)]
 pub struct Query {
@@ -15,7 +17,7 @@ pub fn is_answered_by(pending: Option<Query>, transfer_id: u8, now: u64) -> bool
 {
     match pending {
         Some(query) => {
-            query.transfer_id == transfer_id && now.saturating_sub(query.moment) < 1000
+            query.transfer_id == transfer_id && now.saturating_sub(query.moment) < QUERY_INTERVAL
         }
         None => false,
     }

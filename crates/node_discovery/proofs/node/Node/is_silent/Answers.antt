@@ -3,8 +3,8 @@ use Rattle.node_discovery.specs.History.{is_nameless, query_count, spell}
 use Rattle.node_discovery.proofs.Silence.{silent_where}
 use Rattle.node_discovery.proofs.node.Node.is_silent.Goals as goal
 
-pub returns-then-self-ge5 : goal.returns-then-self-ge5
-returns-then-self-ge5 c = λ events tells.
+pub returns-then-self-ge-QUERY_LIMIT : goal.returns-then-self-ge-QUERY_LIMIT
+returns-then-self-ge-QUERY_LIMIT c = λ events tells.
     let nameless : is_nameless events c.args.now ≡ true = search rules in
     let five : 5 ≤ c.args.self.now.queries = search rules in
     let count = tells.queries in
