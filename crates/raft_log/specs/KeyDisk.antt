@@ -3,7 +3,6 @@ use Rattle.std.specs.Prelude.{◌≡◌, ⊤, ℕ, ◌+◌, ◌<◌, ◌&&◌, B
 use Rattle.disk_model.specs.declared.calls.Calls.{Calls}
 use Rattle.disk_model.specs.declared.disk.Disk.{Ghosts}
 use Rattle.disk_model.specs.declared.memory.MemoryDisk.{MemoryDisk}
-use Rattle.disk_model.specs.Calls.{after_call}
 use Rattle.disk_model.specs.Contents.{IsSettled}
 use Rattle.disk_model.specs.Memory.{memory_contents}
 use Rattle.kv_store.specs.Image.{key_count}
