@@ -1,5 +1,5 @@
 -- What the place of an allocatee stands for.
-use Rattle.std.specs.Prelude.{◌≡◌, ℕ, suc, ◌<◌, List, Option, None, Some, length, slice_index_or}
+use Rattle.std.specs.Prelude.{⊤, ◌≡◌, ℕ, suc, ◌<◌, List, Option, None, Some, length, slice_index_or}
 use Rattle.allocatee.specs.Allocatee.{Device}
 use Rattle.allocatee.specs.declared.allocatee.Allocatee.{Allocatee}
 use Rattle.allocatee.specs.Stands.{StandsFor as StandsForDevice, accepts}
@@ -7,7 +7,7 @@ use Rattle.bus_world.specs.declared.seat.Seat.{Seat}
 
 module _ {G : Type 0} where
   abbrev pub IsDevice : Option (Allocatee G) → Option Device → Type 0
-  IsDevice None None = Unit {0}
+  IsDevice None None = ⊤
   IsDevice None (Some x) = ⊥
   IsDevice (Some allocatee) None = ⊥
   IsDevice (Some allocatee) (Some x) = StandsForDevice allocatee x

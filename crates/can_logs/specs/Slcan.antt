@@ -1,6 +1,6 @@
 -- Lines of a serial adapter, without the carriage return that ends them: `T`, an identifier of 8 digits, the number of
 -- bytes and the bytes, two digits each, and the adapter's time stamp of 4 digits, or nothing.
-use Rattle.std.specs.Prelude.{◌≡◌, ◌+◌, ◌⊎◌, ◌<◌, ◌^◌, ℕ, List, [], ◌∷◌, ◌++◌, length, codes, Option, Some, None, Contains}
+use Rattle.std.specs.Prelude.{⊤, ◌≡◌, ◌+◌, ◌⊎◌, ◌<◌, ◌^◌, ℕ, List, [], ◌∷◌, ◌++◌, length, codes, Option, Some, None, Contains}
 use Rattle.hex.specs.Hex.{encode_upper}
 use Rattle.can_logs.specs.declared.slcan.SlLine.{SlLine}
 use Rattle.can_logs.specs.declared.slcan.SlLine.TheVariants.{Data, Skipped}
@@ -9,7 +9,7 @@ use Rattle.can_logs.specs.Words.{stamp_bytes}
 
 -- no stamp, or one of 16 bits
 abbrev pub IsStamp : Option ℕ → Type 0
-IsStamp None = Unit {0}
+IsStamp None = ⊤
 IsStamp (Some stamp) = stamp < 2 ^ 16
 
 -- nothing, or a stamp of 4 digits
@@ -47,7 +47,7 @@ Reads Skipped line = IsSkipped line
 
 -- a line of a frame
 abbrev pub IsWritable : SlLine → Type 0
-IsWritable (Data frame stamp) = Unit {0}
+IsWritable (Data frame stamp) = ⊤
 IsWritable Skipped = ⊥
 
 abbrev pub stamp_text : Option ℕ → List ℕ

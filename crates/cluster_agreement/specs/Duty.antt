@@ -1,5 +1,5 @@
 -- What each step owes that members take in a list of rows.
-use Rattle.std.specs.Prelude.{◌≡◌, ◌≢◌, ℕ, ◌+◌, ◌<◌, true, List, ◌∷◌, ◌++◌, max}
+use Rattle.std.specs.Prelude.{⊤, ◌≡◌, ◌≢◌, ℕ, ◌+◌, ◌<◌, true, List, ◌∷◌, ◌++◌, max}
 use Rattle.raft_core.specs.Times.{has_waited}
 use Rattle.raft_model.specs.Duty.{CommitDuty, TickDuty, WinDuty}
 use Rattle.raft_model.specs.Moves.Elections.{term_limit}
@@ -37,14 +37,14 @@ pub record DoesItsDuty (members : List ℕ) (t : AllocatorState) (number : ℕ) 
 
 -- a stopped member takes no step, nor does one that failed
 abbrev pub DoDutyIn : List ℕ → ℕ → Event → MemberStatus → Type 0
-DoDutyIn members number event Down = Unit {0}
+DoDutyIn members number event Down = ⊤
 DoDutyIn members number event (Up t) = DoesItsDuty members t number event
-DoDutyIn members number event (Failed failure) = Unit {0}
+DoDutyIn members number event (Failed failure) = ⊤
 
 abbrev pub IsDutiful : Cluster → Row → Type 0
 IsDutiful w (TickRow n ms word) = DoDutyIn w.ids (w.rows + 1) (tick_of ms word) (w.member n).status
 IsDutiful w (Rx n k ms) = DoDutyIn w.ids (w.rows + 1) (receipt_of w k ms) (w.member n).status
-IsDutiful w row = Unit {0}
+IsDutiful w row = ⊤
 
 -- of a list of rows: each of them, in the world that it comes to
 abbrev pub AreDutiful : List ℕ → List Row → Type 0

@@ -1,6 +1,6 @@
 -- What the crates of frames and codecs say, as their contracts have it: the proofs here stand on these two records.
 use Rattle.std.proofs.Common.{◌≡◌, ℕ, suc, ◌*◌, ◌<◌, ◌^◌, true, false, List, length, take, drop}
-use Rattle.std.specs.Prelude.{Some, Ok, get_or, slice_index_or}
+use Rattle.std.specs.Prelude.{Some, Ok, slice_index_or}
 use Rattle.can_frame.specs.Cutting.{Piece, bytes_cut, frame_bytes, frame_count, frames_before_last, frames_of, payload_of, piece_from, tail_at}
 use Rattle.can_frame.specs.Identifier.{IsIdentifier, identifier_number, identifier_of}
 use Rattle.can_frame.specs.declared.identifier.Ident.{Ident}
@@ -30,12 +30,12 @@ pub record FrameLaws : Type 0 where
   pub count : (signature id : ℕ) (payload : List ℕ)
       → length (frames_of signature id payload) ≡ suc (frames_before_last signature payload)
   pub before_last : (signature id k : ℕ) (payload : List ℕ) (d : Piece) → k < frames_before_last signature payload
-      → get_or (frames_of signature id payload) k d ≡ record {
+      → slice_index_or (frames_of signature id payload) k d ≡ record {
         bytes = take 7 (drop (7 * k) (bytes_cut signature payload));
         tail = tail_at id k false;
       }
   pub last : (signature id : ℕ) (payload : List ℕ) (d : Piece)
-      → get_or (frames_of signature id payload) (frames_before_last signature payload) d ≡ record {
+      → slice_index_or (frames_of signature id payload) (frames_before_last signature payload) d ≡ record {
         bytes = drop (7 * frames_before_last signature payload) (bytes_cut signature payload);
         tail = tail_at id (frames_before_last signature payload) true;
       }

@@ -1,5 +1,5 @@
 -- Which rows a world refuses, and for which cause: the first that holds.
-use Rattle.std.specs.Prelude.{◌≡◌, ℕ, ◌==◌, ◌||◌, not, nat_lt, Bool, false, List, [], ◌∷◌, length, Option, Some, None, is_some, if◌then◌else◌}
+use Rattle.std.specs.Prelude.{⊤, ◌≡◌, ℕ, ◌==◌, ◌||◌, not, nat_lt, Bool, false, List, [], ◌∷◌, length, Option, Some, None, is_some, if◌then◌else◌}
 use Rattle.can_frame.specs.declared.identifier.Ident.{Ident}
 use Rattle.can_frame.specs.declared.identifier.Kind.{Kind}
 use Rattle.can_frame.specs.declared.identifier.Kind.TheVariants.{Message, Anonymous, Request, Response}
@@ -138,5 +138,5 @@ cause w (AEnd a) = or_else (no_allocatee a) (absent w a)
 
 -- each row is lawful when its turn is there
 abbrev pub Lawful : Cluster → List Row → Type 0
-Lawful w [] = Unit {0}
+Lawful w [] = ⊤
 Lawful w (row ∷ rows) = (cause w row ≡ None) × Lawful (after_row w row) rows

@@ -1,5 +1,5 @@
 -- Lines of a log from the front of some bytes.
-use Rattle.std.specs.Prelude.{◌≡◌, ◌≢◌, ◌≤◌, ◌<◌, ◌⊎◌, ◌==◌, ℕ, List, [], ◌∷◌, ◌++◌, All, length, drop, codes, Bool, true, false, None}
+use Rattle.std.specs.Prelude.{⊤, ◌≡◌, ◌≢◌, ◌≤◌, ◌<◌, ◌⊎◌, ◌==◌, ℕ, List, [], ◌∷◌, ◌++◌, All, length, drop, codes, Bool, true, false, None}
 use Rattle.std.specs.List.{prefix_len}
 use Rattle.can_logs.specs.Candump as candump
 use Rattle.can_logs.specs.Slcan as slcan
@@ -56,7 +56,7 @@ Says Slcan said text = (read : SlLine) × slcan.Reads read text × (said ≡ of_
 abbrev pub IsLineWritable : Line → Type 0
 IsLineWritable (Frame logged) =
     candump.IsWritable (log_line.Data logged.sec logged.micros logged.iface logged.frame)
-IsLineWritable Skipped = Unit {0}
+IsLineWritable Skipped = ⊤
 
 -- the bytes begin with a line of at most 120 bytes, its bells among them, and the byte that ends it; then the rest
 pub record BeginsWithLine (form : Form) (said : Line) (bytes rest : List ℕ) : Type 0 where

@@ -1,5 +1,5 @@
 -- The report of a log, by what its lines tell. A conversion and a watch differ in that alone.
-use Rattle.std.specs.Prelude.{◌≡◌, ◌<◌, ◌≤◌, ◌+◌, ◌⊎◌, ℕ, List, [], ◌++◌, length, codes, decimal, Option, Some}
+use Rattle.std.specs.Prelude.{⊤, ◌≡◌, ◌<◌, ◌≤◌, ◌+◌, ◌⊎◌, ℕ, List, [], ◌++◌, length, codes, decimal, Option, Some}
 use Rattle.std.specs.Io.KnownBytes.{Appends}
 use Rattle.outside.specs.Faults.{Rose}
 use Rattle.cmd_base.specs.Input.{HasNoLineEnd}
@@ -117,11 +117,11 @@ Ends told end form limit bytes left sink_before sink_now _ = ⊥
 
 -- the status of a run over a log
 abbrev pub IsOfLog : Status → Type 0
-IsOfLog Done = Unit {0}
-IsOfLog (BadRow line) = Unit {0}
-IsOfLog (Limit line) = Unit {0}
-IsOfLog ReadFault = Unit {0}
-IsOfLog WriteFault = Unit {0}
+IsOfLog Done = ⊤
+IsOfLog (BadRow line) = ⊤
+IsOfLog (Limit line) = ⊤
+IsOfLog ReadFault = ⊤
+IsOfLog WriteFault = ⊤
 IsOfLog _ = ⊥
 
 -- a run over the source, whose faults, and those of the sink, are counted before and now. A log has one report; unless

@@ -1,5 +1,5 @@
 -- How the lines of a log come, one after the other.
-use Rattle.std.specs.Prelude.{◌≡◌, ◌≤◌, ◌<◌, ◌⊎◌, ◌+◌, ℕ, List, [], ◌++◌, length, Option, Some, None}
+use Rattle.std.specs.Prelude.{⊤, ◌≡◌, ◌≤◌, ◌<◌, ◌⊎◌, ◌+◌, ℕ, List, [], ◌++◌, length, Option, Some, None}
 use Rattle.std.specs.Io.KnownBytes.{Appends, append_known}
 use Rattle.outside.specs.Faults.{Rose}
 use Rattle.cmd_base.specs.Input.{HasNoLineEnd}
@@ -66,7 +66,7 @@ Counts limit taken taken_now (next.End end) = taken_now ≡ taken
 -- the frame of a line that comes may be written
 abbrev pub MayBeWritten : Next → Type 0
 MayBeWritten (next.Line said) = IsLineWritable said
-MayBeWritten (next.End end) = Unit {0}
+MayBeWritten (next.End end) = ⊤
 
 -- what comes next of the bytes that are still to come: those that wait, and those that are left in the source
 abbrev pub Gives : Form → ℕ → ℕ → List ℕ → List ℕ → Next → Type 0

@@ -1,5 +1,5 @@
 -- The transfers that a watch lists: the receivers of a watch, what each frame leads to, and the line of a transfer.
-use Rattle.std.specs.Prelude.{ℕ, ◌+◌, ◌*◌, ◌/◌, ◌==◌, cond, suc, Bool, List, [], ◌∷◌, ◌++◌, Option, None, Some, codes, decimal}
+use Rattle.std.specs.Prelude.{ℕ, ◌+◌, ◌*◌, ◌/◌, ◌==◌, suc, Bool, List, [], ◌∷◌, ◌++◌, Option, None, Some, codes, decimal, if◌then◌else◌}
 use Rattle.std.specs.List.{list_any}
 use Rattle.hex.specs.Hex.{encode_lower}
 use Rattle.can_frame.specs.DataTypes.{allocation, append_entries, discovery, get_node_info, node_status, request_vote}
@@ -80,7 +80,8 @@ abbrev pub by_services : ℕ → Watch → Arrival → Heard
 by_services id watch came = record {
   gives = delivered (answer (service_setting id) (watch.services id) came);
   after = record watch {
-    services = λ other. cond (other == id) (next (service_setting id) (watch.services id) came) (watch.services other);
+    services = λ other. if other == id then next (service_setting id) (watch.services id) came
+        else watch.services other;
   };
 }
 
@@ -91,14 +92,14 @@ abbrev pub is_watched : List ℕ → ℕ → Bool
 is_watched ids id = list_any (λ own. own == id) ids
 
 abbrev pub by_service : List ℕ → Watch → Arrival → ℕ → Heard
-by_service ids watch came id = cond (is_watched ids id) (by_services id watch came) (by_none watch)
+by_service ids watch came id = if is_watched ids id then by_services id watch came else by_none watch
 
 -- a frame of a service comes to the receiver of its destination, where that is watched, and another one to that of
 -- messages; one whose identifier has no reading comes to none
 abbrev pub by_ident : List ℕ → Watch → Arrival → Option Ident → Heard
 by_ident ids watch came None = by_none watch
 by_ident ids watch came (Some ident) =
-    cond (is_service ident.kind) (by_service ids watch came ident.dest) (by_messages watch came)
+    if is_service ident.kind then by_service ids watch came ident.dest else by_messages watch came
 
 unfoldable pub heard : List ℕ → Watch → Arrival → Heard
 heard ids watch came = by_ident ids watch came (identifier_of came.id)

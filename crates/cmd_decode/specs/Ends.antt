@@ -1,5 +1,5 @@
 -- How a run ends that decodes a payload.
-use Rattle.std.specs.Prelude.{◌≡◌, ◌≤◌, ◌<◌, ◌⊎◌, ℕ, List, [], ◌++◌, length, Option, None, Some}
+use Rattle.std.specs.Prelude.{⊤, ◌≡◌, ◌≤◌, ◌<◌, ◌⊎◌, ℕ, List, [], ◌++◌, length, Option, None, Some}
 use Rattle.std.specs.Io.KnownBytes.{Appends}
 use Rattle.outside.specs.Faults.{Rose}
 use Rattle.cmd_base.specs.Output.{WritesFront}
@@ -77,7 +77,7 @@ IsOfDecode (LinkFault id) = ⊥
 IsOfDecode (DiskFault id) = ⊥
 IsOfDecode (Damaged id key) = ⊥
 IsOfDecode (Differ first second index) = ⊥
-IsOfDecode _ = Unit {0}
+IsOfDecode _ = ⊤
 
 -- a run that decodes the payload under that part of a text. The numbers are the faults that the source and the sink
 -- have counted; the lists are what the source has left and what the sink has been written: each before and now

@@ -1,5 +1,5 @@
 -- When the statuses of a run come.
-use Rattle.std.specs.Prelude.{◌≡◌, ℕ, ◌<◌, List, length, Option, Some, None, slice_index}
+use Rattle.std.specs.Prelude.{⊤, ◌≡◌, ℕ, ◌<◌, List, length, Option, Some, None, slice_index}
 use Rattle.std.specs.Prelude.{slice_index_or, true}
 use Rattle.disk_model.specs.declared.disk.Disk.{Ghosts}
 use Rattle.outside.specs.Faults.{Rose}
@@ -10,9 +10,9 @@ use Rattle.cmd_base.specs.declared.status.Status.TheVariants.{Done, Memory, Dama
 
 -- the status of a run in which nothing failed
 abbrev pub IsFaultless : Status → Type 0
-IsFaultless Done = Unit {0}
-IsFaultless (Damaged id key) = Unit {0}
-IsFaultless Memory = Unit {0}
+IsFaultless Done = ⊤
+IsFaultless (Damaged id key) = ⊤
+IsFaultless Memory = ⊤
 IsFaultless _ = ⊥
 
 -- this holds of the counts of faults, before and now, of the link at a place

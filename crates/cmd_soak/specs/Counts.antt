@@ -1,5 +1,5 @@
 -- What a soak came to, in six lines.
-use Rattle.std.specs.Prelude.{ℕ, zero, suc, ◌+◌, ◌==◌, ◌&&◌, not, nat_lt, Bool, true, false, List, [], ◌∷◌, ◌++◌, length, codes, decimal, Option, Some, None, if◌then◌else◌}
+use Rattle.std.specs.Prelude.{⊤, ℕ, zero, suc, ◌+◌, ◌==◌, ◌&&◌, not, nat_lt, Bool, true, false, List, [], ◌∷◌, ◌++◌, length, codes, decimal, Option, Some, None, if◌then◌else◌}
 use Rattle.can_frame.specs.declared.entry.Entry.{Entry}
 use Rattle.alloc_spec.specs.declared.event.View.{View}
 use Rattle.cluster_spec.specs.Cluster.{Cluster}
@@ -70,7 +70,7 @@ soak_report seed rounds size = lines_of (counts_of rounds size (soaked seed roun
 
 -- how a soak may end
 abbrev pub IsEnd : Status → Type 0
-IsEnd Done = Unit {0}
-IsEnd WriteFault = Unit {0}
-IsEnd Memory = Unit {0}
+IsEnd Done = ⊤
+IsEnd WriteFault = ⊤
+IsEnd Memory = ⊤
 IsEnd _ = ⊥

@@ -1,5 +1,5 @@
 -- The rows that were taken, as rows of a cluster.
-use Rattle.std.specs.Prelude.{◌≡◌, ℕ, Bool, true, false, List, [], ◌∷◌}
+use Rattle.std.specs.Prelude.{⊤, ◌≡◌, ℕ, Bool, true, false, List, [], ◌∷◌}
 use Rattle.replay_text.specs.declared.row.Row.{Row}
 use Rattle.replay_text.specs.declared.row.Row.TheVariants.{Open, Tick, Rx, Send, Ext, Crash, Fault, AOpen, ATick, ARx, ASend, AEnd}
 use Rattle.cluster_spec.specs.Cluster.{cluster, world_of}
@@ -22,7 +22,7 @@ is_fault (ASend a) = false
 is_fault (AEnd a) = false
 
 abbrev pub HasNoFault : List Row → Type 0
-HasNoFault [] = Unit {0}
+HasNoFault [] = ⊤
 HasNoFault (row ∷ rows) = (is_fault row ≡ false) × HasNoFault rows
 
 -- a lawful list of rows of these members, which leads to the world

@@ -1,6 +1,6 @@
 -- The lines of a text. A line is its words, whatever spaces stand between and around them; a remark behind
 -- `#` counts for nothing.
-use Rattle.std.specs.Prelude.{◌≡◌, ◌≢◌, ◌<◌, ◌≤◌, ◌^◌, ℕ, List, [], ◌∷◌, ◌++◌, Option, Some, None, IsTrue, codes, decimal}
+use Rattle.std.specs.Prelude.{⊤, ◌≡◌, ◌≢◌, ◌<◌, ◌≤◌, ◌^◌, ℕ, List, [], ◌∷◌, ◌++◌, Option, Some, None, IsTrue, codes, decimal}
 use Rattle.dsdl_text.specs.declared.line.Line.{Line}
 use Rattle.dsdl_text.specs.declared.line.Line.TheVariants.{Empty, Section, Divider, Void, Field, Constant}
 use Rattle.dsdl_text.specs.declared.line.Shape.{Shape}
@@ -14,7 +14,7 @@ shape_text (Exactly count) = codes "[" ++ decimal count ++ codes "]"
 shape_text (UpTo most) = codes "[<=" ++ decimal most ++ codes "]"
 
 abbrev pub IsShape : Shape → Type 0
-IsShape One = Unit {0}
+IsShape One = ⊤
 IsShape (Exactly count) = (1 ≤ count) × (count < 256)
 IsShape (UpTo most) = (1 ≤ most) × (most < 256)
 

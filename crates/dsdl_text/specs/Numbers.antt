@@ -4,7 +4,7 @@
 -- wherever it begins. An array of at most N elements has a count in front, of as many bits as hold N; but where it
 -- is the last field of the part that is decoded and an element has 8 bits at least, it has none and takes what is
 -- left (UAVCAN v0, "tail array optimization"). Fewer than 8 bits may be left behind the last field: padding.
-use Rattle.std.specs.Prelude.{◌≡◌, ◌+◌, ◌*◌, ◌/◌, ◌%◌, ℕ, zero, suc, Bool, ◌&&◌, cond, nat_eq, nat_le, nat_lt, if◌then◌else◌, List, [], ◌∷◌, ◌++◌, length, take, drop, flat_map, Option, Some, None}
+use Rattle.std.specs.Prelude.{◌≡◌, ◌+◌, ◌*◌, ◌/◌, ◌%◌, ℕ, zero, suc, Bool, ◌&&◌, nat_eq, nat_le, nat_lt, if◌then◌else◌, List, [], ◌∷◌, ◌++◌, length, take, drop, flat_map, Option, Some, None}
 use Rattle.std.specs.Option.{option_and_then}
 use Rattle.std.specs.Borrow.{Bor}
 use Rattle.dsdl_text.specs.Layout.{Layout, nothing, void, number, pair, exactly, up_to}
@@ -33,7 +33,7 @@ bits_of payload = flat_map byte_bits payload
 -- the number that bits are, behind those of a number
 abbrev pub number_onto : ℕ → List Bool → ℕ
 number_onto high [] = high
-number_onto high (bit ∷ bits) = number_onto (2 * high + cond bit 1 0) bits
+number_onto high (bit ∷ bits) = number_onto (2 * high + (if bit then 1 else 0)) bits
 
 -- the number that bits are: eight at a time are its bytes, the low one first
 abbrev pub number_of : List Bool → ℕ

@@ -1,5 +1,5 @@
 -- What the lines of a text make of it: its types. The part that a type's lines go into is its last one.
-use Rattle.std.specs.Prelude.{◌≡◌, ◌^◌, ℕ, Bool, false, not, nat_le, nat_lt, if◌then◌else◌, List, [], ◌∷◌, ◌++◌, length, Option, Some, None, is_some, is_none, codes, find, Result, Ok, Err, MatchOption}
+use Rattle.std.specs.Prelude.{⊤, ◌≡◌, ◌^◌, ℕ, Bool, false, not, nat_le, nat_lt, if◌then◌else◌, List, [], ◌∷◌, ◌++◌, length, Option, Some, None, is_some, is_none, codes, find, Result, Ok, Err, MatchOption}
 use Rattle.std.specs.List.{list_any}
 use Rattle.std.specs.Option.{option_map, option_to_list}
 use Rattle.std.specs.Str.{bytes_eq}
@@ -176,7 +176,7 @@ TakesLines text [] after = text ≡ after
 TakesLines text (line ∷ lines) after = (fault_of text line ≡ None) × TakesLines (text_after text line) lines after
 
 -- what a reader answers to a line: it takes it, or tells its fault and stays as it was
-abbrev pub Answers : Text → Line → Result (Unit {0}) LineFault → Text → Type 0
+abbrev pub Answers : Text → Line → Result (⊤) LineFault → Text → Type 0
 Answers text line answer after = MatchOption (fault_of text line)
     ((answer ≡ Ok tt) × (after ≡ text_after text line))
     (λ fault. (answer ≡ Err fault) × (after ≡ text))

@@ -1,11 +1,11 @@
 -- What the laws say of a type: its fields give a payload the numbers of its value.
-use Rattle.std.specs.Prelude.{◌≡◌, ◌<◌, ℕ, List, get_or, Option}
+use Rattle.std.specs.Prelude.{◌≡◌, ◌<◌, ℕ, List, slice_index_or, Option}
 use Rattle.std.specs.Option.{option_map}
 use Rattle.dsdl_text.specs.Layout.{Layout}
 use Rattle.dsdl_text.specs.Numbers.{numbers_of}
 
 abbrev pub AreBytes : List ℕ → Type 0
-AreBytes bytes = (i : ℕ) → get_or bytes i 0 < 256
+AreBytes bytes = (i : ℕ) → slice_index_or bytes i 0 < 256
 
 -- under these fields every payload has the numbers of the value that it is read as, and no reading exactly where it is
 -- read as none

@@ -1,5 +1,5 @@
 -- A text of data types, and what the text of the profile gives.
-use Rattle.std.specs.Prelude.{◌≡◌, ◌==◌, ℕ, List, [], ◌∷◌, Option, Some, None, codes}
+use Rattle.std.specs.Prelude.{⊤, ◌≡◌, ◌==◌, ℕ, List, [], ◌∷◌, Option, Some, None, codes}
 use Rattle.std.specs.List.{slice_split}
 use Rattle.dsdl_text.specs.declared.line.Line.{Line}
 use Rattle.dsdl_text.specs.Layout.{DataType, Layout}
@@ -15,7 +15,7 @@ lines_of bytes = slice_split (λ byte. byte == 10) bytes
 
 -- each of these read as a line
 abbrev pub ReadAs : List Line → List (List ℕ) → Type 0
-ReadAs [] [] = Unit {0}
+ReadAs [] [] = ⊤
 ReadAs (line ∷ lines) (bytes ∷ rest) = Reads line bytes × ReadAs lines rest
 ReadAs [] (bytes ∷ rest) = ⊥
 ReadAs (line ∷ lines) [] = ⊥

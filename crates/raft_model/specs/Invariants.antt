@@ -1,5 +1,5 @@
 -- What holds after every event of a run, and after every prefix of a step's puts.
-use Rattle.std.specs.Prelude.{◌≡◌, ◌≢◌, ℕ, ◌+◌, ◌<◌, ◌≤◌, Bool, true, false, List, ◌++◌, length, ◌==◌, ◌&&◌, if◌then◌else◌, ◌⊎◌, take, get_or, Some, nat_le, not}
+use Rattle.std.specs.Prelude.{◌≡◌, ◌≢◌, ℕ, ◌+◌, ◌<◌, ◌≤◌, Bool, true, false, List, ◌++◌, length, ◌==◌, ◌&&◌, if◌then◌else◌, ◌⊎◌, take, slice_index_or, Some, nat_le, not}
 use Rattle.raft_model.specs.Lists.{In, any, how_many}
 use Rattle.can_frame.specs.declared.entry.Entry.{Entry}
 use Rattle.can_frame.specs.Log.{IsInjective, IsPrefix, IsWellFormed, blank, last_term, log_limit}
@@ -18,7 +18,7 @@ use Rattle.raft_model.specs.Runs.{World}
 pub record SoundStore (store : Store) : Type 0 where
   pub commit : store.commit ≤ length store.log
   pub last : length store.log ≤ log_limit
-  pub well_formed : (place : ℕ) → place < length store.log → IsWellFormed (get_or store.log place (blank 0))
+  pub well_formed : (place : ℕ) → place < length store.log → IsWellFormed (slice_index_or store.log place (blank 0))
   pub rising : IsRising store.log store.term
   pub injective : IsInjective store.log
 
@@ -64,8 +64,8 @@ pub record IsElected (world : World) (term : ℕ) : Type 0 where
   pub leader : candidacy.candidate ≡ world.history.leader term
   pub in_term : candidacy.term ≡ term
   pub list : world.history.list term ≡ candidacy.log ++ rest
-  pub before : (place : ℕ) → place < length candidacy.log → (get_or candidacy.log place (blank 0)).term < term
-  pub own : (place : ℕ) → place < length rest → (get_or rest place (blank 0)).term ≡ term
+  pub before : (place : ℕ) → place < length candidacy.log → (slice_index_or candidacy.log place (blank 0)).term < term
+  pub own : (place : ℕ) → place < length rest → (slice_index_or rest place (blank 0)).term ≡ term
   pub votes : quorum world.members
       ≤ how_many (λ voter. any (is_vote voter (world.history.leader term) term) world.history.kept) world.members
   pub not_above : (kept : KeptVote) → In kept world.history.kept →
@@ -89,9 +89,9 @@ pub record LeadersElected (world : World) : Type 0 where
 -- each prefix that ends in an entry of some term is a prefix of that term's list
 abbrev pub IsMatching : History → List Entry → Type 0
 IsMatching history log = (place : ℕ) → place < length log
-    → (history.led (get_or log place (blank 0)).term ≡ true)
-    × (place < length (history.list (get_or log place (blank 0)).term))
-    × Same (place + 1) log (history.list (get_or log place (blank 0)).term)
+    → (history.led (slice_index_or log place (blank 0)).term ≡ true)
+    × (place < length (history.list (slice_index_or log place (blank 0)).term))
+    × Same (place + 1) log (history.list (slice_index_or log place (blank 0)).term)
 
 pub record LogsMatch (world : World) : Type 0 where
   pub logs : (member : ℕ) → IsMatching world.history (world.server member).store.log
@@ -106,7 +106,7 @@ pub record LogsMatch (world : World) : Type 0 where
   pub entry : (request : Request) (entry : Entry) → In (Requests request) world.bag → request.append ≡ true
       → request.entry ≡ Some entry
       → (request.previous < length (world.history.list request.term))
-      × (get_or (world.history.list request.term) request.previous (blank 0) ≡ entry)
+      × (slice_index_or (world.history.list request.term) request.previous (blank 0) ≡ entry)
 
 -- Acknowledgements.
 
@@ -190,7 +190,7 @@ LeadersComplete world = (log : List Entry) (term later : ℕ) → IsSettled worl
 pub record CommitsSettled (world : World) : Type 0 where
   -- each place of the ledger is settled by the term that is its stamp
   pub ledger : (place : ℕ) → place < length world.ledger.entries
-      → IsSettled world (take (place + 1) world.ledger.entries) (get_or world.ledger.stamps place 0)
+      → IsSettled world (take (place + 1) world.ledger.entries) (slice_index_or world.ledger.stamps place 0)
   pub servers : (member : ℕ)
       → ((world.server member).store.commit ≡ 0)
       ⊎ ((term : ℕ) × (term ≤ (world.server member).store.term)

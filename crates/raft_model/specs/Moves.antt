@@ -7,7 +7,7 @@ pub mod Leading
 pub use Elections.*
 pub use Appending.*
 pub use Leading.*
-use Rattle.std.specs.Prelude.{◌≡◌, ◌≢◌, ℕ, ◌+◌, ◌-◌, ◌<◌, ◌≤◌, Bool, true, false, List, [], ◌∷◌, ◌++◌, length, get_or, Some, nat_lt, if◌then◌else◌}
+use Rattle.std.specs.Prelude.{⊤, ◌≡◌, ◌≢◌, ℕ, ◌+◌, ◌-◌, ◌<◌, ◌≤◌, Bool, true, false, List, [], ◌∷◌, ◌++◌, length, slice_index_or, Some, nat_lt, if◌then◌else◌}
 use Rattle.raft_model.specs.Lists.{In}
 use Rattle.can_frame.specs.declared.entry.Entry.{Entry}
 use Rattle.can_frame.specs.Log.{blank}
@@ -36,7 +36,7 @@ pub data Move : Type 0 where
 
 -- the entry that a leader tells next
 abbrev pub next_entry : RaftServer → Entry
-next_entry server = get_or server.store.log server.memory.told (blank 0)
+next_entry server = slice_index_or server.store.log server.memory.told (blank 0)
 
 module _ (members : List ℕ) (member : ℕ) (bag : List Message) (called : List ℕ) (server : RaftServer) where
   -- when a move is enabled at a server that is up
@@ -60,8 +60,8 @@ module _ (members : List ℕ) (member : ℕ) (bag : List Message) (called : List
   IsEnabled (CallToAppend peer previous with_entry) = (server.memory.role ≡ Leader)
       × (previous ≤ length server.store.log) × MayCall members member called server peer
   IsEnabled (AnswerAgain place) = (place < server.store.commit)
-      × ((get_or server.store.log place (blank 0)).uid ≢ zeros)
-  IsEnabled (GiveUp peer) = Unit {0}
+      × ((slice_index_or server.store.log place (blank 0)).uid ≢ zeros)
+  IsEnabled (GiveUp peer) = ⊤
 
 module _ (members : List ℕ) (member : ℕ) (server : RaftServer) where
   -- the puts of a move, in order; the other moves have none

@@ -1,5 +1,5 @@
 -- Runs: openings, steps and stops of the members, in any order.
-use Rattle.std.specs.Prelude.{◌≡◌, ℕ, ◌<◌, true, false, List, [], ◌∷◌}
+use Rattle.std.specs.Prelude.{⊤, ◌≡◌, ℕ, ◌<◌, true, false, List, [], ◌∷◌}
 use Rattle.raft_model.specs.Lists.{In, at}
 use Rattle.raft_model.specs.Messages.{Message}
 use Rattle.raft_model.specs.Server.{RaftServer, empty_store, memory_when_down, memory_when_opened}
@@ -95,7 +95,7 @@ run world (event ∷ events) = run (after world event) events
 
 -- each event may come when its turn is there
 abbrev pub Lawful : World → List Event → Type 0
-Lawful world [] = Unit {0}
+Lawful world [] = ⊤
 Lawful world (event ∷ events) = MayOccur world event × Lawful (after world event) events
 
 -- a fact of the world holds at each moment of every run

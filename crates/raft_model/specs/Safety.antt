@@ -1,6 +1,6 @@
 -- Safety: one ledger, which only grows, and every device is told from it alone. Two pairs of it have different node
 -- IDs and different unique IDs, and no pair has a reserved node ID.
-use Rattle.std.specs.Prelude.{◌≡◌, ◌≢◌, ℕ, ◌+◌, ◌<◌, ◌≤◌, true, length, get_or}
+use Rattle.std.specs.Prelude.{◌≡◌, ◌≢◌, ℕ, ◌+◌, ◌<◌, ◌≤◌, true, length, slice_index_or}
 use Rattle.raft_model.specs.Lists.{In}
 use Rattle.can_frame.specs.declared.entry.Entry.{Entry}
 use Rattle.can_frame.specs.Log.{IsInjective, IsPair, IsPrefix, IsReservation, blank}
@@ -20,18 +20,18 @@ pub record IsSafe (world : World) : Type 0 where
   -- each allocation answer is the pair of an entry of its sender's committed list, with neither ID zero
   pub pairs : (pair : Pair) → In (Pairs pair) world.bag
       → (place : ℕ) × (place < (world.server pair.from).store.commit)
-      × ((get_or (world.server pair.from).store.log place (blank 0)).uid ≡ pair.uid)
-      × ((get_or (world.server pair.from).store.log place (blank 0)).node ≡ pair.node) × (pair.uid ≢ zeros)
+      × ((slice_index_or (world.server pair.from).store.log place (blank 0)).uid ≡ pair.uid)
+      × ((slice_index_or (world.server pair.from).store.log place (blank 0)).node ≡ pair.node) × (pair.uid ≢ zeros)
       × (1 ≤ pair.node)
   -- every place of the ledger has a stamp, and every leader of a term from the stamp on has the ledger up to this place
   pub stamps : length world.ledger.stamps ≡ length world.ledger.entries
   pub leaders : (place term : ℕ) → place < length world.ledger.entries →
-      get_or world.ledger.stamps place 0 ≤ term
+      slice_index_or world.ledger.stamps place 0 ≤ term
       → world.history.led term ≡ true → Same (place + 1) (world.history.list term) world.ledger.entries
 
 -- the entry of the ledger that has so many before it
 abbrev pub given : World → ℕ → Entry
-given world place = get_or world.ledger.entries place (blank 0)
+given world place = slice_index_or world.ledger.entries place (blank 0)
 
 -- what the ledger gives, and what it keeps back: the words of `injective` and `pairs`, kind by kind
 pub record IsGivenOnce (world : World) : Type 0 where
@@ -64,4 +64,4 @@ pub record Lasts (early late : World) : Type 0 where
   pub list : (term : ℕ) → early.history.led term ≡ true →
       IsPrefix (early.history.list term) (late.history.list term)
   pub gains : (term place : ℕ) → early.history.led term ≡ true → length (early.history.list term) ≤ place
-      → place < length (late.history.list term) → (get_or (late.history.list term) place (blank 0)).term ≡ term
+      → place < length (late.history.list term) → (slice_index_or (late.history.list term) place (blank 0)).term ≡ term

@@ -1,5 +1,5 @@
 -- A step as it goes: whole moves, and a stop, which leaves a prefix of the puts of the move in which it falls.
-use Rattle.std.specs.Prelude.{ℕ, List, [], ◌∷◌, ◌++◌, take}
+use Rattle.std.specs.Prelude.{⊤, ℕ, List, [], ◌∷◌, ◌++◌, take}
 use Rattle.raft_model.specs.Messages.{Message}
 use Rattle.raft_model.specs.Server.{RaftServer, put_all, memory_when_down}
 use Rattle.raft_model.specs.History.{History}
@@ -65,7 +65,7 @@ state_after_moves members member step local_state (move ∷ moves) =
 
 -- each of these moves may come when its turn is there
 abbrev pub AllEnabled : List ℕ → ℕ → ℕ → List Message → LocalState → List Move → Type 0
-AllEnabled members member step bag local_state [] = Unit {0}
+AllEnabled members member step bag local_state [] = ⊤
 AllEnabled members member step bag local_state (move ∷ moves) =
     IsEnabled members member bag local_state.called local_state.raft_server move
     × AllEnabled members member step bag (state_after_move members member step local_state move) moves

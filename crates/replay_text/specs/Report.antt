@@ -1,5 +1,5 @@
 -- Lines of a report: words with single spaces, and a line feed at the end.
-use Rattle.std.specs.Prelude.{ℕ, cond, List, ◌++◌, codes, decimal, flat_map, Option, None, Some}
+use Rattle.std.specs.Prelude.{ℕ, List, ◌++◌, codes, decimal, flat_map, Option, None, Some, if◌then◌else◌}
 use Rattle.hex.specs.Hex.{encode_lower}
 use Rattle.can_frame.specs.declared.step.Role.{Role}
 use Rattle.can_frame.specs.declared.step.Role.TheVariants.{Follower, Candidate, Leader}
@@ -40,7 +40,7 @@ seen_word (Dropped why) = codes "drop:" ++ decimal (cause_number why)
 -- a transfer's mark behind a space: whether it fitted, its name, and its destination
 abbrev pub sent_mark : Sent → List ℕ
 sent_mark sent =
-    codes " " ++ cond sent.fitted (codes "+") (codes "-") ++ (type_of sent.what).name ++ codes ":" ++ decimal sent.to
+    codes " " ++ (if sent.fitted then codes "+" else codes "-") ++ (type_of sent.what).name ++ codes ":" ++ decimal sent.to
 
 -- the number of the row and that of its node, with which most lines begin
 abbrev pub line_head : ℕ → ℕ → List ℕ

@@ -1,5 +1,5 @@
 -- Rows of a schedule. A line is a row's words with single spaces: its name, and its fields in order.
-use Rattle.std.specs.Prelude.{◌≡◌, ◌<◌, ◌≤◌, ◌^◌, ℕ, List, [], ◌∷◌, length, codes, decimal}
+use Rattle.std.specs.Prelude.{⊤, ◌≡◌, ◌<◌, ◌≤◌, ◌^◌, ℕ, List, [], ◌∷◌, length, codes, decimal}
 use Rattle.std.specs.List.{join_with_byte}
 use Rattle.hex.specs.Hex.{IsBytes, encode_lower}
 use Rattle.outside.specs.declared.pattern.Pattern.{Pattern}
@@ -23,8 +23,8 @@ pub record IsRepeated (bytes : List ℕ) : Type 0 where
   pub each : IsBytes bytes
 
 abbrev pub IsPattern : Pattern → Type 0
-IsPattern Old = Unit {0}
-IsPattern New = Unit {0}
+IsPattern Old = ⊤
+IsPattern New = ⊤
 IsPattern (Bytes bytes) = IsRepeated bytes.items
 
 -- a unique ID: 16 bytes
@@ -57,7 +57,7 @@ IsOfAllocatee (Send n) = ⊥
 IsOfAllocatee (Ext frame) = ⊥
 IsOfAllocatee (Crash n calls pattern) = ⊥
 IsOfAllocatee (Fault n call) = ⊥
-IsOfAllocatee row = Unit {0}
+IsOfAllocatee row = ⊤
 
 abbrev pub IsOfCluster : Row → Type 0
 IsOfCluster (AOpen a uid pref ms word) = ⊥
@@ -65,7 +65,7 @@ IsOfCluster (ATick a ms word) = ⊥
 IsOfCluster (ARx a k ms word) = ⊥
 IsOfCluster (ASend a) = ⊥
 IsOfCluster (AEnd a) = ⊥
-IsOfCluster row = Unit {0}
+IsOfCluster row = ⊤
 
 abbrev pub SpellsPattern : Pattern → List ℕ → Type 0
 SpellsPattern Old word = word ≡ codes "old"

@@ -1,5 +1,5 @@
 -- What an audit of disks comes to, what it writes, and what it leaves.
-use Rattle.std.specs.Prelude.{◌≡◌, ◌⊎◌, ℕ, ◌<◌, true, List, length, Option, Some, None, slice_index, slice_index_or}
+use Rattle.std.specs.Prelude.{⊤, ◌≡◌, ◌⊎◌, ℕ, ◌<◌, true, List, length, Option, Some, None, slice_index, slice_index_or}
 use Rattle.std.specs.Io.KnownBytes.{Appends}
 use Rattle.can_frame.specs.declared.entry.Entry.{Entry}
 use Rattle.can_frame.specs.Log.{IsInjective}
@@ -43,9 +43,9 @@ IsWritten outcome report before now status =
 
 -- an end at which no disk failed
 abbrev pub IsOfStores : Status → Type 0
-IsOfStores Done = Unit {0}
-IsOfStores (Differ place first second) = Unit {0}
-IsOfStores (Damaged id key) = Unit {0}
+IsOfStores Done = ⊤
+IsOfStores (Differ place first second) = ⊤
+IsOfStores (Damaged id key) = ⊤
 IsOfStores _ = ⊥
 
 -- each node has a disk, which tells what it holds

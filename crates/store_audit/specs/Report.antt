@@ -1,5 +1,5 @@
 -- What an audit writes.
-use Rattle.std.specs.Prelude.{◌≡◌, ℕ, zero, suc, ◌-◌, ◌<◌, nat_lt, List, [], ◌++◌, length, codes, decimal, flat_map, slice_index, if◌then◌else◌}
+use Rattle.std.specs.Prelude.{⊤, ◌≡◌, ℕ, zero, suc, ◌-◌, ◌<◌, nat_lt, List, [], ◌++◌, length, codes, decimal, flat_map, slice_index, if◌then◌else◌}
 use Rattle.hex.specs.Hex.{encode_lower}
 use Rattle.can_frame.specs.declared.entry.Entry.{Entry}
 use Rattle.can_frame.specs.Log.{IsPrefix, entry_at}
@@ -48,7 +48,7 @@ line_of (Differ place a b) =
 line_of _ = []
 
 abbrev pub HasLine : Status → Type 0
-HasLine (DiskFault id) = Unit {0}
-HasLine (Damaged id key) = Unit {0}
-HasLine (Differ place a b) = Unit {0}
+HasLine (DiskFault id) = ⊤
+HasLine (Damaged id key) = ⊤
+HasLine (Differ place a b) = ⊤
 HasLine _ = ⊥

@@ -1,5 +1,5 @@
 -- A leader's entries and its commit, and what a server says: calls, answers to them, and answers to devices.
-use Rattle.std.specs.Prelude.{◌≡◌, ◌≢◌, ℕ, ◌<◌, ◌≤◌, Bool, true, false, List, [], ◌∷◌, ◌++◌, length, ◌==◌, ◌⊎◌, get_or, Option, Some, None, nat_le, nat_lt, if◌then◌else◌}
+use Rattle.std.specs.Prelude.{◌≡◌, ◌≢◌, ℕ, ◌<◌, ◌≤◌, Bool, true, false, List, [], ◌∷◌, ◌++◌, length, ◌==◌, ◌⊎◌, slice_index_or, Option, Some, None, nat_le, nat_lt, if◌then◌else◌}
 use Rattle.raft_model.specs.Lists.{In, at, how_many}
 use Rattle.can_frame.specs.declared.entry.Entry.{Entry}
 use Rattle.can_frame.specs.Log.{IsInjective, IsPair, IsReservation, blank, last_term, log_limit}
@@ -50,7 +50,8 @@ vote_request member step store peer = record {
 -- the entry at the place after the previous index, where one is wanted and there
 abbrev pub entry_after : List Entry → ℕ → Bool → Option Entry
 entry_after log previous with_entry =
-    if with_entry then (if nat_lt previous (length log) then Some (get_or log previous (blank 0)) else None) else None
+    if with_entry then (if nat_lt previous (length log) then Some (slice_index_or log previous (blank 0)) else None)
+    else None
 
 abbrev pub append_request : ℕ → ℕ → Store → ℕ → ℕ → Bool → Request
 append_request member step store peer previous with_entry = record {
@@ -74,8 +75,8 @@ abbrev pub pair_at : ℕ → ℕ → Store → ℕ → Pair
 pair_at member step store place = record {
   step = step;
   from = member;
-  uid = (get_or store.log place (blank 0)).uid;
-  node = (get_or store.log place (blank 0)).node;
+  uid = (slice_index_or store.log place (blank 0)).uid;
+  node = (slice_index_or store.log place (blank 0)).node;
 }
 
 -- the request is the pending call to the peer
