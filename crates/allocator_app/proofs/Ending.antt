@@ -10,27 +10,17 @@ use Rattle.cluster_spec.specs.Report.{end_lines, row_lines}
 use Rattle.allocator_app.specs.Report.{IsReport, IsToTheEnd}
 use Rattle.allocator_app.specs.Rows.{Ends, IsTold}
 use Rattle.cmd_base.specs.declared.status.Status.{Status}
-use Rattle.cmd_base.specs.declared.status.Status.TheVariants.{Done, Usage, BadRow, Unlawful, ReadFault, WriteFault, Memory, Limit, LinkFault, DiskFault, Damaged, Differ, NoPart, NoValue}
+use Rattle.cmd_base.specs.declared.status.Status.TheVariants.{Done, ReadFault, WriteFault, Memory}
 use Rattle.allocator_app.proofs.OneReport.{one_report, rows-grow}
 
 -- ---- the answers, each by itself
 
 pub reported : (status : Status) (limit : ℕ) (first : Cluster) (bytes : List ℕ) (left sink sink_now : Option (List ℕ)) →
     Ends status limit first bytes left sink sink_now → IsToTheEnd status → IsTold status limit first bytes left sink sink_now
-reported Done limit first bytes left sink sink_now ends over = ends
-reported (BadRow row) limit first bytes left sink sink_now ends over = ends
-reported (Unlawful row number) limit first bytes left sink sink_now ends over = ends
-reported (Limit row) limit first bytes left sink sink_now ends over = ends
-reported Usage limit first bytes left sink sink_now ends over = absurd over
 reported ReadFault limit first bytes left sink sink_now ends over = absurd over
 reported WriteFault limit first bytes left sink sink_now ends over = absurd over
 reported Memory limit first bytes left sink sink_now ends over = absurd over
-reported (LinkFault id) limit first bytes left sink sink_now ends over = absurd over
-reported (DiskFault id) limit first bytes left sink sink_now ends over = absurd over
-reported (Damaged id key) limit first bytes left sink sink_now ends over = absurd over
-reported (Differ index a b) limit first bytes left sink sink_now ends over = absurd over
-reported NoPart limit first bytes left sink sink_now ends over = absurd over
-reported NoValue limit first bytes left sink sink_now ends over = absurd over
+reported _ limit first bytes left sink sink_now ends over = ends
 
 -- what holds along all lawful rows holds along those of the report
 pub holds_along : (Claim : List ℕ → List Row → Type 0) → ((ids : List ℕ) (rows : List Row) → AreMembers ids → Lawful (cluster ids) rows → Claim ids rows) →
@@ -45,24 +35,11 @@ holds_along Claim law status limit nodes bytes left sink sink_now members ends o
 pub completed : ((a b : Row) (line : List ℕ) → Reads a line → Reads b line → a ≡ b) → (result : Status) (limit : ℕ) (first : Cluster)
     (bytes report : List ℕ) (status : Status) (left sink sink_now : Option (List ℕ)) → Ends result limit first bytes left sink sink_now →
     IsReport limit first bytes report status → (result ≡ ReadFault → ⊥) → (result ≡ WriteFault → ⊥) → (result ≡ status) ⊎ (result ≡ Memory)
-completed one Done limit first bytes report status left sink sink_now ends told reads writes =
-    inl (one_report one limit first bytes ends.report report Done status ends.is told).1
-completed one (BadRow row) limit first bytes report status left sink sink_now ends told reads writes =
-    inl (one_report one limit first bytes ends.report report (BadRow row) status ends.is told).1
-completed one (Unlawful row number) limit first bytes report status left sink sink_now ends told reads writes =
-    inl (one_report one limit first bytes ends.report report (Unlawful row number) status ends.is told).1
-completed one (Limit row) limit first bytes report status left sink sink_now ends told reads writes =
-    inl (one_report one limit first bytes ends.report report (Limit row) status ends.is told).1
-completed one Usage limit first bytes report status left sink sink_now ends told reads writes = absurd ends
 completed one ReadFault limit first bytes report status left sink sink_now ends told reads writes = absurd (reads refl)
 completed one WriteFault limit first bytes report status left sink sink_now ends told reads writes = absurd (writes refl)
 completed one Memory limit first bytes report status left sink sink_now ends told reads writes = inr refl
-completed one (LinkFault id) limit first bytes report status left sink sink_now ends told reads writes = absurd ends
-completed one (DiskFault id) limit first bytes report status left sink sink_now ends told reads writes = absurd ends
-completed one (Damaged id key) limit first bytes report status left sink sink_now ends told reads writes = absurd ends
-completed one (Differ index a b) limit first bytes report status left sink sink_now ends told reads writes = absurd ends
-completed one NoPart limit first bytes report status left sink sink_now ends told reads writes = absurd ends
-completed one NoValue limit first bytes report status left sink sink_now ends told reads writes = absurd ends
+completed one result limit first bytes report status left sink sink_now ends told reads writes =
+    inl (one_report one limit first bytes ends.report report result status ends.is told).1
 
 -- a schedule of lawful rows, as many as may come at most, has a report that ends with `Done`
 pub all_lawful : (limit : ℕ) (ids bytes : List ℕ) (rows : List Row) → ReadsRows rows bytes [] → length rows ≤ limit → Lawful (cluster ids) rows →

@@ -9,8 +9,8 @@ use Rattle.cluster_spec.specs.Lawful.{Lawful, cause, number_of}
 use Rattle.cluster_spec.specs.Report.{row_lines, line_of_row}
 use Rattle.cluster_spec.specs.ReportLine.{text_of_line}
 use Rattle.cluster_spec.specs.declared.unlawful.Unlawful.{Unlawful}
-use Rattle.allocator_app.specs.InPart.{IsWrittenInPart}
-use Rattle.allocator_app.specs.InPart.IsWrittenInPart.{InRows, AtTheEnd}
+use Rattle.allocator_app.specs.InPart.{IsText, IsWrittenInPart}
+use Rattle.allocator_app.specs.InPart.IsText.{OfRows, OfAll}
 use Rattle.cmd_base.specs.Output.{WritesFront}
 use Rattle.allocator_app.specs.Report.{IsBadRow, IsBeyond, IsRefused, IsReport, Says, bad_row_line, limit_line, unlawful_line}
 use Rattle.cmd_base.specs.declared.status.Status.{Status}
@@ -190,14 +190,15 @@ module _ (one_row : (a b : Row) (line : List ℕ) → Reads a line → Reads b l
 
   pub begins_report : (first : Cluster) (bytes report : List ℕ) (status : Status) (left sink_before sink_now : Option (List ℕ)) →
       IsWrittenInPart limit first bytes left sink_before sink_now → IsReport limit first bytes report status → WritesFront sink_before sink_now report
-  begins_report first bytes report status left sink_before sink_now (InRows now lines rest comes within front no_further ahead) q =
-      let q_end : q.end ≡ after_rows first q.comes.rows = q.comes.leaves in
-      let q_says = subst (λ w. Says limit w q.rest q.last status) q_end q.says in
-      let far = along first comes.rows q.comes.rows bytes rest q.rest comes.reads comes.lawful (subst (λ (w : Cluster). w.rows ≤ limit) comes.leaves within)
-      q.comes.reads q.comes.lawful (stuck-at_end (after_rows first q.comes.rows) q.rest q.last status q_says) in
-      let behind = row_lines (after_rows first comes.rows) far.0 in
-      let all : q.lines ≡ lines ++ behind = q.comes.told ∙ far.4 ∙ ap (λ l. l ++ behind) (sym comes.told) in
-      subst (WritesFront sink_before sink_now) (sym (q.written ∙ ap (λ l. l ++ q.last) all ∙ append_assoc lines behind q.last))
-      (front-of_more sink_before sink_now lines (behind ++ q.last) front)
-  begins_report first bytes report status left sink_before sink_now (AtTheEnd other ending line_of_row front no_further ahead) q =
-      subst (WritesFront sink_before sink_now) (one_report first bytes other report ending status line_of_row q).0 front
+  begins_report first bytes report status left sink_before sink_now written q = by written.is where
+    by : IsText limit first bytes written.text written.rest → WritesFront sink_before sink_now report
+    by (OfRows now comes within) =
+        let q_end : q.end ≡ after_rows first q.comes.rows = q.comes.leaves in
+        let q_says = subst (λ w. Says limit w q.rest q.last status) q_end q.says in
+        let far = along first comes.rows q.comes.rows bytes written.rest q.rest comes.reads comes.lawful (subst (λ (w : Cluster). w.rows ≤ limit) comes.leaves within)
+        q.comes.reads q.comes.lawful (stuck-at_end (after_rows first q.comes.rows) q.rest q.last status q_says) in
+        let behind = row_lines (after_rows first comes.rows) far.0 in
+        let all : q.lines ≡ written.text ++ behind = q.comes.told ∙ far.4 ∙ ap (λ l. l ++ behind) (sym comes.told) in
+        subst (WritesFront sink_before sink_now) (sym (q.written ∙ ap (λ l. l ++ q.last) all ∙ append_assoc written.text behind q.last))
+        (front-of_more sink_before sink_now written.text (behind ++ q.last) written.front)
+    by (OfAll ending other rest_is) = subst (WritesFront sink_before sink_now) (one_report first bytes written.text report ending status other q).0 written.front

@@ -5,7 +5,7 @@ use Rattle.std.specs.Io.KnownBytes.{Appends, Consumes, IsAtEnd, Keeps, append_kn
 use Rattle.std.proofs.KnownBytes.{Appends-trans}
 use Rattle.replay_text.specs.Lines.{after_line}
 use Rattle.allocator_app.specs.InPart.{HasRead, IsReadInPart, IsWrittenInPart, ReadsAhead}
-use Rattle.allocator_app.specs.InPart.IsWrittenInPart.{InRows, AtTheEnd}
+use Rattle.allocator_app.specs.InPart.IsText.{OfRows, OfAll}
 use Rattle.cmd_base.specs.Input.{ReadsMore}
 use Rattle.cmd_base.specs.NoFurther.{ReadsNoFurther}
 use Rattle.cmd_base.specs.Output.{Grows, WritesFront}
@@ -133,9 +133,7 @@ read_on limit first w now bytes waiting filled behind left left_now sink sink_be
 ends_there : (limit : ℕ) (w : Cluster) (rest behind more : List ℕ) (rows : Rows) → (rows ≡ Taken → ⊥) → StopsAt limit w rest behind rows →
     EndsAt limit w (rest ++ more) rows
 ends_there limit w rest behind more Taken not stops = absurd (not refl)
-ends_there limit w rest behind more NoRow not stops = stops more
-ends_there limit w rest behind more (Refused why) not stops = stops more
-ends_there limit w rest behind more Full not stops = stops more
+ends_there limit w rest behind more _ not stops = stops more
 
 -- all of them were taken
 pub took_all : (limit : ℕ) (before now : Cluster) (waiting left : List ℕ) (sink_before : Option (List ℕ)) (output_before : List ℕ) (sink_now : Option (List ℕ))
@@ -173,11 +171,15 @@ pub rows_in_part : (limit : ℕ) → (first w now : Cluster) (bytes waiting fill
 unfolding on
 rows_in_part limit first w now bytes waiting filled left left_now sink sink_before sink_now output read more none grew within broke =
     let went = on first w now bytes waiting filled left left_now sink sink_before read more broke.lines broke.rest broke.goes in
-    InRows now (read.lines ++ broke.lines) (broke.rest ++ went.0) went.2.comes within
-    (front-behind sink sink_before sink_now [] read.lines broke.lines grew (appends_waiting sink sink_before [] read.lines refl read.written)
-    (subst (λ o. WritesFront sink_before sink_now (o ++ broke.lines)) none broke.written))
-    (no_more broke.rest filled went.0 left_now broke.shorter more.fits went.1)
-    (reads_ahead first w bytes waiting filled left left_now sink sink_before sink_now read more (grows-front _ _ _ broke.written))
+    record {
+      text = read.lines ++ broke.lines;
+      rest = broke.rest ++ went.0;
+      is = OfRows now went.2.comes within;
+      front = front-behind sink sink_before sink_now [] read.lines broke.lines grew (appends_waiting sink sink_before [] read.lines refl read.written)
+          (subst (λ o. WritesFront sink_before sink_now (o ++ broke.lines)) none broke.written);
+      no_further = no_more broke.rest filled went.0 left_now broke.shorter more.fits went.1;
+      ahead = reads_ahead first w bytes waiting filled left left_now sink sink_before sink_now read more (grows-front _ _ _ broke.written);
+    }
 
 -- the sink fails when what the rows of the read tell is handed to it
 pub flush_in_part : (limit : ℕ) → (first w now : Cluster) (bytes waiting filled behind : List ℕ) (left left_now sink sink_before sink_now sink_then : Option (List ℕ))
@@ -188,14 +190,18 @@ unfolding on
 flush_in_part limit first w now bytes waiting filled behind left left_now sink sink_before sink_now sink_then output output_now read more none grew within took front =
     let went = on first w now bytes waiting filled left left_now sink sink_before read more took.lines took.rest took.goes in
     let lines = read.lines ++ took.lines in
-    InRows now lines (took.rest ++ went.0) went.2.comes within
-    (subst (WritesFront sink sink_then) (append-nil lines) (front-behind sink sink_now sink_then output_now lines []
-    (grows-trans sink sink_before sink_now (read.lines, read.written) grew)
-    (written_on sink sink_before sink_now output read.lines took.lines none read.written output_now took.written)
-    (subst (WritesFront sink_now sink_then) (sym (append-nil output_now)) front)))
-    (no_more took.rest filled went.0 left_now took.shorter more.fits went.1)
-    (reads_ahead first w bytes waiting filled left left_now sink sink_before sink_then read more
-    (grows-trans sink_before sink_now sink_then grew (grows-front _ _ _ front)))
+    record {
+      text = lines;
+      rest = took.rest ++ went.0;
+      is = OfRows now went.2.comes within;
+      front = subst (WritesFront sink sink_then) (append-nil lines) (front-behind sink sink_now sink_then output_now lines []
+          (grows-trans sink sink_before sink_now (read.lines, read.written) grew)
+          (written_on sink sink_before sink_now output read.lines took.lines none read.written output_now took.written)
+          (subst (WritesFront sink_now sink_then) (sym (append-nil output_now)) front));
+      no_further = no_more took.rest filled went.0 left_now took.shorter more.fits went.1;
+      ahead = reads_ahead first w bytes waiting filled left left_now sink sink_before sink_then read more
+          (grows-trans sink_before sink_now sink_then grew (grows-front _ _ _ front));
+    }
 
 -- the source fails: it keeps what it has
 kept : (left left_now : Option (List ℕ)) (ahead : List ℕ) → left ≡ Some ahead → Keeps left left_now → left_now ≡ Some ahead
@@ -325,9 +331,14 @@ pub end_in_part : (limit : ℕ) (first end : Cluster) (bytes output : List ℕ) 
     IsWrittenInPart limit first bytes left sink sink_then
 unfolding report_of
 end_in_part limit first end bytes output left sink sink_now sink_then rows within read grew front =
-    AtTheEnd (read.lines ++ last_of rows end) (status_of rows end.rows) (report_of limit first end bytes output left sink sink_now rows within read)
-    (front-behind sink sink_now sink_then output read.lines (last_of rows end) grew read.written front)
-    read.no_further (still_ahead first bytes left sink sink_now sink_then read.ahead (grows-front _ _ _ front))
+    record {
+      text = read.lines ++ last_of rows end;
+      rest = read.rest;
+      is = OfAll (status_of rows end.rows) (report_of limit first end bytes output left sink sink_now rows within read) refl;
+      front = front-behind sink sink_now sink_then output read.lines (last_of rows end) grew read.written front;
+      no_further = read.no_further;
+      ahead = still_ahead first bytes left sink sink_now sink_then read.ahead (grows-front _ _ _ front);
+    }
 
 -- ---- the statuses of reports
 

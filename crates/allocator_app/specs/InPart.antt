@@ -42,13 +42,21 @@ pub record ReadsAhead (first : Cluster) (bytes : List ℕ) (left sink_before sin
   pub written : Appends sink_before sink_now (lines ++ more)
   pub no_further : ReadsNoFurther rest left
 
--- the sink failed: it has a front of the lines of some rows that were taken, or of the whole report. The source was
--- read no further than these rows, nor than those whose lines are all written
-pub data IsWrittenInPart (limit : ℕ) (first : Cluster) (bytes : List ℕ)
+-- what a run writes, some of it or all: the lines of some rows that may come, or the whole report; and the bytes
+-- behind these rows
+pub data IsText (limit : ℕ) (first : Cluster) (bytes text rest : List ℕ) : Type 0 where
+  OfRows : (now : Cluster) → ReadsUpTo first bytes text now rest → now.rows ≤ limit →
+      IsText limit first bytes text rest
+  OfAll : (status : Status) → (is : IsReport limit first bytes text status) → rest ≡ is.rest →
+      IsText limit first bytes text rest
+
+-- the sink failed: it has a front of such a text. The source was read no further than that text's rows, nor than those
+-- whose lines are all written
+pub record IsWrittenInPart (limit : ℕ) (first : Cluster) (bytes : List ℕ)
     (left sink_before sink_now : Option (List ℕ)) : Type 0 where
-  InRows : (now : Cluster) (lines rest : List ℕ) → ReadsUpTo first bytes lines now rest → now.rows ≤ limit →
-      WritesFront sink_before sink_now lines → ReadsNoFurther rest left →
-      ReadsAhead first bytes left sink_before sink_now → IsWrittenInPart limit first bytes left sink_before sink_now
-  AtTheEnd : (report : List ℕ) (status : Status) → (is : IsReport limit first bytes report status) →
-      WritesFront sink_before sink_now report → ReadsNoFurther is.rest left →
-      ReadsAhead first bytes left sink_before sink_now → IsWrittenInPart limit first bytes left sink_before sink_now
+  pub text : List ℕ
+  pub rest : List ℕ
+  pub is : IsText limit first bytes text rest
+  pub front : WritesFront sink_before sink_now text
+  pub no_further : ReadsNoFurther rest left
+  pub ahead : ReadsAhead first bytes left sink_before sink_now

@@ -1,5 +1,5 @@
 -- What the loops of a run come to, and how a run ends.
-use Rattle.std.specs.Prelude.{◌≡◌, ◌≤◌, ◌<◌, ◌⊎◌, ℕ, ◌+◌, List, [], ◌++◌, length, Option, None, Some}
+use Rattle.std.specs.Prelude.{⊤, ◌≡◌, ◌≤◌, ◌<◌, ◌⊎◌, ℕ, ◌+◌, List, [], ◌++◌, length, Option, None, Some}
 use Rattle.std.specs.Io.KnownBytes.{Appends, append_known}
 use Rattle.outside.specs.Faults.{Rose}
 use Rattle.replay_text.specs.Lines.{after_line}
@@ -18,13 +18,18 @@ use Rattle.allocator_app.specs.declared.rows.Fault.TheVariants.{Source, Sink}
 use Rattle.cmd_base.specs.declared.status.Status.{Status}
 use Rattle.cmd_base.specs.declared.status.Status.TheVariants.{Done, BadRow, Unlawful, ReadFault, WriteFault, Memory, Limit}
 
+-- where a schedule ends
+abbrev pub EndsAt : ℕ → Cluster → List ℕ → Rows → Type 0
+EndsAt limit w rest Taken = rest ≡ []
+EndsAt limit w rest NoRow = IsBadRow limit w rest
+EndsAt limit w rest (Refused why) = IsRefused limit w rest why
+EndsAt limit w rest Full = IsBeyond limit w rest
+
 -- where the rows that wait end: all were taken but the beginning of a line; or the next one is not taken, whatever
 -- comes behind
 abbrev pub StopsAt : ℕ → Cluster → List ℕ → List ℕ → Rows → Type 0
 StopsAt limit w rest waiting Taken = rest ≡ waiting
-StopsAt limit w rest waiting NoRow = (more : List ℕ) → IsBadRow limit w (rest ++ more)
-StopsAt limit w rest waiting (Refused why) = (more : List ℕ) → IsRefused limit w (rest ++ more) why
-StopsAt limit w rest waiting Full = (more : List ℕ) → IsBeyond limit w (rest ++ more)
+StopsAt limit w rest waiting rows = (more : List ℕ) → EndsAt limit w (rest ++ more) rows
 
 -- rows were taken of those that wait, and what they tell was written or waits to be
 pub record TakesRows (limit : ℕ) (before now : Cluster) (waiting left : List ℕ)
@@ -56,14 +61,7 @@ pub record WaitsOn (limit rows_before rows_now : ℕ) (before now : List ℕ) : 
 
 abbrev pub Waits : ℕ → ℕ → ℕ → List ℕ → List ℕ → Rows → Type 0
 Waits limit rows_before rows_now before now Taken = WaitsOn limit rows_before rows_now before now
-Waits limit rows_before rows_now before now _ = Unit {0}
-
--- where a schedule ends
-abbrev pub EndsAt : ℕ → Cluster → List ℕ → Rows → Type 0
-EndsAt limit w rest Taken = rest ≡ []
-EndsAt limit w rest NoRow = IsBadRow limit w rest
-EndsAt limit w rest (Refused why) = IsRefused limit w rest why
-EndsAt limit w rest Full = IsBeyond limit w rest
+Waits limit rows_before rows_now before now _ = ⊤
 
 -- the last line of the report, after so many rows, and the status of the run
 abbrev pub last_line_of : Rows → ℕ → List ℕ
@@ -81,9 +79,7 @@ status_of Full rows = Limit (rows + 1)
 -- where all rows were taken the logs stand before it
 abbrev pub logs_before : Rows → Cluster → List ℕ
 logs_before Taken w = all_logs w
-logs_before NoRow w = []
-logs_before (Refused why) w = []
-logs_before Full w = []
+logs_before _ w = []
 
 abbrev pub last_of : Rows → Cluster → List ℕ
 last_of rows w = logs_before rows w ++ last_line_of rows w.rows
@@ -121,21 +117,15 @@ pub record IsTold (status : Status) (limit : ℕ) (first : Cluster) (bytes : Lis
   pub no_further : ReadsNoFurther is.rest left
   pub written : Appends sink_before sink_now report
 
--- how a run over a schedule of at most so many rows ends, from a world on
+-- how a run over a schedule of at most so many rows ends, from a world on. No report comes with a status of which no
+-- schedule tells
 abbrev pub Ends : Status → ℕ → Cluster → List ℕ → Option (List ℕ) → Option (List ℕ)
     → Option (List ℕ) → Type 0
-Ends Done limit first bytes left sink_before sink_now = IsTold Done limit first bytes left sink_before sink_now
-Ends (BadRow row) limit first bytes left sink_before sink_now =
-    IsTold (BadRow row) limit first bytes left sink_before sink_now
-Ends (Unlawful row number) limit first bytes left sink_before sink_now =
-    IsTold (Unlawful row number) limit first bytes left sink_before sink_now
-Ends (Limit row) limit first bytes left sink_before sink_now =
-    IsTold (Limit row) limit first bytes left sink_before sink_now
 Ends ReadFault limit first bytes left sink_before sink_now = IsReadInPart limit first bytes left sink_before sink_now
 Ends WriteFault limit first bytes left sink_before sink_now =
     IsWrittenInPart limit first bytes left sink_before sink_now
-Ends Memory limit first bytes left sink_before sink_now = Unit {0}
-Ends _ limit first bytes left sink_before sink_now = ⊥
+Ends Memory limit first bytes left sink_before sink_now = ⊤
+Ends status limit first bytes left sink_before sink_now = IsTold status limit first bytes left sink_before sink_now
 
 -- a run over a schedule of these members
 pub record Replays (limit : ℕ) (nodes : List ℕ) (left_old left sink_before sink_now : Option (List ℕ)) (status : Status)
