@@ -1,21 +1,6 @@
 -- A recorded pair is answered again.
-use Rattle.std.proofs.Common.{◌≡◌, ◌<◌, ◌≤◌, ℕ, zero, suc, Bool, true, false, List, [], ◌∷◌, length, get_or, inl, inr, refl, arith}
-use Rattle.std.specs.Prelude.{None, nat_lt, if◌then◌else◌}
-use Rattle.std.proofs.lemmas.Bool.{cases_lt}
-use Rattle.std.proofs.lemmas.Bool.Decides.{nat_tests}
-use Rattle.can_frame.specs.declared.entry.Entry.{Entry}
-use Rattle.can_frame.specs.declared.step.What.TheVariants.{Alloc}
-use Rattle.can_frame.specs.Log.{IsWellFormed}
-use Rattle.disk_model.specs.declared.disk.Disk.{Ghosts}
-use Rattle.raft_log.specs.declared.durable.Durable.{Durable}
-use Rattle.raft_core.specs.Times.{given_at}
-use Rattle.raft_model.specs.Moves.Move.{AnswerAgain}
-use Rattle.alloc_spec.specs.declared.offered.Offered.{Offered}
-use Rattle.alloc_spec.specs.Exchange.{allocation_payload, gives_entry}
-use Rattle.alloc_spec.specs.StepState.{StepState, with_transfer, with_moves}
-use Rattle.alloc_spec.specs.Transfers.{has_room}
-use Rattle.alloc_handlers.specs.declared.member.Member.{Member}
-use Rattle.alloc_handlers.specs.Stands.{IsInStep}
+use Rattle.std.proofs.Common.{◌≡◌, ◌<◌, ◌≤◌, ℕ, zero, suc, Bool, true, false, List, [], ◌∷◌, length, get_or, inl, inr, refl, arith, None, if◌then◌else◌, nat_lt}
+use Rattle.alloc_handlers.proofs.Words.{Alloc, AnswerAgain, Durable, Entry, Ghosts, IsInStep, IsWellFormed, Member, Offered, StepState, allocation_payload, cases_lt, given_at, gives_entry, has_room, nat_tests, with_moves, with_transfer}
 use Rattle.alloc_handlers.proofs.Noting.{noted_moves}
 
 pub node_low : (entry : Entry) → IsWellFormed entry → entry.node < 128

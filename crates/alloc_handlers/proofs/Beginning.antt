@@ -1,20 +1,8 @@
 -- A step that begins.
-use Rattle.std.proofs.Common.{◌≡◌, ℕ, List, [], ◌∷◌, refl, sym, subst}
-use Rattle.std.specs.Prelude.{None}
-use Rattle.disk_model.specs.declared.disk.Disk.{Ghosts}
-use Rattle.raft_log.specs.declared.durable.Durable.{Durable}
-use Rattle.raft_core.specs.Handled.{moves_of_expire, puts_with_origins}
-use Rattle.raft_core.specs.StoredPuts.{CallWrites, PutWithOrigin}
-use Rattle.raft_core.specs.Times.{Given, given_at, overdue}
-use Rattle.raft_model.specs.Handlers.{server_after}
-use Rattle.raft_model.specs.Moves.Move.{GiveUp}
-use Rattle.raft_model.specs.Server.{RaftServer}
-use Rattle.alloc_spec.specs.declared.offered.Offered.{Offered}
-use Rattle.alloc_spec.specs.Step.{all_nodes, at_moment, at_sessions, begin_phase}
-use Rattle.alloc_spec.specs.AllocatorState.{AllocatorState, members_of}
+use Rattle.std.proofs.Common.{◌≡◌, ℕ, List, [], ◌∷◌, refl, sym, subst, None}
+use Rattle.alloc_handlers.proofs.Words.{AllocatorState, CallWrites, Durable, Ghosts, GiveUp, Given, IsFresh, IsInStep, Member, Offered, PutWithOrigin, RaftServer, StandsFor, at_moment, at_sessions, begin_phase, given_at, members_of, moves_of_expire, overdue, puts_with_origins, server_after}
+use Rattle.alloc_spec.specs.Step.{all_nodes}
 use Rattle.transfer_rx.specs.Sessions.{Session}
-use Rattle.alloc_handlers.specs.declared.member.Member.{Member}
-use Rattle.alloc_handlers.specs.Stands.{IsFresh, IsInStep, StandsFor}
 
 -- giving up calls makes no puts
 expire_is_quiet : (members : List ℕ) (me step : ℕ) (given : Given) (raft_server : RaftServer) (nodes : List ℕ) → puts_with_origins members me step given raft_server (moves_of_expire nodes) ≡ []

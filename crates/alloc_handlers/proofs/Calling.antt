@@ -1,7 +1,6 @@
 -- The transfer of a call that is owed.
 use Rattle.std.proofs.Common.{◌≡◌, ℕ, true, List, [], ◌∷◌, Option, Some, None, refl, sym, ap, subst, ◌∙◌}
-use Rattle.can_frame.specs.declared.entry.Entry.{Entry}
-use Rattle.can_frame.specs.declared.step.What.TheVariants.{AppQ, VoteQ}
+use Rattle.alloc_handlers.proofs.Words.{AppQ, CallForVote, CallToAppend, Entry, Given, Move, RaftServer, Request, StepState, VoteQ, append_call_bytes, append_request, calls_by, calls_owed, pair_in, puts_with_origins, vote_call_bytes, vote_request}
 use Rattle.dsdl_codec.specs.AppendRequest.{append_request_bytes}
 use Rattle.dsdl_codec.specs.VoteRequest.{vote_request_bytes}
 use Rattle.dsdl_codec.specs.declared.append_request.AppendRequest.{AppendRequest}
@@ -9,16 +8,6 @@ use Rattle.dsdl_codec.specs.declared.vote_request.VoteRequest.{VoteRequest}
 use Rattle.raft_core.specs.declared.calls.Call.{Call}
 use Rattle.raft_core.specs.declared.calls.Call.TheVariants.{Append, Vote}
 use Rattle.raft_core.specs.Calls.{Says, SaysAppend, SaysVote}
-use Rattle.raft_core.specs.Handled.{puts_with_origins}
-use Rattle.raft_core.specs.Times.{Given}
-use Rattle.raft_model.specs.Messages.{Request}
-use Rattle.raft_model.specs.Moves.{Move}
-use Rattle.raft_model.specs.Moves.Leading.{append_request, vote_request}
-use Rattle.raft_model.specs.Moves.Move.{CallForVote, CallToAppend}
-use Rattle.raft_model.specs.Server.{RaftServer}
-use Rattle.alloc_spec.specs.Ending.{append_call_bytes, calls_by, calls_owed, vote_call_bytes}
-use Rattle.alloc_spec.specs.StepState.{StepState}
-use Rattle.alloc_spec.specs.Transfers.{pair_in}
 use Rattle.alloc_handlers.specs.Calling.{bytes_of, what_of}
 
 -- it gives no pair

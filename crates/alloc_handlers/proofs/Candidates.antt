@@ -1,9 +1,6 @@
 -- The first of the node IDs of devices.
-use Rattle.std.proofs.Common.{◌≡◌, ℕ, suc, ◌+◌, ◌-◌, ◌<◌, Bool, true, false, cond, ◌≤◌, ◌⊎◌, inl, inr, List, Option, Some, None, find, get_or, refl, ap, ◌∙◌, arith}
-use Rattle.std.specs.Prelude.{IfSome, IsNone}
-use Rattle.std.specs.List.{range_with_len}
-use Rattle.std.proofs.lemmas.List.FromFn.{get_or-map-range_with_len}
-use Rattle.alloc_spec.specs.AllocatorState.{AllocatorState, is_known, known}
+use Rattle.std.proofs.Common.{◌≡◌, ℕ, suc, ◌+◌, ◌-◌, ◌<◌, Bool, true, false, cond, ◌≤◌, ◌⊎◌, inl, inr, List, Option, Some, None, find, get_or, refl, ap, ◌∙◌, arith, IfSome, IsNone}
+use Rattle.alloc_handlers.proofs.Words.{AllocatorState, get_or-map-range_with_len, is_known, known, range_with_len}
 
 pub find_next : (p : ℕ → Bool) (k : ℕ) → k < 126 → p k ≡ false → find p (range_with_len k (126 - k)) ≡ find p (range_with_len (k + 1) (126 - (k + 1)))
 find_next p k below not =

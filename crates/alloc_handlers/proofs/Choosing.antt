@@ -1,7 +1,6 @@
 -- A choice, once it is known.
-use Rattle.std.proofs.Common.{◌≡◌, ℕ, Bool, true, false, sym, subst, arith}
-use Rattle.std.specs.Prelude.{nat_eq, if◌then◌else◌}
-use Rattle.std.proofs.lemmas.Bool.Decides.{nat_tests}
+use Rattle.std.proofs.Common.{◌≡◌, ℕ, Bool, true, false, sym, subst, arith, if◌then◌else◌, nat_eq}
+use Rattle.alloc_handlers.proofs.Words.{nat_tests}
 
 pub then_ : {A : Type 0} (P : A → Type 0) (b : Bool) (x y : A) → b ≡ true → P x → P (if b then x else y)
 then_ P b x y is p = subst (λ (v : Bool). P (if v then x else y)) (sym is) p

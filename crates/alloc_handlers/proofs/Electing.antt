@@ -1,27 +1,13 @@
 -- The tick of Raft, with the member's list and moments.
-use Rattle.std.proofs.Common.{◌≡◌, ℕ, ◌-◌, ◌≤◌, Bool, List, [], ◌∷◌, length, take, drop, get_or, refl, sym, ap, subst, ◌∙◌, arith}
-use Rattle.std.specs.Prelude.{Option, nat_eq}
-use Rattle.disk_model.specs.declared.disk.Disk.{Ghosts}
-use Rattle.kv_store.specs.declared.fault.Fault.{Fault}
-use Rattle.raft_log.specs.declared.durable.Durable.{Durable}
-use Rattle.raft_core.specs.declared.raft.Raft.{Raft}
-use Rattle.raft_core.specs.Handled.{MakesMoves, counted_at, moves_of_tick}
-use Rattle.raft_core.specs.Times.{given_tick}
-use Rattle.raft_model.specs.Moves.{Move}
-use Rattle.alloc_handlers.specs.declared.member.Member.{Member}
-use Rattle.alloc_spec.specs.AllocatorState.{AllocatorState, knows_all, members_of}
-use Rattle.alloc_handlers.specs.Stands.{StandsFor}
-
-take_whole : (xs : List ℕ) → take (length xs) xs ≡ xs
-take_whole [] = refl
-take_whole (x ∷ xs) = ap (λ (list : List ℕ). x ∷ list) (take_whole xs)
+use Rattle.std.proofs.Common.{◌≡◌, ℕ, ◌-◌, ◌≤◌, Bool, List, [], ◌∷◌, length, take, drop, get_or, refl, sym, ap, subst, ◌∙◌, arith, take_all, Option, nat_eq}
+use Rattle.alloc_handlers.proofs.Words.{AllocatorState, Durable, Fault, Ghosts, MakesMoves, Member, Move, Raft, StandsFor, counted_at, given_tick, knows_all, members_of, moves_of_tick}
 
 -- the member itself, and the others
 pub first_and_others : (xs : List ℕ) (me : ℕ) → get_or xs 0 0 ≡ me → 1 ≤ length xs → xs ≡ me ∷ take (length xs - 1) (drop 1 xs)
 first_and_others [] me first own = absurd (omega arith)
 first_and_others (x ∷ xs) me first own =
     let e : length (x ∷ xs) - 1 ≡ length xs = omega arith in
-    ap (λ (y : ℕ). y ∷ xs) first ∙ ap (λ (list : List ℕ). me ∷ list) (sym (ap (λ (n : ℕ). take n xs) e ∙ take_whole xs))
+    ap (λ (y : ℕ). y ∷ xs) first ∙ ap (λ (list : List ℕ). me ∷ list) (sym (ap (λ (n : ℕ). take n xs) e ∙ take_all (length xs) xs (omega arith)))
 
 module _ {D : Type 0} {disk : Ghosts D} (member : Member D disk) (t : AllocatorState) (h : StandsFor member t) where
   -- a count of the list, in place of the words

@@ -1,17 +1,14 @@
 -- Two calls, one after the other, keep faults as one does.
-use Rattle.std.proofs.Common.{◌≡◌, sym, subst}
-use Rattle.std.specs.Prelude.{Option, None}
-use Rattle.disk_model.specs.declared.disk.Disk.{Ghosts}
-use Rattle.kv_store.specs.declared.fault.Fault.{Fault}
-use Rattle.raft_log.specs.declared.durable.Durable.{Durable}
-use Rattle.raft_core.specs.StoredPuts.{CallFaultIsSticky}
-use Rattle.alloc_handlers.specs.Puts.{PutsGoOn}
+use Rattle.std.proofs.Common.{◌≡◌, sym, subst, Option, None, Some, Result, IsErr, IsErrAnd}
+use Rattle.alloc_handlers.proofs.Words.{CallFaultIsSticky, Durable, Fault, Ghosts, PutsGoOn, result_err}
+use Rattle.alloc_handlers.proofs.Taking.{given_on}
 
--- the first did not fail, and nothing is stored before it and after the second
-pub faults_in_turn : {D : Type 0} {disk : Ghosts D} → PutsGoOn D disk → (old start mid new last : Durable D disk) (first second failed : Option Fault)
-    → start ≡ old → last ≡ new → first ≡ None → second ≡ failed → CallFaultIsSticky start mid first → CallFaultIsSticky mid new second → CallFaultIsSticky old last failed
-faults_in_turn laws old start mid new last first second failed before after none is one two =
-    subst (λ (d : Durable _ _). CallFaultIsSticky d last failed) before
-    (subst (λ (d : Durable _ _). CallFaultIsSticky start d failed) (sym after)
-    (subst (λ (f : Option Fault). CallFaultIsSticky start new f) is
-    (laws.faults start mid new second (subst (λ (f : Option Fault). CallFaultIsSticky start mid f) none one) two)))
+module _ {D : Type 0} {disk : Ghosts D} {old start mid new : Durable D disk} {failed : Option Fault} (laws : PutsGoOn D disk) where
+  -- the first did not fail, and nothing is stored before it
+  pub faults_in_turn : start ≡ old → CallFaultIsSticky start mid None → CallFaultIsSticky mid new failed → CallFaultIsSticky old new failed
+  faults_in_turn before one two = subst (λ (d : Durable D disk). CallFaultIsSticky d new failed) before (laws.faults start mid new failed one two)
+
+-- the second failed: `?` gives its fault on
+module _ {T D : Type 0} {disk : Ghosts D} {old new : Durable D disk} {fault : Fault} where
+  pub faults_failed : (result : Result T Fault) → IsErr result → IsErrAnd result (λ e. e ≡ fault) → CallFaultIsSticky old new (Some fault) → CallFaultIsSticky old new (result_err result)
+  faults_failed result is same sticky = subst (λ (f : Option Fault). CallFaultIsSticky old new f) (sym (given_on result is same)) sticky

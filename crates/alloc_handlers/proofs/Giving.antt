@@ -1,10 +1,7 @@
 -- The pair that an Allocation gives, by its payload.
-use Rattle.std.proofs.Common.{◌≡◌, ℕ, ◌≤◌, ◌+◌, ◌*◌, ◌/◌, ◌%◌, Bool, true, List, length, ap, ◌∙◌, arith}
-use Rattle.std.specs.Prelude.{◌&&◌, nat_eq, nat_le, cond, Option, Some, None, if◌then◌else◌}
-use Rattle.std.proofs.lemmas.Bool.Decides.{nat_tests}
-use Rattle.can_frame.specs.declared.step.What.TheVariants.{Alloc}
-use Rattle.alloc_spec.specs.Exchange.{allocation_payload}
-use Rattle.alloc_spec.specs.Transfers.{Given, pair_of_allocation, pair_in}
+use Rattle.std.proofs.Common.{◌≡◌, ℕ, ◌≤◌, ◌+◌, ◌*◌, ◌/◌, ◌%◌, Bool, true, List, length, ap, ◌∙◌, arith, None, Option, Some, cond, if◌then◌else◌, nat_eq, nat_le, ◌&&◌}
+use Rattle.alloc_handlers.proofs.Words.{Alloc, allocation_payload, nat_tests, pair_in, pair_of_allocation}
+use Rattle.alloc_spec.specs.Transfers.{Given}
 
 at_most : (n : ℕ) → n ≤ 16 → nat_le n 16 ≡ true
 at_most n h = grind (arith, nat_tests)

@@ -7,9 +7,9 @@ pub mod Choosing
 pub mod Electing
 pub mod Faults
 pub mod Giving
-pub mod Lists
 pub mod Nodes
 pub mod Noting
+pub mod Parts
 pub mod Peers
 pub mod Recorded
 pub mod Recording
@@ -21,3 +21,4 @@ pub mod Taking
 pub mod Telling
 pub mod Uids
 pub mod Voting
+pub mod Words

@@ -1,7 +1,6 @@
 -- All node IDs.
 use Rattle.std.proofs.Common.{ℕ, zero, suc, ◌+◌, ◌<◌, ◌≤◌, inl, inr, arith}
-use Rattle.std.proofs.lemmas.Bool.{cases_lt}
-use Rattle.std.specs.List.{range_with_len}
+use Rattle.alloc_handlers.proofs.Words.{cases_lt, range_with_len}
 use Rattle.raft_model.specs.Lists.{In}
 use Rattle.alloc_spec.specs.Step.{all_nodes}
 

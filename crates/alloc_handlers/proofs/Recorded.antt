@@ -1,20 +1,7 @@
 -- Node IDs that are known: those of the members, and those that stand in the log.
-use Rattle.std.proofs.Common.{◌≡◌, ◌<◌, ℕ, zero, suc, Bool, true, false, List, [], ◌∷◌, length, ◌||◌, refl, sym, ap, ◌∙◌, arith}
-use Rattle.std.specs.Prelude.{nat_eq, slice_index_or}
-use Rattle.std.proofs.lemmas.Bool.Decides.{nat_tests}
-use Rattle.can_frame.specs.declared.entry.Entry.{Entry}
-use Rattle.can_frame.specs.Log.{HasNodeId, blank}
-use Rattle.cluster_discovery.specs.Members.{is_on_list}
-use Rattle.cluster_discovery.specs.Views.{member_list}
-use Rattle.disk_model.specs.declared.disk.Disk.{Ghosts}
-use Rattle.raft_log.specs.DurableViews.{durable_state}
-use Rattle.raft_model.specs.Server.{Store}
-use Rattle.alloc_spec.specs.AllocatorState.{AllocatorState, is_known, is_recorded}
-use Rattle.alloc_handlers.specs.declared.member.Member.{Member}
-use Rattle.alloc_handlers.specs.Stands.{StandsFor}
-
-told : (n m : ℕ) → n ≡ m → nat_eq n m ≡ true
-told n m is = grind (arith, nat_tests)
+use Rattle.std.proofs.Common.{◌≡◌, ◌<◌, ℕ, zero, suc, Bool, true, false, List, [], ◌∷◌, length, ◌||◌, refl, sym, ap, ◌∙◌, arith, nat_eq, slice_index_or}
+use Rattle.alloc_handlers.proofs.Words.{AllocatorState, Entry, Ghosts, HasNodeId, Member, StandsFor, Store, blank, durable_state, is_known, is_on_list, is_recorded, member_list}
+use Rattle.alloc_handlers.proofs.Choosing.{same_number}
 
 or_true : (b : Bool) → (b || true) ≡ true
 or_true true = refl
@@ -22,7 +9,7 @@ or_true false = refl
 
 at_place : (log : List Entry) (node place : ℕ) → place < length log → (slice_index_or log place (blank 0)).node ≡ node → is_recorded log node ≡ true
 at_place [] node place within same = absurd (omega (arith, within))
-at_place (entry ∷ log) node zero within same = ap (λ (b : Bool). b || is_recorded log node) (told entry.node node same)
+at_place (entry ∷ log) node zero within same = ap (λ (b : Bool). b || is_recorded log node) (same_number entry.node node same)
 at_place (entry ∷ log) node (suc place) within same =
     ap (λ (b : Bool). nat_eq entry.node node || b) (at_place log node place (omega (arith, within)) same) ∙ or_true (nat_eq entry.node node)
 

@@ -1,23 +1,12 @@
 -- A transfer is offered: the step goes on.
-use Rattle.std.proofs.Common.{◌≡◌, ℕ, Bool, true, false, List, [], ◌∷◌, ◌++◌, Option, Some, None, refl, sym, ap, ◌∙◌}
-use Rattle.std.specs.Prelude.{map, filter_map}
-use Rattle.std.proofs.lemmas.List.{map-append}
+use Rattle.std.proofs.Common.{◌≡◌, ℕ, Bool, true, false, List, [], ◌∷◌, ◌++◌, Option, Some, None, refl, sym, ap, ◌∙◌, append-nil, filter_map, map}
+use Rattle.alloc_handlers.proofs.Words.{AllocatorState, Durable, Ghosts, Ids, IsInStep, ListsGiven, Member, Message, Offer, Offered, StandsFor, StepState, Waiting, counted_if, has_room, id_of, map-append, outgoing, pair_in, pair_list, pair_of_offer, pairs_if_fitted, queued_if, sent_of, with_response, with_transfer}
 use Rattle.std.proofs.lemmas.List.Elements.{filter_map-append}
 use Rattle.arrayvec.specs.ArrayVec.{ArrayVec}
 use Rattle.can_frame.specs.declared.step.Sent.{Sent}
 use Rattle.can_frame.specs.declared.step.What.{What}
-use Rattle.disk_model.specs.declared.disk.Disk.{Ghosts}
-use Rattle.raft_log.specs.declared.durable.Durable.{Durable}
-use Rattle.raft_model.specs.Messages.{Message}
 use Rattle.transfer_tx.specs.Queue.{Queued, queued_frames}
-use Rattle.alloc_handlers.specs.declared.member.Member.{Member}
-use Rattle.alloc_spec.specs.declared.offered.Offered.{Offered}
-use Rattle.alloc_spec.specs.AllocatorState.{AllocatorState}
-use Rattle.alloc_spec.specs.Transfers.{Given, Ids, Offer, pair_in, has_room, id_of, outgoing, sent_of}
-use Rattle.alloc_spec.specs.Outbox.{Waiting, counted_if, queued_if}
-use Rattle.alloc_spec.specs.StepState.{StepState, with_response, pair_of_offer, pairs_if_fitted, pair_list, with_transfer}
-use Rattle.alloc_handlers.specs.Stands.{IsInStep, ListsGiven, StandsFor}
-use Rattle.alloc_handlers.proofs.Lists.{append_none}
+use Rattle.alloc_spec.specs.Transfers.{Given}
 
 -- what waits after a transfer was offered, with its own counter or under the transfer ID of its request
 abbrev pub sent_on : ℕ → What → ℕ → List ℕ → Waiting → Waiting
@@ -114,5 +103,5 @@ module _ {D : Type 0} {disk : Ghosts D} (start : Durable D disk) (old : Member D
 pub lists_none : (before listed : Offered) (fitted : Bool) (what : What) (payload : List ℕ) → pair_in what payload ≡ None → listed.answers ≡ before.answers → ListsGiven before listed listed fitted what payload
 lists_none before listed fitted what payload none same = record {
   sent = refl;
-  given = ap (λ (list : ArrayVec Given). list.items) same ∙ sym (append_none before.answers.items) ∙ ap (λ (list : List Given). before.answers.items ++ list) (sym (none_given fitted what payload none));
+  given = ap (λ (list : ArrayVec Given). list.items) same ∙ sym (append-nil before.answers.items) ∙ ap (λ (list : List Given). before.answers.items ++ list) (sym (none_given fitted what payload none));
 }

@@ -1,31 +1,42 @@
 -- A step that goes on, with what it saw.
-use Rattle.std.proofs.Common.{◌≡◌, Option, Some, None, subst}
-use Rattle.std.specs.Prelude.{Result, Ok, Err}
-use Rattle.std.specs.Result.{result_err}
+use Rattle.std.proofs.Common.{◌≡◌, Bool, true, false, Option, Some, Result, Ok, Err, IsErr, IsErrAnd, refl, sym, subst, ◌∙◌, if◌then◌else◌}
+use Rattle.alloc_handlers.proofs.Words.{Durable, Fault, Ghosts, GoesTo, IsInStep, Member, Offered, SeesTo, StepResult, StepState, Took, is_listed, reads, result_err, took}
 use Rattle.can_frame.specs.declared.step.Seen.{Seen}
-use Rattle.disk_model.specs.declared.disk.Disk.{Ghosts}
-use Rattle.kv_store.specs.declared.fault.Fault.{Fault}
-use Rattle.raft_log.specs.declared.durable.Durable.{Durable}
-use Rattle.alloc_handlers.specs.declared.member.Member.{Member}
-use Rattle.alloc_spec.specs.declared.offered.Offered.{Offered}
-use Rattle.alloc_spec.specs.Delivered.{StepResult, bad, reads, took}
-use Rattle.alloc_spec.specs.StepState.{StepState}
-use Rattle.alloc_handlers.specs.Stands.{GoesTo, IsInStep, SeesTo}
-use Rattle.alloc_handlers.proofs.Taking.{is_step_state}
+use Rattle.transfer_rx.specs.Reassembly.{Delivery}
+use Rattle.alloc_handlers.proofs.Choosing.{otherwise, then_}
+use Rattle.alloc_handlers.proofs.Taking.{given_on, is_step_state}
 
--- the value of a payload that is one, and a payload that is none
+-- the value of a payload that is one
 pub read_as : {A : Type 0} (P : StepResult → Type 0) (does : A → StepState → StepState) (value : Option A) (a : A) (g : StepState) → Some a ≡ value → P (took (does a g)) → P (reads does value g)
 read_as P does value a g is p = subst (λ (v : Option _). P (reads does v g)) is p
 
-pub read_none : {A : Type 0} (P : StepResult → Type 0) (does : A → StepState → StepState) (value : Option A) (g : StepState) → None ≡ value → P (bad g) → P (reads does value g)
-read_none P does value g is p = subst (λ (v : Option _). P (reads does v g)) is p
+-- it goes on and has seen this
+module _ {D : Type 0} {disk : Ghosts D} {start : Durable D disk} {member : Member D disk} {offered : Offered} {step_result : StepResult} {seen : Seen} where
+  pub sees : seen ≡ step_result.seen → IsInStep start member offered step_result.step_state → SeesTo start member offered step_result (Ok seen)
+  sees is h = record { goes = is_step_state h; seen = is }
 
-module _ {D : Type 0} {disk : Ghosts D} (start : Durable D disk) (member : Member D disk) (offered : Offered) where
-  -- it goes on and has seen this
-  pub sees : (step_result : StepResult) (seen : Seen) → seen ≡ step_result.seen → IsInStep start member offered step_result.step_state → SeesTo start member offered step_result (Ok seen)
-  sees step_result seen is h = record { goes = is_step_state start member offered step_result.step_state h; seen = is }
+-- a put failed: what would have been seen does not matter
+module _ {D : Type 0} {disk : Ghosts D} {start : Durable D disk} {member : Member D disk} {offered : Offered} {step_result : StepResult} {fault : Fault} where
+  of_fault : (result : Result Seen Fault) → result_err result ≡ Some fault → GoesTo start member offered step_result.step_state (Some fault) → SeesTo start member offered step_result result
+  of_fault (Ok seen) is goes = cc
+  of_fault (Err e) is goes = record { goes = subst (λ (f : Option Fault). GoesTo start member offered step_result.step_state f) (sym is) goes; seen = tt }
 
-  -- a put failed: what would have been seen does not matter
-  pub sees_failed : (step_result : StepResult) (result : Result Seen Fault) (fault : Fault) → result_err result ≡ Some fault → GoesTo start member offered step_result.step_state (result_err result) → SeesTo start member offered step_result result
-  sees_failed step_result (Ok seen) fault is goes = cc
-  sees_failed step_result (Err e) fault is goes = record { goes = goes; seen = tt }
+  pub sees_failed : (result : Result Seen Fault) → IsErr result → IsErrAnd result (λ e. e ≡ fault) → GoesTo start member offered step_result.step_state (Some fault) → SeesTo start member offered step_result result
+  sees_failed result is same goes = of_fault result (given_on result is same) goes
+
+-- a value that counts from a source on the list alone
+abbrev pub if_listed : {A : Type 0} → Delivery → (A → StepState → StepState) → A → StepState → StepState
+if_listed d does a g = if is_listed d g.allocator then does a g else g
+
+-- one that could be read, from a source that is on the list, and from one that is not
+module _ {D A : Type 0} {disk : Ghosts D} {start : Durable D disk} {member : Member D disk} {offered : Offered} {value : Option A} {a : A} {g : StepState} (does : A → StepState → StepState) (d : Delivery) (is : Some a ≡ value) (listed : Bool)
+    (here : listed ≡ is_listed d g.allocator) where
+  pub reads_listed : {result : Result Seen Fault} → listed ≡ true → SeesTo start member offered (took (does a g)) result → SeesTo start member offered (reads (if_listed d does) value g) result
+  reads_listed {result} on seen =
+      read_as (λ (r : StepResult). SeesTo start member offered r result) (if_listed d does) value a g is
+      (then_ (λ (x : StepState). SeesTo start member offered (took x) result) _ _ _ (sym here ∙ on) seen)
+
+  pub reads_unlisted : listed ≡ false → IsInStep start member offered g → SeesTo start member offered (reads (if_listed d does) value g) (Ok Took)
+  reads_unlisted not h =
+      read_as (λ (r : StepResult). SeesTo start member offered r (Ok Took)) (if_listed d does) value a g is
+      (otherwise (λ (x : StepState). SeesTo start member offered (took x) (Ok Took)) _ _ _ (sym here ∙ not) (sees refl h))

@@ -1,14 +1,7 @@
 -- Where every device that is online is known, a leader neither records one nor asks one.
-use Rattle.std.proofs.Common.{◌≡◌, ℕ, zero, suc, ◌+◌, ◌<◌, ◌≤◌, Bool, true, false, cond, not, ◌&&◌, ◌||◌, List, Option, Some, None, find, length, refl, ap, ◌∙◌, arith}
-use Rattle.std.specs.Prelude.{if◌then◌else◌, is_none, is_some, nat_lt}
-use Rattle.std.specs.List.{range_with_len}
-use Rattle.node_discovery.specs.History.{is_nameless, may_be_asked, unique_id}
-use Rattle.node_discovery.specs.Watch.{history, is_due, next_query}
-use Rattle.alloc_spec.specs.AllocatorState.{AllocatorState, is_known, known, may_propose}
-use Rattle.alloc_spec.specs.StepState.{StepState}
-use Rattle.alloc_spec.specs.Tick.{asks, candidate, is_candidate, query_phase, record_phase, records_node}
-use Rattle.raft_model.specs.Moves.Elections.{is_leader}
-use Rattle.alloc_handlers.specs.Strangers.{is_stranger}
+use Rattle.std.proofs.Common.{◌≡◌, ℕ, zero, suc, ◌+◌, ◌<◌, ◌≤◌, Bool, true, false, cond, not, ◌&&◌, ◌||◌, List, Option, Some, None, find, length, refl, ap, ◌∙◌, arith, if◌then◌else◌, is_none, is_some, nat_lt}
+use Rattle.alloc_handlers.proofs.Words.{AllocatorState, StepState, asks, candidate, history, is_candidate, is_due, is_known, is_leader, is_nameless, is_stranger, known, may_be_asked, may_propose, query_phase, range_with_len, record_phase, records_node, unique_id}
+use Rattle.node_discovery.specs.Watch.{next_query}
 use Rattle.alloc_handlers.proofs.Candidates.{known_at}
 
 no_candidate : (online known silent : Bool) (uid : Option (List ℕ)) → (online && not known) ≡ false → (not known && (is_some (if online then uid else None) || ((online && is_none uid) && silent))) ≡ false

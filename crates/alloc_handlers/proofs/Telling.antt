@@ -1,8 +1,6 @@
 -- What a leader is to tell next, by what the machine says of it.
-use Rattle.std.proofs.Common.{◌≡◌, ◌≤◌, ◌<◌, ◌+◌, ℕ, Bool, true, false, List, [], ◌∷◌, refl, arith}
-use Rattle.std.specs.Prelude.{if◌then◌else◌}
-use Rattle.raft_model.specs.Moves.{Move}
-use Rattle.raft_model.specs.Moves.Move.{TellNothing, TellPair}
+use Rattle.std.proofs.Common.{◌≡◌, ◌≤◌, ◌<◌, ◌+◌, ℕ, Bool, true, false, List, [], ◌∷◌, refl, arith, if◌then◌else◌}
+use Rattle.alloc_handlers.proofs.Words.{Move, TellNothing, TellPair}
 
 -- it has something to tell or not, of a place without a unique ID or with one, with room for it or not
 abbrev pub telling : Bool → Bool → Bool → List Move

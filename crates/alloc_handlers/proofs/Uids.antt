@@ -1,9 +1,8 @@
 -- Unique IDs.
-use Rattle.std.proofs.Common.{refl, ◌≡◌, Bool, true, false, List, ℕ}
-use Rattle.std.specs.Str.{bytes_eq}
+use Rattle.std.proofs.Common.{refl, ◌≡◌, Bool, true, false, List, ℕ, bytes_eq}
+use Rattle.alloc_handlers.proofs.Words.{is_zero}
 use Rattle.std.proofs.lemmas.Slice.Eq.{bytes_eq-Decides}
 use Rattle.can_frame.specs.Zeros.{zeros}
-use Rattle.alloc_spec.specs.AllocatorState.{is_zero}
 
 pub zero_is : (uid : List ℕ) → uid ≡ zeros → is_zero uid ≡ true
 zero_is uid is = (bytes_eq-Decides uid zeros).1 is

@@ -1,5 +1,5 @@
 -- What a member of the code stands for, between the parts of a step.
-use Rattle.std.specs.Prelude.{◌≡◌, ℕ, ◌+◌, ◌≤◌, ◌++◌, Bool, List, [], Option, None, Result, IfOk}
+use Rattle.std.specs.Prelude.{◌≡◌, ℕ, ◌+◌, ◌≤◌, ◌++◌, Bool, List, [], Option, None, Result, IfOk, OnOk}
 use Rattle.std.specs.Result.{result_err}
 use Rattle.arrayvec.specs.ArrayVec.{array_vec_len}
 use Rattle.can_frame.specs.declared.step.Seen.{Seen}
@@ -10,7 +10,7 @@ use Rattle.raft_log.specs.declared.durable.Durable.{Durable}
 use Rattle.raft_log.specs.DurableViews.{durable_state}
 use Rattle.raft_core.specs.Fits.{Fits}
 use Rattle.raft_core.specs.RaftViews.{raft_me, raft_size}
-use Rattle.raft_core.specs.StoredPuts.{CallWrites}
+use Rattle.raft_core.specs.StoredPuts.{CallFaultIsSticky, CallWrites}
 use Rattle.raft_core.specs.Stands as raft
 use Rattle.alloc_exchange.specs.Stands as exchange
 use Rattle.node_discovery.specs.Stands as watch
@@ -106,3 +106,18 @@ pub record ListsUpTo (sent given : ℕ) (before after : Offered) : Type 0 where
   pub step : after.step ≡ before.step
   pub sent_most : array_vec_len after.sent ≤ array_vec_len before.sent + sent
   pub given_most : array_vec_len after.answers ≤ array_vec_len before.answers + given
+
+-- what a part without puts leaves: a member that is ready, with the same stored state, and at most so many transfers
+-- and pairs more on the list
+pub record Leaves {D : Type 0} {disk : Ghosts D} (sent given : ℕ) (old new : Member D disk) (before after : Offered)
+    : Type 0 where
+  pub ready : IsReady new
+  pub lists : ListsUpTo sent given before after
+  pub durable : new.durable ≡ old.durable
+
+-- and one with puts: where one of them failed, its fault has a cause and is kept
+pub record LeavesUpTo {D T : Type 0} {disk : Ghosts D} (sent given : ℕ) (old new : Member D disk)
+    (before after : Offered) (result : Result T Fault) : Type 0 where
+  pub ready : OnOk result (IsReady new)
+  pub lists : ListsUpTo sent given before after
+  pub faults : CallFaultIsSticky old.durable new.durable (result_err result)

@@ -22,7 +22,7 @@ use kv_store::Fault;
 use raft_core::{Call, Telling};
 
 impl<D: Disk> Member<D> {
-    ghost use Rattle.alloc_handlers.specs.Stands.{GoesOn, GoesUpTo, IsReady, ListsUpTo, StandsFor};
+    ghost use Rattle.alloc_handlers.specs.Stands.{GoesOn, GoesUpTo, IsReady, Leaves, StandsFor};
 
     /// At most six transfers and one pair more are listed.
     pub fn end(&mut self, offered: &mut Offered) -> Result<(), Fault>
@@ -60,9 +60,7 @@ impl<D: Disk> Member<D> {
         requires pairs { array_vec_len offered.old.answers < 2 }
         ensures step_state { GoesOn self.old self.new offered.old offered.new
             (tell_phase offered.old.step) }
-        ensures ready { IsReady self.new }
-        ensures lists { ListsUpTo 1 1 offered.old offered.new }
-        ensures durable { self.new.durable ≡ self.old.durable }
+        ensures leaves { Leaves 1 1 self.old self.new offered.old offered.new }
     {
         match self.raft.tell(&self.durable) {
             Telling::Nothing => {}
@@ -81,9 +79,7 @@ impl<D: Disk> Member<D> {
         requires room { array_vec_len offered.old.sent ≤ 7 }
         ensures step_state { GoesOn self.old self.new offered.old offered.new
             (call_phase offered.old.step) }
-        ensures ready { IsReady self.new }
-        ensures lists { ListsUpTo 5 0 offered.old offered.new }
-        ensures durable { self.new.durable ≡ self.old.durable }
+        ensures leaves { Leaves 5 0 self.old self.new offered.old offered.new }
     {
         let peers = self.peers();
         self.call_each(peers.as_slice(), offered);
@@ -112,9 +108,7 @@ impl<D: Disk> Member<D> {
         requires numbered { (i : ℕ) → i < length peers.now → 1 ≤ slice_index_or peers.now i 0 }
         ensures step_state { GoesOn self.old self.new offered.old offered.new
             (calls_all offered.old.step peers.now) }
-        ensures ready { IsReady self.new }
-        ensures lists { ListsUpTo (length peers.now) 0 offered.old offered.new }
-        ensures durable { self.new.durable ≡ self.old.durable }
+        ensures leaves { Leaves (length peers.now) 0 self.old self.new offered.old offered.new }
     {
         for peer in peers {
             self.call(*peer, offered);
@@ -129,9 +123,7 @@ impl<D: Disk> Member<D> {
         requires room { array_vec_len offered.old.sent < 12 }
         ensures step_state { GoesOn self.old self.new offered.old offered.new
             (calls_peer offered.old.step peer) }
-        ensures ready { IsReady self.new }
-        ensures lists { ListsUpTo 1 0 offered.old offered.new }
-        ensures durable { self.new.durable ≡ self.old.durable }
+        ensures leaves { Leaves 1 0 self.old self.new offered.old offered.new }
     {
         let Some(call) = self.raft.call(&self.durable, peer, self.latest) else {
             return;

@@ -22,7 +22,7 @@ use kv_store::Fault;
 use transfer_rx::Transfer;
 
 impl<D: Disk> Member<D> {
-    ghost use Rattle.alloc_handlers.specs.Stands.{IsReady, ListsUpTo, SeesOn, SeesUpTo};
+    ghost use Rattle.alloc_handlers.specs.Stands.{IsReady, LeavesUpTo, SeesOn, SeesUpTo};
 
     /// By the transfer's data type. A payload that is no value of it does nothing.
     pub fn deliver(&mut self, transfer: &Transfer, offered: &mut Offered) -> Result<Seen, Fault>
@@ -33,9 +33,7 @@ impl<D: Disk> Member<D> {
         requires pairs { array_vec_len offered.old.answers < 2 }
         ensures sees { SeesUpTo self.old self.new offered.old offered.new
             (delivery_phase offered.old.step (delivery_of transfer.now)) result }
-        ensures ready { OnOk result (IsReady self.new) }
-        ensures lists { ListsUpTo 1 1 offered.old offered.new }
-        ensures faults { CallFaultIsSticky self.old.durable self.new.durable (result_err result) }
+        ensures leaves { LeavesUpTo 1 1 self.old self.new offered.old offered.new result }
     {
         match transfer.ident.kind {
             Kind::Anonymous => self.hear_allocation(transfer, offered),
@@ -100,9 +98,7 @@ impl<D: Disk> Member<D> {
         requires room { array_vec_len offered.old.sent < 12 }
         ensures sees { SeesUpTo self.old self.new offered.old offered.new (request offered.old.step
             (delivery_of transfer.now)) result }
-        ensures ready { OnOk result (IsReady self.new) }
-        ensures lists { ListsUpTo 1 0 offered.old offered.new }
-        ensures faults { CallFaultIsSticky self.old.durable self.new.durable (result_err result) }
+        ensures leaves { LeavesUpTo 1 0 self.old self.new offered.old offered.new result }
     {
         if transfer.ident.number == GET_NODE_INFO.number {
             Ok(self.tell_info(transfer, offered))

@@ -37,7 +37,7 @@ use raft_log::origin;
 use transfer_rx::Transfer;
 
 impl<D: Disk> Member<D> {
-    ghost use Rattle.alloc_handlers.specs.Stands.{GoesOn, GoesUpTo, IsReady, SeesUpTo, StandsFor};
+    ghost use Rattle.alloc_handlers.specs.Stands.{GoesOn, GoesUpTo, IsReady, Leaves, LeavesUpTo, SeesUpTo, StandsFor};
 
     /// Takes a request of the exchange: sends a follow-up, answers or proposes a whole unique ID, or
     /// ignores it.
@@ -52,9 +52,7 @@ impl<D: Disk> Member<D> {
         ensures sees { SeesUpTo self.old self.new offered.old offered.new
             (reads (hears_allocation offered.old.step) (allocation_of transfer.now.payload.items))
             result }
-        ensures ready { OnOk result (IsReady self.new) }
-        ensures lists { ListsUpTo 1 1 offered.old offered.new }
-        ensures faults { CallFaultIsSticky self.old.durable self.new.durable (result_err result) }
+        ensures leaves { LeavesUpTo 1 1 self.old self.new offered.old offered.new result }
     {
         puts_go_on::<D>();
         let Some(message) = Allocation::read(&transfer.payload) else {
@@ -71,9 +69,7 @@ impl<D: Disk> Member<D> {
         requires pairs { array_vec_len offered.old.answers < 2 }
         ensures goes { GoesUpTo self.old self.new offered.old offered.new
             (hears_allocation offered.old.step message.now) (result_err result) }
-        ensures ready { OnOk result (IsReady self.new) }
-        ensures lists { ListsUpTo 1 1 offered.old offered.new }
-        ensures faults { CallFaultIsSticky self.old.durable self.new.durable (result_err result) }
+        ensures leaves { LeavesUpTo 1 1 self.old self.new offered.old offered.new result }
     {
         match self.hear(message) {
             Heard::FollowUp(bytes) => {
@@ -116,9 +112,7 @@ impl<D: Disk> Member<D> {
         requires room { array_vec_len offered.old.sent < 12 }
         ensures step_state { GoesOn self.old self.new offered.old offered.new
             (with_transfer offered.old.step Alloc 0 (allocation_payload 0 bytes.now) None) }
-        ensures ready { IsReady self.new }
-        ensures lists { ListsUpTo 1 0 offered.old offered.new }
-        ensures durable { self.new.durable ≡ self.old.durable }
+        ensures leaves { Leaves 1 0 self.old self.new offered.old offered.new }
     {
         self.send(What::Alloc, 0, allocation(0, bytes), offered);
     }
@@ -131,9 +125,7 @@ impl<D: Disk> Member<D> {
         requires pairs { array_vec_len offered.old.answers < 2 }
         ensures goes { GoesUpTo self.old self.new offered.old offered.new
             (hears_whole offered.old.step uid.now preference) (result_err result) }
-        ensures ready { OnOk result (IsReady self.new) }
-        ensures lists { ListsUpTo 1 1 offered.old offered.new }
-        ensures faults { CallFaultIsSticky self.old.durable self.new.durable (result_err result) }
+        ensures leaves { LeavesUpTo 1 1 self.old self.new offered.old offered.new result }
     {
         if is_zero(uid) {
             return Ok(());
@@ -155,9 +147,7 @@ impl<D: Disk> Member<D> {
         requires pairs { array_vec_len offered.old.answers < 2 }
         ensures step_state { GoesOn self.old self.new offered.old offered.new
             (answers_again offered.old.step place) }
-        ensures ready { IsReady self.new }
-        ensures lists { ListsUpTo 1 1 offered.old offered.new }
-        ensures durable { self.new.durable ≡ self.old.durable }
+        ensures leaves { Leaves 1 1 self.old self.new offered.old offered.new }
     {
         a_durable_state_is_kept::<D>();
         if place >= usize::from(self.durable.commit()) {
@@ -210,9 +200,7 @@ impl<D: Disk> Member<D> {
         ensures step_state { GoesOn self.old self.new offered.old offered.new
             (with_transfer offered.old.step Alloc 0 (allocation_payload node uid.now) None) }
         ensures rest { self.new ≡ record self.old { outbox = self.new.outbox } }
-        ensures ready { IsReady self.new }
-        ensures lists { ListsUpTo 1 1 offered.old offered.new }
-        ensures durable { self.new.durable ≡ self.old.durable }
+        ensures leaves { Leaves 1 1 self.old self.new offered.old offered.new }
     {
         let fitted = self.send(What::Alloc, 0, allocation(node, uid), offered);
         give_if(fitted, uid, node, offered);

@@ -56,7 +56,7 @@ pub struct Member<D: Disk> {
 }
 
 impl<D: Disk> Member<D> {
-    ghost use Rattle.alloc_handlers.specs.Stands.{GoesOn, IsFresh, IsInStep, IsReady, ListsGiven, ListsUpTo, StandsFor};
+    ghost use Rattle.alloc_handlers.specs.Stands.{GoesOn, IsFresh, IsInStep, IsReady, Leaves, ListsGiven, StandsFor};
 
     /// A member that opens now, with what it has stored.
     #[inline(never)]
@@ -168,10 +168,8 @@ impl<D: Disk> Member<D> {
             (says : Option Message) → GoesOn self.old self.new offered.old offered.new
             (with_transfer offered.old.step what to payload.items says) }
         ensures rest { self.new ≡ record self.old { outbox = self.new.outbox } }
-        ensures ready { IsReady self.new }
-        ensures lists { ListsUpTo 1 0 offered.old offered.new }
         ensures given { offered.new.answers ≡ offered.old.answers }
-        ensures durable { self.new.durable ≡ self.old.durable }
+        ensures leaves { Leaves 1 0 self.old self.new offered.old offered.new }
     {
         let fitted = self.outbox.send(what, to, payload, offered.step);
         offered.list(what, to, fitted);
@@ -194,9 +192,7 @@ impl<D: Disk> Member<D> {
             (says : Option Message) → GoesOn self.old self.new offered.old offered.new
             (with_response_to offered.old.step what (delivery_of request.now) payload.items says) }
         ensures rest { self.new ≡ record self.old { outbox = self.new.outbox } }
-        ensures ready { IsReady self.new }
-        ensures lists { ListsUpTo 1 0 offered.old offered.new }
-        ensures durable { self.new.durable ≡ self.old.durable }
+        ensures leaves { Leaves 1 0 self.old self.new offered.old offered.new }
     {
         let to = request.ident.source;
         let step = offered.step;

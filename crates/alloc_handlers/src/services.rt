@@ -28,7 +28,7 @@ use kv_store::Fault;
 use transfer_rx::Transfer;
 
 impl<D: Disk> Member<D> {
-    ghost use Rattle.alloc_handlers.specs.Stands.{GoesUpTo, IsReady, ListsUpTo, SeesOn, SeesUpTo, StandsFor};
+    ghost use Rattle.alloc_handlers.specs.Stands.{GoesUpTo, IsReady, Leaves, LeavesUpTo, SeesOn, SeesUpTo, StandsFor};
 
     /// The request of GetNodeInfo, which is empty, is answered.
     pub fn tell_info(&mut self, request: &Transfer, offered: &mut Offered) -> Seen
@@ -39,9 +39,7 @@ impl<D: Disk> Member<D> {
         requires room { array_vec_len offered.old.sent < 12 }
         ensures sees { SeesOn self.old self.new offered.old offered.new
             (asks_info offered.old.step (delivery_of request.now) request.now.payload.items) result }
-        ensures ready { IsReady self.new }
-        ensures lists { ListsUpTo 1 0 offered.old offered.new }
-        ensures durable { self.new.durable ≡ self.old.durable }
+        ensures leaves { Leaves 1 0 self.old self.new offered.old offered.new }
     {
         if !request.payload.is_empty() {
             return Seen::Bad;
@@ -79,9 +77,7 @@ impl<D: Disk> Member<D> {
         ensures sees { SeesUpTo self.old self.new offered.old offered.new
             (reads (takes_vote_request offered.old.step (delivery_of transfer.now))
             (vote_request.vote_request_of transfer.now.payload.items)) result }
-        ensures ready { OnOk result (IsReady self.new) }
-        ensures lists { ListsUpTo 1 0 offered.old offered.new }
-        ensures faults { CallFaultIsSticky self.old.durable self.new.durable (result_err result) }
+        ensures leaves { LeavesUpTo 1 0 self.old self.new offered.old offered.new result }
     {
         puts_go_on::<D>();
         let Some(request) = VoteRequest::read(&transfer.payload) else {
@@ -108,9 +104,7 @@ impl<D: Disk> Member<D> {
         ensures goes { GoesUpTo self.old self.new offered.old offered.new
             (answers_vote_request offered.old.step (delivery_of transfer.now) request.now)
             (result_err result) }
-        ensures ready { OnOk result (IsReady self.new) }
-        ensures lists { ListsUpTo 1 0 offered.old offered.new }
-        ensures faults { CallFaultIsSticky self.old.durable self.new.durable (result_err result) }
+        ensures leaves { LeavesUpTo 1 0 self.old self.new offered.old offered.new result }
     {
         puts_go_on::<D>();
         let from = transfer.ident.source;
@@ -132,9 +126,7 @@ impl<D: Disk> Member<D> {
         ensures sees { SeesUpTo self.old self.new offered.old offered.new
             (reads (takes_append_request offered.old.step (delivery_of transfer.now))
             (append_request.append_request_of transfer.now.payload.items)) result }
-        ensures ready { OnOk result (IsReady self.new) }
-        ensures lists { ListsUpTo 1 0 offered.old offered.new }
-        ensures faults { CallFaultIsSticky self.old.durable self.new.durable (result_err result) }
+        ensures leaves { LeavesUpTo 1 0 self.old self.new offered.old offered.new result }
     {
         puts_go_on::<D>();
         let Some(request) = AppendRequest::read(&transfer.payload) else {
@@ -161,9 +153,7 @@ impl<D: Disk> Member<D> {
         ensures goes { GoesUpTo self.old self.new offered.old offered.new
             (answers_append_request offered.old.step (delivery_of transfer.now) request.now)
             (result_err result) }
-        ensures ready { OnOk result (IsReady self.new) }
-        ensures lists { ListsUpTo 1 0 offered.old offered.new }
-        ensures faults { CallFaultIsSticky self.old.durable self.new.durable (result_err result) }
+        ensures leaves { LeavesUpTo 1 0 self.old self.new offered.old offered.new result }
     {
         puts_go_on::<D>();
         let from = transfer.ident.source;

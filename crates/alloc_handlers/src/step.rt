@@ -19,7 +19,7 @@ use kv_store::Fault;
 use transfer_rx::Took;
 
 impl<D: Disk> Member<D> {
-    ghost use Rattle.alloc_handlers.specs.Stands.{IsFresh, IsReady, ListsUpTo, SeesTo, SeesUpTo, StandsFor};
+    ghost use Rattle.alloc_handlers.specs.Stands.{IsFresh, IsReady, LeavesUpTo, SeesTo, SeesUpTo, StandsFor};
 
     /// The step in which it reads its clock. The word is for its next wait for an election.
     pub fn take_tick(&mut self, now: u64, word: u32, offered: &mut Offered) -> Result<Seen, Fault>
@@ -65,9 +65,7 @@ impl<D: Disk> Member<D> {
         requires pairs { array_vec_len offered.old.answers < 2 }
         ensures sees { SeesUpTo self.old self.new offered.old offered.new
             (with_answer offered.old.step (told took.now)) result }
-        ensures ready { OnOk result (IsReady self.new) }
-        ensures lists { ListsUpTo 1 1 offered.old offered.new }
-        ensures faults { CallFaultIsSticky self.old.durable self.new.durable (result_err result) }
+        ensures leaves { LeavesUpTo 1 1 self.old self.new offered.old offered.new result }
     {
         match took {
             Took::Delivered(transfer) => self.deliver(transfer, offered),

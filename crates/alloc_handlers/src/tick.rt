@@ -25,7 +25,7 @@ use kv_store::Fault;
 use raft_log::origin;
 
 impl<D: Disk> Member<D> {
-    ghost use Rattle.alloc_handlers.specs.Stands.{GoesOn, GoesUpTo, IsReady, ListsUpTo, StandsFor};
+    ghost use Rattle.alloc_handlers.specs.Stands.{GoesOn, GoesUpTo, IsReady, Leaves, LeavesUpTo, StandsFor};
 
     /// In order: Discovery and NodeStatus where they are due, the tick of Raft, the record of a
     /// node that told its unique ID or stays silent, and a query to one that did not tell it.
@@ -34,9 +34,7 @@ impl<D: Disk> Member<D> {
         requires room { array_vec_len offered.old.sent ≤ 4 }
         ensures goes { GoesUpTo self.old self.new offered.old offered.new
             (clock_phase offered.old.step word) (result_err result) }
-        ensures ready { OnOk result (IsReady self.new) }
-        ensures lists { ListsUpTo 3 0 offered.old offered.new }
-        ensures faults { CallFaultIsSticky self.old.durable self.new.durable (result_err result) }
+        ensures leaves { LeavesUpTo 3 0 self.old self.new offered.old offered.new result }
     {
         phases_add_puts();
         puts_go_on::<D>();
@@ -52,9 +50,7 @@ impl<D: Disk> Member<D> {
         requires room { array_vec_len offered.old.sent < 12 }
         ensures step_state { GoesOn self.old self.new offered.old offered.new
             (discovery_phase offered.old.step) }
-        ensures ready { IsReady self.new }
-        ensures lists { ListsUpTo 1 0 offered.old offered.new }
-        ensures durable { self.new.durable ≡ self.old.durable }
+        ensures leaves { Leaves 1 0 self.old self.new offered.old offered.new }
     {
         if !self.cluster.due(self.latest) {
             return;
@@ -70,9 +66,7 @@ impl<D: Disk> Member<D> {
         requires room { array_vec_len offered.old.sent < 12 }
         ensures step_state { GoesOn self.old self.new offered.old offered.new
             (status_phase offered.old.step) }
-        ensures ready { IsReady self.new }
-        ensures lists { ListsUpTo 1 0 offered.old offered.new }
-        ensures durable { self.new.durable ≡ self.old.durable }
+        ensures leaves { Leaves 1 0 self.old self.new offered.old offered.new }
     {
         if self.latest - self.status_at < 1000 {
             return;
@@ -110,9 +104,7 @@ impl<D: Disk> Member<D> {
         requires room { array_vec_len offered.old.sent < 12 }
         ensures goes { GoesUpTo self.old self.new offered.old offered.new
             (λ g. query_phase offered.old.step (record_phase offered.old.step g)) (result_err result) }
-        ensures ready { OnOk result (IsReady self.new) }
-        ensures lists { ListsUpTo 1 0 offered.old offered.new }
-        ensures faults { CallFaultIsSticky self.old.durable self.new.durable (result_err result) }
+        ensures leaves { LeavesUpTo 1 0 self.old self.new offered.old offered.new result }
     {
         phases_add_puts();
         puts_go_on::<D>();
@@ -238,9 +230,7 @@ impl<D: Disk> Member<D> {
         requires room { array_vec_len offered.old.sent < 12 }
         ensures step_state { GoesOn self.old self.new offered.old offered.new
             (query_phase offered.old.step) }
-        ensures ready { IsReady self.new }
-        ensures lists { ListsUpTo 1 0 offered.old offered.new }
-        ensures durable { self.new.durable ≡ self.old.durable }
+        ensures leaves { Leaves 1 0 self.old self.new offered.old offered.new }
     {
         if !self.leads() {
             return;
@@ -257,9 +247,7 @@ impl<D: Disk> Member<D> {
         requires room { array_vec_len offered.old.sent < 12 }
         ensures step_state { GoesOn self.old self.new offered.old offered.new (asks offered.old.step
             (Some node)) }
-        ensures ready { IsReady self.new }
-        ensures lists { ListsUpTo 1 0 offered.old offered.new }
-        ensures durable { self.new.durable ≡ self.old.durable }
+        ensures leaves { Leaves 1 0 self.old self.new offered.old offered.new }
     {
         let to = node.get();
         let id = self.outbox.next_id(What::InfoQ, to);

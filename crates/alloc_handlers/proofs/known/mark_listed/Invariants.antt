@@ -1,5 +1,5 @@
 use Rattle.std.proofs.Common.{◌≡◌, ◌<◌, ◌||◌, ℕ, Bool, length, take, get_or}
-use Rattle.cluster_discovery.specs.Members.{is_on_list}
+use Rattle.alloc_handlers.proofs.Words.{is_on_list}
 use Rattle.alloc_handlers.proofs.known.mark_listed.Given as goal
 
 -- the members so far are marked

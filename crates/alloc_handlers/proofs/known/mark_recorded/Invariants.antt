@@ -1,5 +1,5 @@
 use Rattle.std.proofs.Common.{◌≡◌, ◌<◌, ◌||◌, ℕ, Bool, length, take, get_or}
-use Rattle.alloc_spec.specs.AllocatorState.{is_recorded}
+use Rattle.alloc_handlers.proofs.Words.{is_recorded}
 use Rattle.alloc_handlers.proofs.known.mark_recorded.Given as goal
 
 -- the node IDs of the entries so far are marked

@@ -1,13 +1,5 @@
-use Rattle.std.proofs.Common.{◌≡◌, ◌<◌, ◌≤◌, List, [], ap, sym, subst, ◌∙◌, arith}
-use Rattle.std.specs.Prelude.{slice_index_or}
-use Rattle.can_frame.specs.declared.entry.Entry.{Entry}
-use Rattle.can_frame.specs.Log.{blank}
-use Rattle.raft_log.specs.DurableViews.{durable_state}
-use Rattle.raft_model.specs.Moves.Move.{AnswerAgain}
-use Rattle.raft_model.specs.Server.{Store}
-use Rattle.alloc_spec.specs.Exchange.{gives_entry}
-use Rattle.alloc_spec.specs.StepState.{StepState}
-use Rattle.alloc_handlers.specs.Stands.{IsInStep}
+use Rattle.std.proofs.Common.{◌≡◌, ◌<◌, ◌≤◌, List, [], ap, sym, subst, ◌∙◌, arith, slice_index_or}
+use Rattle.alloc_handlers.proofs.Words.{AnswerAgain, Entry, IsInStep, StepState, Store, blank, durable_state, gives_entry}
 use Rattle.alloc_handlers.proofs.Again.{again, node_low, not_under, same_at, under}
 use Rattle.alloc_handlers.proofs.Choosing.{otherwise, then_}
 use Rattle.alloc_handlers.proofs.member.Member.answer_again.Goals as goal

@@ -1,13 +1,6 @@
-use Rattle.std.proofs.Common.{◌≡◌, true, false, List, rules, ℕ, [], ◌∷◌, refl, sym, ap, subst, ◌∙◌}
-use Rattle.std.specs.Prelude.{None}
-use Rattle.can_frame.specs.declared.step.What.TheVariants.{InfoQ}
-use Rattle.node_discovery.specs.History.{Asked}
+use Rattle.std.proofs.Common.{◌≡◌, true, false, List, rules, ℕ, [], ◌∷◌, refl, sym, ap, subst, ◌∙◌, None}
+use Rattle.alloc_handlers.proofs.Words.{Asked, InfoQ, IsInStep, StepState, Waiting, has_room, id_of, of_node, with_transfer}
 use Rattle.node_discovery.specs.Stands as watch
-use Rattle.node_discovery.specs.Watch.{of_node}
-use Rattle.alloc_spec.specs.StepState.{StepState, with_transfer}
-use Rattle.alloc_spec.specs.Outbox.{Waiting}
-use Rattle.alloc_spec.specs.Transfers.{has_room, id_of}
-use Rattle.alloc_handlers.specs.Stands.{IsInStep}
 use Rattle.alloc_handlers.proofs.Choosing.{otherwise, then_}
 use Rattle.alloc_handlers.proofs.Noting.{noted_watch}
 use Rattle.alloc_handlers.proofs.member.Member.ask.Goals as goal

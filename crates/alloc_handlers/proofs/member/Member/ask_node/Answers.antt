@@ -1,9 +1,5 @@
 use Rattle.std.proofs.Common.{Bool, List, Option, ℕ, sym, ap, subst, ◌∙◌}
-use Rattle.node_discovery.specs.Watch.{next_query}
-use Rattle.alloc_spec.specs.StepState.{StepState}
-use Rattle.alloc_spec.specs.Tick.{asks}
-use Rattle.alloc_spec.specs.AllocatorState.{known}
-use Rattle.alloc_handlers.specs.Stands.{IsInStep}
+use Rattle.alloc_handlers.proofs.Words.{IsInStep, StepState, asks, known, next_query}
 use Rattle.alloc_handlers.proofs.Choosing.{otherwise, then_}
 use Rattle.alloc_handlers.proofs.member.Member.ask_node.Goals as goal
 

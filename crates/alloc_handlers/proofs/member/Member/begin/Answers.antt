@@ -1,12 +1,7 @@
-use Rattle.std.proofs.Common.{◌≡◌, ℕ, refl, ap, subst, ◌∙◌, arith}
-use Rattle.std.specs.Prelude.{max}
-use Rattle.raft_core.specs.Handled.{moves_of_expire}
+use Rattle.std.proofs.Common.{◌≡◌, ℕ, refl, ap, subst, ◌∙◌, arith, max}
+use Rattle.alloc_handlers.proofs.Words.{durable_state, given_at, members_of, moves_of_expire, overdue, server_after_all, times_after_all}
 use Rattle.raft_core.specs.Stands as raft
-use Rattle.raft_core.specs.Times.{given_at, overdue, times_after_all}
-use Rattle.raft_log.specs.DurableViews.{durable_state}
-use Rattle.raft_model.specs.Handlers.{server_after_all}
 use Rattle.alloc_spec.specs.Step.{all_nodes}
-use Rattle.alloc_spec.specs.AllocatorState.{members_of}
 use Rattle.alloc_handlers.proofs.Beginning.{begun}
 use Rattle.alloc_handlers.proofs.Nodes.{in_all_nodes}
 use Rattle.alloc_handlers.proofs.member.Member.begin.Goals as goal

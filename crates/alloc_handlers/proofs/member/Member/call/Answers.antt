@@ -1,21 +1,9 @@
 use Rattle.std.proofs.Common.{◌≡◌, List, ℕ, ◌∷◌, [], refl, sym, ap, subst, ◌∙◌, Option, Some, None}
+use Rattle.alloc_handlers.proofs.Words.{IsInStep, Member, Move, Requests, StepState, Waiting, calls_owed, durable_state, given_call, has_room, id_of, members_of, pair_in, raft_me, server_after_all, times_after_all, with_transfer}
 use Rattle.raft_core.specs.Calls.{Owes, Says, owed}
-use Rattle.raft_core.specs.RaftViews.{raft_me}
 use Rattle.raft_core.specs.Stands as raft
-use Rattle.raft_core.specs.Times.{given_call, times_after_all}
-use Rattle.raft_log.specs.DurableViews.{durable_state}
-use Rattle.raft_model.specs.Handlers.{server_after_all}
-use Rattle.raft_model.specs.Messages.Message.{Requests}
-use Rattle.raft_model.specs.Moves.{Move}
-use Rattle.alloc_spec.specs.Ending.{calls_owed}
-use Rattle.alloc_spec.specs.StepState.{StepState, with_transfer}
-use Rattle.alloc_spec.specs.Outbox.{Waiting}
-use Rattle.alloc_spec.specs.AllocatorState.{members_of}
-use Rattle.alloc_spec.specs.Transfers.{pair_in, has_room, id_of}
 use Rattle.can_frame.specs.declared.step.What.{What}
-use Rattle.alloc_handlers.specs.declared.member.Member.{Member}
 use Rattle.alloc_handlers.specs.Calling.{bytes_of, what_of}
-use Rattle.alloc_handlers.specs.Stands.{IsInStep}
 use Rattle.alloc_handlers.proofs.Calling.{call_is_quiet, calls_as, no_pair}
 use Rattle.alloc_handlers.proofs.Choosing.{otherwise, then_}
 use Rattle.alloc_handlers.proofs.Noting.{noted_moves}
@@ -50,7 +38,7 @@ returns-then-send-clause-step_state g c start step_state h =
     ap (λ (list : List ℕ). has_room t.queue list) (sym bytes) ∙ ap (λ (w : Waiting). has_room w.queue c.payload_of.result.items) (sym h.stands.outbox) ∙ sym c.send.ensures.fitted in
     let id : c.next_id-id.result ≡ id_of t.ids (what_of c.in-Some.call) c.args.peer =
     c.next_id-id.ensures.id ∙ ap (λ (w : What). id_of c.args.self.now.outbox.ids w c.args.peer) what ∙ ap (λ (w : Waiting). id_of w.ids (what_of c.in-Some.call) c.args.peer) h.stands.outbox in
-    let moved = subst (λ (n : ℕ). raft.StandsFor c.called.new.self (members_of t) (durable_state c.send.new.self.durable) (server_after_all (members_of t) (raft_me c.send.new.self.raft) n t.raft_server (owes.0 ∷ [])) (times_after_all (members_of t) (raft_me c.send.new.self.raft) n (given_call c.send.new.self.latest c.next_id-id.result) t.raft_server (owes.0 ∷ []) t.times)) c.send.ensures.lists.step
+    let moved = subst (λ (n : ℕ). raft.StandsFor c.called.new.self (members_of t) (durable_state c.send.new.self.durable) (server_after_all (members_of t) (raft_me c.send.new.self.raft) n t.raft_server (owes.0 ∷ [])) (times_after_all (members_of t) (raft_me c.send.new.self.raft) n (given_call c.send.new.self.latest c.next_id-id.result) t.raft_server (owes.0 ∷ []) t.times)) c.send.ensures.leaves.lists.step
     (c.called.ensures.moves (members_of t) t.raft_server t.times is_sent.stands.raft owes.0 (ap (λ (now : ℕ). owed t.raft_server t.times c.args.peer now) is_sent.stands.now ∙ due)) in
     subst (λ (m : Option Move). IsInStep start (record c.send.new.self { raft = c.called.new.self }) c.send.new.offered (calls_owed s m step_state)) (sym due)
     (subst (λ (x : StepState). IsInStep start (record c.send.new.self { raft = c.called.new.self }) c.send.new.offered x) (sym by.1)
@@ -59,7 +47,7 @@ returns-then-send-clause-step_state g c start step_state h =
     (call_is_quiet (members_of t) t.me s (given_call t.now (id_of t.ids (what_of c.in-Some.call) c.args.peer)) t.raft_server c.args.peer c.in-Some.call owes.0 says)
     (subst (λ (n : ℕ). raft.StandsFor c.called.new.self (members_of t) (durable_state c.send.new.self.durable) (server_after_all (members_of t) t.me s t.raft_server (owes.0 ∷ [])) (times_after_all (members_of t) t.me s (given_call t.now n) t.raft_server (owes.0 ∷ []) t.times)) id
     (subst (λ (now : ℕ). raft.StandsFor c.called.new.self (members_of t) (durable_state c.send.new.self.durable) (server_after_all (members_of t) t.me s t.raft_server (owes.0 ∷ [])) (times_after_all (members_of t) t.me s (given_call now c.next_id-id.result) t.raft_server (owes.0 ∷ []) t.times)) is_sent.stands.now
-    (subst (λ (me : ℕ). raft.StandsFor c.called.new.self (members_of t) (durable_state c.send.new.self.durable) (server_after_all (members_of t) me s t.raft_server (owes.0 ∷ [])) (times_after_all (members_of t) me s (given_call c.send.new.self.latest c.next_id-id.result) t.raft_server (owes.0 ∷ []) t.times)) (c.send.ensures.ready.raft_me ∙ is_sent.stands.me)
+    (subst (λ (me : ℕ). raft.StandsFor c.called.new.self (members_of t) (durable_state c.send.new.self.durable) (server_after_all (members_of t) me s t.raft_server (owes.0 ∷ [])) (times_after_all (members_of t) me s (given_call c.send.new.self.latest c.next_id-id.result) t.raft_server (owes.0 ∷ []) t.times)) (c.send.ensures.leaves.ready.raft_me ∙ is_sent.stands.me)
     moved))))))
 
 pub returns-else-send-clause-step_state : goal.returns-else-send-clause-step_state

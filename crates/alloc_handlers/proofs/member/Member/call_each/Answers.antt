@@ -1,8 +1,5 @@
-use Rattle.std.proofs.Common.{ℕ, ◌<◌, ◌≤◌, List, length, get_or, sym, ap, subst, ◌∙◌, arith}
-use Rattle.std.proofs.Math.ListN.{drop_of_length-le}
-use Rattle.alloc_spec.specs.Ending.{calls_all, calls_peer}
-use Rattle.alloc_spec.specs.StepState.{StepState}
-use Rattle.alloc_handlers.specs.Stands.{IsInStep}
+use Rattle.std.proofs.Common.{ℕ, ◌<◌, ◌≤◌, List, length, get_or, sym, ap, subst, ◌∙◌, arith, drop_of_length-le}
+use Rattle.alloc_handlers.proofs.Words.{IsInStep, StepState, calls_all, calls_peer}
 use Rattle.alloc_handlers.proofs.Peers.{next_peer}
 use Rattle.alloc_handlers.proofs.member.Member.call_each.Goals as goal
 
@@ -17,15 +14,17 @@ loop-peer-preserved g c =
       step_state = λ start begun h.
           let by = c.loop-peer.invariant.step_state start begun h in (
             calls_peer s peer by.0,
-            subst (λ (n : ℕ). IsInStep start c.call.new.self c.call.new.offered (calls_peer n peer by.0)) c.loop-peer.invariant.lists.step (c.call.ensures.step_state start by.0 by.1),
+            subst (λ (n : ℕ). IsInStep start c.call.new.self c.call.new.offered (calls_peer n peer by.0)) c.loop-peer.invariant.leaves.lists.step (c.call.ensures.step_state start by.0 by.1),
             next_peer s peers i by.0 begun below by.2,
           );
-      ready = c.call.ensures.ready;
-      durable = c.call.ensures.durable ∙ c.loop-peer.invariant.durable;
-      lists = record {
-        step = c.call.ensures.lists.step ∙ c.loop-peer.invariant.lists.step;
-        sent_most = omega (arith, c.call.ensures.lists.sent_most, c.loop-peer.invariant.lists.sent_most);
-        given_most = omega (arith, c.call.ensures.lists.given_most, c.loop-peer.invariant.lists.given_most);
+      leaves = record {
+        ready = c.call.ensures.leaves.ready;
+        lists = record {
+          step = c.call.ensures.leaves.lists.step ∙ c.loop-peer.invariant.leaves.lists.step;
+          sent_most = omega (arith, c.call.ensures.leaves.lists.sent_most, c.loop-peer.invariant.leaves.lists.sent_most);
+          given_most = omega (arith, c.call.ensures.leaves.lists.given_most, c.loop-peer.invariant.leaves.lists.given_most);
+        };
+        durable = c.call.ensures.leaves.durable ∙ c.loop-peer.invariant.leaves.durable;
       };
     }
 
@@ -36,9 +35,15 @@ returns-clause-step_state g c start begun h =
     subst (λ (x : StepState). IsInStep start c.loop-peer.self c.loop-peer.offered x)
     (sym (ap (λ (list : List ℕ). calls_all c.args.offered.now.step list by.0) (drop_of_length-le c.args.peers.now over)) ∙ by.2) by.1
 
-pub returns-clause-lists : goal.returns-clause-lists
-returns-clause-lists g c = record {
-  step = c.loop-peer.invariant.lists.step;
-  sent_most = omega (arith, c.loop-peer.invariant.lists.sent_most);
-  given_most = c.loop-peer.invariant.lists.given_most;
-}
+pub returns-clause-leaves : goal.returns-clause-leaves
+returns-clause-leaves g c =
+    let left = c.loop-peer.invariant.leaves in
+    record {
+      ready = left.ready;
+      lists = record {
+        step = left.lists.step;
+        sent_most = omega (arith, left.lists.sent_most);
+        given_most = left.lists.given_most;
+      };
+      durable = left.durable;
+    }

@@ -1,8 +1,6 @@
-use Rattle.std.specs.Prelude.{◌≡◌, drop}
-use Rattle.raft_log.specs.declared.durable.Durable.{Durable}
-use Rattle.alloc_spec.specs.Ending.{calls_all}
-use Rattle.alloc_spec.specs.StepState.{StepState}
-use Rattle.alloc_handlers.specs.Stands.{IsInStep, IsReady, ListsUpTo}
+use Rattle.std.proofs.Common.{drop, ◌≡◌}
+use Rattle.alloc_handlers.proofs.Words.{Durable, IsInStep, StepState, calls_all}
+use Rattle.alloc_handlers.specs.Stands.{Leaves}
 use Rattle.alloc_handlers.proofs.member.Member.call_each.Given as goal
 
 -- what the calls to the other peers make of the step by now is what all calls make of it
@@ -10,7 +8,5 @@ abbrev pub invariant-loop-peer : goal.invariant-loop-peer
 invariant-loop-peer g l = record {
   step_state : (start : Durable g.row.D.Denot g.D.Disk) (begun : StepState) → IsInStep start l.fn.self l.fn.offered begun →
       (h : StepState) × IsInStep start l.self l.offered h × (calls_all l.fn.offered.step (drop l.peer-index l.peers) h ≡ calls_all l.fn.offered.step l.peers begun);
-  ready : IsReady l.self;
-  durable : l.self.durable ≡ l.fn.self.durable;
-  lists : ListsUpTo l.peer-index 0 l.fn.offered l.offered;
+  leaves : Leaves l.peer-index 0 l.fn.self l.self l.fn.offered l.offered;
 }

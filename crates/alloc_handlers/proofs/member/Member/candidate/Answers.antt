@@ -1,6 +1,5 @@
 use Rattle.std.proofs.Common.{◌≡◌, ◌<◌, ◌≤◌, ◌-◌, ℕ, Some, find, sym, ap, ◌∙◌, arith}
-use Rattle.std.specs.List.{range_with_len}
-use Rattle.alloc_spec.specs.Tick.{is_candidate}
+use Rattle.alloc_handlers.proofs.Words.{is_candidate, range_with_len}
 use Rattle.alloc_handlers.proofs.Candidates.{find_here, find_next, is_id, known_at}
 use Rattle.alloc_handlers.proofs.member.Member.candidate.Goals as goal
 

@@ -1,8 +1,5 @@
 use Rattle.std.proofs.Common.{◌≡◌, ◌-◌, find}
-use Rattle.std.specs.List.{range_with_len}
-use Rattle.alloc_handlers.specs.Stands.{StandsFor}
-use Rattle.alloc_spec.specs.Tick.{candidate, is_candidate}
-use Rattle.alloc_spec.specs.AllocatorState.{AllocatorState}
+use Rattle.alloc_handlers.proofs.Words.{AllocatorState, StandsFor, candidate, is_candidate, range_with_len}
 use Rattle.alloc_handlers.proofs.member.Member.candidate.Given as goal
 
 -- those that are left have the same first candidate as all

@@ -1,9 +1,7 @@
-use Rattle.std.proofs.Common.{sym, subst}
-use Rattle.std.specs.Prelude.{Ok}
+use Rattle.std.proofs.Common.{sym, subst, Ok}
+use Rattle.alloc_handlers.proofs.Words.{SeesTo, by_kind, delivery_of}
 use Rattle.can_frame.specs.declared.identifier.Kind.{Kind}
-use Rattle.alloc_spec.specs.Delivered.{by_kind, delivery_phase, message}
-use Rattle.transfer_rx.specs.Told.{delivery_of}
-use Rattle.alloc_handlers.specs.Stands.{SeesTo}
+use Rattle.alloc_spec.specs.Delivered.{delivery_phase}
 use Rattle.alloc_handlers.proofs.Sights.{sees}
 use Rattle.alloc_handlers.proofs.member.Member.deliver.Goals as goal
 
@@ -19,7 +17,7 @@ returns-in-Message-clause-sees g c start step_state h =
     let d = delivery_of c.args.transfer.now in
     let heard = c.hear_message.ensures.sees c.args.offered.now start step_state h in
     subst (λ (kind : Kind). SeesTo start c.hear_message.new.self c.args.offered.now (by_kind c.args.offered.now.step d kind step_state) (Ok c.hear_message.result)) (sym c.in-Message.is)
-    (sees start c.hear_message.new.self c.args.offered.now (message d step_state) c.hear_message.result heard.1 heard.0)
+    (sees heard.1 heard.0)
 
 pub returns-in-Request-clause-sees : goal.returns-in-Request-clause-sees
 unfolding delivery_phase

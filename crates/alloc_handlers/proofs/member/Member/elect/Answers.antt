@@ -1,8 +1,7 @@
 use Rattle.std.proofs.Common.{sym, ◌∙◌}
-use Rattle.alloc_spec.specs.AllocatorState.{members_of, start_of}
+use Rattle.alloc_handlers.proofs.Words.{members_of, result_err, start_of}
 use Rattle.alloc_handlers.proofs.Electing.{complete_is, elects, first_and_others}
 use Rattle.alloc_handlers.proofs.Taking.{took_moves}
-use Rattle.std.specs.Result.{result_err}
 use Rattle.alloc_handlers.proofs.member.Member.elect.Goals as goal
 
 pub returns-clause-goes : goal.returns-clause-goes

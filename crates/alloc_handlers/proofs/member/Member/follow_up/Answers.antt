@@ -1,9 +1,5 @@
-use Rattle.std.proofs.Common.{ap, subst, ◌∙◌, List, ℕ}
-use Rattle.std.specs.Prelude.{None}
-use Rattle.can_frame.specs.declared.step.What.TheVariants.{Alloc}
-use Rattle.alloc_spec.specs.StepState.{with_transfer}
-use Rattle.alloc_spec.specs.Transfers.{pair_in}
-use Rattle.alloc_handlers.specs.Stands.{IsInStep}
+use Rattle.std.proofs.Common.{ap, subst, ◌∙◌, List, ℕ, None}
+use Rattle.alloc_handlers.proofs.Words.{Alloc, IsInStep, pair_in, with_transfer}
 use Rattle.alloc_handlers.proofs.Giving.{nobody_is_given}
 use Rattle.alloc_handlers.proofs.member.Member.follow_up.Goals as goal
 

@@ -1,7 +1,6 @@
 use Rattle.std.proofs.Common.{ap, subst, ◌∙◌, Bool, ℕ}
-use Rattle.alloc_exchange.specs.Exchange.{after, answer}
+use Rattle.alloc_handlers.proofs.Words.{after, answer, may_follow}
 use Rattle.alloc_exchange.specs.Stands as exchange
-use Rattle.alloc_spec.specs.Exchange.{may_follow}
 use Rattle.alloc_handlers.proofs.Noting.{noted_request}
 use Rattle.alloc_handlers.proofs.member.Member.hear.Goals as goal
 

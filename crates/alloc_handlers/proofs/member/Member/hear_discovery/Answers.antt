@@ -1,13 +1,7 @@
 use Rattle.std.proofs.Common.{◌≡◌, ◌≢◌, ◌∷◌, refl, sym, ap, ◌∙◌, List, ℕ, length}
-use Rattle.can_frame.specs.declared.step.Seen.TheVariants.{Took}
+use Rattle.alloc_handlers.proofs.Words.{Event, Heard, IsInStep, StepResult, Took, delivery_of, hears_discovery, members, members_of, raft_role, start_of}
 use Rattle.can_frame.specs.declared.step.Role.TheVariants.{Follower}
-use Rattle.cluster_discovery.specs.Members.{Event, Heard, members}
 use Rattle.dsdl_codec.specs.Discovery.{discovery_of}
-use Rattle.raft_core.specs.RaftViews.{raft_role}
-use Rattle.alloc_spec.specs.Delivered.{StepResult, hears_discovery}
-use Rattle.alloc_spec.specs.AllocatorState.{members_of, start_of}
-use Rattle.transfer_rx.specs.Told.{delivery_of}
-use Rattle.alloc_handlers.specs.Stands.{IsInStep}
 use Rattle.alloc_handlers.proofs.Choosing.{same_number}
 use Rattle.alloc_handlers.proofs.Noting.{counts_same, noted_cluster}
 use Rattle.alloc_handlers.proofs.Sights.{read_as}

@@ -1,6 +1,5 @@
 use Rattle.std.proofs.Common.{◌≡◌}
-use Rattle.alloc_spec.specs.Delivered.{StepResult}
-use Rattle.alloc_handlers.specs.Stands.{IsInStep}
+use Rattle.alloc_handlers.proofs.Words.{IsInStep, StepResult}
 use Rattle.alloc_handlers.proofs.Choosing.{other_number, otherwise, same_number, then_}
 use Rattle.alloc_handlers.proofs.member.Member.hear_message.Goals as goal
 

@@ -1,11 +1,7 @@
 use Rattle.std.proofs.Common.{◌≡◌, List, ℕ, refl, ap, subst, ◌∙◌}
-use Rattle.can_frame.specs.declared.step.Seen.TheVariants.{Took}
+use Rattle.alloc_handlers.proofs.Words.{IsInStep, StepResult, Took, after_status, delivery_of, hears_status}
 use Rattle.dsdl_codec.specs.NodeStatus.{node_status_of}
 use Rattle.node_discovery.specs.Stands as watch
-use Rattle.node_discovery.specs.Watch.{after_status}
-use Rattle.transfer_rx.specs.Told.{delivery_of}
-use Rattle.alloc_spec.specs.Delivered.{StepResult, hears_status}
-use Rattle.alloc_handlers.specs.Stands.{IsInStep}
 use Rattle.alloc_handlers.proofs.Noting.{noted_watch}
 use Rattle.alloc_handlers.proofs.Sights.{read_as}
 use Rattle.alloc_handlers.proofs.member.Member.hear_status.Goals as goal

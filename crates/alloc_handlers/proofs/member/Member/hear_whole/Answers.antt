@@ -1,11 +1,6 @@
 use Rattle.std.proofs.Common.{sym, ap, subst, ◌∙◌, ◌≡◌, Option, Some, None, rules, ℕ}
-use Rattle.std.specs.Result.{result_err}
+use Rattle.alloc_handlers.proofs.Words.{GoesTo, StepState, Store, answers_or_records, recorded_at, result_err}
 use Rattle.can_frame.specs.Zeros.{zeros}
-use Rattle.raft_model.specs.Server.{Store}
-use Rattle.alloc_spec.specs.Exchange.{answers_again, answers_or_records}
-use Rattle.alloc_spec.specs.StepState.{StepState}
-use Rattle.alloc_spec.specs.AllocatorState.{recorded_at}
-use Rattle.alloc_handlers.specs.Stands.{GoesTo}
 use Rattle.alloc_handlers.proofs.Choosing.{otherwise, then_}
 use Rattle.alloc_handlers.proofs.Taking.{is_step_state}
 use Rattle.alloc_handlers.proofs.Uids.{zero_is, zero_not}
@@ -14,7 +9,7 @@ use Rattle.alloc_handlers.proofs.member.Member.hear_whole.Goals as goal
 pub returns-then-is_zero-clause-goes : goal.returns-then-is_zero-clause-goes
 returns-then-is_zero-clause-goes g c start step_state h =
     let zero : c.args.uid.now ≡ zeros = search rules in
-    then_ (λ (x : StepState). GoesTo start c.args.self.now c.args.offered.now x None) _ _ _ (zero_is c.args.uid.now zero) (is_step_state start c.args.self.now c.args.offered.now step_state h)
+    then_ (λ (x : StepState). GoesTo start c.args.self.now c.args.offered.now x None) _ _ _ (zero_is c.args.uid.now zero) (is_step_state h)
 
 pub returns-in-Some-clause-goes : goal.returns-in-Some-clause-goes
 returns-in-Some-clause-goes g c start step_state h =
@@ -24,7 +19,7 @@ returns-in-Some-clause-goes g c start step_state h =
     sym c.in-Some.is ∙ c.recorded_at.ensures.place ∙ ap (λ (store : Store). recorded_at store.log c.args.uid.now) (sym h.stands.raft.store) in
     otherwise (λ (x : StepState). GoesTo start c.answer_again.new.self c.answer_again.new.offered x None) _ _ _ (zero_not c.args.uid.now some)
     (subst (λ (at : Option ℕ). GoesTo start c.answer_again.new.self c.answer_again.new.offered (answers_or_records s c.args.uid.now c.args.preference at step_state) None) place
-    (is_step_state start c.answer_again.new.self c.answer_again.new.offered (answers_again s c.in-Some.place step_state) (c.answer_again.ensures.step_state start step_state h)))
+    (is_step_state (c.answer_again.ensures.step_state start step_state h)))
 
 pub returns-in-None-clause-goes : goal.returns-in-None-clause-goes
 returns-in-None-clause-goes g c start step_state h =

@@ -1,10 +1,5 @@
 use Rattle.std.proofs.Common.{Bool, true, false, ◌||◌, sym, ap, ◌∙◌}
-use Rattle.std.proofs.lemmas.List.FromFn.{fill_by_all}
-use Rattle.std.proofs.lemmas.List.{get_or-replicate}
-use Rattle.cluster_discovery.specs.Members.{is_on_list}
-use Rattle.cluster_discovery.specs.Views.{member_list}
-use Rattle.raft_log.specs.DurableViews.{durable_state}
-use Rattle.alloc_spec.specs.AllocatorState.{is_known, is_recorded}
+use Rattle.alloc_handlers.proofs.Words.{durable_state, fill_by_all, get_or-replicate, is_known, is_on_list, is_recorded, member_list}
 use Rattle.alloc_handlers.proofs.Recorded.{knows, not_recorded, unmarked}
 use Rattle.alloc_handlers.proofs.member.Member.known.Goals as goal
 

@@ -1,6 +1,5 @@
 use Rattle.std.proofs.Common.{rules, refl, ap, ◌∷◌, []}
-use Rattle.raft_log.specs.DurableViews.{durable_state}
-use Rattle.alloc_spec.specs.Outbox.{Waiting}
+use Rattle.alloc_handlers.proofs.Words.{Waiting, durable_state}
 use Rattle.alloc_handlers.proofs.member.Member.open.Goals as goal
 
 pub returns-clause-stands : goal.returns-clause-stands

@@ -1,10 +1,6 @@
-use Rattle.std.proofs.Common.{List, Bool, Option, ℕ, sym, ap, subst, ◌∙◌}
-use Rattle.std.specs.Prelude.{None}
-use Rattle.std.specs.Result.{result_err}
+use Rattle.std.proofs.Common.{List, Bool, Option, ℕ, sym, ap, subst, ◌∙◌, None}
+use Rattle.alloc_handlers.proofs.Words.{GoesTo, StepState, records_at, result_err}
 use Rattle.id_selector.specs.Choice.{chosen}
-use Rattle.alloc_spec.specs.Exchange.{records_at}
-use Rattle.alloc_spec.specs.StepState.{StepState}
-use Rattle.alloc_handlers.specs.Stands.{GoesTo}
 use Rattle.alloc_handlers.proofs.Choosing.{otherwise, then_}
 use Rattle.alloc_handlers.proofs.Taking.{is_step_state}
 use Rattle.alloc_handlers.proofs.member.Member.record.Goals as goal
@@ -12,7 +8,7 @@ use Rattle.alloc_handlers.proofs.member.Member.record.Goals as goal
 pub returns-then-not-may_record-clause-goes : goal.returns-then-not-may_record-clause-goes
 returns-then-not-may_record-clause-goes g c offered step start step_state h =
     otherwise (λ (x : StepState). GoesTo start c.args.self.now offered x None) _ _ _ (sym (c.may_record.ensures.stands step_state.allocator h.stands) ∙ c.if-not-may_record.true)
-    (is_step_state start c.args.self.now offered step_state h)
+    (is_step_state h)
 
 pub returns-in-Some-clause-goes : goal.returns-in-Some-clause-goes
 returns-in-Some-clause-goes g c offered step start step_state h =
@@ -26,4 +22,4 @@ returns-in-None-clause-goes g c offered step start step_state h =
     let choice = sym c.in-None.is ∙ c.choose.ensures.chosen ∙ ap (λ (list : List Bool). chosen list c.args.preference) (c.taken.ensures.taken step_state.allocator h.stands) in
     then_ (λ (x : StepState). GoesTo start c.args.self.now offered x None) _ _ _ (sym (c.may_record.ensures.stands step_state.allocator h.stands) ∙ c.if-not-may_record.false)
     (subst (λ (node : Option ℕ). GoesTo start c.args.self.now offered (records_at step c.args.uid.now node step_state) None) choice
-    (is_step_state start c.args.self.now offered step_state h))
+    (is_step_state h))

@@ -1,7 +1,5 @@
 use Rattle.std.proofs.Common.{subst, sym, Option, List, ℕ}
-use Rattle.std.specs.Result.{result_err}
-use Rattle.alloc_spec.specs.Tick.{records_as}
-use Rattle.alloc_handlers.specs.Stands.{GoesTo}
+use Rattle.alloc_handlers.proofs.Words.{GoesTo, records_as, result_err}
 use Rattle.alloc_handlers.proofs.member.Member.record_as.Goals as goal
 
 pub returns-in-Some-clause-goes : goal.returns-in-Some-clause-goes

@@ -1,9 +1,5 @@
-use Rattle.std.proofs.Common.{subst, sym, ◌∙◌, Option, List, ℕ}
-use Rattle.std.specs.Prelude.{None}
-use Rattle.std.specs.Result.{result_err}
-use Rattle.alloc_spec.specs.StepState.{StepState}
-use Rattle.alloc_spec.specs.Tick.{records_as, records_node}
-use Rattle.alloc_handlers.specs.Stands.{GoesTo}
+use Rattle.std.proofs.Common.{subst, sym, ◌∙◌, Option, List, ℕ, None}
+use Rattle.alloc_handlers.proofs.Words.{GoesTo, StepState, records_as, records_node, result_err}
 use Rattle.alloc_handlers.proofs.Choosing.{otherwise, then_}
 use Rattle.alloc_handlers.proofs.Taking.{is_step_state}
 use Rattle.alloc_handlers.proofs.member.Member.record_node.Goals as goal
@@ -11,7 +7,7 @@ use Rattle.alloc_handlers.proofs.member.Member.record_node.Goals as goal
 pub returns-then-not-may_propose-clause-goes : goal.returns-then-not-may_propose-clause-goes
 returns-then-not-may_propose-clause-goes g c offered step start step_state h =
     otherwise (λ (x : StepState). GoesTo start c.args.self.now offered x None) _ _ _ (sym (c.may_propose.ensures.stands step_state.allocator h.stands) ∙ c.if-not-may_propose.true)
-    (is_step_state start c.args.self.now offered step_state h)
+    (is_step_state h)
 
 pub returns-in-Some-clause-goes : goal.returns-in-Some-clause-goes
 returns-in-Some-clause-goes g c offered step start step_state h =
@@ -24,4 +20,4 @@ pub returns-in-None-clause-goes : goal.returns-in-None-clause-goes
 returns-in-None-clause-goes g c offered step start step_state h =
     then_ (λ (x : StepState). GoesTo start c.args.self.now offered x None) _ _ _ (sym (c.may_propose.ensures.stands step_state.allocator h.stands) ∙ c.if-not-may_propose.false)
     (subst (λ (node : Option ℕ). GoesTo start c.args.self.now offered (records_node step node step_state) None) (sym c.in-None.is ∙ c.candidate.ensures.computed step_state.allocator h.stands)
-    (is_step_state start c.args.self.now offered step_state h))
+    (is_step_state h))

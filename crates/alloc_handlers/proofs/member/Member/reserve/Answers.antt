@@ -1,47 +1,15 @@
-use Rattle.std.proofs.Common.{ap, refl, subst, sym, ◌∙◌, ◌≡◌, ◌<◌, ◌∷◌, [], ℕ, arith}
-use Rattle.std.specs.Prelude.{Option}
-use Rattle.std.specs.Result.{result_err}
-use Rattle.can_frame.specs.declared.entry.Entry.{Entry}
-use Rattle.can_frame.specs.Zeros.{zeros}
-use Rattle.kv_store.specs.declared.fault.Fault.{Fault}
-use Rattle.raft_core.specs.declared.raft.Raft.{Raft}
-use Rattle.raft_core.specs.Handled.{MakesMoves}
-use Rattle.raft_core.specs.Proposing.{IsTried}
-use Rattle.raft_core.specs.Taken.{proposal}
-use Rattle.raft_core.specs.Times.{given_proposal}
-use Rattle.raft_model.specs.Moves.Move.{ProposeEntry}
-use Rattle.alloc_spec.specs.Tick.{reserves}
-use Rattle.alloc_spec.specs.AllocatorState.{members_of}
-use Rattle.alloc_handlers.specs.Stands.{GoesTo}
-use Rattle.alloc_handlers.proofs.Recording.{is_tried}
-use Rattle.alloc_handlers.proofs.Taking.{given_on, took_moves}
+use Rattle.alloc_handlers.proofs.Recording.{appended, is_tried, no_room}
+use Rattle.alloc_handlers.proofs.Taking.{goes_failed}
 use Rattle.alloc_handlers.proofs.member.Member.reserve.Goals as goal
-
-no_room : (n : ℕ) → n < 127 → n ≡ 127 → ⊥
-no_room n below is = omega arith
 
 pub returns-in_err-reserve-clause-goes : goal.returns-in_err-reserve-clause-goes
 returns-in_err-reserve-clause-goes g c offered step start step_state h =
-    let t = step_state.allocator in
-    let tried : IsTried c.reserve.result = is_tried c.reserve.result (λ is. c.reserve.ensures.not_leader.0 is c.requires.leads) (λ is. no_room _ c.requires.log_room ((c.reserve.ensures.full.0 is).1)) (λ is. c.requires.free_node ((c.reserve.ensures.taken.0 is).2)) in
-    let may = (c.reserve.ensures.appends.tried t.raft_server h.stands.raft.store h.stands.raft.role).0 tried in
-    let entry : Entry = proposal t.raft_server.store.term zeros c.args.node in
-    let goes = took_moves start c.args.self.now c.reserve.new.d c.reserve.new.self offered step_state h step (given_proposal t.now 3) _ (result_err c.reserve.result) c.puts_go_on.ensures
-    (subst (λ (r : Raft). MakesMoves (members_of t) t.me step (given_proposal t.now 3) (ProposeEntry entry ∷ []) t.raft_server t.times c.args.self.now.durable c.reserve.new.d r (result_err c.reserve.result)) (sym c.reserve.ensures.same)
-    (subst (λ (me : ℕ). MakesMoves (members_of t) me step (given_proposal t.now 3) (ProposeEntry entry ∷ []) t.raft_server t.times c.args.self.now.durable c.reserve.new.d c.args.self.now.raft (result_err c.reserve.result)) (c.requires.ready.raft_me ∙ h.stands.me)
-    (c.reserve.ensures.appends.moves (members_of t) step t.raft_server t.times h.stands.raft (given_proposal t.now 3) refl may))) in
-    subst (λ (f : Option Fault). GoesTo start (record c.args.self.now { durable = c.reserve.new.d; raft = c.reserve.new.self }) offered (reserves step c.args.node step_state) f)
-    (ap result_err c.in_err-reserve.was ∙ sym (given_on c.from_residual.result c.in_err-reserve.field-0.0 c.from_residual.ensures.0 c.from_residual.ensures.1)) goes
+    goes_failed _ c.from_residual.ensures.0 c.from_residual.ensures.1
+    (appended c.requires.ready h c.puts_go_on.ensures step c.reserve.ensures.same tt c.in_err-reserve.ensures.appends)
 
 pub returns-clause-goes : goal.returns-clause-goes
 returns-clause-goes g c offered step start step_state h =
-    let t = step_state.allocator in
-    let tried : IsTried c.reserve.result = is_tried c.reserve.result (λ is. c.reserve.ensures.not_leader.0 is c.requires.leads) (λ is. no_room _ c.requires.log_room ((c.reserve.ensures.full.0 is).1)) (λ is. c.requires.free_node ((c.reserve.ensures.taken.0 is).2)) in
-    let may = (c.reserve.ensures.appends.tried t.raft_server h.stands.raft.store h.stands.raft.role).0 tried in
-    let entry : Entry = proposal t.raft_server.store.term zeros c.args.node in
-    let goes = took_moves start c.args.self.now c.reserve.new.d c.reserve.new.self offered step_state h step (given_proposal t.now 3) _ (result_err c.reserve.result) c.puts_go_on.ensures
-    (subst (λ (r : Raft). MakesMoves (members_of t) t.me step (given_proposal t.now 3) (ProposeEntry entry ∷ []) t.raft_server t.times c.args.self.now.durable c.reserve.new.d r (result_err c.reserve.result)) (sym c.reserve.ensures.same)
-    (subst (λ (me : ℕ). MakesMoves (members_of t) me step (given_proposal t.now 3) (ProposeEntry entry ∷ []) t.raft_server t.times c.args.self.now.durable c.reserve.new.d c.args.self.now.raft (result_err c.reserve.result)) (c.requires.ready.raft_me ∙ h.stands.me)
-    (c.reserve.ensures.appends.moves (members_of t) step t.raft_server t.times h.stands.raft (given_proposal t.now 3) refl may))) in
-    subst (λ (f : Option Fault). GoesTo start (record c.args.self.now { durable = c.reserve.new.d; raft = c.reserve.new.self }) offered (reserves step c.args.node step_state) f)
-    (ap result_err c.in_ok-reserve.was) goes
+    let did = c.in_ok-reserve.ensures in
+    appended c.requires.ready h c.puts_go_on.ensures step did.same
+    (is_tried _ (λ is. did.not_leader.0 is c.requires.leads) (λ is. no_room _ c.requires.log_room ((did.full.0 is).1)) (λ is. c.requires.free_node ((did.taken.0 is).2)))
+    did.appends

@@ -1,6 +1,6 @@
 use Rattle.std.proofs.Common.{◌≡◌, ◌<◌, ◌≤◌, ℕ, false, sym, ◌∙◌, arith}
+use Rattle.alloc_handlers.proofs.Words.{is_stranger}
 use borrow.Author.Count.{below_more}
-use Rattle.alloc_handlers.specs.Strangers.{is_stranger}
 use Rattle.alloc_handlers.proofs.Candidates.{known_at}
 use Rattle.alloc_handlers.proofs.member.Member.sees_strangers.Goals as goal
 

@@ -1,7 +1,5 @@
 use Rattle.std.proofs.Common.{◌≡◌, ◌<◌, ◌≤◌, ℕ, false}
-use Rattle.alloc_spec.specs.AllocatorState.{AllocatorState}
-use Rattle.alloc_handlers.specs.Stands.{StandsFor}
-use Rattle.alloc_handlers.specs.Strangers.{is_stranger}
+use Rattle.alloc_handlers.proofs.Words.{AllocatorState, StandsFor, is_stranger}
 use Rattle.alloc_handlers.proofs.member.Member.sees_strangers.Given as goal
 
 -- no device so far is a stranger

@@ -1,9 +1,6 @@
-use Rattle.std.proofs.Common.{ap, subst, sym, ◌∙◌, ◌++◌, List, ℕ}
-use Rattle.std.specs.Prelude.{None}
-use Rattle.can_frame.specs.declared.step.What.TheVariants.{Alloc}
-use Rattle.alloc_spec.specs.StepState.{pairs_if_fitted, with_transfer}
-use Rattle.alloc_spec.specs.Transfers.{Given, has_room}
-use Rattle.alloc_handlers.specs.Stands.{IsInStep, ListsGiven}
+use Rattle.std.proofs.Common.{ap, subst, sym, ◌∙◌, ◌++◌, List, ℕ, None}
+use Rattle.alloc_handlers.proofs.Words.{Alloc, IsInStep, ListsGiven, has_room, pairs_if_fitted, with_transfer}
+use Rattle.alloc_spec.specs.Transfers.{Given}
 use Rattle.alloc_handlers.proofs.member.Member.send_pair.Goals as goal
 
 pub returns-clause-fitted : goal.returns-clause-fitted

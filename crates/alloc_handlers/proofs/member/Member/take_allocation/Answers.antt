@@ -1,12 +1,6 @@
-use Rattle.std.proofs.Common.{sym, subst, ◌∙◌, List, ℕ}
-use Rattle.std.specs.Prelude.{None}
-use Rattle.std.specs.Result.{result_err}
+use Rattle.std.proofs.Common.{sym, subst, ◌∙◌, List, ℕ, None}
+use Rattle.alloc_handlers.proofs.Words.{Alloc, GoesTo, IsInStep, StepState, allocation_payload, answers_request, result_err, with_request, with_transfer}
 use Rattle.alloc_exchange.specs.declared.heard.Heard.{Heard}
-use Rattle.alloc_exchange.specs.declared.heard.Heard.TheVariants.{FollowUp}
-use Rattle.can_frame.specs.declared.step.What.TheVariants.{Alloc}
-use Rattle.alloc_spec.specs.Exchange.{allocation_payload, answers_request, with_request}
-use Rattle.alloc_spec.specs.StepState.{StepState, with_transfer}
-use Rattle.alloc_handlers.specs.Stands.{GoesTo, IsInStep}
 use Rattle.alloc_handlers.proofs.Taking.{is_step_state}
 use Rattle.alloc_handlers.proofs.member.Member.take_allocation.Goals as goal
 
@@ -15,7 +9,7 @@ returns-in-FollowUp-clause-goes g c start step_state h =
     let s = c.args.offered.now.step in
     let g1 : StepState = with_request c.args.message.now step_state in
     subst (λ (heard : Heard). GoesTo start c.follow_up.new.self c.follow_up.new.offered (answers_request c.args.offered.now.step heard g1) None) (sym c.in-FollowUp.is ∙ c.hear.ensures.answer step_state.allocator h.stands)
-    (is_step_state start c.follow_up.new.self c.follow_up.new.offered (answers_request s (FollowUp c.in-FollowUp.bytes) g1)
+    (is_step_state
     (subst (λ (bytes : List ℕ). IsInStep start c.follow_up.new.self c.follow_up.new.offered (with_transfer s Alloc 0 (allocation_payload 0 bytes) None g1)) c.deref.ensures.0
     (c.follow_up.ensures.step_state start g1 (c.hear.ensures.step_state c.args.offered.now start step_state h))))
 
@@ -31,11 +25,11 @@ returns-in-Ignored-clause-goes g c start step_state h =
     let s = c.args.offered.now.step in
     let g1 : StepState = with_request c.args.message.now step_state in
     subst (λ (heard : Heard). GoesTo start c.hear.new.self c.args.offered.now (answers_request s heard g1) None) (sym c.in-Ignored.is ∙ c.hear.ensures.answer step_state.allocator h.stands)
-    (is_step_state start c.hear.new.self c.args.offered.now g1 (c.hear.ensures.step_state c.args.offered.now start step_state h))
+    (is_step_state (c.hear.ensures.step_state c.args.offered.now start step_state h))
 
 pub returns-in-Denied-clause-goes : goal.returns-in-Denied-clause-goes
 returns-in-Denied-clause-goes g c start step_state h =
     let s = c.args.offered.now.step in
     let g1 : StepState = with_request c.args.message.now step_state in
     subst (λ (heard : Heard). GoesTo start c.hear.new.self c.args.offered.now (answers_request s heard g1) None) (sym c.in-Denied.is ∙ c.hear.ensures.answer step_state.allocator h.stands)
-    (is_step_state start c.hear.new.self c.args.offered.now g1 (c.hear.ensures.step_state c.args.offered.now start step_state h))
+    (is_step_state (c.hear.ensures.step_state c.args.offered.now start step_state h))

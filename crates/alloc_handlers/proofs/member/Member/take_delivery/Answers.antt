@@ -1,10 +1,6 @@
-use Rattle.std.proofs.Common.{refl, sym, subst}
-use Rattle.std.specs.Prelude.{Ok}
-use Rattle.can_frame.specs.declared.step.Seen.TheVariants.{Dropped, Part}
-use Rattle.alloc_spec.specs.Step.{with_answer}
+use Rattle.std.proofs.Common.{refl, sym, subst, Ok}
+use Rattle.alloc_handlers.proofs.Words.{Dropped, Part, SeesTo, told, with_answer}
 use Rattle.transfer_rx.specs.declared.transfer.Took.{Took}
-use Rattle.transfer_rx.specs.Told.{told}
-use Rattle.alloc_handlers.specs.Stands.{SeesTo}
 use Rattle.alloc_handlers.proofs.Sights.{sees}
 use Rattle.alloc_handlers.proofs.member.Member.take_delivery.Goals as goal
 
@@ -15,9 +11,9 @@ returns-in-Delivered-clause-sees g c start step_state h =
 pub returns-in-Part-clause-sees : goal.returns-in-Part-clause-sees
 returns-in-Part-clause-sees g c start step_state h =
     subst (λ (took : Took). SeesTo start c.args.self.now c.args.offered.now (with_answer c.args.offered.now.step (told took) step_state) (Ok Part)) (sym c.in-Part.is)
-    (sees start c.args.self.now c.args.offered.now _ Part refl h)
+    (sees refl h)
 
 pub returns-in-Dropped-clause-sees : goal.returns-in-Dropped-clause-sees
 returns-in-Dropped-clause-sees g c start step_state h =
     subst (λ (took : Took). SeesTo start c.args.self.now c.args.offered.now (with_answer c.args.offered.now.step (told took) step_state) (Ok (Dropped c.in-Dropped.why))) (sym c.in-Dropped.is)
-    (sees start c.args.self.now c.args.offered.now _ (Dropped c.in-Dropped.why) refl h)
+    (sees refl h)

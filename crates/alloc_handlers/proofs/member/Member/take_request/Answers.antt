@@ -1,7 +1,5 @@
-use Rattle.std.specs.Prelude.{Ok}
-use Rattle.alloc_spec.specs.Delivered.{StepResult, asks_info}
-use Rattle.transfer_rx.specs.Told.{delivery_of}
-use Rattle.alloc_handlers.specs.Stands.{SeesTo}
+use Rattle.std.proofs.Common.{Ok}
+use Rattle.alloc_handlers.proofs.Words.{SeesTo, StepResult, delivery_of}
 use Rattle.alloc_handlers.proofs.Choosing.{other_number, otherwise, same_number, then_}
 use Rattle.alloc_handlers.proofs.Sights.{sees}
 use Rattle.alloc_handlers.proofs.member.Member.take_request.Goals as goal
@@ -12,7 +10,7 @@ returns-then-transfer-clause-sees g c start step_state h =
     let told = c.tell_info.ensures.sees start step_state h in
     then_ (λ (step_result : StepResult). SeesTo start c.tell_info.new.self c.tell_info.new.offered step_result (Ok c.tell_info.result)) _ _ _
     (same_number c.args.transfer.now.ident.number 1 c.if-transfer.true)
-    (sees start c.tell_info.new.self c.tell_info.new.offered (asks_info c.args.offered.now.step d d.payload step_state) c.tell_info.result told.1 told.0)
+    (sees told.1 told.0)
 
 pub returns-then-transfer-2-clause-sees : goal.returns-then-transfer-2-clause-sees
 returns-then-transfer-2-clause-sees g c start step_state h =

@@ -1,9 +1,5 @@
-use Rattle.std.specs.Prelude.{Ok}
-use Rattle.dsdl_codec.specs.NodeInfo.{node_info_of}
-use Rattle.alloc_spec.specs.Delivered.{StepResult, reads}
-use Rattle.alloc_spec.specs.Services.{hears_info}
-use Rattle.transfer_rx.specs.Told.{delivery_of}
-use Rattle.alloc_handlers.specs.Stands.{SeesTo}
+use Rattle.std.proofs.Common.{Ok}
+use Rattle.alloc_handlers.proofs.Words.{SeesTo, StepResult, delivery_of}
 use Rattle.alloc_handlers.proofs.Choosing.{other_number, otherwise, same_number, then_}
 use Rattle.alloc_handlers.proofs.Sights.{sees}
 use Rattle.alloc_handlers.proofs.member.Member.take_response.Goals as goal
@@ -14,7 +10,7 @@ returns-then-transfer-clause-sees g c offered step start step_state h =
     let heard = c.hear_info.ensures.sees offered start step_state h in
     then_ (λ (step_result : StepResult). SeesTo start c.hear_info.new.self offered step_result (Ok c.hear_info.result)) _ _ _
     (same_number c.args.transfer.now.ident.number 1 c.if-transfer.true)
-    (sees start c.hear_info.new.self offered (reads (hears_info d) (node_info_of d.payload) step_state) c.hear_info.result heard.1 heard.0)
+    (sees heard.1 heard.0)
 
 pub returns-then-transfer-2-clause-sees : goal.returns-then-transfer-2-clause-sees
 returns-then-transfer-2-clause-sees g c offered step start step_state h =

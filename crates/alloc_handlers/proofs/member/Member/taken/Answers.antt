@@ -1,11 +1,5 @@
 use Rattle.std.proofs.Common.{ℕ, Bool, true, false, ◌||◌, sym, ap, ◌∙◌}
-use Rattle.std.proofs.lemmas.List.FromFn.{fill_by_all}
-use Rattle.cluster_discovery.specs.Members.{is_on_list}
-use Rattle.cluster_discovery.specs.Views.{member_list}
-use Rattle.node_discovery.specs.History.{is_online}
-use Rattle.node_discovery.specs.Watch.{history}
-use Rattle.raft_log.specs.DurableViews.{durable_state}
-use Rattle.alloc_spec.specs.AllocatorState.{is_known, is_recorded, is_taken}
+use Rattle.alloc_handlers.proofs.Words.{durable_state, fill_by_all, history, is_known, is_on_list, is_online, is_recorded, is_taken, member_list}
 use Rattle.alloc_handlers.proofs.Recorded.{knows, marked_in_turn, not_recorded}
 use Rattle.alloc_handlers.proofs.member.Member.taken.Goals as goal
 

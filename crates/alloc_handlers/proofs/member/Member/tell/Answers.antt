@@ -1,24 +1,9 @@
-use Rattle.std.proofs.Common.{◌≡◌, true, false, List, ℕ, [], ◌∷◌, refl, sym, ap, subst, ◌∙◌, inl, inr}
-use Rattle.std.specs.Prelude.{None}
-use Rattle.can_frame.specs.declared.entry.Entry.{Entry}
-use Rattle.can_frame.specs.declared.step.What.TheVariants.{Alloc}
-use Rattle.raft_core.specs.RaftViews.{raft_told}
+use Rattle.std.proofs.Common.{◌≡◌, true, false, List, ℕ, [], ◌∷◌, refl, sym, ap, subst, ◌∙◌, inl, inr, None, rules}
+use Rattle.alloc_handlers.proofs.Words.{Alloc, Entry, IsInStep, Member, StepState, TellNothing, TellPair, Waiting, allocation_payload, durable_state, given_at, has_room, has_to_tell, is_zero, members_of, next_entry, raft_told, server_after_all, times_after_all, with_transfer}
 use Rattle.raft_core.specs.Stands as raft
-use Rattle.raft_core.specs.Times.{given_at, times_after_all}
-use Rattle.raft_log.specs.DurableViews.{durable_state}
-use Rattle.raft_model.specs.Moves.{next_entry}
-use Rattle.raft_model.specs.Handlers.{server_after_all}
-use Rattle.raft_model.specs.Moves.Move.{TellNothing, TellPair}
-use Rattle.alloc_spec.specs.Ending.{has_to_tell}
-use Rattle.alloc_spec.specs.Exchange.{allocation_payload}
-use Rattle.alloc_spec.specs.StepState.{StepState, with_transfer}
-use Rattle.alloc_spec.specs.Outbox.{Waiting}
-use Rattle.alloc_spec.specs.AllocatorState.{is_zero, members_of}
-use Rattle.alloc_spec.specs.Transfers.{has_room}
-use Rattle.alloc_handlers.specs.declared.member.Member.{Member}
-use Rattle.alloc_handlers.specs.Stands.{IsInStep}
 use Rattle.alloc_handlers.proofs.Choosing.{otherwise, then_}
 use Rattle.alloc_handlers.proofs.Noting.{noted_moves}
+use Rattle.alloc_handlers.proofs.Parts.{ready_with}
 use Rattle.alloc_handlers.proofs.Telling.{lies_below, passes_over, tells_nothing, tells_pair}
 use Rattle.alloc_handlers.proofs.member.Member.tell.Goals as goal
 
@@ -58,7 +43,7 @@ returns-then-send_pair-clause-step_state g c start step_state h =
     (otherwise (λ (x : StepState). IsInStep start (record c.send_pair.new.self { raft = c.told-then-send_pair.new.self }) c.send_pair.new.offered x) _ _ _ has.1
     (then_ (λ (x : StepState). IsInStep start (record c.send_pair.new.self { raft = c.told-then-send_pair.new.self }) c.send_pair.new.offered x) _ _ _ fits
     (noted_moves start c.send_pair.new.self c.send_pair.new.offered sent is_sent s (given_at t.now) (TellPair ∷ []) c.told-then-send_pair.new.self refl
-    (subst (λ (me : ℕ). raft.StandsFor c.told-then-send_pair.new.self (members_of t) (durable_state c.send_pair.new.self.durable) (server_after_all (members_of t) me s t.raft_server (TellPair ∷ [])) (times_after_all (members_of t) me s (given_at t.now) t.raft_server (TellPair ∷ []) t.times)) (c.send_pair.ensures.ready.raft_me ∙ is_sent.stands.me)
+    (subst (λ (me : ℕ). raft.StandsFor c.told-then-send_pair.new.self (members_of t) (durable_state c.send_pair.new.self.durable) (server_after_all (members_of t) me s t.raft_server (TellPair ∷ [])) (times_after_all (members_of t) me s (given_at t.now) t.raft_server (TellPair ∷ []) t.times)) (c.send_pair.ensures.leaves.ready.raft_me ∙ is_sent.stands.me)
     (c.told-then-send_pair.ensures.moves (members_of t) s (durable_state c.send_pair.new.self.durable) t.raft_server t.times is_sent.stands.raft (given_at t.now) TellPair (inr refl))))))
 
 pub returns-else-send_pair-clause-step_state : goal.returns-else-send_pair-clause-step_state
@@ -78,38 +63,23 @@ returns-else-send_pair-clause-step_state g c start step_state h =
     (otherwise (λ (x : StepState). IsInStep start c.send_pair.new.self c.send_pair.new.offered x) _ _ _ has.1
     (otherwise (λ (x : StepState). IsInStep start c.send_pair.new.self c.send_pair.new.offered x) _ _ _ full is_sent))
 
-pub returns-in-Skip-clause-ready : goal.returns-in-Skip-clause-ready
-returns-in-Skip-clause-ready g c =
-    let r = c.requires.ready in
+pub returns-in-Skip-clause-leaves : goal.returns-in-Skip-clause-leaves
+returns-in-Skip-clause-leaves g c =
     let next = c.in-Skip.ensures.next in
     record {
-      least = r.least;
-      most = r.most;
-      some = r.some;
-      five = r.five;
-      raft_me = c.told.ensures.me ∙ r.raft_me;
-      raft_size = c.told.ensures.size ∙ r.raft_size;
-      outbox_me = r.outbox_me;
-      opened_before = r.opened_before;
-      status_before = r.status_before;
-      fits = c.told.ensures.fits (durable_state c.args.self.now.durable) r.fits (lies_below _ _ _ _ _ next.next next.committed refl refl);
+      ready = ready_with c.requires.ready c.told.ensures.me c.told.ensures.size (c.told.ensures.fits (durable_state c.args.self.now.durable) c.requires.ready.fits (lies_below _ _ _ _ _ next.next next.committed refl refl));
+      lists = search rules;
+      durable = refl;
     }
 
-pub returns-then-send_pair-clause-ready : goal.returns-then-send_pair-clause-ready
-returns-then-send_pair-clause-ready g c =
-    let r = c.send_pair.ensures.ready in
+pub returns-then-send_pair-clause-leaves : goal.returns-then-send_pair-clause-leaves
+returns-then-send_pair-clause-leaves g c =
     let next = c.in-Pair.ensures.next.0 in
     let told = ap (λ (m : Member g.row.D.Denot g.D.Disk). raft_told m.raft) c.send_pair.ensures.rest in
     let commit = ap (λ (m : Member g.row.D.Denot g.D.Disk). (durable_state m.durable).commit) c.send_pair.ensures.rest in
+    let did = c.told-then-send_pair.ensures in
     record {
-      least = r.least;
-      most = r.most;
-      some = r.some;
-      five = r.five;
-      raft_me = c.told-then-send_pair.ensures.me ∙ r.raft_me;
-      raft_size = c.told-then-send_pair.ensures.size ∙ r.raft_size;
-      outbox_me = r.outbox_me;
-      opened_before = r.opened_before;
-      status_before = r.status_before;
-      fits = c.told-then-send_pair.ensures.fits (durable_state c.send_pair.new.self.durable) r.fits (lies_below _ _ _ _ _ next.next next.committed told commit);
+      ready = ready_with c.send_pair.ensures.leaves.ready did.me did.size (did.fits (durable_state c.send_pair.new.self.durable) c.send_pair.ensures.leaves.ready.fits (lies_below _ _ _ _ _ next.next next.committed told commit));
+      lists = c.send_pair.ensures.leaves.lists;
+      durable = c.send_pair.ensures.leaves.durable;
     }

@@ -1,15 +1,7 @@
-use Rattle.std.proofs.Common.{◌≡◌, List, ℕ, refl, sym, ap, subst, ◌∙◌, ◌==◌, true, arith}
-use Rattle.std.proofs.lemmas.Bool.Decides.{nat_tests}
-use Rattle.std.proofs.lemmas.List.{nil_from_length}
-use Rattle.std.specs.Prelude.{None}
-use Rattle.can_frame.specs.declared.step.Seen.TheVariants.{Took}
-use Rattle.can_frame.specs.declared.step.What.TheVariants.{Info}
+use Rattle.std.proofs.Common.{◌≡◌, List, ℕ, refl, sym, ap, subst, ◌∙◌, ◌==◌, true, arith, None}
+use Rattle.alloc_handlers.proofs.Words.{Info, IsInStep, Took, asks_info, delivery_of, nat_tests, nil_from_length, with_response_to}
 use Rattle.dsdl_codec.specs.declared.node_info.NodeInfo.{NodeInfo}
 use Rattle.dsdl_codec.specs.NodeInfo.{node_info_bytes}
-use Rattle.transfer_rx.specs.Told.{delivery_of}
-use Rattle.alloc_spec.specs.Delivered.{asks_info}
-use Rattle.alloc_spec.specs.StepState.{with_response_to}
-use Rattle.alloc_handlers.specs.Stands.{IsInStep}
 use Rattle.alloc_handlers.proofs.member.Member.tell_info.Goals as goal
 
 none_left : (n : ℕ) → (n == 0) ≡ true → n ≡ 0

@@ -1,12 +1,7 @@
-use Rattle.std.proofs.Common.{refl, ap, subst, sym, ◌∙◌, ◌≡◌, List, ℕ, ◌∷◌}
-use Rattle.std.specs.Prelude.{None}
-use Rattle.can_frame.specs.declared.step.What.TheVariants.{Disc}
+use Rattle.std.proofs.Common.{refl, ap, subst, sym, ◌∙◌, ◌≡◌, List, ℕ, ◌∷◌, None}
+use Rattle.alloc_handlers.proofs.Words.{Disc, IsInStep, StepState, start_of, with_discovery, with_transfer}
 use Rattle.cluster_discovery.specs.Members.{Sent as SentAt, is_due}
 use Rattle.cluster_discovery.specs.Stands as cluster
-use Rattle.alloc_spec.specs.StepState.{StepState, with_transfer}
-use Rattle.alloc_handlers.specs.Stands.{IsInStep}
-use Rattle.alloc_spec.specs.Tick.{with_discovery}
-use Rattle.alloc_spec.specs.AllocatorState.{start_of}
 use Rattle.alloc_handlers.proofs.Choosing.{otherwise, then_}
 use Rattle.alloc_handlers.proofs.Noting.{noted_cluster}
 use Rattle.alloc_handlers.proofs.member.Member.tell_members.Goals as goal

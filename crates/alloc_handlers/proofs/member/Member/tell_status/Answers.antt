@@ -1,11 +1,7 @@
-use Rattle.std.proofs.Common.{refl, ap, subst, ◌∙◌, ◌≡◌, ◌-◌, ◌≤◌, List, ℕ, true, arith}
-use Rattle.std.specs.Prelude.{None, nat_le}
-use Rattle.can_frame.specs.declared.step.What.TheVariants.{Stat}
+use Rattle.std.proofs.Common.{refl, ap, subst, ◌∙◌, ◌≡◌, ◌-◌, ◌≤◌, List, ℕ, true, arith, None, nat_le}
+use Rattle.alloc_handlers.proofs.Words.{IsInStep, Stat, StepState, with_status, with_transfer}
 use Rattle.dsdl_codec.specs.declared.node_status.NodeStatus.{NodeStatus}
 use Rattle.dsdl_codec.specs.NodeStatus.{node_status_bytes}
-use Rattle.alloc_spec.specs.StepState.{StepState, with_transfer}
-use Rattle.alloc_handlers.specs.Stands.{IsInStep}
-use Rattle.alloc_spec.specs.Tick.{with_status}
 use Rattle.alloc_handlers.proofs.Choosing.{then_}
 use Rattle.alloc_handlers.proofs.Noting.{noted_status}
 use Rattle.alloc_handlers.proofs.member.Member.tell_status.Goals as goal
