@@ -1,3 +1,4 @@
+pub mod AtOnce
 pub mod Cutting
 pub mod Frames
 pub mod Logs

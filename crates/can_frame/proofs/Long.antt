@@ -10,11 +10,11 @@ xor_assoc true false c = refl
 xor_assoc true true false = refl
 xor_assoc true true true = refl
 
-xor_false : (a : Bool) → xor a false ≡ a
+pub xor_false : (a : Bool) → xor a false ≡ a
 xor_false false = refl
 xor_false true = refl
 
-add_front_assoc : (xs ys zs : List Bool) → length xs ≡ length ys → add_front xs (add_front ys zs) ≡ add_front (add_front xs ys) zs
+pub add_front_assoc : (xs ys zs : List Bool) → length xs ≡ length ys → add_front xs (add_front ys zs) ≡ add_front (add_front xs ys) zs
 add_front_assoc [] ys zs e = elim ys as (λ v. 0 ≡ length v → add_front v zs ≡ add_front v zs) [ [] ↦ (λ _. refl) | y ∷ v ↦ (λ _. refl) ] e
 add_front_assoc (x ∷ xs) [] zs e = absurd (omega arith)
 add_front_assoc (x ∷ xs) (y ∷ ys) [] e = refl
@@ -28,7 +28,7 @@ add_front_more [] (y ∷ ys) = refl
 add_front_more (x ∷ xs) [] = refl
 add_front_more (x ∷ xs) (y ∷ ys) = ap (λ v. xor x y ∷ v) (add_front_more xs ys)
 
-length_add : (xs ys : List Bool) → length (add_front xs ys) ≡ length ys
+pub length_add : (xs ys : List Bool) → length (add_front xs ys) ≡ length ys
 length_add [] ys = refl
 length_add (x ∷ xs) [] = refl
 length_add (x ∷ xs) (y ∷ ys) = ap suc (length_add xs ys)
@@ -65,7 +65,7 @@ unfolding run
 length_run [] r = refl
 length_run (b ∷ bits) r = length_run bits (shift r b) ∙ length_shift r b
 
-added_false : (r : List Bool) → add_front r (replicate (length r) false) ≡ r
+pub added_false : (r : List Bool) → add_front r (replicate (length r) false) ≡ r
 added_false [] = refl
 added_false (x ∷ r) = rw (xor_false x, added_false r) refl
 

@@ -1,11 +1,10 @@
 -- What a shift of the register does to its bits.
-use Rattle.std.proofs.Common.{◌≡◌, ℕ, zero, suc, ◌+◌, ◌*◌, ◌/◌, ◌%◌, ◌^◌, ◌<◌, ◌≤◌, Bool, true, false, not, cond, nat_eq, List, [], ◌∷◌, ◌++◌, length, refl, sym, ◌∙◌, ap, arith}
-use mathlib.Core.Bool.{beq}
+use Rattle.std.proofs.Common.{◌≡◌, ℕ, zero, suc, ◌+◌, ◌*◌, ◌/◌, ◌%◌, ◌^◌, ◌<◌, ◌≤◌, Bool, true, false, cond, nat_eq, List, [], ◌∷◌, ◌++◌, length, refl, sym, ◌∙◌, ap, arith}
 use Rattle.std.specs.Int.{bit_at}
 use Rattle.std.specs.Int.Bits.{bit_xor}
 use Rattle.std.proofs.lemmas.Nat.Bits.{bit_at_xor, bit_at-lt, bit_at_lowest, bit_at-suc, bit_at_cat_low}
 use Rattle.can_frame.specs.TransferCrc.{xor, add_front, divisor, bits_of}
-use Rattle.can_frame.specs.Register.{shift, run}
+use Rattle.can_frame.specs.Register.{shift}
 
 odd_sum : (m n : ℕ) → m < 2 → n < 2 → nat_eq ((m + n) % 2) 1 ≡ xor (nat_eq m 1) (nat_eq n 1)
 odd_sum zero zero p q = refl
@@ -76,22 +75,3 @@ next_other x b h e =
     let up = bits_of 15 x ++ false ∷ [] in
     bits_of-xor 16 (x % 32768 * 2) 4129 ∙ ap (λ bs. add_front bs divisor) (moved x h) ∙ add_comm up divisor refl
     ∙ sym (ap (λ t. cond (xor (nat_eq t 1) b) (add_front divisor up) up) top ∙ ap (λ t. cond t (add_front divisor up) up) e)
-
--- the bits of a byte, one after another
-pub run-byte : (r : List Bool) (x : ℕ) → run r (bits_of 8 x)
-    ≡ shift (shift (shift (shift (shift (shift (shift (shift r (nat_eq (x / 128 % 2) 1)) (nat_eq (x / 64 % 2) 1)) (nat_eq (x / 32 % 2) 1)) (nat_eq (x / 16 % 2) 1)) (nat_eq (x / 8 % 2) 1)) (nat_eq (x / 4 % 2) 1)) (nat_eq (x / 2 % 2) 1)) (nat_eq (x % 2) 1)
-unfolding bits_of run
-run-byte r x = ap (λ n. shift (shift (shift (shift (shift (shift (shift (shift r (nat_eq (x / 128 % 2) 1)) (nat_eq (x / 64 % 2) 1)) (nat_eq (x / 32 % 2) 1)) (nat_eq (x / 16 % 2) 1)) (nat_eq (x / 8 % 2) 1)) (nat_eq (x / 4 % 2) 1)) (nat_eq (x / 2 % 2) 1)) (nat_eq n 1)) (bit_at_lowest x)
-
--- what the test `top != bit` says
-pub differ-true : (a b : Bool) → not (beq a b) ≡ true → xor a b ≡ true
-differ-true false false h = h
-differ-true false true h = refl
-differ-true true false h = refl
-differ-true true true h = h
-
-pub differ-false : (a b : Bool) → not (beq a b) ≡ false → xor a b ≡ false
-differ-false false false h = refl
-differ-false false true h = h
-differ-false true false h = h
-differ-false true true h = refl

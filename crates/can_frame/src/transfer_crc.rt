@@ -1,4 +1,4 @@
-ghost use Rattle.std.specs.Prelude.{◌≡◌, ◌++◌, ℕ, List};
+ghost use Rattle.std.specs.Prelude.{◌≡◌, ◌++◌, ℕ, List, false};
 ghost use Rattle.can_frame.specs.TransferCrc.{bits_of, crc_of, message_bits, transfer_crc};
 ghost use Rattle.can_frame.specs.Register.{shift, run};
 
@@ -32,23 +32,28 @@ fn take_bytes(register: u16, bytes: &[u8]) -> u16
     register
 }
 
+/// All bits of the byte are added to the register, and then shifted out.
 fn take_byte(register: u16, byte: u8) -> u16
     ensures { bits_of 16 result ≡ run (bits_of 16 register) (bits_of 8 byte) }
 {
-    let register = take_bit(register, byte / 128 % 2 == 1);
-    let register = take_bit(register, byte / 64 % 2 == 1);
-    let register = take_bit(register, byte / 32 % 2 == 1);
-    let register = take_bit(register, byte / 16 % 2 == 1);
-    let register = take_bit(register, byte / 8 % 2 == 1);
-    let register = take_bit(register, byte / 4 % 2 == 1);
-    let register = take_bit(register, byte / 2 % 2 == 1);
-    take_bit(register, byte % 2 == 1)
+    let register = register ^ u16::from(byte) * 256;
+    let register = shifted(register);
+    let register = shifted(register);
+    let register = shifted(register);
+    let register = shifted(register);
+    let register = shifted(register);
+    let register = shifted(register);
+    let register = shifted(register);
+    shifted(register)
 }
 
-fn take_bit(register: u16, bit: bool) -> u16
-    ensures { bits_of 16 result ≡ shift (bits_of 16 register) bit }
+fn shifted(register: u16) -> u16
+    ensures { bits_of 16 result ≡ shift (bits_of 16 register) false }
 {
-    let top = register / 32768 == 1;
     let moved = register % 32768 * 2;
-    if top != bit { moved ^ 0x1021 } else { moved }
+    if register / 32768 == 1 {
+        moved ^ 0x1021
+    } else {
+        moved
+    }
 }
