@@ -6,6 +6,8 @@ mod clock;
 #[cfg(test)]
 mod frame;
 #[cfg(test)]
+mod link;
+#[cfg(test)]
 mod memory_link;
 #[cfg(test)]
 mod paced_clock;
@@ -15,5 +17,3 @@ mod sink;
 mod source;
 #[cfg(test)]
 mod timely_link;
-#[cfg(test)]
-mod udp_link;
