@@ -19,6 +19,7 @@ use crate::puts::puts_go_on;
 use alloc_spec::Offered;
 use alloc_spec::laws::phases_add_puts;
 use arrayvec::ArrayVec;
+use can_frame::timing::STATUS_INTERVAL;
 use can_frame::{NodeId, Uid, What, is_zero};
 use disk_model::Disk;
 use kv_store::Fault;
@@ -68,7 +69,7 @@ impl<D: Disk> Member<D> {
             (status_phase offered.old.step) }
         ensures leaves { Leaves 1 0 self.old self.new offered.old offered.new }
     {
-        if self.latest - self.status_at < 1000 {
+        if self.latest - self.status_at < STATUS_INTERVAL {
             return;
         }
         let payload = self.status().write();

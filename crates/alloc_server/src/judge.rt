@@ -16,6 +16,7 @@ ghost use Rattle.transfer_rx.specs.Memory.{ReceiverFitsInMemory};
 ghost use Rattle.alloc_spec.specs.AllocatorState.{AllocatorState};
 
 use crate::server::Server;
+use can_frame::timing::CALL_TIMEOUT;
 use can_frame::{Frame, Ident, Judged, Kind, Mark};
 use disk_model::Disk;
 use raft_core::Pending;
@@ -119,7 +120,7 @@ fn misses(call: &Pending, transfer: &Transfer, now: u64) -> bool
 {
     u16::from(call.service) == transfer.ident.number
         && call.id == transfer.id
-        && now.saturating_sub(call.sent) < 1000
+        && now.saturating_sub(call.sent) < CALL_TIMEOUT
         && call.step != transfer.mark.re
 }
 

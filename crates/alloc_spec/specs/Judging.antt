@@ -6,6 +6,7 @@ use Rattle.can_frame.specs.declared.identifier.Kind.TheVariants.{Anonymous, Mess
 use Rattle.can_frame.specs.declared.step.Judged.{Judged}
 use Rattle.can_frame.specs.declared.step.Judged.TheVariants.{Fine, Stale, Torn}
 use Rattle.can_frame.specs.DataTypes.{append_entries, request_vote}
+use Rattle.can_frame.specs.Timing.{call_timeout}
 use Rattle.raft_core.specs.Times.{Sending}
 use Rattle.raft_model.specs.Messages.{Request as Call}
 use Rattle.transfer_rx.specs.Reassembly.{Answer, Arrival, Continues, Delivery, Drops, Gives, answer}
@@ -16,11 +17,11 @@ use Rattle.alloc_spec.specs.AllocatorState.{AllocatorState}
 abbrev pub service_of : Call → ℕ
 service_of call = if call.append then append_entries.number else request_vote.number
 
--- the call would take the response: it is of its service, under its transfer ID, and the call was sent less than
--- 1,000 ms before
+-- the call would take the response: it is of its service, under its transfer ID, and the call is not
+-- given up
 abbrev pub would_take : Delivery → ℕ → Call → Sending → Bool
 would_take d now call sending =
-    nat_eq d.ident.number (service_of call) && (nat_eq d.id sending.id && nat_lt (now - sending.moment) 1000)
+    nat_eq d.ident.number (service_of call) && (nat_eq d.id sending.id && nat_lt (now - sending.moment) call_timeout)
 
 -- a pending call would take it, and was made in another step than the request that it answers
 abbrev pub misses : Delivery → ℕ → Option Call → Option Sending → Bool

@@ -3,6 +3,7 @@
 use Rattle.std.specs.Prelude.{ℕ, ◌-◌, Bool, not, ◌&&◌, ◌||◌, nat_le, List, [], ◌∷◌, Option, None, Some, find, is_some, if◌then◌else◌}
 use Rattle.can_frame.specs.declared.entry.Entry.{Entry}
 use Rattle.can_frame.specs.declared.step.What.TheVariants.{Disc, InfoQ, Stat}
+use Rattle.can_frame.specs.Timing.{status_interval}
 use Rattle.can_frame.specs.Zeros.{zeros}
 use Rattle.cluster_discovery.specs.Members.{is_due, Sent as SentAt}
 use Rattle.dsdl_codec.specs.declared.discovery.Discovery.{Discovery}
@@ -35,7 +36,7 @@ abbrev pub discovery_phase : ℕ → StepState → StepState
 discovery_phase step g =
     if is_due (start_of g.allocator) g.allocator.heard g.allocator.now then tells_members step g else g
 
--- ---- NodeStatus: 1,000 ms after the last one or the opening, whether that one fitted or not
+-- ---- NodeStatus: an interval after the last one or the opening, whether that one fitted or not
 
 abbrev pub with_status : StepState → StepState
 with_status g = record g { allocator = record g.allocator { status_at = g.allocator.now } }
@@ -44,7 +45,7 @@ abbrev pub tells_status : ℕ → StepState → StepState
 tells_status step g = with_status (with_transfer step Stat 0 (node_status_bytes (status_of g.allocator)) None g)
 
 abbrev pub status_phase : ℕ → StepState → StepState
-status_phase step g = if nat_le 1000 (g.allocator.now - g.allocator.status_at) then tells_status step g else g
+status_phase step g = if nat_le status_interval (g.allocator.now - g.allocator.status_at) then tells_status step g else g
 
 -- ---- the tick of Raft
 

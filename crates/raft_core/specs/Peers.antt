@@ -1,5 +1,6 @@
 -- What becomes of what is kept of a peer.
 use Rattle.std.specs.Prelude.{◌≡◌, ◌<◌, ◌≤◌, ℕ, ◌+◌, ◌-◌, Bool, List, length, slice_index_or, true, false, Option, Some, None, max, nat_le, ◌==◌, if◌then◌else◌}
+use Rattle.can_frame.specs.Timing.{call_timeout}
 use Rattle.raft_core.specs.declared.peer.Asked.{Asked}
 use Rattle.raft_core.specs.declared.peer.Peer.{Peer}
 use Rattle.raft_core.specs.declared.peer.Waiting.{Waiting}
@@ -12,10 +13,10 @@ fresh next = record { voted = false; answered = false; next = next; matched = 0;
 abbrev pub voter : Peer
 voter = record (fresh 1) { voted = true }
 
--- its call, where it is less than 1,000 ms old
+-- its call, where it is not given up yet
 abbrev pub young : ℕ → Option Waiting → Option Waiting
 young now None = None
-young now (Some call) = if nat_le 1000 (now - call.sent) then None else Some call
+young now (Some call) = if nat_le call_timeout (now - call.sent) then None else Some call
 
 abbrev pub expired : ℕ → Peer → Peer
 expired now peer = record peer { call = young now peer.call }

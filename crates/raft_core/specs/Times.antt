@@ -1,6 +1,7 @@
 -- What a member keeps beside the message machine: when it began to wait, and what it knows of its calls.
 -- A move changes it as it changes the memory of the machine (`raft_model`, `memory_after`).
 use Rattle.std.specs.Prelude.{ℕ, ◌+◌, ◌-◌, ◌%◌, ◌&&◌, ◌==◌, Bool, true, false, not, if◌then◌else◌, nat_lt, nat_le, List, [], ◌∷◌, Option, Some, None}
+use Rattle.can_frame.specs.Timing.{call_timeout, election_spread, election_wait, heartbeat_interval}
 use Rattle.raft_model.specs.Lists.{at}
 use Rattle.raft_model.specs.Messages.{Request}
 use Rattle.raft_model.specs.Server.{RaftServer, Role}
@@ -62,20 +63,20 @@ age moment now = now - moment
 
 -- the wait for an election, in milliseconds
 abbrev pub wait : ℕ → ℕ
-wait word = 2000 + word % 2001
+wait word = election_wait + word % election_spread
 
 abbrev pub has_waited : Times → ℕ → Bool
 has_waited times now = nat_le (wait times.word) (age times.since now)
 
--- a Leader sends the next append request 400 ms after the last
+-- a Leader sends the next append request when the heartbeat interval has passed since the last
 abbrev pub is_silent : Option ℕ → ℕ → Bool
 is_silent None now = true
-is_silent (Some moment) now = nat_le 400 (age moment now)
+is_silent (Some moment) now = nat_le heartbeat_interval (age moment now)
 
--- a call of 1,000 ms or more is given up
+-- a call of the call timeout or more is given up
 abbrev pub is_overdue : Option Sending → ℕ → Bool
 is_overdue None now = false
-is_overdue (Some call) now = nat_le 1000 (age call.moment now)
+is_overdue (Some call) now = nat_le call_timeout (age call.moment now)
 
 -- those of these nodes whose call is given up
 abbrev pub overdue : Times → ℕ → List ℕ → List ℕ

@@ -17,6 +17,7 @@ ghost use Rattle.can_frame.specs.declared.step.Role.TheVariants.{Leader};
 use crate::peer::{Asked, Peer, Waiting};
 use crate::raft::Raft;
 use can_frame::Role;
+use can_frame::timing::CALL_TIMEOUT;
 use disk_model::Disk;
 use dsdl_codec::{AppendRequest, VoteRequest};
 use raft_log::Durable;
@@ -66,7 +67,7 @@ impl Raft {
         ensures me { raft_me self.new ≡ raft_me self.old }
         ensures size { raft_size self.new ≡ raft_size self.old }
     {
-        if now.saturating_sub(self.calls_since) < 1000 {
+        if now.saturating_sub(self.calls_since) < CALL_TIMEOUT {
             return;
         }
         for peer in &mut self.peers {
@@ -76,8 +77,8 @@ impl Raft {
     }
 
     /// The call that is owed to a peer. A candidate asks each peer for its vote until it answers. A leader
-    /// sends the next entry, where there is one; and where there is none, it says every 400 ms that it
-    /// leads. None is owed while a call to the peer is pending.
+    /// sends the next entry, where there is one; and where there is none, it says each heartbeat interval
+    /// that it leads. None is owed while a call to the peer is pending.
     pub fn call<D: Disk>(&self, d: &Durable<D>, peer: u8, now: u64) -> Option<Call>
         requires most { peer ≤ 125 }
         requires fits { Fits self.now (durable_state d.now) }

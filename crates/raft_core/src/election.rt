@@ -16,6 +16,7 @@ use crate::laws::puts_in_turn;
 use crate::peer::Peer;
 use crate::raft::{Cause, Raft};
 use arrayvec::ArrayVec;
+use can_frame::timing::{ELECTION_SPREAD, ELECTION_WAIT};
 use can_frame::{Entry, Role};
 use disk_model::Disk;
 use kv_store::Fault;
@@ -75,7 +76,7 @@ impl Raft {
         ensures complete { result ≡ true → complete ≡ true }
         ensures term { result ≡ true → term < 4294967295 }
     {
-        let wait = 2000 + u64::from(self.word) % 2001;
+        let wait = ELECTION_WAIT + u64::from(self.word) % ELECTION_SPREAD;
         complete
             && now.saturating_sub(self.since) >= wait
             && self.role != Role::Leader

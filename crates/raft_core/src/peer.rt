@@ -1,6 +1,8 @@
 ghost use Rattle.std.specs.Prelude.{◌≡◌, ◌≤◌, ◌+◌, ◌-◌, true, false, Some, None};
 ghost use Rattle.raft_core.specs.Times as clock;
 
+use can_frame::timing::{CALL_TIMEOUT, HEARTBEAT_INTERVAL};
+
 /// What a call asks a peer for.
 #[derive(Clone, Copy)]
 pub(crate) enum Asked {
@@ -75,12 +77,12 @@ impl Peer {
         }
     }
 
-    /// A call that was made 1,000 ms ago, or earlier, is given up.
+    /// A call that waits too long is given up.
     pub fn expire(&mut self, now: u64)
         ensures { self.new ≡ expired now self.old }
     {
         if let Some(call) = self.call {
-            if now.saturating_sub(call.sent) >= 1000 {
+            if now.saturating_sub(call.sent) >= CALL_TIMEOUT {
                 self.call = None;
             }
         }
@@ -97,12 +99,12 @@ impl Peer {
         }
     }
 
-    /// Whether 400 ms have passed since the last append request, or there was none.
+    /// Whether the next append request is due: the interval has passed since the last, or there was none.
     pub fn is_silent(&self, now: u64) -> bool
         ensures { result ≡ clock.is_silent self.now.appended now }
     {
         match self.appended {
-            Some(moment) => now.saturating_sub(moment) >= 400,
+            Some(moment) => now.saturating_sub(moment) >= HEARTBEAT_INTERVAL,
             None => true,
         }
     }

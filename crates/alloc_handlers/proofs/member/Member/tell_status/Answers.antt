@@ -12,7 +12,7 @@ passed now at h = grind arith
 pub returns-clause-step_state : goal.returns-clause-step_state
 returns-clause-step_state g c start step_state h =
     let t = step_state.allocator in
-    let due : 1000 ≤ t.now - t.status_at = omega (arith, c.if-self-lt1000.false, h.stands.now, h.stands.status_at) in
+    let due : 1000 ≤ t.now - t.status_at = omega (arith, c.if-self-lt-STATUS_INTERVAL.false, h.stands.now, h.stands.status_at) in
     let sent = c.send.ensures.step_state refl None start step_state h in
     let payload = c.write-payload.ensures.bytes ∙ ap (λ (s : NodeStatus). node_status_bytes s) (c.status.ensures.status t h.stands) in
     then_ (λ (x : StepState). IsInStep start (record c.send.new.self { status_at = c.send.new.self.latest }) c.send.new.offered x) _ _ _ (passed t.now t.status_at due)
