@@ -14,11 +14,11 @@ use Rattle.cluster_spec.specs.ReportLine.{is_stop}
 use Rattle.cmd_soak.specs.Growth.{Fits, Grows, growth, room_for}
 use Rattle.cmd_soak.specs.Requests.{request}
 use Rattle.cmd_soak.specs.Rounds.{Soak, arms, arms_by_chance, asks_in_time, begins, draws, drawn, each, for_each, gives, has_heard, has_round, has_turn, hears, hears_all, is_refused, members, one_if, opens, repeats, seeded, sends, sends_some, shows, takes, ticks, word}
-use Rattle.cmd_soak.specs.Soaking.{HasRoom, StandsFor, Tries}
+use Rattle.cmd_soak.specs.Soaking.{Does, HasRoom, Keeps, StandsFor, Tries}
 use Rattle.cmd_soak.specs.declared.soaking.Soaking.{Soaking}
 use Rattle.cmd_soak.specs.declared.turn.Turn.{Turn}
 use Rattle.cmd_soak.specs.declared.turn.Turn.TheVariants.{Open as Opening, Tick as Ticking, Hear as Hearing, Send as Sending}
-use Rattle.cmd_soak.proofs.Growing.{each_next, fits_on, grows_more, grows_not, grows_on, rounds_grow, settled, takes_grows}
+use Rattle.cmd_soak.proofs.Growing.{HasRooms, each_next, fits_on, grows_more, grows_not, grows_on, round_fits, rounds_grow, settled, takes_grows}
 
 -- ---- a choice
 
@@ -284,6 +284,42 @@ module _ {F G : Type 0} where
     stops = is.stops;
     refused = is.refused;
   }
+
+  -- ---- one part of a round after another
+
+  -- this was done, and the bus has the room that it had
+  pub record HasDone (act : Soak → Soak) (old new : Soaking F G) : Type 0 where
+    pub does : Does act old new
+    pub room : new.room ≡ old.room
+
+  pub done_then : {act : Soak → Soak} {old now new : Soaking F G} (next : Soak → Soak) → HasDone act old now → Does next now new → Keeps now new →
+      HasDone (λ s. next (act s)) old new
+  done_then {act = act} next done does keeps = record {
+    does = λ s is. does (act s) (done.does s is);
+    room = keeps.room ∙ done.room;
+  }
+
+  pub has_begun : (number : ℕ) (start : Soaking F G) → HasDone (begins number) start (record start { moment = 50 * number })
+  has_begun number start = record { does = λ s is. begins_stands start number s is; room = refl }
+
+  pub has_settled : {act : Soak → Soak} {old now : Soaking F G} (frames : ℕ) → HasDone act old now →
+      ((s : Soak) → StandsFor now s → frames ≡ length s.world.frames) → HasDone (λ s. has_heard (act s)) old (record now { heard = frames })
+  has_settled {act = act} {now = now} frames done count = record {
+    does = λ s is. heard_stands now frames (act s) (done.does s is) (count (act s) (done.does s is));
+    room = done.room;
+  }
+
+  pub room_then : {act : Soak → Soak} {old now : Soaking F G} (a b c d : ℕ) → HasDone act old now → (room : HasRoom a b old) →
+      Fits c d old.room (act room.now) → HasRoom c d now
+  room_then {act = act} {old = old} {now = now} a b c d done room fits =
+      with_room old now c d (act room.now) (done.does room.now room.stands) done.room fits
+
+  pub few_frames : (start : Soaking F G) (room : HasRoom 41 274877906944 start) → length room.now.world.frames + 41 ≤ 4294967296
+  few_frames start room = let most = room.fits.frames in let narrow = room.stands.narrow in omega (arith, most, narrow)
+
+  pub rooms : (size number : ℕ) (start : Soaking F G) (most : size ≤ 5) (room : HasRoom 41 274877906944 start) →
+      HasRooms size number room.now most (few_frames start room) start.room
+  rooms size number start most room = round_fits size number room.now most (few_frames start room) start.room room.fits
 
   -- ---- sending
 

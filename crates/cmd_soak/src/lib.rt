@@ -12,11 +12,13 @@
 #![tactic(auto)]
 
 mod counts;
+mod hearing;
 pub mod laws;
 mod pairs;
 mod requests;
 mod run;
 mod soaking;
+mod stops;
 mod turn;
 
 pub use run::soak;
