@@ -1,16 +1,23 @@
--- The main theorem, which `the_headline` proves (`src/headline.rt`): `HasHeadline` at the end of this page, by way of
--- `Headline` for one pair of cuts. For 1 to 5 members and every list of lawful rows, which no cause of `Lawful` refuses,
--- so whatever frames are delivered, lost or repeated, whatever clocks read and wherever inside store writes allocators
--- stop: each allocator's committed log is always a prefix of one growing list of entries, in which no node ID and no
+-- The main theorem. The law `the_headline` (`src/headline.rt`) proves `HasHeadline ids rows`, at the end of this page, for
+-- 1 to 5 members `ids` (`AreMembers`) and every list of lawful rows; `Headline` is its part for one pair of cuts.
+--
+-- A row may deliver any frame that was on the bus, at any later time and any number of times, or never; clocks may run
+-- back; allocators may stop anywhere inside store writes, and writes may fail. A row is lawful where no cause of
+-- `Lawful` refuses it: it makes sense by then (its member runs, its frame exists ..), and its frame is not forged, torn
+-- or stale for its receiver.
+--
+-- Then each allocator's committed log is always a prefix of one growing list of entries, in which no node ID and no
 -- unique ID is given twice; every Allocation offered to the bus with a node ID other than 0 is a pair of it by then;
 -- and every later leader whose term is at least a member's stored term has in its log what that member has committed.
--- Of devices `HasAllocatees` speaks.
+-- Of devices `HasAllocatees` says that the ID that one holds is the one that the list has for its unique ID, from then
+-- on, and that two with different unique IDs never hold one ID.
 --
 -- A schedule is cut at any two places: the rows `first` are taken, then `more`, then `rest`. So "now" is after any row,
 -- or before all of them, and "later" is now or after any row from then on. A member that runs and has not failed is
 -- `Up`; one whose step met a write error is `Failed`, and does nothing until it is stopped. `choice row` says whether
--- the put that failed in that row took effect, until a stop shows it. `committed choice w n` is the log that the member
--- n has stored, up to its stored commit index, whether it runs, is stopped or has failed.
+-- the put that failed in that row, counted from 1, took effect; it agrees with the disks where each stop of a failed
+-- member finds what the choice says. `committed choice w n` is the log that the member n has stored, up to its stored
+-- commit index, whether it runs, is stopped or has failed.
 use Rattle.std.specs.Prelude.{◌≡◌, ◌≢◌, ℕ, ◌<◌, ◌≤◌, nat_lt, Bool, if◌then◌else◌}
 use Rattle.std.specs.Prelude.{List, [], ◌∷◌, ◌++◌, length, slice_index_or}
 use Rattle.can_frame.specs.declared.entry.Entry.{Entry}
@@ -49,14 +56,14 @@ pub record Leads (w : Cluster) (n : ℕ) (server : AllocatorState) : Type 0 wher
   pub role : server.raft_server.memory.role ≡ Leader
 
 pub record Headline (choice : ℕ → Bool) (now later : Cluster) : Type 0 where
-  -- each committed log is a prefix of the list, and of each that its member has later, through stops and openings
+  -- each committed log is a prefix of the list, and of each that its member has later, through stops and restarts
   pub prefix : (n : ℕ) → In n now.ids → IsPrefix (committed choice now n) (the_list choice now)
   pub kept : (n : ℕ) → In n now.ids → IsPrefix (committed choice now n) (committed choice later n)
   -- a member that runs and has not failed goes by what it has stored
   pub shown : (n : ℕ) (server : AllocatorState) → In n now.ids → (now.member n).status ≡ Up server
       → server.raft_server.store ≡ stored choice now n
-  -- whatever a restart now would find of a member's disk, by each pattern, is what is stored; after a failed step it is
-  -- one of the two that choices may say
+  -- whatever a restart now would find of a member's disk is what is stored, by each pattern (what becomes of the bytes
+  -- that were written since the last sync); after a failed step it is one of the two that choices may say
   pub found : (n : ℕ) (pattern : Pattern) → In n now.ids
       → IsFound (now.member n).status (now.member n).disk (store_of (restarted_on pattern (now.member n).disk).store)
   -- each entry of the list is a pair, a reservation or a blank
@@ -92,8 +99,9 @@ pub record HasHeadline (ids : List ℕ) (rows : List Row) : Type 0 where
   pub holds : (first more rest : List Row) (choice : ℕ → Bool) → rows ≡ first ++ (more ++ rest)
       → AgreesWithDisk choice (cluster ids) (first ++ more)
       → Headline choice (world_of ids first) (world_of ids (first ++ more))
-  -- A frame that ever was on the bus, whose identifier reads as an Allocation of node n, is of a member n, and of an
-  -- Allocation that n made in a step by then; where that Allocation gives a node ID, its pair is in n's committed log.
+  -- A frame that ever was on the bus, from members, devices or outside, whose identifier reads as an Allocation of the
+  -- source n (an anonymous request has no source), is of a member n, and of an Allocation that n made in a step by then;
+  -- where that Allocation gives a node ID, its pair is in n's committed log.
   pub bus : (first rest : List Row) (choice : ℕ → Bool) → rows ≡ first ++ rest
       → AgreesWithDisk choice (cluster ids) first
       → (frame : Queued) (n : ℕ) → In frame (world_of ids first).frames → IsOfAllocation frame n
