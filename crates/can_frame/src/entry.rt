@@ -16,18 +16,26 @@ pub struct Entry {
     pub node: u8,
 }
 
+/// Whether two unique IDs are the same. The last bytes are compared first: where they differ, as those of
+/// two devices mostly do, no other byte is read.
+pub fn is_same_uid(a: &Uid, b: &Uid) -> bool
+    ensures { IsTrue result ↔ (a.now ≡ b.now) }
+{
+    a[15] == b[15] && a == b
+}
+
 /// Whether all its bytes are 0: no device has this unique ID.
 pub fn is_zero(uid: &Uid) -> bool
     ensures { IsTrue result ↔ (uid.now ≡ zeros) }
 {
-    *uid == [0; 16]
+    is_same_uid(uid, &[0; 16])
 }
 
 /// Whether an entry of a log has this unique ID.
 pub fn has_uid(log: &[Entry], uid: &Uid) -> bool
     ensures { IsTrue result ↔ HasUid log.now uid.now }
 {
-    log.iter().any(|entry| entry.uid == *uid)
+    log.iter().any(|entry| is_same_uid(&entry.uid, uid))
 }
 
 /// Whether an entry of a log has this node ID: a device was given it, or it is kept back.
@@ -74,6 +82,7 @@ impl Entry {
     {
         self.is_blank()
             || other.is_blank()
-            || self.node != other.node && (is_zero(&self.uid) || self.uid != other.uid)
+            || self.node != other.node
+                && (!is_same_uid(&self.uid, &other.uid) || is_zero(&self.uid))
     }
 }

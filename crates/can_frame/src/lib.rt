@@ -29,7 +29,7 @@ pub use data_type::{
     ALLOCATION, APPEND_ENTRIES, DISCOVERY, DataType, GET_NODE_INFO, NODE_STATUS, REQUEST_VOTE,
     TransferType,
 };
-pub use entry::{Entry, Uid, has_node_id, has_uid, is_zero};
+pub use entry::{Entry, Uid, has_node_id, has_uid, is_same_uid, is_zero};
 pub use frame::{BadFrame, Frame};
 pub use identifier::{Ident, Kind};
 pub use mark::Mark;
