@@ -20,7 +20,7 @@ ghost use Rattle.transfer_rx.specs.Told.{delivery_of};
 use crate::puts::puts_go_on;
 use alloc_exchange::Exchange;
 use alloc_spec::{Offered, Outbox};
-use can_frame::{Role, Uid, What};
+use can_frame::{Role, Uid, What, is_same_uid};
 use cluster_discovery::Cluster;
 use disk_model::Disk;
 use dsdl_codec::{NodeStatus, Payload};
@@ -135,7 +135,7 @@ impl<D: Disk> Member<D> {
         self.durable
             .log()
             .iter()
-            .position(|entry| entry.uid == *uid)
+            .position(|entry| is_same_uid(&entry.uid, uid))
     }
 
     pub fn status(&self) -> NodeStatus
