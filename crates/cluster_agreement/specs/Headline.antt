@@ -1,23 +1,27 @@
--- The main theorem. The law `the_headline` (`src/headline.rt`) proves `HasHeadline ids rows`, at the end of this page, for
--- 1 to 5 members `ids` (`AreMembers`) and every list of lawful rows; `Headline` is its part for one pair of cuts.
+-- The main theorem. The law `the_headline` (`src/headline.rt`) proves `HasHeadline ids rows`, at the end of this page,
+-- for 1 to 5 different members `ids`, each 1 to 125 (`AreMembers`), and every list of lawful rows; `Headline` is its
+-- part for one pair of cuts.
 --
--- A row may deliver any frame that was on the bus, at any later time and any number of times, or never; clocks may run
--- back; allocators may stop anywhere inside store writes, and writes may fail. A row is lawful where no cause of
--- `Lawful` refuses it: it makes sense by then (its member runs, its frame exists ..), and its frame is not forged, torn
--- or stale for its receiver.
+-- At the beginning all members are stopped, on disks of zeros, and nothing is on the bus. A row may deliver any frame
+-- that was on the bus, at any later time and any number of times, or never; any frame that is not forged may come from
+-- outside; up to 8 devices at a time may ask; clocks may run back; allocators may stop anywhere inside store writes,
+-- and writes may fail. A row is lawful where no cause of `Lawful` refuses it: it makes sense by then (its member runs,
+-- its frame exists ..), a frame from outside is not forged, and one that is delivered is not torn or stale for its
+-- receiver.
 --
 -- Then each allocator's committed log is always a prefix of one growing list of entries, in which no node ID and no
 -- unique ID is given twice; every Allocation offered to the bus with a node ID other than 0 is a pair of it by then;
--- and every later leader whose term is at least a member's stored term has in its log what that member has committed.
--- Of devices `HasAllocatees` says that the ID that one holds is the one that the list has for its unique ID, from then
--- on, and that two with different unique IDs never hold one ID.
+-- and the log of every later leader whose term is at least a member's stored term begins with what that member has
+-- committed. Of devices `HasAllocatees` says that the ID that one holds is the one that the list has for its unique ID,
+-- from then on, and that two with different unique IDs never hold one ID. Nothing is said of progress: all of this
+-- would hold of members that never answer. What each step owes is said by `AreDutiful` (`specs/Duty.antt`).
 --
 -- A schedule is cut at any two places: the rows `first` are taken, then `more`, then `rest`. So "now" is after any row,
 -- or before all of them, and "later" is now or after any row from then on. A member that runs and has not failed is
 -- `Up`; one whose step met a write error is `Failed`, and does nothing until it is stopped. `choice row` says whether
--- the put that failed in that row, counted from 1, took effect; it agrees with the disks where each stop of a failed
--- member finds what the choice says. `committed choice w n` is the log that the member n has stored, up to its stored
--- commit index, whether it runs, is stopped or has failed.
+-- the put that failed in row `row` took effect; rows count from 1. A choice agrees with the disks (`AgreesWithDisk`)
+-- if, at each stop of a failed member, its disk has just what the choice said. `committed choice w n` is the log that
+-- the member n has stored, up to its stored commit index, whether it runs, is stopped or has failed.
 use Rattle.std.specs.Prelude.{◌≡◌, ◌≢◌, ℕ, ◌<◌, ◌≤◌, nat_lt, Bool, if◌then◌else◌}
 use Rattle.std.specs.Prelude.{List, [], ◌∷◌, ◌++◌, length, slice_index_or}
 use Rattle.can_frame.specs.declared.entry.Entry.{Entry}
@@ -59,7 +63,8 @@ pub record Headline (choice : ℕ → Bool) (now later : Cluster) : Type 0 where
   -- each committed log is a prefix of the list, and of each that its member has later, through stops and restarts
   pub prefix : (n : ℕ) → In n now.ids → IsPrefix (committed choice now n) (the_list choice now)
   pub kept : (n : ℕ) → In n now.ids → IsPrefix (committed choice now n) (committed choice later n)
-  -- a member that runs and has not failed goes by what it has stored
+  -- the term, vote, log and commit index that a member has in memory, where it runs and has not failed, are those that
+  -- it has stored
   pub shown : (n : ℕ) (server : AllocatorState) → In n now.ids → (now.member n).status ≡ Up server
       → server.raft_server.store ≡ stored choice now n
   -- whatever a restart now would find of a member's disk is what is stored, by each pattern (what becomes of the bytes
@@ -84,9 +89,10 @@ pub record Headline (choice : ℕ → Bool) (now later : Cluster) : Type 0 where
       → (now.member n).status ≡ Up server
       → IsOffered server.queue n answer → answer.node ≢ 0
       → HasPair (committed choice now n) answer.uid.items answer.node
-  -- what a member has committed now begins the log of every Leader later whose term is at least the one that the member
-  -- has stored now. Take as "now" the row in which a place was first committed: the member's term is then the one that
-  -- committed it
+  -- what a member has committed now is a prefix of the log of every Leader later whose term is at least the one that
+  -- the member has stored now. Let "now" be the cut after the row in which a place was first committed, and n the leader
+  -- that committed it: its stored term is then that of the commit, so each leader of that term or a later one has the
+  -- entry
   pub leaders : (n leader : ℕ) (server : AllocatorState) → In n now.ids → In leader now.ids
       → Leads later leader server
       → (stored choice now n).term ≤ server.raft_server.store.term
