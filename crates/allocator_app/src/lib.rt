@@ -1,9 +1,12 @@
-//! The program: it runs a cluster of allocators over a schedule and reports every step.
+//! The program: it reads its words and runs the mode that they name. The mode `replay` is here; each other
+//! mode is in a crate of its own.
 //!
-//! [`run`] does all that the program does, over any source and sink; its clauses say exactly what is
-//! written and when each status comes (`specs/Report.antt`), and each allocator's word along the rows
-//! (`Promise` of `cluster_spec`). A row is taken from the source, the world (`bus_world`) takes it and
-//! tells what it did, and its line is written.
+//! [`run`] does all that the program does, over any objects; its clauses say exactly what is written and
+//! when each status comes, and that the promise holds along the rows (`specs/Promise.antt`).
+//!
+//! `replay` runs a cluster of allocators over a schedule and reports every row: a row is taken from the
+//! source, the world (`bus_world`) takes it and tells what it did, and its line is written
+//! (`specs/Report.antt`).
 #![tactic(auto)]
 
 mod input;

@@ -43,7 +43,7 @@ use store_audit::audit_stores;
 /// has one report, and one status that it comes with (`specs/Report.antt`): `Done`, or `BadRow`,
 /// `Unlawful` or `Limit` with the number of the first row that is not taken. The run comes to them unless
 /// something fails, or there is not enough memory to begin with. Of the bytes behind the rows that were
-/// taken at most 4,096 are read (`specs/NoFurther.antt`). `ReadFault` comes exactly where the source
+/// taken at most 4,096 are read (`NoFurther` of `cmd_base`). `ReadFault` comes exactly where the source
 /// counted a fault, `WriteFault` exactly where the sink did. Where the source failed, the lines of exactly
 /// the rows whose line feeds were read are written; where the sink failed, it has a front of the report
 /// (`specs/InPart.antt`).
@@ -74,19 +74,20 @@ use store_audit::audit_stores;
 /// `cmd_bus_logs`), and `convert <format> <format> <lines>` writes the log in the other form or the same
 /// (`Converts`). `decode <name> <part> <hex>` writes the numbers of a payload under the part of a type that the
 /// text of the source describes (`Decodes` of `cmd_decode`); it is `NoPart` where the text has no such part, and
-/// `NoValue` where the payload has no reading. These four take no memory, and come to the end that their input
-/// has unless something fails.
+/// `NoValue` where the payload has no reading. `audit`, `watch`, `convert` and `decode` take no memory, and come to
+/// the end that their input has unless something fails.
 ///
 /// Links are handed in for `node` alone, and disks for `node` and `audit`; with other words or objects the status
 /// is `Usage`. With `Usage` and `Memory` nothing is touched.
 ///
-/// The promise holds along the rows of a report, of a soak and of such a trace (`specs/Promise.antt`). At
-/// every moment what each allocator has committed is a beginning of one list, which only grows and never
-/// gives one node ID to two devices, nor two to one; every allocation that is offered to the bus is a pair of
-/// it by then; and every later leader holds it. What an allocatee holds is a pair of that list, so no two
-/// with different unique IDs ever hold one node ID. Along the rows of a report each allocator by itself keeps
-/// its word, too (`Promise` of `cluster_spec`): its whole log gives nothing twice, and whatever pair it offers
-/// is one of its own committed log.
+/// The promise (`KeepsPromise`) holds along the rows of a report that no fault ended, of a soak and of such a
+/// trace. After each row what each allocator has committed is a prefix of one list, which only grows and never
+/// gives one node ID to two devices, nor two to one; every Allocation with a node ID that waits for the bus, or
+/// was on it, is a pair of the list by then; and the log of every later leader whose term is at least a member's
+/// stored one begins with what that member has committed. What an allocatee holds is a pair of that list, so no
+/// two with different unique IDs ever hold one node ID. Along the rows of a report each allocator by itself keeps
+/// its word, too (`KeepsItsWord` of `cluster_spec`): its whole log gives nothing twice, and whatever pair it
+/// offers is one of its own committed log.
 pub fn run<S: Source, K: Sink, L: Link, D: Disk, C: Clock>(
     alloc: Global,
     words: &[String],

@@ -2,9 +2,10 @@
 //! There is no code here that runs.
 //!
 //! The headline ([`headline::the_headline`]): for every cluster and every list of lawful rows each committed
-//! log is a prefix of one injective list, at every moment; the list only grows, and has no member's node ID;
-//! every allocation that waits to go out, or is on the bus, is a pair of it by then; and every later leader,
-//! but one of an older term, has what was committed. `specs/Headline` says it.
+//! log is a prefix of one injective list, at every cut; the list only grows, and has no member's node ID;
+//! every Allocation with a node ID other than 0 that waits to go out, or was on the bus, is a pair of it by
+//! then; and the log of every later leader whose term is at least a member's stored one begins with what that
+//! member has committed. `specs/Headline` says it.
 //!
 //! Why it holds: a list of rows makes a world, and shows a run of the message machine (`raft_model`), whose
 //! laws have the rest. `specs/Shows` says what holds between the two: each member that runs is its server in
