@@ -3,7 +3,7 @@ use Rattle.std.proofs.Common.{◌≡◌, ℕ, ◌-◌, ◌≢◌, ◌≤◌, ◌
 use Rattle.std.specs.Prelude.{IfSome}
 use Rattle.std.proofs.lemmas.Bool.{cases_Bool, le-leb, lt-leb}
 use Rattle.std.proofs.Math.ListN.{get_or-map}
-use Rattle.std.proofs.lemmas.List.{length-map, length-set, get_or-set_same, get_or-set_other, get_or-replicate, get_or_past, length-replicate}
+use Rattle.std.proofs.lemmas.List.{ext_get_or, length-map, length-set, get_or-set_same, get_or-set_other, get_or-replicate, get_or_past, length-replicate}
 use Rattle.std.proofs.lemmas.Bool.Decides.{eqb_tells, leb_tells}
 use Rattle.transfer_rx.specs.declared.progress.Progress.{Progress}
 use Rattle.transfer_rx.specs.Sessions.{Session, is_recent}
@@ -118,6 +118,13 @@ nothing_there places i = elim (leb_tells (1 + i) places) [
       let l = beyond.1 in
       get_or_past (replicate places no_progress) i None (omega (arith, length-replicate {A = Option Progress} places None))
 ]
+
+-- where no place has a session, they are as at first
+pub all_none : (places : ℕ) (progress : List (Option Progress)) → length progress ≡ places → ((i : ℕ) → get_or progress i None ≡ None) →
+    progress ≡ replicate places None
+all_none places progress size none =
+    ext_get_or None progress (replicate places None) (size ∙ sym (length-replicate {A = Option Progress} places None))
+    (λ i l. none i ∙ sym (nothing_there places i))
 
 pub all_free : (places : ℕ) (bytes : List (List ℕ)) → KeepPlaces (replicate places None) bytes (replicate places None)
 all_free places bytes = record {

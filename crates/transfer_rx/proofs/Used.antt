@@ -17,6 +17,14 @@ pub set_unused : (before used : ℕ) (progress : List (Option Progress)) (place 
 set_unused before used progress place o h l unused = λ i past.
     get_or-set_other progress place i o None (λ e. omega arith) ∙ unused i (omega arith)
 
+-- the places before one have no session, and none is used from there on
+pub none_throughout : (used place : ℕ) (progress : List (Option Progress)) → used ≤ place → AreUnused used progress →
+    ((i : ℕ) → i < place → get_or progress i None ≡ None) → (i : ℕ) → get_or progress i None ≡ None
+none_throughout used place progress h unused none i = elim (leb_tells used i) [
+  | inl past ↦ unused i past.1
+  | inr within ↦ let below = within.1 in none i (omega arith)
+]
+
 no_session : (bytes : List ℕ) (there : Option Session) → IsProgressAt None bytes there → there ≡ None
 no_session bytes None h = refl
 no_session bytes (Some session) h = absurd h

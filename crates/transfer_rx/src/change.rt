@@ -4,7 +4,7 @@ ghost use Rattle.can_frame.specs.Cutting.{Piece, tail_at};
 ghost use Rattle.transfer_rx.specs.declared.key.Key.{Key};
 ghost use Rattle.transfer_rx.specs.Crcs.{HasCrc, HasOwnCrc, HaveCrcs};
 ghost use Rattle.transfer_rx.specs.Filled.{Fills, HasRoomFor, emptied};
-ghost use Rattle.transfer_rx.specs.Places.{Places, KeepPlaces, kept};
+ghost use Rattle.transfer_rx.specs.Places.{Places, KeepPlaces, KeepSessions, kept};
 ghost use Rattle.transfer_rx.specs.Reassembly.{grown};
 ghost use Rattle.transfer_rx.specs.Sessions.{Session, others};
 ghost use Rattle.transfer_rx.specs.Progress.{IsProgressOf};
@@ -88,6 +88,19 @@ impl<const S: usize, const N: usize> Sessions<S, N> {
             get_or self.old.pool place []) }
     {
         keep_at(&mut self.progress, &mut self.pool, place, progress);
+    }
+
+    /// Forgets all sessions. Only the places that were used are touched.
+    pub fn clear(&mut self)
+        ensures sessions { KeepSessions self.new.progress self.new.pool [] }
+        ensures crcs { (signature_of : Key → Option ℕ) →
+            HaveCrcs signature_of self.new.progress self.new.pool }
+    {
+        for place in 0..self.used {
+            self.keep(place, None);
+        }
+        self.oldest = u64::MAX;
+        self.used = 0;
     }
 }
 

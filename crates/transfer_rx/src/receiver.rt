@@ -54,6 +54,17 @@ impl<F: Fn(Kind, u16) -> Option<u64> + Copy, const S: usize, const N: usize> Rec
         }
     }
 
+    /// Forgets all sessions, and takes frames for the node `me` from now on, as a new receiver does. It
+    /// stays where it is: the time goes by the sessions that there were, and not by its size.
+    pub fn reset(&mut self, me: u8)
+        ensures sessions { HasSessions self.new [] }
+        ensures setting { setting_of self.new ≡ record (setting_of self.old) { me = me } }
+        ensures accept { accept_of self.new ≡ accept_of self.old }
+    {
+        self.sessions.clear();
+        self.me = me;
+    }
+
     /// Takes a frame at a moment in milliseconds, and tells what it led to. Of a frame that is dropped
     /// the cause is told, and its session goes on as the definition says: after a wrong CRC or length,
     /// or for want of blocks, it waits for the next transfer ID.

@@ -332,6 +332,26 @@ fn peek_tells_what_take_delivers(rt: HostRuntime) -> Result<(), Fail> {
     Ok(())
 }
 
+#[test]
+fn a_reset_begins_anew(rt: HostRuntime) {
+    let mut receiver: Receiver<_, 1, 1> = Receiver::new(
+        2,
+        accept_rows(Kind::Message, ALLOCATION),
+        allocation,
+    );
+    let first = comes(NODE_1, &A, 0, Then::Part);
+    assert_eq!(rt; leads_to(&mut receiver, &first), true);
+    receiver.reset(3);
+    let rows = [
+        comes(NODE_1, &B, 0, Then::Dropped(Why::Start)),
+        comes(NODE_3, &A, 0, Then::Dropped(Why::NotWanted)),
+        comes(0x1e00_0102, &A, 0, Then::Part),
+        comes(0x1e00_0102, &B, 0, Then::Part),
+        comes(0x1e00_0102, &C, 0, Then::Delivered(&PAYLOAD)),
+    ];
+    assert_eq!(rt; first_wrong(&mut receiver, &rows), None);
+}
+
 /// Whoever keeps a receiver and is generic in its closure.
 #[derive(Drop)]
 struct Listener<F> {
