@@ -1,4 +1,4 @@
-ghost use Rattle.std.specs.Prelude.{◌≡◌, ◌≤◌, ◌<◌, ◌⊎◌, ◌-◌, ℕ, List, true, is_ok, Some, None, Err, OnOk, OnErr, IfOk, IfErr, IfSome};
+ghost use Rattle.std.specs.Prelude.{◌≡◌, ◌≤◌, ◌<◌, ◌⊎◌, ◌-◌, ℕ, List, [], true, is_ok, Some, None, Err, OnOk, OnErr, IfOk, IfErr, IfSome, IsSome};
 ghost use Rattle.arrayvec.specs.ArrayVec.{array_vec_len};
 ghost use Rattle.disk_model.specs.Contents.{MayLeave, AddsNoImage};
 ghost use Rattle.disk_model.specs.Device.{Makes};
@@ -7,13 +7,13 @@ ghost use Rattle.kv_store.specs.Table.{Holds};
 ghost use Rattle.kv_store.specs.TableViews.{table_map, table_copy};
 ghost use Rattle.outside.specs.Faults.{Rose};
 
-use crate::fault::{Fault, OpenRefused};
+use crate::fault::{Fault, OpenFault, OpenRefused};
 use crate::laws::a_store_is_durable;
 use crate::replace::replace;
 use crate::table::Table;
 use crate::value::Value;
 use disk_model::{Disk, MemoryDisk};
-use outside::Failed;
+use outside::{Failed, Pattern};
 
 /// A map of 132 keys on a disk.
 #[derive(Drop)]
@@ -21,7 +21,8 @@ pub struct Store<D: Disk> {
     disk: D,
     table: Table,
 
-    /// The fault of the put that failed, if one did.
+    /// What every put answers, until the store is opened: the fault of the put that failed, or the count
+    /// of the disk when the store was closed.
     failed: Option<Fault>,
     ghost holds: { failed ≡ None → D.tells disk ≡ true →
         Holds (D.contents disk) (table_map table) (table_copy table) },
@@ -34,7 +35,7 @@ impl<D: Disk> Store<D> {
     ghost use Rattle.kv_store.specs.declared.fault.OpenFault.TheVariants.{Fault as DiskFault, Damaged};
 
     /// The store that the disk holds, found by a sync and one read.
-    pub fn open(mut disk: D) -> Result<Store<D>, OpenRefused<D>>
+    pub fn open(disk: D) -> Result<Store<D>, OpenRefused<D>>
         // The map is that of what reads give, and of whatever a stop may leave from now on.
         ensures map { IfOk result (λ store. D.tells disk ≡ true →
             StandsFor (D.contents disk).seen (store_map store)) }
@@ -65,25 +66,96 @@ impl<D: Disk> Store<D> {
         ensures refused_later { IfErr result (λ refused. D.faults disk ≤ D.faults refused.disk) }
     {
         a_store_is_durable::<D>();
-        match Table::load(&mut disk) {
-            Ok(table) => Ok(Store::new(disk, table)),
-            Err(why) => Err(OpenRefused { disk, why }),
+        let mut store = Store::closed(disk);
+        match store.reload() {
+            Ok(table) => {
+                store.fill(table);
+                Ok(store)
+            }
+            Err(why) => Err(OpenRefused {
+                disk: store.into_disk(),
+                why,
+            }),
         }
     }
 
-    /// A store on a disk that holds this table.
-    pub fn new(disk: D, table: Table) -> Store<D>
-        requires { D.tells disk ≡ true →
-            Holds (D.contents disk) (table_map table) (table_copy table) }
+    /// A store on a disk that was not read yet. It is closed: its values are empty, and every put answers
+    /// a fault until the store is filled.
+    pub fn closed(disk: D) -> Store<D>
         ensures disk { store_disk result ≡ disk }
-        ensures table { store_table result ≡ table }
-        ensures works { store_fault result ≡ None }
+        ensures map { (key : ℕ) → store_map result key ≡ [] }
+        ensures copies { (key : ℕ) → store_copy result key ≡ 0 }
+        ensures closed { IsSome (store_fault result) }
+        ensures count { IfSome (store_fault result) (λ fault. fault.count ≡ D.faults disk) }
     {
+        let failed = Some(Fault {
+            count: disk.faults(),
+        });
         Store {
             disk,
-            table,
-            failed: None,
+            table: Table::empty(),
+            failed,
         }
+    }
+
+    /// Reads the disk again, by a sync and one read, and closes the store: its values stay, and every put
+    /// answers a fault until the store is filled with the table that is returned.
+    pub fn reload(&mut self) -> Result<Table, OpenFault>
+        // The table is that of what reads give, and the disk holds it from now on.
+        ensures map { IfOk result (λ table. D.tells (store_disk self.old) ≡ true →
+            StandsFor (D.contents (store_disk self.old)).seen (table_map table)) }
+        ensures holds { IfOk result (λ table. D.tells (store_disk self.old) ≡ true →
+            Holds (D.contents (store_disk self.new)) (table_map table) (table_copy table)) }
+        ensures copies { IfOk result (λ table. D.tells (store_disk self.old) ≡ true → (key : ℕ) →
+            key < key_count →
+            table_copy table key ≡ chosen_copy (D.contents (store_disk self.old)).seen key) }
+
+        // It refuses a disk of which a key is damaged, and one that failed in this call.
+        ensures damaged { IfErr result (λ why. (key : ℕ) → why ≡ Damaged key →
+            D.tells (store_disk self.old) ≡ true →
+            IsFirstDamaged (D.contents (store_disk self.old)).seen key) }
+        ensures fault { IfErr result (λ why. (fault : Fault) → why ≡ DiskFault fault →
+            (fault.count ≡ D.faults (store_disk self.new))
+            × Rose (D.faults (store_disk self.old)) (D.faults (store_disk self.new))) }
+
+        // It adds no image that a stop may leave, also where it refuses.
+        ensures images { D.tells (store_disk self.old) ≡ true →
+            AddsNoImage (D.contents (store_disk self.old)) (D.contents (store_disk self.new)) }
+        ensures made { OnOk result
+            (Makes D.does open_calls true (store_disk self.old) (store_disk self.new)) }
+        ensures refused_made { IfErr result (λ why.
+            Makes D.does open_calls (was_read why) (store_disk self.old) (store_disk self.new)) }
+        ensures tells { D.tells (store_disk self.new) ≡ D.tells (store_disk self.old) }
+        ensures later { D.faults (store_disk self.old) ≤ D.faults (store_disk self.new) }
+
+        ensures same { store_table self.new ≡ store_table self.old }
+        ensures closed { IsSome (store_fault self.new) }
+        ensures count { IfSome (store_fault self.new) (λ fault.
+            fault.count ≡ D.faults (store_disk self.old)) }
+    {
+        self.failed = Some(Fault {
+            count: self.disk.faults(),
+        });
+        Table::load(&mut self.disk)
+    }
+
+    /// Opens the store with the table that its disk holds.
+    pub fn fill(&mut self, table: Table)
+        requires { D.tells (store_disk self.old) ≡ true →
+            Holds (D.contents (store_disk self.old)) (table_map table) (table_copy table) }
+        ensures disk { store_disk self.new ≡ store_disk self.old }
+        ensures table { store_table self.new ≡ table }
+        ensures works { store_fault self.new ≡ None }
+    {
+        self.table = table;
+        self.failed = None;
+    }
+
+    /// The fault that every put answers. None while the store is open and no put has failed.
+    pub fn fault(&self) -> Option<Fault>
+        ensures { result ≡ store_fault self.now }
+    {
+        self.failed
     }
 
     /// The value of a key. One that was never put is empty. After a put that failed it is the value
@@ -170,8 +242,25 @@ impl<D: Disk> Store<D> {
 }
 
 impl Store<MemoryDisk> {
-    ghost use Rattle.kv_store.specs.StoreViews.{store_map, store_disk, store_fault, store_copy};
-    ghost use Rattle.disk_model.specs.Memory.{memory_calls, memory_contents};
+    ghost use Rattle.kv_store.specs.StoreViews.{store_map, store_disk, store_fault, store_copy, store_table};
+    ghost use Rattle.disk_model.specs.Memory.{Restarts, memory_calls, memory_contents};
+    ghost use Rattle.disk_model.specs.Pattern.{IsUsable};
+
+    /// Calls `MemoryDisk::restart` of the disk, and closes the store: its values stay, and every put answers
+    /// a fault until the store is opened again.
+    pub fn restart(&mut self, pattern: Pattern)
+        requires { IsUsable pattern }
+        ensures disk { Restarts pattern (store_disk self.old) (store_disk self.new) }
+        ensures same { store_table self.new ≡ store_table self.old }
+        ensures closed { IsSome (store_fault self.new) }
+        ensures count { IfSome (store_fault self.new) (λ fault.
+            fault.count ≡ (memory_calls (store_disk self.old)).faults) }
+    {
+        self.failed = Some(Fault {
+            count: self.disk.faults(),
+        });
+        self.disk.restart(pattern);
+    }
 
     /// Calls `MemoryDisk::stop_at` of the disk; nothing else changes.
     pub fn stop_at(&mut self, call: u64)

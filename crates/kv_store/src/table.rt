@@ -1,4 +1,4 @@
-ghost use Rattle.std.specs.Prelude.{◌≡◌, ◌≢◌, ◌≤◌, ◌<◌, ℕ, IfOk, IfErr, length, slice_index};
+ghost use Rattle.std.specs.Prelude.{◌≡◌, ◌≢◌, ◌≤◌, ◌<◌, ℕ, [], IfOk, IfErr, length, slice_index};
 ghost use Rattle.arrayvec.specs.ArrayVec.{array_vec_len};
 ghost use Rattle.kv_store.specs.Image.{StandsFor, IsFirstDamaged, chosen_copy, key_count, put_in, value_limit};
 ghost use Rattle.kv_store.specs.Table.{value_at};
@@ -37,6 +37,21 @@ impl Table {
             copies[key] = image[KEY_SIZE * key] % 2;
         }
         Ok(Table { values, copies })
+    }
+
+    /// The table of a store in which nothing was put.
+    pub fn empty() -> Table
+        ensures map { (key : ℕ) → table_map result key ≡ [] }
+        ensures copies { (key : ℕ) → table_copy result key ≡ 0 }
+    {
+        let mut values: ArrayVec<Value, KEYS> = ArrayVec::new();
+        for _ in 0..KEYS {
+            values.push(Value::new());
+        }
+        Table {
+            values,
+            copies: [0; KEYS],
+        }
     }
 
     pub fn get(&self, key: u8) -> &Value

@@ -10,7 +10,7 @@ use Rattle.kv_store.specs.Image.{IsFirstDamaged, StandsFor, chosen_copy, copy_st
 use Rattle.raft_log.specs.MayFollow.{HaveOrigins, IsStorable, MayFollow}
 use Rattle.raft_log.specs.Rules.{IsDamagedAt, IsEntryValue, IsFirstBroken, IsWhole, HasByte, HasEntry, HasTerm, HasVersion, KeepsRules, StandsForState, Stores, entries_of, entry_of, last_of, number_of, origin_of, origins_of, version_of}
 use Rattle.raft_log.specs.Rules.IsDamagedAt.{BadLength, BadValue}
-use Rattle.raft_log.specs.Stored.{Stored}
+use Rattle.raft_log.specs.Stored.{Stored, first_state}
 use Rattle.raft_log.proofs.Rules.{first_at, first_count, first_none, same_first, take_first}
 
 -- maps that agree on all keys keep the same rules and store the same
@@ -256,9 +256,6 @@ whole_or_damaged image s key stands (BadValue whole first) = first.broken (fewer
 -- no key was ever put
 abbrev no_values : ℕ → List ℕ
 no_values key = []
-
-abbrev first_state : Stored
-first_state = record { term = 0; vote = 0; log = []; commit = 0; origins = []; version = 0 }
 
 nothing_stored : IsRead no_values (first_state)
 nothing_stored = record {

@@ -19,6 +19,10 @@ pub record Stored : Type 0 where
   -- of the store, 0 where none is stored; from 2 on each entry has its origin
   pub version : ℕ
 
+-- the state that a run begins with
+abbrev pub first_state : Stored
+first_state = record { term = 0; vote = 0; log = []; commit = 0; origins = []; version = 0 }
+
 -- the origin of the entry at a place of 1 to last; one that is not stored is 0
 abbrev pub origin_at : Stored → ℕ → ℕ
 origin_at state zero = 0

@@ -1,4 +1,4 @@
-ghost use Rattle.std.specs.Prelude.{◌≡◌, ◌≢◌, ◌≤◌, ◌<◌, ◌∷◌, [], ℕ, true, None, is_ok, OnOk, IfOk, IfErr, length};
+ghost use Rattle.std.specs.Prelude.{◌≡◌, ◌≢◌, ◌≤◌, ◌<◌, ◌∷◌, [], ℕ, true, None, is_ok, OnOk, IfOk, IfErr, IfSome, IsErr, IsSome, length};
 ghost use Rattle.std.specs.Result.{result_err};
 ghost use Rattle.can_frame.specs.Log.{entry_at, log_limit};
 ghost use Rattle.disk_model.specs.Contents.{AddsNoImage};
@@ -10,7 +10,7 @@ ghost use Rattle.raft_log.specs.Allowed.{AreAllowed};
 ghost use Rattle.raft_log.specs.MayFollow.{HaveOrigins, IsStorable, MayFollow};
 ghost use Rattle.raft_log.specs.Rules.{AlwaysStandsForState, IsDamagedAt, StandsForState, Stores};
 ghost use Rattle.raft_log.specs.StateViews.{stored_of};
-ghost use Rattle.raft_log.specs.Stored.{opening_puts, origin_at, origin_limit, origin_puts, puts_of_append, puts_of_cut, puts_of_term};
+ghost use Rattle.raft_log.specs.Stored.{first_state, opening_puts, origin_at, origin_limit, origin_puts, puts_of_append, puts_of_cut, puts_of_term};
 ghost use Rattle.raft_log.specs.Stored.Put.{PutVote, PutCommit};
 
 use crate::change::Change;
@@ -20,7 +20,8 @@ use crate::values::NEWEST;
 use can_frame::Entry;
 use disk_model::{Disk, MemoryDisk};
 use kv_store::laws::a_store_is_durable;
-use kv_store::{Fault, OpenFault, OpenRefused, Store, Table};
+use kv_store::{Fault, OpenFault, OpenRefused, Store};
+use outside::Pattern;
 
 /// The stored state of a member, on a disk.
 #[derive(Drop)]
@@ -70,22 +71,78 @@ impl<D: Disk> Durable<D> {
         ensures later { IfOk result (λ durable. D.faults disk ≤ D.faults (durable_disk durable)) }
         ensures refused_later { IfErr result (λ refused. D.faults disk ≤ D.faults refused.disk) }
     {
-        a_state_is_durable::<D>();
-        let durable = match Durable::read(disk) {
-            Ok(durable) => durable,
-            Err(refused) => return Err(refused),
-        };
-        if durable.state.version == NEWEST {
-            return Ok(durable);
-        }
-        let mut durable = durable;
-        match durable.migrate() {
+        let mut durable = Durable::closed(disk);
+        match durable.reopen() {
             Ok(()) => Ok(durable),
-            Err(fault) => Err(OpenRefused {
+            Err(why) => Err(OpenRefused {
                 disk: durable.into_disk(),
-                why: OpenFault::Fault(fault),
+                why,
             }),
         }
+    }
+
+    /// A stored state on a disk that was not read yet. It is closed: its state is the first one, and every
+    /// change answers a fault until it is opened.
+    pub fn closed(disk: D) -> Durable<D>
+        ensures disk { durable_disk result ≡ disk }
+        ensures state { durable_state result ≡ first_state }
+        ensures copies { (key : ℕ) → durable_copies result key ≡ 0 }
+        ensures closed { IsSome (durable_fault result) }
+        ensures count { IfSome (durable_fault result) (λ fault. fault.count ≡ D.faults disk) }
+    {
+        Durable {
+            store: Store::closed(disk),
+            state: State::first(),
+        }
+    }
+
+    /// Opens the store of its disk again, as `open` does, whatever was known of it before. After a refusal it
+    /// is closed: every change answers a fault until it is opened.
+    pub fn reopen(&mut self) -> Result<(), OpenFault>
+        // What reads give is found and its puts are made, and a stop leaves the state after them.
+        ensures opens { OnOk result (OpensTo (durable_disk self.old) self.new) }
+        ensures durable { OnOk result (D.tells (durable_disk self.old) ≡ true →
+            AlwaysStandsForState (D.contents (durable_disk self.new)) (durable_state self.new)) }
+        ensures version { OnOk result ((durable_state self.new).version ≡ 2) }
+        ensures works { OnOk result (durable_fault self.new ≡ None) }
+
+        // A disk of which a key is damaged is refused, and nothing is put there.
+        ensures damaged { IfErr result (λ why. (key : ℕ) → why ≡ Damaged key →
+            D.tells (durable_disk self.old) ≡ true →
+            IsDamagedAt (D.contents (durable_disk self.old)).seen key) }
+        ensures damaged_made { IfErr result (λ why. (key : ℕ) → why ≡ Damaged key →
+            Makes D.does open_calls true (durable_disk self.old) (durable_disk self.new)) }
+        ensures damaged_images { IfErr result (λ why. (key : ℕ) → why ≡ Damaged key →
+            D.tells (durable_disk self.old) ≡ true →
+            AddsNoImage (D.contents (durable_disk self.old)) (D.contents (durable_disk self.new))) }
+
+        // A disk that failed in this call, before a put or in one, is refused too.
+        ensures fault { IfErr result (λ why. (fault : Fault) → why ≡ DiskFault fault →
+            (fault.count ≡ D.faults (durable_disk self.new))
+            × Rose (D.faults (durable_disk self.old)) (D.faults (durable_disk self.new))) }
+        ensures failed { IfErr result (λ why. (fault : Fault) → why ≡ DiskFault fault →
+            FailsToOpen D.Disk (durable_disk self.old) (durable_disk self.new)) }
+
+        ensures closed { IsErr result → IsSome (durable_fault self.new) }
+        ensures tells { D.tells (durable_disk self.new) ≡ D.tells (durable_disk self.old) }
+        ensures later { D.faults (durable_disk self.old) ≤ D.faults (durable_disk self.new) }
+    {
+        a_state_is_durable::<D>();
+        self.read()?;
+        if self.state.version == NEWEST {
+            return Ok(());
+        }
+        match self.migrate() {
+            Ok(()) => Ok(()),
+            Err(fault) => Err(OpenFault::Fault(fault)),
+        }
+    }
+
+    /// The fault that every change answers. None while it is open and no put has failed.
+    pub fn fault(&self) -> Option<Fault>
+        ensures { result ≡ durable_fault self.now }
+    {
+        self.store.fault()
     }
 
     /// The stored term.
@@ -219,55 +276,48 @@ impl<D: Disk> Durable<D> {
         self.store.into_disk()
     }
 
-    /// The state that the disk stands for, found by a sync and one read.
-    fn read(mut disk: D) -> Result<Durable<D>, OpenRefused<D>>
+    /// Takes the state that its disk stands for, found by a sync and one read.
+    fn read(&mut self) -> Result<(), OpenFault>
         // The state is that of what reads give, and of whatever a stop may leave from now on.
-        ensures state { IfOk result (λ durable. D.tells disk ≡ true →
-            StandsForState (D.contents disk).seen (durable_state durable)) }
-        ensures durable { IfOk result (λ durable. D.tells disk ≡ true →
-            AlwaysStandsForState (D.contents (durable_disk durable)) (durable_state durable)) }
-        ensures copies { IfOk result (λ durable. D.tells disk ≡ true → (key : ℕ) → key < key_count →
-            durable_copies durable key ≡ chosen_copy (D.contents disk).seen key) }
-        ensures works { IfOk result (λ durable. durable_fault durable ≡ None) }
+        ensures state { OnOk result (D.tells (durable_disk self.old) ≡ true →
+            StandsForState (D.contents (durable_disk self.old)).seen (durable_state self.new)) }
+        ensures durable { OnOk result (D.tells (durable_disk self.old) ≡ true →
+            AlwaysStandsForState (D.contents (durable_disk self.new)) (durable_state self.new)) }
+        ensures copies { OnOk result (D.tells (durable_disk self.old) ≡ true → (key : ℕ) →
+            key < key_count →
+            durable_copies self.new key ≡ chosen_copy (D.contents (durable_disk self.old)).seen key) }
+        ensures works { OnOk result (durable_fault self.new ≡ None) }
 
         // A disk of which a key is damaged is refused, and one that failed in this call.
-        ensures damaged { IfErr result (λ refused. (key : ℕ) → refused.why ≡ Damaged key →
-            D.tells disk ≡ true → IsDamagedAt (D.contents disk).seen key) }
-        ensures damaged_made { IfErr result (λ refused. (key : ℕ) → refused.why ≡ Damaged key →
-            Makes D.does open_calls true disk refused.disk) }
-        ensures fault { IfErr result (λ refused. (fault : Fault) → refused.why ≡ DiskFault fault →
-            (fault.count ≡ D.faults refused.disk) × Rose (D.faults disk) (D.faults refused.disk)) }
-        ensures failed { IfErr result (λ refused. (fault : Fault) → refused.why ≡ DiskFault fault →
-            IsNotRead D.Disk disk refused.disk) }
+        ensures damaged { IfErr result (λ why. (key : ℕ) → why ≡ Damaged key →
+            D.tells (durable_disk self.old) ≡ true →
+            IsDamagedAt (D.contents (durable_disk self.old)).seen key) }
+        ensures damaged_made { IfErr result (λ why. (key : ℕ) → why ≡ Damaged key →
+            Makes D.does open_calls true (durable_disk self.old) (durable_disk self.new)) }
+        ensures fault { IfErr result (λ why. (fault : Fault) → why ≡ DiskFault fault →
+            (fault.count ≡ D.faults (durable_disk self.new))
+            × Rose (D.faults (durable_disk self.old)) (D.faults (durable_disk self.new))) }
+        ensures failed { IfErr result (λ why. (fault : Fault) → why ≡ DiskFault fault →
+            IsNotRead D.Disk (durable_disk self.old) (durable_disk self.new)) }
+        ensures closed { IsErr result → IsSome (durable_fault self.new) }
 
         // No image is added, also where the disk is refused.
-        ensures images { IfOk result (λ durable. D.tells disk ≡ true →
-            AddsNoImage (D.contents disk) (D.contents (durable_disk durable))) }
-        ensures refused { IfErr result (λ refused. D.tells disk ≡ true →
-            AddsNoImage (D.contents disk) (D.contents refused.disk)) }
-        ensures made { IfOk result (λ durable. Makes D.does open_calls true disk
-            (durable_disk durable)) }
-        ensures tells { IfOk result (λ durable. D.tells (durable_disk durable) ≡ D.tells disk) }
-        ensures refused_tells { IfErr result (λ refused. D.tells refused.disk ≡ D.tells disk) }
-        ensures later { IfOk result (λ durable. D.faults disk ≤ D.faults (durable_disk durable)) }
-        ensures refused_later { IfErr result (λ refused. D.faults disk ≤ D.faults refused.disk) }
+        ensures images { D.tells (durable_disk self.old) ≡ true →
+            AddsNoImage (D.contents (durable_disk self.old)) (D.contents (durable_disk self.new)) }
+        ensures made { OnOk result
+            (Makes D.does open_calls true (durable_disk self.old) (durable_disk self.new)) }
+        ensures tells { D.tells (durable_disk self.new) ≡ D.tells (durable_disk self.old) }
+        ensures later { D.faults (durable_disk self.old) ≤ D.faults (durable_disk self.new) }
     {
         a_store_is_durable::<D>();
-        let table = match Table::load(&mut disk) {
-            Ok(table) => table,
-            Err(why) => return Err(OpenRefused { disk, why }),
-        };
+        let table = self.store.reload()?;
         let state = match State::read(&table) {
             Ok(state) => state,
-            Err(key) => {
-                let why = OpenFault::Damaged(key);
-                return Err(OpenRefused { disk, why });
-            }
+            Err(key) => return Err(OpenFault::Damaged(key)),
         };
-        Ok(Durable {
-            store: Store::new(disk, table),
-            state,
-        })
+        self.store.fill(table);
+        self.state = state;
+        Ok(())
     }
 
     /// Brings an older store to the newest version: each entry gets its origin first.
@@ -330,8 +380,23 @@ impl<D: Disk> Durable<D> {
 }
 
 impl Durable<MemoryDisk> {
-    ghost use Rattle.disk_model.specs.Memory.{memory_calls, memory_contents};
+    ghost use Rattle.disk_model.specs.Memory.{Restarts, memory_calls, memory_contents};
+    ghost use Rattle.disk_model.specs.Pattern.{IsUsable};
     ghost use Rattle.raft_log.specs.DurableViews.{durable_state, durable_disk, durable_fault, durable_copies};
+
+    /// Calls `MemoryDisk::restart` of the disk, and closes the stored state: it stays, and every change
+    /// answers a fault until it is opened again.
+    pub fn restart(&mut self, pattern: Pattern)
+        requires { IsUsable pattern }
+        ensures disk { Restarts pattern (durable_disk self.old) (durable_disk self.new) }
+        ensures state { durable_state self.new ≡ durable_state self.old }
+        ensures copies { durable_copies self.new ≡ durable_copies self.old }
+        ensures closed { IsSome (durable_fault self.new) }
+        ensures count { IfSome (durable_fault self.new) (λ fault.
+            fault.count ≡ (memory_calls (durable_disk self.old)).faults) }
+    {
+        self.store.restart(pattern);
+    }
 
     /// Calls `MemoryDisk::stop_at` of the disk; nothing else changes.
     pub fn stop_at(&mut self, call: u64)

@@ -40,7 +40,21 @@ pub struct State {
 impl State {
     ghost use Rattle.raft_log.specs.Changes.{MayMake, put_of};
     ghost use Rattle.raft_log.specs.StateViews.{stored_of};
-    ghost use Rattle.raft_log.specs.Stored.{after_put};
+    ghost use Rattle.raft_log.specs.Stored.{after_put, first_state};
+
+    /// The state that a run begins with.
+    pub fn first() -> State
+        ensures { stored_of result ≡ first_state }
+    {
+        State {
+            term: 0,
+            vote: 0,
+            log: ArrayVec::new(),
+            commit: 0,
+            origins: ArrayVec::new(),
+            version: 0,
+        }
+    }
 
     /// The state that the values of a store are. The error is the first key whose rule does not hold.
     pub fn read(table: &Table) -> Result<State, u8>

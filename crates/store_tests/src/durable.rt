@@ -120,6 +120,30 @@ fn failed() -> Option<(u32, Result<(), Fault>, Result<(), Fault>)> {
     Some((durable.term(), first, second))
 }
 
+/// The faults of a stored state that is closed, opened, stopped in `set_term(1)` and opened again, with the
+/// term that each opening finds.
+fn stopped_in_place() -> Option<[(bool, u32); 4]> {
+    let mut durable = Durable::closed(MemoryDisk::new(&[0; IMAGE]));
+    let closed = (durable.fault().is_some(), durable.term());
+    durable.reopen().ok()?;
+    let opened = (durable.fault().is_some(), durable.term());
+    durable.stop_at(5);
+    let _ = take_term(&mut durable)?;
+    durable.restart(Pattern::Old);
+    let stopped = (durable.fault().is_some(), durable.term());
+    durable.reopen().ok()?;
+    let again = (durable.fault().is_some(), durable.term());
+    Some([closed, opened, stopped, again])
+}
+
+#[test]
+fn a_stored_state_stays_where_it_is_through_a_stop(rt: HostRuntime) {
+    assert_eq!(rt;
+        stopped_in_place(),
+        Some([(true, 0), (false, 0), (true, 1), (false, 1)])
+    );
+}
+
 #[test]
 fn a_fault_is_answered_for_ever(rt: HostRuntime) {
     let fault = Err(Fault { count: 1 });

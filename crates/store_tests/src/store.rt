@@ -7,7 +7,7 @@ ghost use Rattle.std.proofs.lemmas.Bool.{false≢true};
 use arrayvec::ArrayVec;
 use disk_model::{Disk, IMAGE, MemoryDisk};
 use kv_store::{Fault, OpenFault, Store, value_of};
-use outside::Failed;
+use outside::{Failed, Pattern};
 
 /// A disk of zeros that takes down the sizes of its device calls, 0 for a sync.
 #[derive(Drop)]
@@ -111,4 +111,29 @@ fn the_first_damaged_key_is_named(rt: HostRuntime) {
     assert_eq!(rt; refused(&[8778, 336]), Some(OpenFault::Damaged(5)));
     assert_eq!(rt; refused(&[369]), None);
     assert_eq!(rt; refused(&[335, 369]), Some(OpenFault::Damaged(5)));
+}
+
+#[test]
+fn a_store_stays_where_it_is_through_a_restart(rt: HostRuntime) {
+    let mut store = Store::closed(MemoryDisk::new(&[0; IMAGE]));
+    let closed = Fault { count: 0 };
+    assert_eq!(rt; store.fault(), Some(closed));
+    assert_eq!(rt; store.put(7, &value_of(&[1])), Err(closed));
+    assert_eq!(rt; store.get(7).as_slice(), [].as_slice());
+    let Ok(table) = store.reload() else {
+        assert!(rt; false);
+        return;
+    };
+    store.fill(table);
+    assert_eq!(rt; store.fault(), None);
+    assert_eq!(rt; store.put(7, &value_of(&[1])), Ok(()));
+    store.restart(Pattern::Old);
+    assert_eq!(rt; store.put(7, &value_of(&[2])), Err(closed));
+    let Ok(table) = store.reload() else {
+        assert!(rt; false);
+        return;
+    };
+    store.fill(table);
+    assert_eq!(rt; store.get(7).as_slice(), [1].as_slice());
+    assert_eq!(rt; store.put(7, &value_of(&[2])), Ok(()));
 }
