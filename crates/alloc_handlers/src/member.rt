@@ -1,11 +1,11 @@
-ghost use Rattle.std.specs.Prelude.{◌≡◌, ◌≤◌, ◌<◌, ℕ, true, List, None, Option, IfSome, IsNone, length};
+ghost use Rattle.std.specs.Prelude.{◌≡◌, ◌≤◌, ◌<◌, ℕ, true, List, Option, IfSome, IsNone, length};
 ghost use Rattle.arrayvec.specs.ArrayVec.{array_vec_len};
 ghost use Rattle.can_frame.specs.Identifier.{IsIdentifier};
 ghost use Rattle.can_frame.specs.Log.{HasUid, log_limit};
 ghost use Rattle.raft_core.specs.RaftViews.{raft_role};
 ghost use Rattle.can_frame.specs.declared.step.Role.TheVariants.{Leader};
 ghost use Rattle.cluster_discovery.specs.Members.{is_on_list};
-ghost use Rattle.raft_log.specs.DurableViews.{durable_disk, durable_fault, durable_state};
+ghost use Rattle.raft_log.specs.DurableViews.{durable_disk, durable_state};
 ghost use Rattle.raft_core.specs.StoredPuts.{store_of};
 ghost use Rattle.raft_model.specs.Messages.{Message};
 ghost use Rattle.raft_model.specs.Moves.Elections.{is_leader};
@@ -58,14 +58,14 @@ pub struct Member<D: Disk> {
 impl<D: Disk> Member<D> {
     ghost use Rattle.alloc_handlers.specs.Stands.{GoesOn, IsFresh, IsInStep, IsReady, Leaves, ListsGiven, StandsFor};
 
-    /// A member that opens now, with what it has stored.
+    /// A member that opens now, with what it has stored. It is not inlined: its caller would take minutes to
+    /// compile.
     #[inline(never)]
     pub fn open(me: u8, size: u8, durable: Durable<D>, now: u64, word: u32) -> Member<D>
         requires least { 1 ≤ me }
         requires most { me ≤ 125 }
         requires some { 1 ≤ size }
         requires five { size ≤ 5 }
-        requires works { durable_fault durable ≡ None }
         ensures stands { StandsFor result (opening me size (store_of
             (durable_state durable)) now word) }
         ensures ready { IsReady result }
@@ -84,6 +84,30 @@ impl<D: Disk> Member<D> {
             latest: now,
             status_at: now,
         }
+    }
+
+    /// Opens again now, with what it has stored. The stored state stays where it is; all else begins anew,
+    /// as in `open`.
+    pub fn reopen(&mut self, me: u8, size: u8, now: u64, word: u32)
+        requires least { 1 ≤ me }
+        requires most { me ≤ 125 }
+        requires some { 1 ≤ size }
+        requires five { size ≤ 5 }
+        ensures stands { StandsFor self.new (opening me size (store_of
+            (durable_state self.old.durable)) now word) }
+        ensures ready { IsReady self.new }
+        ensures durable { self.new.durable ≡ self.old.durable }
+    {
+        self.me = me;
+        self.size = size;
+        self.raft = Raft::new(me, size, now, word);
+        self.exchange = Exchange::new();
+        self.watch = Watch::new();
+        self.cluster = Cluster::new(me, size, now);
+        self.outbox = Outbox::new(me);
+        self.opened_at = now;
+        self.latest = now;
+        self.status_at = now;
     }
 
     /// How each step begins: time goes on, never back, and old calls are given up.

@@ -52,7 +52,7 @@ module _ {D F : Type 0} {disk : Ghosts D} where
   abbrev pub queued : Server D F disk → List Queued
   queued server = server.member.outbox.queue
 
-  -- the fault of the step that failed
+  -- the fault of the step that failed, or of a server that is closed
   abbrev pub fault_of : Server D F disk → Option Fault
   fault_of server = server.fault
 

@@ -1,4 +1,4 @@
-ghost use Rattle.std.specs.Prelude.{◌≡◌, ◌≤◌, ◌<◌, ◌↔◌, ℕ, [], None, Some, IsTrue, IsNone, IsSome, IfOk, IfErr, IfSome, Err, true, length, option_map};
+ghost use Rattle.std.specs.Prelude.{◌≡◌, ◌≤◌, ◌<◌, ◌↔◌, ℕ, [], None, Some, IsTrue, IsNone, IsSome, IsErr, IfOk, IfErr, IfSome, OnOk, OnErr, Err, true, length, option_map};
 ghost use Rattle.std.specs.Result.{result_err};
 ghost use Rattle.can_frame.specs.Log.{entry_at};
 ghost use Rattle.disk_model.specs.Contents.{AddsNoImage};
@@ -10,6 +10,7 @@ ghost use Rattle.outside.specs.Faults.{Rose};
 ghost use Rattle.raft_log.specs.DurableViews.{durable_copies, durable_fault, durable_state};
 ghost use Rattle.raft_log.specs.Opening.{FailsToOpen, OpensTo};
 ghost use Rattle.raft_log.specs.Rules.{AlwaysStandsForState, IsDamagedAt};
+ghost use Rattle.raft_log.specs.Stored.{first_state};
 ghost use Rattle.raft_core.specs.RaftViews.{raft_role};
 ghost use Rattle.raft_core.specs.StoredPuts.{store_of};
 ghost use Rattle.transfer_rx.specs.Acceptance.{AnswersByRows};
@@ -31,7 +32,8 @@ use alloc_spec::{Event, Offered, Outcome, View};
 use arrayvec::ArrayVec;
 use can_frame::{Entry, Kind};
 use disk_model::{Disk, MemoryDisk};
-use kv_store::{Fault, OpenRefused};
+use kv_store::{Fault, OpenFault, OpenRefused};
+use outside::Pattern;
 use raft_log::Durable;
 use transfer_rx::{AcceptRow, Receiver};
 use transfer_tx::Marked;
@@ -43,7 +45,8 @@ pub struct Server<D: Disk, F> {
     /// With 160 sessions, and 128 blocks of 28 bytes.
     pub(crate) receiver: Receiver<F, 160, 128>,
 
-    /// The fault of the step that failed.
+    /// What each step answers until the server is opened: the fault of the step that failed, or that of its
+    /// stored state, which is closed.
     fault: Option<Fault>,
 
     ghost rows: { (setting_of receiver).rows ≡ accepted.rows },
@@ -102,14 +105,98 @@ impl<D: Disk, F: Fn(Kind, u16) -> Option<u64> + Copy> Server<D, F> {
         ensures refused_tells { IfErr result (λ refused. D.tells refused.disk ≡ D.tells disk) }
         ensures refused_later { IfErr result (λ refused. D.faults disk ≤ D.faults refused.disk) }
     {
-        match Durable::open(disk) {
-            Ok(durable) => Ok(Server {
-                member: Member::open(me, size, durable, now, word),
-                receiver: Receiver::new(me, rows, accept),
-                fault: None,
+        let mut server = Server::closed(me, size, disk, rows, accept);
+        match server.reopen(me, size, now, word) {
+            Ok(()) => Ok(server),
+            Err(why) => Err(OpenRefused {
+                disk: server.stop(),
+                why,
             }),
-            Err(refused) => Err(refused),
         }
+    }
+
+    /// A server of the node `me`, in a cluster of `size` members, that is not open: its disk was not read
+    /// yet, its queue is empty, and its steps answer a fault until it is opened.
+    #[inline(never)]
+    pub fn closed(
+        me: u8,
+        size: u8,
+        disk: D,
+        rows: ArrayVec<AcceptRow, 16>,
+        accept: F,
+    ) -> Server<D, F>
+        requires least { 1 ≤ me }
+        requires most { me ≤ 125 }
+        requires some { 1 ≤ size }
+        requires five { size ≤ 5 }
+        requires rows { rows.items ≡ accepted.rows }
+        requires memory { ReceiverFitsInMemory F.row 160 128 }
+        requires callable { F.IsAlwaysCallable accept }
+        requires answers { AnswersByRows (F.post accept) rows.items }
+        ensures disk { disk_of result ≡ disk }
+        ensures state { durable_state (durable_of result) ≡ first_state }
+        ensures copies { (key : ℕ) → durable_copies (durable_of result) key ≡ 0 }
+        ensures closed { IsSome (fault_of result) }
+        ensures count { IfSome (fault_of result) (λ fault. fault.count ≡ D.faults disk) }
+        ensures queued { queued result ≡ [] }
+        ensures accepts { accepts result ≡ accept }
+    {
+        let durable = Durable::closed(disk);
+        let fault = durable.fault();
+        Server {
+            member: Member::open(me, size, durable, 0, 0),
+            receiver: Receiver::new(me, rows, accept),
+            fault,
+        }
+    }
+
+    /// Opens again where it is, as `open` does, whatever was known of its disk before. After a refusal it is
+    /// closed: its queue is empty, and its steps answer a fault until it is opened.
+    #[inline(never)]
+    pub fn reopen(&mut self, me: u8, size: u8, now: u64, word: u32) -> Result<(), OpenFault>
+        requires least { 1 ≤ me }
+        requires most { me ≤ 125 }
+        requires some { 1 ≤ size }
+        requires five { size ≤ 5 }
+        requires memory { ReceiverFitsInMemory F.row 160 128 }
+        ensures stands { OnOk result (StandsFor self.new (opening me size (store_of
+            (durable_state (durable_of self.new))) now word)) }
+        ensures accepts { accepts self.new ≡ accepts self.old }
+
+        // The state is the one that was read, after the puts of the opening; any later stop leaves that state.
+        ensures opens { OnOk result (OpensTo (disk_of self.old) (durable_of self.new)) }
+        ensures durable { OnOk result (D.tells (disk_of self.old) ≡ true →
+            AlwaysStandsForState (D.contents (disk_of self.new)) (durable_state (durable_of self.new))) }
+        ensures version { OnOk result ((durable_state (durable_of self.new)).version ≡ 2) }
+
+        // It refuses a disk of which a key is damaged, and puts nothing there; and one that fails.
+        ensures damaged { IfErr result (λ why. (key : ℕ) → why ≡ Damaged key →
+            D.tells (disk_of self.old) ≡ true → IsDamagedAt (D.contents (disk_of self.old)).seen key) }
+        ensures damaged_made { IfErr result (λ why. (key : ℕ) → why ≡ Damaged key →
+            Makes D.does open_calls true (disk_of self.old) (disk_of self.new)) }
+        ensures damaged_images { IfErr result (λ why. (key : ℕ) → why ≡ Damaged key →
+            D.tells (disk_of self.old) ≡ true →
+            AddsNoImage (D.contents (disk_of self.old)) (D.contents (disk_of self.new))) }
+        ensures fault { IfErr result (λ why. (fault : Fault) → why ≡ DiskFault fault →
+            (fault.count ≡ D.faults (disk_of self.new))
+            × Rose (D.faults (disk_of self.old)) (D.faults (disk_of self.new))) }
+        ensures failed { IfErr result (λ why. (fault : Fault) → why ≡ DiskFault fault →
+            FailsToOpen D.Disk (disk_of self.old) (disk_of self.new)) }
+
+        ensures closed { IsErr result → IsSome (fault_of self.new) }
+        ensures lost { OnErr result (queued self.new ≡ []) }
+        ensures tells { D.tells (disk_of self.new) ≡ D.tells (disk_of self.old) }
+        ensures later { D.faults (disk_of self.old) ≤ D.faults (disk_of self.new) }
+    {
+        if let Err(why) = self.member.durable.reopen() {
+            self.fault = self.member.durable.fault();
+            self.member.outbox.clear();
+            return Err(why);
+        }
+        self.member.reopen(me, size, now, word);
+        self.receiver.reset(me);
+        self.fault = None;
+        Ok(())
     }
 
     /// Runs the step with this number on an event. Where the disk fails, the step ends, what waited
@@ -197,7 +284,7 @@ impl<D: Disk, F: Fn(Kind, u16) -> Option<u64> + Copy> Server<D, F> {
         self.member.durable.entry(place)
     }
 
-    /// Whether a step has failed.
+    /// Whether a step has failed, or the server is closed.
     pub fn failed(&self) -> bool
         ensures { IsTrue result ↔ IsSome (fault_of self.now) }
     {
@@ -213,8 +300,28 @@ impl<D: Disk, F: Fn(Kind, u16) -> Option<u64> + Copy> Server<D, F> {
 }
 
 impl<F: Fn(Kind, u16) -> Option<u64> + Copy> Server<MemoryDisk, F> {
-    ghost use Rattle.disk_model.specs.Memory.{memory_calls, memory_contents};
-    ghost use Rattle.alloc_server.specs.Server.{StandsFor as StandsForTimed, accepts as accept_of, disk_of as disk_in, durable_of as durable_in, fault_of as fault_in};
+    ghost use Rattle.disk_model.specs.Memory.{Restarts, memory_calls, memory_contents};
+    ghost use Rattle.disk_model.specs.Pattern.{IsUsable};
+    ghost use Rattle.alloc_server.specs.Server.{StandsFor as StandsForTimed, accepts as accept_of, disk_of as disk_in, durable_of as durable_in, fault_of as fault_in, queued as queued_in};
+
+    /// The process stops, and its disk starts again after it (`MemoryDisk::restart`). The server is closed
+    /// then: what waited for the bus is lost, and its steps answer a fault until it is opened again.
+    pub fn restart(&mut self, pattern: Pattern)
+        requires { IsUsable pattern }
+        ensures disk { Restarts pattern (disk_in self.old) (disk_in self.new) }
+        ensures state { durable_state (durable_in self.new) ≡ durable_state (durable_in self.old) }
+        ensures copies { durable_copies (durable_in self.new) ≡ durable_copies
+            (durable_in self.old) }
+        ensures closed { IsSome (fault_in self.new) }
+        ensures count { IfSome (fault_in self.new) (λ fault.
+            fault.count ≡ (memory_calls (disk_in self.old)).faults) }
+        ensures lost { queued_in self.new ≡ [] }
+        ensures accepts { accept_of self.new ≡ accept_of self.old }
+    {
+        self.member.durable.restart(pattern);
+        self.fault = self.member.durable.fault();
+        self.member.outbox.clear();
+    }
 
     /// Calls `MemoryDisk::stop_at` of the disk; nothing else changes.
     pub fn stop_at(&mut self, call: u64)

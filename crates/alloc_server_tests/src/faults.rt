@@ -4,6 +4,7 @@ use crate::bus::{accept, event};
 use alloc_server::{Server, accept_rows};
 use disk_model::{IMAGE, MemoryDisk};
 use outside::Pattern;
+use std::test::Fail;
 
 /// What a disk has stored: the term and the vote.
 fn found(disk: MemoryDisk) -> Option<(u32, u8)> {
@@ -59,4 +60,25 @@ fn a_failed_step_is_kept(rt: HostRuntime) {
         assert_eq!(rt; fails_at(call), Some(true), "at call {call}");
     }
     assert_eq!(rt; fails_at(13), Some(false));
+}
+
+#[test]
+fn a_server_opens_again_where_it_is(rt: HostRuntime) -> Result<(), Fail> {
+    let tick = || event("tick", 2000).ok_or("no event");
+    let disk = MemoryDisk::new(&[0; IMAGE]);
+    let mut server = Server::closed(1, 1, disk, accept_rows(), accept);
+    assert!(rt; server.failed());
+    assert!(rt; server.step(tick()?, 1).is_err());
+    assert!(rt; server.reopen(1, 1, 0, 0).is_ok());
+    assert!(rt; !server.failed());
+    server.stop_at(9);
+    assert!(rt; server.step(tick()?, 1).is_err());
+    server.restart(Pattern::Old);
+    assert!(rt; server.failed());
+    assert!(rt; !server.stopped());
+    assert!(rt; server.reopen(2, 1, 0, 0).is_ok());
+    assert_eq!(rt; (server.view().term, server.view().vote), (1, 0));
+    assert!(rt; server.step(tick()?, 1).is_ok());
+    assert_eq!(rt; (server.view().term, server.view().vote), (2, 2));
+    Ok(())
 }
