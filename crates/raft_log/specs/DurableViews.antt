@@ -15,7 +15,7 @@ module _ {D : Type 0} {ghosts : Ghosts D} where
   abbrev pub durable_disk : Durable D ghosts → D
   durable_disk durable = store_disk durable.store
 
-  -- the fault of the put that failed, if one did
+  -- the fault that every change answers, if there is one: of the put that failed, or of what is not open
   abbrev pub durable_fault : Durable D ghosts → Option Fault
   durable_fault durable = store_fault durable.store
 
