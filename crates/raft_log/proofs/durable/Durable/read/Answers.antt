@@ -17,7 +17,7 @@ returns-in_err-table-clause-damaged_made g c =
     let old = durable_disk c.args.self.now in
     let new = store_disk c.reload.new.self in
     let made : (key : ℕ) → c.in_err-table.field-0.0 ≡ Damaged key → Makes g.D.Disk.does open_calls true old new =
-        λ key is. subst (λ why. Makes g.D.Disk.does open_calls (was_read why) old new) is c.in_err-table.ensures.refused_made in
+    λ key is. subst (λ why. Makes g.D.Disk.does open_calls (was_read why) old new) is c.in_err-table.ensures.refused_made in
     search (rules, made)
 
 pub returns-in-Err-clause-damaged : goal.returns-in-Err-clause-damaged
