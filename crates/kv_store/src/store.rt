@@ -1,4 +1,4 @@
-ghost use Rattle.std.specs.Prelude.{◌≡◌, ◌≤◌, ◌<◌, ◌⊎◌, ◌-◌, ℕ, List, [], true, is_ok, Some, None, Err, OnOk, OnErr, IfOk, IfErr, IfSome, IsSome};
+ghost use Rattle.std.specs.Prelude.{◌≡◌, ◌≤◌, ◌<◌, ◌⊎◌, ◌-◌, ℕ, List, [], true, is_ok, Some, None, Err, OnOk, OnErr, IfOk, IfErr, IfSome, IsErr, IsSome};
 ghost use Rattle.arrayvec.specs.ArrayVec.{array_vec_len};
 ghost use Rattle.disk_model.specs.Contents.{MayLeave, AddsNoImage};
 ghost use Rattle.disk_model.specs.Device.{Makes};
@@ -8,11 +8,11 @@ ghost use Rattle.kv_store.specs.TableViews.{table_map, table_copy};
 ghost use Rattle.outside.specs.Faults.{Rose};
 
 use crate::fault::{Fault, OpenFault, OpenRefused};
-use crate::laws::a_store_is_durable;
+use crate::load::load;
 use crate::replace::replace;
 use crate::table::Table;
 use crate::value::Value;
-use disk_model::{Disk, MemoryDisk};
+use disk_model::{Disk, IMAGE, MemoryDisk};
 use outside::{Failed, Pattern};
 
 /// A map of 132 keys on a disk.
@@ -65,13 +65,9 @@ impl<D: Disk> Store<D> {
         ensures later { IfOk result (λ store. D.faults disk ≤ D.faults (store_disk store)) }
         ensures refused_later { IfErr result (λ refused. D.faults disk ≤ D.faults refused.disk) }
     {
-        a_store_is_durable::<D>();
         let mut store = Store::closed(disk);
-        match store.reload() {
-            Ok(table) => {
-                store.fill(table);
-                Ok(store)
-            }
+        match store.reopen() {
+            Ok(()) => Ok(store),
             Err(why) => Err(OpenRefused {
                 disk: store.into_disk(),
                 why,
@@ -80,7 +76,7 @@ impl<D: Disk> Store<D> {
     }
 
     /// A store on a disk that was not read yet. It is closed: its values are empty, and every put answers
-    /// a fault until the store is filled.
+    /// a fault until it is opened.
     pub fn closed(disk: D) -> Store<D>
         ensures disk { store_disk result ≡ disk }
         ensures map { (key : ℕ) → store_map result key ≡ [] }
@@ -98,17 +94,18 @@ impl<D: Disk> Store<D> {
         }
     }
 
-    /// Reads the disk again, by a sync and one read, and closes the store: its values stay, and every put
-    /// answers a fault until the store is filled with the table that is returned.
-    pub fn reload(&mut self) -> Result<Table, OpenFault>
-        // The table is that of what reads give, and the disk holds it from now on.
-        ensures map { IfOk result (λ table. D.tells (store_disk self.old) ≡ true →
-            StandsFor (D.contents (store_disk self.old)).seen (table_map table)) }
-        ensures holds { IfOk result (λ table. D.tells (store_disk self.old) ≡ true →
-            Holds (D.contents (store_disk self.new)) (table_map table) (table_copy table)) }
-        ensures copies { IfOk result (λ table. D.tells (store_disk self.old) ≡ true → (key : ℕ) →
+    /// Opens the store that its disk holds, found by a sync and one read, whatever it held before. After a
+    /// refusal it is closed, and its values are not those of the disk.
+    pub fn reopen(&mut self) -> Result<(), OpenFault>
+        // The map is that of what reads give, and of whatever a stop may leave from now on.
+        ensures map { OnOk result (D.tells (store_disk self.old) ≡ true →
+            StandsFor (D.contents (store_disk self.old)).seen (store_map self.new)) }
+        ensures durable { OnOk result (D.tells (store_disk self.old) ≡ true →
+            AlwaysStandsFor (D.contents (store_disk self.new)) (store_map self.new)) }
+        ensures copies { OnOk result (D.tells (store_disk self.old) ≡ true → (key : ℕ) →
             key < key_count →
-            table_copy table key ≡ chosen_copy (D.contents (store_disk self.old)).seen key) }
+            store_copy self.new key ≡ chosen_copy (D.contents (store_disk self.old)).seen key) }
+        ensures works { OnOk result (store_fault self.new ≡ None) }
 
         // It refuses a disk of which a key is damaged, and one that failed in this call.
         ensures damaged { IfErr result (λ why. (key : ℕ) → why ≡ Damaged key →
@@ -117,6 +114,7 @@ impl<D: Disk> Store<D> {
         ensures fault { IfErr result (λ why. (fault : Fault) → why ≡ DiskFault fault →
             (fault.count ≡ D.faults (store_disk self.new))
             × Rose (D.faults (store_disk self.old)) (D.faults (store_disk self.new))) }
+        ensures closed { IsErr result → IsSome (store_fault self.new) }
 
         // It adds no image that a stop may leave, also where it refuses.
         ensures images { D.tells (store_disk self.old) ≡ true →
@@ -127,8 +125,26 @@ impl<D: Disk> Store<D> {
             Makes D.does open_calls (was_read why) (store_disk self.old) (store_disk self.new)) }
         ensures tells { D.tells (store_disk self.new) ≡ D.tells (store_disk self.old) }
         ensures later { D.faults (store_disk self.old) ≤ D.faults (store_disk self.new) }
+    {
+        self.close();
+        let mut image = [0; IMAGE];
+        if load(&mut self.disk, &mut image).is_err() {
+            let count = self.disk.faults();
+            return Err(OpenFault::Fault(Fault { count }));
+        }
+        match self.table.refill(&image) {
+            Ok(()) => {
+                self.failed = None;
+                Ok(())
+            }
+            Err(key) => Err(OpenFault::Damaged(key)),
+        }
+    }
 
-        ensures same { store_table self.new ≡ store_table self.old }
+    /// Closes the store: its values stay, and every put answers a fault until it is opened again.
+    pub fn close(&mut self)
+        ensures disk { store_disk self.new ≡ store_disk self.old }
+        ensures table { store_table self.new ≡ store_table self.old }
         ensures closed { IsSome (store_fault self.new) }
         ensures count { IfSome (store_fault self.new) (λ fault.
             fault.count ≡ D.faults (store_disk self.old)) }
@@ -136,19 +152,6 @@ impl<D: Disk> Store<D> {
         self.failed = Some(Fault {
             count: self.disk.faults(),
         });
-        Table::load(&mut self.disk)
-    }
-
-    /// Opens the store with the table that its disk holds.
-    pub fn fill(&mut self, table: Table)
-        requires { D.tells (store_disk self.old) ≡ true →
-            Holds (D.contents (store_disk self.old)) (table_map table) (table_copy table) }
-        ensures disk { store_disk self.new ≡ store_disk self.old }
-        ensures table { store_table self.new ≡ table }
-        ensures works { store_fault self.new ≡ None }
-    {
-        self.table = table;
-        self.failed = None;
     }
 
     /// The fault that every put answers. None while the store is open and no put has failed.
@@ -251,14 +254,12 @@ impl Store<MemoryDisk> {
     pub fn restart(&mut self, pattern: Pattern)
         requires { IsUsable pattern }
         ensures disk { Restarts pattern (store_disk self.old) (store_disk self.new) }
-        ensures same { store_table self.new ≡ store_table self.old }
+        ensures table { store_table self.new ≡ store_table self.old }
         ensures closed { IsSome (store_fault self.new) }
         ensures count { IfSome (store_fault self.new) (λ fault.
             fault.count ≡ (memory_calls (store_disk self.old)).faults) }
     {
-        self.failed = Some(Fault {
-            count: self.disk.faults(),
-        });
+        self.close();
         self.disk.restart(pattern);
     }
 

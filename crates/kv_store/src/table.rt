@@ -1,4 +1,4 @@
-ghost use Rattle.std.specs.Prelude.{◌≡◌, ◌≢◌, ◌≤◌, ◌<◌, ℕ, [], IfOk, IfErr, length, slice_index};
+ghost use Rattle.std.specs.Prelude.{◌≡◌, ◌≢◌, ◌≤◌, ◌<◌, ℕ, [], IfOk, IfErr, OnOk, length, slice_index};
 ghost use Rattle.arrayvec.specs.ArrayVec.{array_vec_len};
 ghost use Rattle.kv_store.specs.Image.{StandsFor, IsFirstDamaged, chosen_copy, key_count, put_in, value_limit};
 ghost use Rattle.kv_store.specs.Table.{value_at};
@@ -27,16 +27,26 @@ impl Table {
             chosen_copy image.now key ≡ table_copy table key) }
         ensures damaged { IfErr result (λ key. IsFirstDamaged image.now key) }
     {
-        let mut values: ArrayVec<Value, KEYS> = ArrayVec::new();
-        let mut copies = [0; KEYS];
+        let mut table = Table::empty();
+        table.refill(image)?;
+        Ok(table)
+    }
+
+    /// Becomes the table that an image stands for. The error is the first key that is damaged; then the table
+    /// is that of no image.
+    pub(crate) fn refill(&mut self, image: &[u8; IMAGE]) -> Result<(), u8>
+        ensures map { OnOk result (StandsFor image.now (table_map self.new)) }
+        ensures copies { OnOk result ((key : ℕ) → key < key_count →
+            chosen_copy image.now key ≡ table_copy self.new key) }
+        ensures damaged { IfErr result (λ key. IsFirstDamaged image.now key) }
+    {
         for key in 0..KEYS {
             match read_value(image, key) {
-                Some(value) => values.push(value),
+                Some(value) => self.set(key as u8, image[KEY_SIZE * key] % 2, &value),
                 None => return Err(key as u8),
             }
-            copies[key] = image[KEY_SIZE * key] % 2;
         }
-        Ok(Table { values, copies })
+        Ok(())
     }
 
     /// The table of a store in which nothing was put.

@@ -72,15 +72,15 @@ module _ {D : Type 0} {disk : Ghosts D} (next : Option Kept) (put : Put) (old ne
   }) where
     stop : durable_fault old ≡ None → disk.tells (durable_disk old) ≡ true → (image : List ℕ) → MayLeave (disk.contents (durable_disk new)) image
         → StandsForState image (durable_state old) ⊎ StandsForState image (after_put put (durable_state old))
-    stop works told image left = old_or_new image (store_map old.store) (put_in (store_map old.store) key bytes) (durable_state old) (after_put put (durable_state old)) old.stored
-        (put_stores (store_map old.store) (durable_state old) next put key bytes is_key is_bytes old.stored at allowed) (left_either works told image left)
+    stop works told image left = old_or_new image (store_map old.store) (put_in (store_map old.store) key bytes) (durable_state old) (after_put put (durable_state old)) (old.stored works)
+        (put_stores (store_map old.store) (durable_state old) next put key bytes is_key is_bytes (old.stored works) at allowed) (left_either works told image left)
 
-  pub put_done : durable_state new ≡ after_put put (durable_state old)
+  pub put_done : durable_fault new ≡ None → durable_state new ≡ after_put put (durable_state old)
       → (disk.tells (durable_disk old) ≡ true → AlwaysStandsFor (disk.contents (durable_disk new)) (store_map new.store))
       → MadeAt key bytes true
       → ((k : ℕ) → durable_copies new k ≡ turned key (durable_copies old) k)
       → WritesInOrderAfter next (put ∷ []) old new true
-  put_done state always made copies = record {
+  put_done works state always made copies = record {
     state = λ done. state;
     durable = λ works done. stands;
     cut = λ works failed. absurd (cc failed);
@@ -91,4 +91,4 @@ module _ {D : Type 0} {disk : Ghosts D} (next : Option Kept) (put : Put) (old ne
     tried = λ failed. absurd (cc failed);
   } where
     stands : disk.tells (durable_disk old) ≡ true → (image : List ℕ) → MayLeave (disk.contents (durable_disk new)) image → StandsForState image (durable_state new)
-    stands told image left = image_stands image (store_map new.store) (durable_state new) (always told image left) new.stored
+    stands told image left = image_stands image (store_map new.store) (durable_state new) (always told image left) (new.stored works)

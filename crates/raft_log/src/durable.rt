@@ -4,7 +4,7 @@ ghost use Rattle.can_frame.specs.Log.{entry_at, log_limit};
 ghost use Rattle.disk_model.specs.Contents.{AddsNoImage};
 ghost use Rattle.disk_model.specs.Device.{Makes};
 ghost use Rattle.kv_store.specs.Image.{chosen_copy, key_count, open_calls};
-ghost use Rattle.kv_store.specs.StoreViews.{store_map};
+ghost use Rattle.kv_store.specs.StoreViews.{store_fault, store_map};
 ghost use Rattle.outside.specs.Faults.{Rose};
 ghost use Rattle.raft_log.specs.Allowed.{AreAllowed};
 ghost use Rattle.raft_log.specs.MayFollow.{HaveOrigins, IsStorable, MayFollow};
@@ -19,7 +19,6 @@ use crate::state::State;
 use crate::values::NEWEST;
 use can_frame::Entry;
 use disk_model::{Disk, MemoryDisk};
-use kv_store::laws::a_store_is_durable;
 use kv_store::{Fault, OpenFault, OpenRefused, Store};
 use outside::Pattern;
 
@@ -28,7 +27,7 @@ use outside::Pattern;
 pub struct Durable<D: Disk> {
     store: Store<D>,
     state: State,
-    ghost stored: { Stores (store_map store) (stored_of state) },
+    ghost stored: { store_fault store ≡ None → Stores (store_map store) (stored_of state) },
     ghost storable: { IsStorable (stored_of state) },
 }
 
@@ -309,15 +308,17 @@ impl<D: Disk> Durable<D> {
         ensures tells { D.tells (durable_disk self.new) ≡ D.tells (durable_disk self.old) }
         ensures later { D.faults (durable_disk self.old) ≤ D.faults (durable_disk self.new) }
     {
-        a_store_is_durable::<D>();
-        let table = self.store.reload()?;
-        let state = match State::read(&table) {
-            Ok(state) => state,
-            Err(key) => return Err(OpenFault::Damaged(key)),
-        };
-        self.store.fill(table);
-        self.state = state;
-        Ok(())
+        self.store.reopen()?;
+        match State::read(self.store.table()) {
+            Ok(state) => {
+                self.state = state;
+                Ok(())
+            }
+            Err(key) => {
+                self.store.close();
+                Err(OpenFault::Damaged(key))
+            }
+        }
     }
 
     /// Brings an older store to the newest version: each entry gets its origin first.

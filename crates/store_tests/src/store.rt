@@ -120,20 +120,13 @@ fn a_store_stays_where_it_is_through_a_restart(rt: HostRuntime) {
     assert_eq!(rt; store.fault(), Some(closed));
     assert_eq!(rt; store.put(7, &value_of(&[1])), Err(closed));
     assert_eq!(rt; store.get(7).as_slice(), [].as_slice());
-    let Ok(table) = store.reload() else {
-        assert!(rt; false);
-        return;
-    };
-    store.fill(table);
+    assert_eq!(rt; store.reopen(), Ok(()));
     assert_eq!(rt; store.fault(), None);
     assert_eq!(rt; store.put(7, &value_of(&[1])), Ok(()));
     store.restart(Pattern::Old);
     assert_eq!(rt; store.put(7, &value_of(&[2])), Err(closed));
-    let Ok(table) = store.reload() else {
-        assert!(rt; false);
-        return;
-    };
-    store.fill(table);
+    assert_eq!(rt; store.reopen(), Ok(()));
     assert_eq!(rt; store.get(7).as_slice(), [1].as_slice());
-    assert_eq!(rt; store.put(7, &value_of(&[2])), Ok(()));
+    store.close();
+    assert_eq!(rt; store.put(7, &value_of(&[2])), Err(closed));
 }
