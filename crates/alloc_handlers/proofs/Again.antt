@@ -1,14 +1,12 @@
 -- A recorded pair is answered again.
 use Rattle.std.proofs.Common.{◌≡◌, ◌<◌, ◌≤◌, ℕ, zero, suc, Bool, true, false, List, [], ◌∷◌, length, get_or, inl, inr, refl, arith, None, if◌then◌else◌, nat_lt}
-use Rattle.alloc_handlers.proofs.Words.{Alloc, AnswerAgain, Durable, Entry, Ghosts, IsInStep, IsWellFormed, Member, Offered, StepState, allocation_payload, cases_lt, given_at, gives_entry, has_room, nat_tests, with_moves, with_transfer}
+use Rattle.alloc_handlers.proofs.Words.{Alloc, AnswerAgain, Durable, Entry, Ghosts, IsInStep, IsWellFormed, Member, Offered, StepState, allocation_payload, given_at, gives_entry, has_room, nat_tests, with_moves, with_transfer}
 use Rattle.alloc_handlers.proofs.Noting.{noted_moves}
 
 pub node_low : (entry : Entry) → IsWellFormed entry → entry.node < 128
-node_low entry formed =
-    elim (cases_lt entry.node 128) as (λ _. entry.node < 128) [
-      | inl low ↦ low
-      | inr high ↦ (let most : entry.node ≤ 125 = (formed (λ blank. omega (arith, blank.0, high)) (λ kept. omega (arith, kept.most, high))).most in absurd (omega (arith, most, high)))
-    ]
+node_low entry (inl empty) = omega (arith, empty.0)
+node_low entry (inr (inl reserved)) = omega (arith, reserved.most)
+node_low entry (inr (inr pair)) = omega (arith, pair.most)
 
 -- within a list it does not matter what is read past its end
 pub same_at : (log : List Entry) (i : ℕ) (d e : Entry) → i < length log → get_or log i d ≡ get_or log i e

@@ -4,6 +4,7 @@ use Rattle.std.specs.Prelude.{not, None, Option, if◌then◌else◌, ⊤, slice
 use Rattle.std.proofs.lemmas.Bool.Decides.{eqb_tells}
 use Rattle.can_frame.specs.declared.entry.Entry.{Entry}
 use Rattle.can_frame.specs.Log.{HasPair, IsWellFormed, blank}
+use Rattle.can_frame.proofs.Logs.{pair_of_device}
 use Rattle.disk_model.specs.declared.disk.Disk.{Ghosts}
 use Rattle.disk_model.specs.declared.memory.MemoryDisk.{MemoryDisk}
 use Rattle.kv_store.specs.KeyDisk.{KeyDisk}
@@ -115,7 +116,7 @@ own_pair store given formed is =
     let same : slice_index_or (committed store) is.place (blank 0) ≡ slice_index_or store.log is.place (blank 0) = get_or-take store.commit store.log is.place (blank 0) few in record {
       place = is.place;
       within = is.inside;
-      pair = subst IsWellFormed (sym same) (formed is.place inside) (λ empty. is.device (sym is.uid ∙ empty.1)) (λ reserved. is.device (sym is.uid ∙ reserved.uid));
+      pair = pair_of_device _ (subst IsWellFormed (sym same) (formed is.place inside)) (λ zero. is.device (sym is.uid ∙ zero));
       its_uid = is.uid;
       its_node = is.node;
     }

@@ -1,10 +1,8 @@
 -- Logs in which no node ID and no unique ID stands twice.
-use Rattle.std.proofs.Common.{◌≡◌, ◌≢◌, ◌⊎◌, inl, inr, ℕ, ◌+◌, ◌<◌, ◌≤◌, Bool, true, false, Decides, List, [], ◌∷◌, ◌++◌, length, take, get_or, refl, sym, ap, subst, ◌∙◌, arith}
+use Rattle.std.proofs.Common.{◌≡◌, ◌≢◌, ◌⊎◌, inl, inr, ℕ, ◌+◌, ◌<◌, ◌≤◌, List, [], ◌∷◌, ◌++◌, length, take, get_or, sym, ap, subst, ◌∙◌, arith}
 use Rattle.std.specs.Prelude.{◌↔◌}
-use Rattle.std.specs.Str.{bytes_eq}
-use Rattle.std.proofs.lemmas.Bool.{cases_lt, cases_eq}
+use Rattle.std.proofs.lemmas.Bool.{cases_lt}
 use Rattle.std.proofs.lemmas.List.{get_or-take, get_or_append_left, length-take, length-append}
-use Rattle.std.proofs.lemmas.Slice.Eq.{bytes_eq-Decides}
 use Rattle.std.proofs.Math.Seq.{get_or-append_seam}
 use Rattle.can_frame.specs.declared.entry.Entry.{Entry}
 use Rattle.can_frame.specs.Log.{AreDistinct, HasNodeId, HasUid, IsBlank, IsDistinctFromAll, IsInjective, IsPair, IsReservation, IsWellFormed, blank}
@@ -18,20 +16,11 @@ no_pair_is_blank entry pair none = pair.uid none.1
 pub no_reservation_is_blank : (entry : Entry) → IsReservation entry → IsBlank entry → ⊥
 no_reservation_is_blank entry kept none = let least = kept.least in let zero = none.0 in omega (arith, least, zero)
 
-pub kind_of : (entry : Entry) → IsWellFormed entry → IsBlank entry ⊎ (IsReservation entry ⊎ IsPair entry)
-kind_of entry formed = by_uid (bytes_eq entry.uid zeros) (bytes_eq-Decides entry.uid zeros)
-  where
-    by_node : entry.uid ≡ zeros → (entry.node ≡ 0) ⊎ (entry.node ≢ 0) → IsBlank entry ⊎ (IsReservation entry ⊎ IsPair entry)
-    by_node zero (inl none) = inl (none, zero)
-    by_node zero (inr some) = by_most (cases_lt 125 entry.node)
-      where
-        by_most : (125 < entry.node) ⊎ (entry.node ≤ 125) → IsBlank entry ⊎ (IsReservation entry ⊎ IsPair entry)
-        by_most (inr most) = inr (inl (record { uid = zero; least = omega (arith, some); most = most }))
-        by_most (inl above) = absurd ((formed (λ b. some b.0) (λ r. let most = r.most in omega (arith, above, most))).uid zero)
-
-    by_uid : (b : Bool) → Decides b (entry.uid ≡ zeros) → IsBlank entry ⊎ (IsReservation entry ⊎ IsPair entry)
-    by_uid true decides = by_node (decides.0 refl) (cases_eq entry.node 0)
-    by_uid false decides = inr (inr (formed (λ b. cc (decides.1 b.1)) (λ r. cc (decides.1 r.uid))))
+-- a well-formed entry with a unique ID is a pair
+pub pair_of_device : (entry : Entry) → IsWellFormed entry → entry.uid ≢ zeros → IsPair entry
+pair_of_device entry (inl none) device = absurd (device none.1)
+pair_of_device entry (inr (inl kept)) device = absurd (device kept.uid)
+pair_of_device entry (inr (inr pair)) device = pair
 
 -- ---- a log and one entry more
 

@@ -2,6 +2,7 @@ pub mod Cutting
 pub mod DataTypes
 pub mod Identifier
 pub mod Log
+pub mod OneKind
 pub mod Piece
 pub mod Register
 pub mod Tail

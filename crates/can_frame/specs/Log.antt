@@ -1,7 +1,7 @@
 -- Entries and logs (uavcan.protocol.dynamic_node_id.server.Entry; the log of the Raft paper). An entry is a blank,
 -- a reservation or a pair.
 -- Places are counted from 1, and place 0 stands for the blank of term 0.
-use Rattle.std.specs.Prelude.{◌≡◌, ◌≢◌, ℕ, zero, suc, ◌<◌, ◌≤◌, List, length, take, slice_index_or}
+use Rattle.std.specs.Prelude.{◌≡◌, ◌≢◌, ◌⊎◌, ℕ, zero, suc, ◌<◌, ◌≤◌, List, length, take, slice_index_or}
 use Rattle.can_frame.specs.declared.entry.Entry.{Entry}
 use Rattle.can_frame.specs.Zeros.{zeros}
 
@@ -33,9 +33,9 @@ pub record IsReservation (entry : Entry) : Type 0 where
   pub least : 1 ≤ entry.node
   pub most : entry.node ≤ 125
 
--- an entry is a pair, unless it is a blank or a reservation
+-- an entry of a log is a blank, a reservation or a pair
 abbrev pub IsWellFormed : Entry → Type 0
-IsWellFormed entry = (IsBlank entry → ⊥) → (IsReservation entry → ⊥) → IsPair entry
+IsWellFormed entry = IsBlank entry ⊎ (IsReservation entry ⊎ IsPair entry)
 
 -- two entries that are no blanks differ in node ID, and in unique ID unless both are zeros
 pub record AreDistinct (a b : Entry) : Type 0 where

@@ -97,15 +97,13 @@ pub fn lengths_of_cuttings()
         length (payload_of a) ≡ length (payload_of b) }
 {}
 
-/// A well-formed entry is a blank, a reservation or a pair, and no entry is two of these.
-pub fn entries_are_of_three_kinds()
-    ensures one { (entry : Entry) → IsWellFormed entry → IsBlank entry
-        ⊎ (IsReservation entry ⊎ IsPair entry) }
-    ensures each { (entry : Entry) → IsBlank entry ⊎ (IsReservation entry ⊎ IsPair entry) →
-        IsWellFormed entry }
+/// No entry is two of a blank, a reservation and a pair. That an entry is well formed has one proof, as a
+/// ghost field of a struct has.
+pub fn entries_are_of_one_kind()
     ensures blank { (entry : Entry) → IsBlank entry → (IsReservation entry → ⊥)
         × (IsPair entry → ⊥) }
     ensures reservation { (entry : Entry) → IsReservation entry → IsPair entry → ⊥ }
+    ensures one { (entry : Entry) (a b : IsWellFormed entry) → a ≡ b }
 {}
 
 /// When a log stays injective as it grows: always by a blank, by a reservation where it has not the

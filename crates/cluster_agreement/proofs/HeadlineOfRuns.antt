@@ -5,6 +5,7 @@ use Rattle.std.proofs.lemmas.Bool.Decides.{leb_tells, eqb_tells}
 use Rattle.std.proofs.lemmas.List.{length-take-le}
 use Rattle.can_frame.specs.declared.entry.Entry.{Entry}
 use Rattle.can_frame.specs.Log.{AreDistinct, HasPair, IsInjective, IsPair, IsPrefix, IsWellFormed, blank}
+use Rattle.can_frame.proofs.Logs.{pair_of_device}
 use Rattle.dsdl_codec.specs.declared.allocation.Allocation.{Allocation}
 use Rattle.raft_model.specs.Invariants.{Invariants, IsSettled, StaysSettled}
 use Rattle.raft_model.specs.Lists.{In}
@@ -153,7 +154,7 @@ module _ (choice : ℕ → Bool) (w : Cluster) (run : World) (mirrors : Mirrors 
       subst (λ (l : List Entry). HasPair l pair.uid pair.node) (same_log pair.from listed) (record {
         place = found.0;
         within = inside;
-        pair = formed_of pair.from found.0 inside (λ empty. found.4 (sym uid ∙ empty.1)) (λ reserved. found.4 (sym uid ∙ reserved.uid));
+        pair = pair_of_device _ (formed_of pair.from found.0 inside) (λ zero. found.4 (sym uid ∙ zero));
         its_uid = uid;
         its_node = ap (λ (e : Entry). e.node) same ∙ found.3;
       })

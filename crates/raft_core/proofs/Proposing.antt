@@ -5,6 +5,7 @@ use Rattle.std.specs.Result.{result_err}
 use Rattle.std.specs.Str.{bytes_eq}
 use Rattle.std.proofs.lemmas.List.{length-append}
 use Rattle.std.proofs.lemmas.Slice.Eq.{bytes_eq-Decides}
+use Rattle.std.proofs.Math.Logic.{⊎_swap}
 use Rattle.can_frame.specs.declared.entry.Entry.{Entry}
 use Rattle.can_frame.specs.Log.{HasNodeId, HasUid, IsDistinctFromAll, IsInjective, IsPair, IsReservation, blank, last_term}
 use Rattle.can_frame.specs.Zeros.{zeros}
@@ -85,14 +86,11 @@ module _ (reserved : (log : List Entry) (e : Entry) → IsReservation e → IsIn
     (grows : (log : List Entry) (e : Entry) → IsInjective (log ++ e ∷ []) ↔ (IsInjective log × IsDistinctFromAll log e)) where
   pub free_follows : (s : Stored) (uid : List ℕ) (node : ℕ) → IsStorable s → 1 ≤ node → node ≤ 125 → (IsTaken s.log uid node → ⊥) → MayFollow s.log s.term (proposal s.term uid node)
   free_follows s uid node storable least most free = record {
-    formed = λ no_blank no_reservation. pair_of (of_a_kind (proposal s.term uid node) least most) no_reservation;
+    formed = inr (⊎_swap (of_a_kind (proposal s.term uid node) least most));
     order = last_below s.log s.term (λ i below. (storable.follows i below).bound);
     bound = omega arith;
     distinct = ((grows s.log (proposal s.term uid node)).0 (stays_injective reserved paired s.log (proposal s.term uid node) (of_a_kind (proposal s.term uid node) least most) storable.injective free)).1;
-  } where
-    pair_of : IsPair (proposal s.term uid node) ⊎ IsReservation (proposal s.term uid node) → (IsReservation (proposal s.term uid node) → ⊥) → IsPair (proposal s.term uid node)
-    pair_of (inl pair) none = pair
-    pair_of (inr reservation) none = absurd (none reservation)
+  }
 
 -- ---- what is appended
 

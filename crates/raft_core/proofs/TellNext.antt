@@ -24,13 +24,11 @@ no_pair : (e : Entry) → (e.node ≡ 0) ⊎ (127 < e.node) → IsPair e → ⊥
 no_pair e (inl zero) pair = let least = pair.least in omega (arith, zero, least)
 no_pair e (inr high) pair = let most = pair.most in omega (arith, high, most)
 
-by_test : (e : Entry) (b : Bool) → Decides b (e.uid ≡ zeros) → IsWellFormed e → (e.node ≡ 0) ⊎ (127 < e.node) → e.uid ≡ zeros
-by_test e true decides formed none = decides.0 refl
-by_test e false decides formed none = absurd (no_pair e none (formed (λ blank. cc (decides.1 blank.1)) (λ reserved. cc (decides.1 reserved.uid))))
-
 -- a well-formed entry without a node ID has no unique ID
 pub no_device : (e : Entry) → IsWellFormed e → (e.node ≡ 0) ⊎ (127 < e.node) → e.uid ≡ zeros
-no_device e = by_test e (bytes_eq e.uid zeros) (bytes_eq-Decides e.uid zeros)
+no_device e (inl empty) none = empty.1
+no_device e (inr (inl reserved)) none = reserved.uid
+no_device e (inr (inr pair)) none = absurd (no_pair e none pair)
 
 pub entry_next : (log : List Entry) (k : ℕ) → entry_at log (k + 1) ≡ slice_index_or log k (blank 0)
 entry_next log k = rw add-one refl

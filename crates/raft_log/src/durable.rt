@@ -1,6 +1,8 @@
 ghost use Rattle.std.specs.Prelude.{◌≡◌, ◌≢◌, ◌≤◌, ◌<◌, ◌∷◌, [], ℕ, true, None, is_ok, OnOk, IfOk, IfErr, IfSome, IsErr, IsSome, length};
 ghost use Rattle.std.specs.Result.{result_err};
+ghost use Rattle.std.proofs.Props.{props};
 ghost use Rattle.can_frame.specs.Log.{entry_at, log_limit};
+ghost use Rattle.can_frame.specs.OneKind.{IsWellFormed-prop};
 ghost use Rattle.disk_model.specs.Contents.{AddsNoImage};
 ghost use Rattle.disk_model.specs.Device.{Makes};
 ghost use Rattle.kv_store.specs.Image.{chosen_copy, key_count, open_calls};
@@ -27,8 +29,8 @@ use outside::Pattern;
 pub struct Durable<D: Disk> {
     store: Store<D>,
     state: State,
-    ghost stored: { store_fault store ≡ None → Stores (store_map store) (stored_of state) },
-    ghost storable: { IsStorable (stored_of state) },
+    ghost stored: { store_fault store ≡ None → Stores (store_map store) (stored_of state) } by { Prim.hlevel (props, IsWellFormed-prop) },
+    ghost storable: { IsStorable (stored_of state) } by { Prim.hlevel (props, IsWellFormed-prop) },
 }
 
 impl<D: Disk> Durable<D> {

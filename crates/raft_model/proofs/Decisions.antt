@@ -72,7 +72,7 @@ pair_decided entry = told (λ h. record { uid = h.0; least = h.1.0; most = h.1.1
     (both (never (bytes_eq-Decides entry.uid zeros)) (both (at_most 1 entry.node) (at_most entry.node 125)))
 
 well_formed_decided : (entry : Entry) → Decides (is_well_formed entry) (IsWellFormed entry)
-well_formed_decided entry = unless (blank_decided entry) (unless (reservation_decided entry) (pair_decided entry))
+well_formed_decided entry = either (blank_decided entry) (either (reservation_decided entry) (pair_decided entry))
 
 distinct_decided : (a b : Entry) → Decides (are_distinct a b) (AreDistinct a b)
 distinct_decided a b = told to from (unless (either (blank_decided a) (blank_decided b))

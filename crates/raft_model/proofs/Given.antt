@@ -3,6 +3,7 @@ use Rattle.std.proofs.Common.{◌≡◌, ◌≢◌, ℕ, ◌<◌, ◌≤◌, Lis
 use Rattle.can_frame.specs.declared.entry.Entry.{Entry}
 use Rattle.can_frame.specs.Log.{IsInjective, IsPair, IsReservation, blank}
 use Rattle.can_frame.specs.Zeros.{zeros}
+use Rattle.can_frame.proofs.Logs.{pair_of_device}
 use Rattle.raft_model.specs.Lists.{In}
 use Rattle.raft_model.specs.Messages.{Pair}
 use Rattle.raft_model.specs.Messages.Message.{Pairs}
@@ -11,7 +12,6 @@ use Rattle.raft_model.specs.Runs.{World, InEveryRun, initial_world, run}
 use Rattle.raft_model.specs.Invariants.{Invariants, SoundStore}
 use Rattle.raft_model.specs.Safety.{IsSafe, IsGivenOnce}
 use Rattle.raft_model.proofs.Run.{keeps_invariants, is_safe}
-use Rattle.raft_model.proofs.Shown.{is_given}
 
 module _ (pairs : (log : List Entry) (i j : ℕ) → IsInjective log → i < length log → j < length log → i ≢ j → IsPair (get_or log i (blank 0))
     → IsPair (get_or log j (blank 0))
@@ -26,7 +26,7 @@ module _ (pairs : (log : List Entry) (i j : ℕ) → IsInjective log → i < len
     place,
     omega (arith, below, counted, ap length front, length-take (length (committed store)) world.ledger.entries),
     subst IsPair (sym same)
-        (is_given (get_or store.log place (blank 0)) (sound.well_formed place (omega (arith, below, sound.commit)))
+        (pair_of_device (get_or store.log place (blank 0)) (sound.well_formed place (omega (arith, below, sound.commit)))
         (λ e. found.4 (sym found.2 ∙ e))),
     ap (λ (e : Entry). e.uid) same ∙ found.2,
     ap (λ (e : Entry). e.node) same ∙ found.3,

@@ -2,6 +2,7 @@
 use Rattle.std.proofs.Common.{◌≡◌, ℕ, true, List, [], ◌∷◌, refl, sym, inl, inr, None}
 use Rattle.std.specs.Prelude.{◌&&◌, ◌==◌}
 use Rattle.std.proofs.lemmas.Bool.{eqb-true}
+use Rattle.std.proofs.Math.Logic.{⊎_swap}
 use Rattle.raft_model.specs.Messages.{Answer}
 use Rattle.raft_model.specs.Messages.Message.{Requests, Pairs}
 use Rattle.raft_model.specs.Server.{Role, Store, put}
@@ -126,7 +127,7 @@ move_lawful members m n f called (ProposeEntry e) up c h = record {
           role = h.leads;
           room = h.room;
           own_term = h.own_term;
-          well_formed = λ no_blank no_reservation. elim h.kind [ inl pair ↦ pair | inr reservation ↦ absurd (no_reservation reservation) ];
+          well_formed = inr (⊎_swap h.kind);
           injective = h.injective;
         },
         refl,

@@ -1,9 +1,9 @@
 -- Invariants and safety of the world that a state shows.
-use Rattle.std.proofs.Common.{◌≢◌, ◌≡◌, ℕ, ◌≤◌, List, length, arith, sym, ◌∙◌, subst, take, get_or, length-take}
+use Rattle.std.proofs.Common.{◌≡◌, ℕ, ◌≤◌, List, length, arith, sym, ◌∙◌, subst, take, get_or, length-take}
 use Rattle.std.proofs.lemmas.List.{take-take, take_all}
 use Rattle.can_frame.specs.declared.entry.Entry.{Entry}
-use Rattle.can_frame.specs.Log.{IsPair, IsPrefix, IsWellFormed, blank}
-use Rattle.can_frame.specs.Zeros.{zeros}
+use Rattle.can_frame.specs.Log.{IsPrefix, blank}
+use Rattle.can_frame.proofs.Logs.{pair_of_device}
 use Rattle.raft_model.specs.Log.{Same}
 use Rattle.raft_model.specs.Invariants.{Invariants}
 use Rattle.raft_model.specs.Safety.{IsSafe, Lasts}
@@ -40,13 +40,6 @@ prefix_take k l m a b s =
     let n : length (take k l) ≡ k = omega (arith, length-take k l, a) in
     subst (λ (j : ℕ). take j m ≡ take k l) (sym n) (sym s)
 
--- a well-formed entry whose unique ID is not zeros is a pair, and has a node ID
-pub is_given : (e : Entry) → IsWellFormed e → e.uid ≢ zeros → IsPair e
-is_given e h n = h (λ b. n b.1) (λ r. n r.uid)
-
-pub node_low : (e : Entry) → IsWellFormed e → e.uid ≢ zeros → 1 ≤ e.node
-node_low e h n = (is_given e h n).least
-
 pub safe_shown : (z : State) (n : ℕ) → Facts z → IsSafe (world_of z n)
 safe_shown z n f =
     let x : Safe z = safe z f in
@@ -56,8 +49,8 @@ safe_shown z n f =
       pairs = λ p i.
           let y = f.told.pair p (f.posted.pair p i) in
           let low : 1 ≤ (get_or (z.log p.from) y.0 (blank 0)).node
-          = node_low (get_or (z.log p.from) y.0 (blank 0))
-          (f.stored.well_formed p.from y.0 (omega (arith, y.1, f.stored.within p.from))) (λ e. y.4 (sym y.2 ∙ e)) in
+          = (pair_of_device (get_or (z.log p.from) y.0 (blank 0))
+          (f.stored.well_formed p.from y.0 (omega (arith, y.1, f.stored.within p.from))) (λ e. y.4 (sym y.2 ∙ e))).least in
           (y.0, y.1, y.2, y.3, y.4, subst (λ (k : ℕ). 1 ≤ k) y.3 low);
       stamps = f.committed.stamped;
       leaders = x.later;

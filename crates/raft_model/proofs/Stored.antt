@@ -177,7 +177,7 @@ stored_keeps s (Win m b) may f = stored_all (at s.log m (log_won s m b)) s.term 
     won : (c : Bool) → b ≡ c → Good (log_won s m c) (s.term m) (s.commit m)
     won false e = good s f m
     won true e = good_snoc (s.log m) (blank (s.term m)) (s.term m) (s.commit m) (good s f m) (may.room e)
-        (λ no_blank no_reservation. absurd (no_blank (refl, refl))) (last_below (s.log m) (s.term m) (f.stored.rising m)) low (omega arith)
+        (inl (refl, refl)) (last_below (s.log m) (s.term m) (f.stored.rising m)) low (omega arith)
         (inj_blank (s.log m) (s.term m) (f.stored.injective m))
 stored_keeps s (Cut m r e) may f = stored_all (at s.log m (take r.previous (s.log m))) s.term s.commit
     (at_each (λ i l. Good l (s.term i) (s.commit i)) s.log m (take r.previous (s.log m))
