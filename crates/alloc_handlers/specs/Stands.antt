@@ -115,7 +115,8 @@ pub record Leaves {D : Type 0} {disk : Ghosts D} (sent given : ℕ) (old new : M
   pub lists : ListsUpTo sent given before after
   pub durable : new.durable ≡ old.durable
 
--- and one with puts: where one of them failed, its fault has a cause and is kept
+-- what a part with puts leaves: a member that is ready where no put failed, and at most so many transfers and pairs
+-- more on the list; where a put failed, its fault has a cause and is kept
 pub record LeavesUpTo {D T : Type 0} {disk : Ghosts D} (sent given : ℕ) (old new : Member D disk)
     (before after : Offered) (result : Result T Fault) : Type 0 where
   pub ready : OnOk result (IsReady new)

@@ -45,7 +45,8 @@ abbrev pub tells_status : ℕ → StepState → StepState
 tells_status step g = with_status (with_transfer step Stat 0 (node_status_bytes (status_of g.allocator)) None g)
 
 abbrev pub status_phase : ℕ → StepState → StepState
-status_phase step g = if nat_le status_interval (g.allocator.now - g.allocator.status_at) then tells_status step g else g
+status_phase step g =
+    if nat_le status_interval (g.allocator.now - g.allocator.status_at) then tells_status step g else g
 
 -- ---- the tick of Raft
 

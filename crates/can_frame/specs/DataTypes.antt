@@ -6,7 +6,7 @@ use Rattle.can_frame.specs.declared.identifier.Kind.TheVariants.{Message, Reques
 use Rattle.can_frame.specs.declared.step.What.{What}
 use Rattle.can_frame.specs.declared.step.What.TheVariants.{Alloc, Disc, Stat, InfoQ, Info, VoteQ, Vote, AppQ, App}
 
--- ---- data types: the number of each, and the signature from which the CRC of its transfers begins; first the messages
+-- ---- message types: the number of each, and the signature from which the CRC of its transfers begins
 
 -- uavcan.protocol.dynamic_node_id.Allocation
 abbrev pub allocation : DataType
@@ -20,7 +20,7 @@ node_status = record { number = 341; signature = 0x0f0868d0c1a7c6f1 }
 abbrev pub discovery : DataType
 discovery = record { number = 390; signature = 0x821ae2f525f69f21 }
 
--- and the services
+-- ---- service types: the number of each, and the signature from which the CRC of its transfers begins
 
 -- uavcan.protocol.GetNodeInfo
 abbrev pub get_node_info : DataType
