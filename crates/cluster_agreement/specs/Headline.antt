@@ -90,9 +90,9 @@ pub record Headline (choice : ℕ → Bool) (now later : Cluster) : Type 0 where
       → IsOffered server.queue n answer → answer.node ≢ 0
       → HasPair (committed choice now n) answer.uid.items answer.node
   -- what a member has committed now is a prefix of the log of every Leader later whose term is at least the one that
-  -- the member has stored now. Let "now" be the cut after the row in which a place was first committed, and n the leader
-  -- that committed it: its stored term is then that of the commit, so each leader of that term or a later one has the
-  -- entry
+  -- the member has stored now. Let "now" be the cut after the row in which a place was first committed, and n the
+  -- leader that committed it: its stored term is then that of the commit, so each leader of that term or a later one
+  -- has the entry
   pub leaders : (n leader : ℕ) (server : AllocatorState) → In n now.ids → In leader now.ids
       → Leads later leader server
       → (stored choice now n).term ≤ server.raft_server.store.term
@@ -106,8 +106,8 @@ pub record HasHeadline (ids : List ℕ) (rows : List Row) : Type 0 where
       → AgreesWithDisk choice (cluster ids) (first ++ more)
       → Headline choice (world_of ids first) (world_of ids (first ++ more))
   -- A frame that ever was on the bus, from members, devices or outside, whose identifier reads as an Allocation of the
-  -- source n (an anonymous request has no source), is of a member n, and of an Allocation that n made in a step by then;
-  -- where that Allocation gives a node ID, its pair is in n's committed log.
+  -- source n (an anonymous request has no source), is of a member n, and of an Allocation that n made in a step by
+  -- then; where that Allocation gives a node ID, its pair is in n's committed log.
   pub bus : (first rest : List Row) (choice : ℕ → Bool) → rows ≡ first ++ rest
       → AgreesWithDisk choice (cluster ids) first
       → (frame : Queued) (n : ℕ) → In frame (world_of ids first).frames → IsOfAllocation frame n
