@@ -1,15 +1,18 @@
 -- When the last frame makes a transfer whole.
-use Rattle.std.proofs.Common.{◌≡◌, ◌≢◌, ℕ, zero, suc, ◌+◌, ◌-◌, ◌*◌, ◌/◌, ◌%◌, ◌<◌, ◌≤◌, true, false, List, [], ◌∷◌, ◌++◌, length, get_or, take, drop, refl, sym, ◌∙◌, ap, subst, arith, append_assoc, ◌⊎◌, inl, inr}
+use Rattle.std.proofs.Common.{◌≡◌, ◌≢◌, ℕ, suc, ◌+◌, ◌-◌, ◌*◌, ◌/◌, ◌%◌, ◌<◌, ◌≤◌, true, false, List, [], ◌∷◌, ◌++◌, length, get_or, take, drop, refl, sym, ◌∙◌, ap, subst, arith, append_assoc, ◌⊎◌, inl, inr}
 use Rattle.std.proofs.Math.Seq.{take-append_seam, drop-append_seam}
 use Rattle.std.proofs.lemmas.Bool.{false_from_ne_true}
 use Rattle.std.specs.Cmp.Lexicographic.{pointwise}
-use Rattle.can_frame.specs.TransferCrc.{transfer_crc}
+use Rattle.std.proofs.lemmas.Bool.Decides.{eqb_tells}
+use Rattle.can_frame.specs.TransferCrc.{crc_of, transfer_crc}
 use Rattle.can_frame.specs.Cutting.{Piece, bytes_cut, crc_bytes, cut, joined, payload_of, tail_at}
 use Rattle.can_frame.specs.declared.step.Why.TheVariants.{Crc}
 use Rattle.transfer_rx.proofs.Cuts.{CarryWhatIsCut}
 use Rattle.transfer_rx.specs.Outcome.{Delivers, Spoils, assembled, cut_again, same_piece}
+use Rattle.transfer_rx.specs.Crcs.{CarriesCrcs}
 use Rattle.transfer_rx.specs.Parts.{IsPart}
-use Rattle.transfer_rx.proofs.Lengths.{frames_as, joined-push, length-push, total}
+use Rattle.transfer_rx.proofs.Crcs.{more_crc}
+use Rattle.transfer_rx.proofs.Lengths.{frames_as, joined-push, length-joined, length-push, total}
 use Rattle.transfer_rx.proofs.Pointwise.{own_pieces, same_joined}
 
 -- frames in order are the cutting of the bytes that they carry
@@ -34,12 +37,12 @@ joined_none : (taken : List Piece) → length taken ≡ 0 → joined taken ≡ [
 joined_none [] h = refl
 joined_none (piece ∷ pieces) h = cc
 
-matches : (signature id : ℕ) (pieces : List Piece) (payload : List ℕ) → payload_of pieces ≡ payload →
-    pieces ≡ cut_again signature id pieces → assembled signature id pieces ≡ Delivers payload
-matches signature id pieces payload e same =
+matches : (signature id : ℕ) (pieces : List Piece) → pieces ≡ cut_again signature id pieces →
+    Delivers (payload_of pieces) ≡ assembled signature id pieces
+matches signature id pieces same =
     let t : pointwise same_piece pieces (cut_again signature id pieces) ≡ true =
     subst (λ x. pointwise same_piece pieces x ≡ true) same (own_pieces pieces) in
-    rw (t, e) refl
+    rw t refl
 
 module _ (law : CarryWhatIsCut) (signature id : ℕ) (taken : List Piece) (piece : Piece) (part : IsPart id 0 taken) (short : length piece.bytes ≤ 7)
     (tail : piece.tail ≡ tail_at id (length taken) true) where
@@ -55,7 +58,7 @@ module _ (law : CarryWhatIsCut) (signature id : ℕ) (taken : List Piece) (piece
   recut b n =
       ordered ∙ ap (cut id 0 (length taken)) (sym b) ∙ sym (frames_as signature id (length taken) (payload_of (taken ++ piece ∷ [])) n)
 
-  pub single : length taken ≡ 0 → assembled signature id (taken ++ piece ∷ []) ≡ Delivers piece.bytes
+  pub single : length taken ≡ 0 → Delivers (payload_of (taken ++ piece ∷ [])) ≡ assembled signature id (taken ++ piece ∷ [])
   single z =
       let n : length (taken ++ piece ∷ []) ≡ length taken + 1 = length-push taken piece in
       let j : length (joined (taken ++ piece ∷ [])) ≡ 7 * length taken + length piece.bytes = total id 0 taken piece part in
@@ -63,9 +66,7 @@ module _ (law : CarryWhatIsCut) (signature id : ℕ) (taken : List Piece) (piece
       let l : length (payload_of (taken ++ piece ∷ [])) ≡ length piece.bytes = ap length o ∙ omega arith in
       let b : bytes_cut signature (payload_of (taken ++ piece ∷ [])) ≡ payload_of (taken ++ piece ∷ []) = law.short signature _ (omega arith) in
       let lb : length (bytes_cut signature (payload_of (taken ++ piece ∷ []))) ≡ length piece.bytes = ap length b ∙ l in
-      let none : joined taken ≡ [] = joined_none taken z in
-      matches signature id (taken ++ piece ∷ []) piece.bytes
-      (o ∙ joined-push taken piece ∙ ap (λ l. l ++ piece.bytes) none) (recut (b ∙ o) (omega arith))
+      matches signature id (taken ++ piece ∷ []) (recut (b ∙ o) (omega arith))
 
   module _ (payload : List ℕ) (a b : ℕ) (some : 0 < length taken) (some_bytes : 0 < length piece.bytes) (long : 7 < length payload)
       (carried : joined (taken ++ piece ∷ []) ≡ a ∷ b ∷ payload) where
@@ -78,16 +79,16 @@ module _ (law : CarryWhatIsCut) (signature id : ℕ) (taken : List Piece) (piece
     cut_long = ap (bytes_cut signature) is_payload ∙ law.long signature payload long
 
     pub whole : a ≡ transfer_crc signature payload % 256 → b ≡ transfer_crc signature payload / 256 →
-        assembled signature id (taken ++ piece ∷ []) ≡ Delivers payload
+        Delivers (payload_of (taken ++ piece ∷ [])) ≡ assembled signature id (taken ++ piece ∷ [])
     whole x y =
         let c : crc_bytes signature payload ++ payload ≡ a ∷ b ∷ payload = sym (λ i. x i ∷ y i ∷ payload) in
         let j : length (joined (taken ++ piece ∷ [])) ≡ 7 * length taken + length piece.bytes = total id 0 taken piece part in
         let bc : bytes_cut signature (payload_of (taken ++ piece ∷ [])) ≡ joined (taken ++ piece ∷ []) = cut_long ∙ c ∙ sym carried in
         let lb : length (bytes_cut signature (payload_of (taken ++ piece ∷ []))) ≡ 7 * length taken + length piece.bytes = ap length bc ∙ j in
-        matches signature id (taken ++ piece ∷ []) payload is_payload (recut bc (omega arith))
+        matches signature id (taken ++ piece ∷ []) (recut bc (omega arith))
 
     pub damaged : (a ≢ transfer_crc signature payload % 256) ⊎ (b ≢ transfer_crc signature payload / 256) →
-        assembled signature id (taken ++ piece ∷ []) ≡ Spoils Crc
+        Spoils Crc ≡ assembled signature id (taken ++ piece ∷ [])
     damaged differs =
         let f : pointwise same_piece (taken ++ piece ∷ []) (cut_again signature id (taken ++ piece ∷ [])) ≡ false =
         false_from_ne_true _ (λ t.
@@ -97,22 +98,15 @@ module _ (law : CarryWhatIsCut) (signature id : ℕ) (taken : List Piece) (piece
         elim differs [ inl x ↦ x (ap (λ l. get_or l 0 0) e) | inr y ↦ y (ap (λ l. get_or l 1 0) e) ]) in
         rw f refl
 
-front : (n : ℕ) (bytes : List ℕ) → 2 ≤ n → n ≤ length bytes →
-    take n bytes ≡ get_or bytes 0 0 ∷ get_or bytes 1 0 ∷ take (n - 2) (drop 2 bytes)
-front zero bytes h l = absurd (omega arith)
-front (suc zero) bytes h l = absurd (omega arith)
-front (suc (suc n)) [] h l = absurd (omega arith)
-front (suc (suc n)) (x ∷ []) h l = absurd (omega arith)
-front (suc (suc n)) (x ∷ y ∷ bytes) h l =
-    let e : suc (suc n) - 2 ≡ n = omega arith in rw e refl
+front : (bytes : List ℕ) → 2 ≤ length bytes → bytes ≡ get_or bytes 0 0 ∷ get_or bytes 1 0 ∷ drop 2 bytes
+front [] two = absurd (omega arith)
+front (x ∷ []) two = absurd (omega arith)
+front (x ∷ y ∷ bytes) two = refl
 
--- the CRC and the payload, in what was taken
-pub carried : (pieces : List Piece) (piece : Piece) (n : ℕ) (bytes last payload : List ℕ) → take n bytes ≡ joined pieces →
-    piece.bytes ≡ last → 2 ≤ n → n ≤ length bytes → payload ≡ take (n - 2) (drop 2 bytes) ++ last →
-    joined (pieces ++ piece ∷ []) ≡ get_or bytes 0 0 ∷ get_or bytes 1 0 ∷ payload
-carried pieces piece n bytes last payload k b two within e =
-    joined-push pieces piece ∙ (λ i. sym k i ++ b i) ∙ ap (λ l. l ++ last) (front n bytes two within)
-    ∙ ap (λ l. get_or bytes 0 0 ∷ get_or bytes 1 0 ∷ l) (sym e)
+-- the CRC and the payload, in what was taken and the last frame
+carried : (pieces : List Piece) (piece : Piece) → 2 ≤ length (joined pieces) →
+    joined (pieces ++ piece ∷ []) ≡ get_or (joined pieces) 0 0 ∷ get_or (joined pieces) 1 0 ∷ drop 2 (joined pieces) ++ piece.bytes
+carried pieces piece two = joined-push pieces piece ∙ ap (λ l. l ++ piece.bytes) (front (joined pieces) two)
 
 pub long_payload : (id : ℕ) (pieces : List Piece) (piece : Piece) (a b : ℕ) (payload : List ℕ) → IsPart id 0 pieces →
     10 ≤ 7 * length pieces + length piece.bytes → joined (pieces ++ piece ∷ []) ≡ a ∷ b ∷ payload → 7 < length payload
@@ -120,31 +114,47 @@ long_payload id pieces piece a b payload part low e =
     let n : 7 * length pieces + length piece.bytes ≡ suc (suc (length payload)) = sym (total id 0 pieces piece part) ∙ ap length e in
     omega arith
 
--- a last frame behind others, in the numbers and bytes that a place has
-module _ (law : CarryWhatIsCut) (signature id : ℕ) (pieces : List Piece) (piece : Piece) (part : IsPart id 0 pieces) (count : ℕ) (bytes last payload : List ℕ)
-    (counted : length pieces ≡ count) (same : piece.bytes ≡ last) (tail : piece.tail ≡ tail_at id (length pieces) true)
-    (kept : take (7 * count) bytes ≡ joined pieces) (room : length bytes ≡ 378) (short : length last ≤ 7) (some : 0 < count)
-    (some_bytes : 0 < length last) (low : 10 ≤ 7 * count + length last) (high : 7 * count + length last ≤ 378)
-    (is : payload ≡ take (7 * count - 2) (drop 2 bytes) ++ last) where
+-- two bytes that are one CRC are those of another one only where both are the same
+other_crc : (a b sent crc : ℕ) → a ≡ sent % 256 → b ≡ sent / 256 → crc ≢ sent → (a ≢ crc % 256) ⊎ (b ≢ crc / 256)
+other_crc a b sent crc low high ne = elim (eqb_tells a (crc % 256)) [
+  | inl same ↦ inr (λ e. let eq = same.1 in ne (omega arith))
+  | inr other ↦ inl other.1
+]
+
+-- a last frame behind others, with the CRCs that were kept of them
+module _ (law : CarryWhatIsCut) (signature id : ℕ) (pieces : List Piece) (piece : Piece) (part : IsPart id 0 pieces) (count : ℕ) (last : List ℕ)
+    (crc sent result : ℕ) (counted : length pieces ≡ count) (same : piece.bytes ≡ last) (tail : piece.tail ≡ tail_at id (length pieces) true) (some : 0 < count)
+    (short : length last ≤ 7) (some_bytes : 0 < length last) (low : 10 ≤ 7 * count + length last) (known : CarriesCrcs signature crc sent (joined pieces))
+    (more : (all : List ℕ) → crc ≡ crc_of all → result ≡ crc_of (all ++ last)) where
+  abbrev payload : List ℕ
+  payload = drop 2 (joined pieces) ++ piece.bytes
+
   size : length piece.bytes ≡ length last
   size = ap length same
 
-  bears : joined (pieces ++ piece ∷ []) ≡ get_or bytes 0 0 ∷ get_or bytes 1 0 ∷ payload
-  bears = carried pieces piece (7 * count) bytes last payload kept same (omega arith) (omega arith) is
+  two : 2 ≤ length (joined pieces)
+  two = let n = length-joined id 0 pieces part in omega arith
+
+  bears : joined (pieces ++ piece ∷ []) ≡ get_or (joined pieces) 0 0 ∷ get_or (joined pieces) 1 0 ∷ payload
+  bears = carried pieces piece two
 
   long : 7 < length payload
   long =
       let s : length piece.bytes ≡ length last = size in
-      long_payload id pieces piece (get_or bytes 0 0) (get_or bytes 1 0) payload part (omega arith) bears
+      long_payload id pieces piece (get_or (joined pieces) 0 0) (get_or (joined pieces) 1 0) payload part (omega arith) bears
 
-  pub several_whole : get_or bytes 0 0 ≡ transfer_crc signature payload % 256 → get_or bytes 1 0 ≡ transfer_crc signature payload / 256 →
-      assembled signature id (pieces ++ piece ∷ []) ≡ Delivers payload
-  several_whole x y =
-      let s : length piece.bytes ≡ length last = size in
-      whole law signature id pieces piece part (omega arith) tail payload (get_or bytes 0 0) (get_or bytes 1 0) (omega arith) (omega arith) long bears x y
+  ends_with : result ≡ transfer_crc signature payload
+  ends_with = more_crc signature crc result (drop 2 (joined pieces)) last payload more known.behind (ap (λ l. drop 2 (joined pieces) ++ l) same)
 
-  pub several_damaged : (get_or bytes 0 0 ≢ transfer_crc signature payload % 256) ⊎ (get_or bytes 1 0 ≢ transfer_crc signature payload / 256) →
-      assembled signature id (pieces ++ piece ∷ []) ≡ Spoils Crc
-  several_damaged differs =
+  pub several_whole : result ≡ sent → Delivers (payload_of (pieces ++ piece ∷ [])) ≡ assembled signature id (pieces ++ piece ∷ [])
+  several_whole e =
       let s : length piece.bytes ≡ length last = size in
-      damaged law signature id pieces piece part (omega arith) tail payload (get_or bytes 0 0) (get_or bytes 1 0) (omega arith) (omega arith) long bears differs
+      let is : sent ≡ transfer_crc signature payload = sym e ∙ ends_with in
+      whole law signature id pieces piece part (omega arith) tail payload (get_or (joined pieces) 0 0) (get_or (joined pieces) 1 0) (omega arith) (omega arith) long bears
+      (known.sent.low ∙ ap (λ x. x % 256) is) (known.sent.high ∙ ap (λ x. x / 256) is)
+
+  pub several_damaged : result ≢ sent → Spoils Crc ≡ assembled signature id (pieces ++ piece ∷ [])
+  several_damaged ne =
+      let s : length piece.bytes ≡ length last = size in
+      damaged law signature id pieces piece part (omega arith) tail payload (get_or (joined pieces) 0 0) (get_or (joined pieces) 1 0) (omega arith) (omega arith) long bears
+      (other_crc (get_or (joined pieces) 0 0) (get_or (joined pieces) 1 0) sent (transfer_crc signature payload) known.sent.low known.sent.high (λ e. ne (ends_with ∙ e)))

@@ -1,16 +1,16 @@
 -- The running CRCs, after each change.
-use Rattle.std.proofs.Common.{◌≡◌, ◌≢◌, ℕ, ◌+◌, ◌-◌, ◌*◌, ◌<◌, false, List, [], ◌++◌, length, get_or, set, take, drop, sym, ap, ◌∙◌, arith, subst, inl, inr, nat_eq, replicate, append_assoc}
+use Rattle.std.proofs.Common.{◌≡◌, ◌≢◌, ℕ, ◌<◌, false, List, [], ◌++◌, length, get_or, set, sym, ap, ◌∙◌, arith, subst, inl, inr, nat_eq, replicate, append_assoc}
 use Rattle.std.specs.Prelude.{IfSome, Option, None, Some}
 use Rattle.std.specs.Int.{to_le_bytes, w64}
 use Rattle.std.proofs.lemmas.Bool.{ne_eqb}
 use Rattle.std.proofs.lemmas.Bool.Decides.{eqb_tells}
-use Rattle.std.proofs.lemmas.List.{drop-take, get_or-set_other, get_or-set_same}
+use Rattle.std.proofs.lemmas.List.{get_or-set_other, get_or-set_same}
 use Rattle.can_frame.specs.TransferCrc.{crc_of, transfer_crc}
 use Rattle.transfer_rx.specs.declared.key.Key.{Key}
 use Rattle.transfer_rx.specs.declared.progress.Found.{Found}
 use Rattle.transfer_rx.specs.declared.progress.Progress.{Progress}
-use Rattle.transfer_rx.specs.Crcs.{HasCrc, HasOwnCrc, HaveCrcs, HaveCrcsOf, IsUnder}
-use Rattle.transfer_rx.specs.Filled.{Fills, emptied}
+use Rattle.transfer_rx.specs.Crcs.{CarriesCrcs, HasCrc, HasOwnCrc, HaveCrcs, HaveCrcsOf, IsUnder}
+use Rattle.transfer_rx.specs.Filled.{emptied}
 use Rattle.transfer_rx.proofs.Places.{nothing_there}
 
 pub none_yet : (S : ℕ) (chains : List (List ℕ)) (signature_of : Key → Option ℕ) → HaveCrcs signature_of (replicate S None) chains
@@ -25,7 +25,7 @@ pub of_one : (signature_of : Key → Option ℕ) (key : Key) (signature : ℕ) (
 of_one signature_of key signature p chain is own h = λ other e some.
     let both : Some other ≡ Some signature = sym e ∙ ap signature_of own ∙ is in
     let same : other ≡ signature = cc in
-    h some ∙ ap (λ s. transfer_crc s (drop 2 chain)) (sym same)
+    subst (λ s. CarriesCrcs s p.crc p.sent_crc chain) (sym same) (h some)
 
 pub of_key : (signature_of : Key → Option ℕ) (key : Key) (signature : ℕ) (progress : List (Option Progress)) (chains : List (List ℕ)) →
     signature_of key ≡ Some signature → HaveCrcs signature_of progress chains → HaveCrcsOf key signature progress chains
@@ -44,7 +44,8 @@ elsewhere : (signature_of : Key → Option ℕ) (progress : List (Option Progres
     HaveCrcs signature_of progress chains → (i : ℕ) → i ≢ place → get_or after i [] ≡ get_or chains i [] → (there : Progress) →
     get_or (set progress place o) i None ≡ Some there → HasOwnCrc signature_of there (get_or after i [])
 elsewhere signature_of progress chains after place o h i ne same there e = λ signature is some.
-    h i there (sym (get_or-set_other progress place i o None ne) ∙ e) signature is some ∙ ap (λ b. transfer_crc signature (drop 2 b)) (sym same)
+    subst (CarriesCrcs signature there.crc there.sent_crc) (sym same)
+    (h i there (sym (get_or-set_other progress place i o None ne) ∙ e) signature is some)
 
 pub set_crcs : (signature_of : Key → Option ℕ) (progress : List (Option Progress)) (chains after : List (List ℕ)) (place : ℕ) (p : Progress) →
     HaveCrcs signature_of progress chains → place < length progress → ((i : ℕ) → i ≢ place → get_or after i [] ≡ get_or chains i []) →
@@ -54,9 +55,9 @@ set_crcs signature_of progress chains after place p h l others own = λ i there 
       let both : Some p ≡ Some there =
       sym (get_or-set_same progress place (Some p) None l) ∙ ap (λ j. get_or (set progress place (Some p)) j None) (sym here.1) ∙ e in
       let same : p ≡ there = cc in
-      ap (λ (x : Progress). x.crc) (sym same)
-      ∙ own signature (ap (λ (x : Progress). signature_of x.key) same ∙ is) (subst (λ (x : Progress). 0 < x.taken) (sym same) some)
-      ∙ ap (λ j. transfer_crc signature (drop 2 (get_or after j []))) (sym here.1)
+      subst (λ (x : Progress). CarriesCrcs signature x.crc x.sent_crc (get_or after i [])) same
+      (subst (λ j. CarriesCrcs signature p.crc p.sent_crc (get_or after j [])) (sym here.1)
+      (own signature (ap (λ (x : Progress). signature_of x.key) same ∙ is) (subst (λ (x : Progress). 0 < x.taken) (sym same) some)))
   | inr other ↦ elsewhere signature_of progress chains after place (Some p) h i other.1 (others i other.1) there e signature is some
 ]
 
@@ -73,7 +74,7 @@ kept_crcs signature_of progress chains after place None h l same others kept = �
 ]
 kept_crcs signature_of progress chains after place (Some p) h l same others kept =
     set_crcs signature_of progress chains after place p h l others
-    (λ signature is some. h place p same signature is some ∙ ap (λ b. transfer_crc signature (drop 2 b)) (sym kept))
+    (λ signature is some. subst (CarriesCrcs signature p.crc p.sent_crc) (sym kept) (h place p same signature is some))
 
 pub same_there : (o there other : Option Progress) → there ≡ other → IfSome o (λ p. there ≡ Some p) → IfSome o (λ p. other ≡ Some p)
 same_there None there other e h = h
@@ -98,11 +99,3 @@ pub more_crc : (signature crc result : ℕ) (bytes last payload : List ℕ) → 
     crc ≡ transfer_crc signature bytes → payload ≡ bytes ++ last → result ≡ transfer_crc signature payload
 more_crc signature crc result bytes last payload f e is =
     f (to_le_bytes w64 signature ++ bytes) e ∙ ap crc_of (append_assoc (to_le_bytes w64 signature) bytes last) ∙ ap (transfer_crc signature) (sym is)
-
--- what was copied out, behind the CRC
-pub behind : (p : Progress) (chain bytes : List ℕ) → take (length chain) bytes ≡ chain → Fills p chain → 0 < p.taken →
-    take (7 * p.taken - 2) (drop 2 bytes) ≡ drop 2 chain
-behind p chain bytes e filled some =
-    let n : 7 * p.taken ≡ length chain = filled some in
-    let all : 2 + (7 * p.taken - 2) ≡ length chain = omega arith in
-    sym (drop-take 2 (7 * p.taken - 2) bytes) ∙ ap (λ k. drop 2 (take k bytes)) all ∙ ap (drop 2) e

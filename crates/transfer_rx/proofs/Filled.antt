@@ -166,14 +166,11 @@ seven_more_fit blocks place p progress chains places more s f size h filled seve
     omega arith
 
 -- the bytes taken stand in front of what was copied out
-pub front_of : (p : Progress) (chain bytes : List ℕ) → take (length chain) bytes ≡ chain → Fills p chain → take (7 * p.taken) bytes ≡ take (7 * p.taken) chain
-front_of p chain bytes e filled = elim (eqb_tells p.taken 0) [
-  | inl none ↦ let none_taken : 7 * p.taken ≡ 0 = omega (arith, none.1) in ap (λ n. take n bytes) none_taken ∙ sym (ap (λ n. take n chain) none_taken)
-  | inr some ↦
-      let ne = some.1 in
-      let n : 7 * p.taken ≡ length chain = filled (omega arith) in
-      ap (λ k. take k bytes) n ∙ e ∙ sym (take_all (7 * p.taken) chain (omega arith))
-]
+-- where frames were taken, their bytes are all that the chain has
+pub all_taken : (p : Progress) (chain : List ℕ) (session : Session) → Fills p chain → 0 < p.taken → IsProgressOf p chain session → chain ≡ joined session.taken
+all_taken p chain session filled some k =
+    let n : 7 * p.taken ≡ length chain = filled some in
+    sym (take_all (7 * p.taken) chain (omega arith)) ∙ k.collected
 
 pub same_place : (o : Option Progress) (new old : List (List ℕ)) (place : ℕ) → IfSome o (λ p. new ≡ old) → IfSome o (λ p. get_or new place [] ≡ get_or old place [])
 same_place None new old place h = h

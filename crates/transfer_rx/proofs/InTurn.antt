@@ -1,14 +1,15 @@
 -- The next piece, and what comes of it.
 use Rattle.std.proofs.Common.{◌≡◌, ℕ, ◌%◌, Bool, true, false, cond, List, [], ◌∷◌, ◌++◌, length, Some, None, refl, sym, ◌∙◌, ap, subst, nat_eq}
-use Rattle.std.specs.Prelude.{Ok, Err}
 use Rattle.std.specs.Bool.{beq}
 use Rattle.std.proofs.lemmas.Bool.{eqb-true}
 use Rattle.can_frame.specs.declared.tail.Tail.{Tail}
 use Rattle.can_frame.specs.declared.step.Why.TheVariants.{Length, NoBlock, Start, Toggle, TransferId}
 use Rattle.can_frame.specs.Cutting.{Piece, tail_at}
+use Rattle.transfer_rx.specs.declared.verdict.Verdict.{Verdict}
+use Rattle.transfer_rx.specs.declared.verdict.Verdict.TheVariants.{Whole, Open, Spoiled}
 use Rattle.transfer_rx.specs.Sessions.{Session}
 use Rattle.transfer_rx.specs.Parts.{IsPart}
-use Rattle.transfer_rx.specs.Verdicts.{IfPart, Verdict}
+use Rattle.transfer_rx.specs.Verdicts.{IfPart, IfWhole}
 use Rattle.transfer_rx.specs.Outcome.{Outcome, Grows, Spoils, assembled, fits_no_part, fits_no_payload, is_wrong_length, lacks_blocks, out_of_turn, outcome}
 
 all_three : (a b d : Bool) → cond a (cond b (cond d None (Some Toggle)) (Some Start)) (Some TransferId) ≡ None →
@@ -82,6 +83,11 @@ module _ (blocks signature : ℕ) (piece : Piece) (taken : List Piece) (rest : L
   ends result w l e r = rw (w, ← l) (r ∙ sym (ap (λ end. cond end (assembled signature piece.tail.id (taken ++ piece ∷ [])) Grows) e))
 
 pub no_part : (verdict : Verdict) (p : Type 0) → IfPart verdict ⊥ → IfPart verdict p
-no_part (Ok (Some payload)) p h = tt
-no_part (Ok None) p h = absurd h
-no_part (Err why) p h = tt
+no_part Whole p h = tt
+no_part Open p h = absurd h
+no_part (Spoiled why) p h = tt
+
+pub where_whole : (verdict : Verdict) (p : Type 0) → p → IfWhole verdict p
+where_whole Whole p h = h
+where_whole Open p h = tt
+where_whole (Spoiled why) p h = tt

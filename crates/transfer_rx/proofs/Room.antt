@@ -1,6 +1,5 @@
 -- A frame that goes on has blocks.
 use Rattle.std.proofs.Common.{◌≡◌, ℕ, ◌+◌, ◌*◌, ◌≤◌, Bool, true, false, ◌&&◌, List, [], ◌∷◌, ◌++◌, length, refl, sym, ap, ◌∙◌, arith, nat_lt}
-use Rattle.std.specs.Prelude.{Some, None, Ok, Err}
 use Rattle.std.specs.Cmp.Lexicographic.{pointwise}
 use Rattle.std.proofs.lemmas.Bool.{ltb-false}
 use Rattle.can_frame.specs.Cutting.{Piece, joined, payload_of}
@@ -12,7 +11,9 @@ use Rattle.transfer_rx.specs.Places.{Arranged, IsPlaceFor, Places}
 use Rattle.transfer_rx.specs.Sessions.{Session, others}
 use Rattle.transfer_rx.specs.Progress.{IsProgressOf}
 use Rattle.transfer_rx.specs.Turns.{GoesOn}
-use Rattle.transfer_rx.specs.Verdicts.{IfPart, Verdict, says}
+use Rattle.transfer_rx.specs.declared.verdict.Verdict.{Verdict}
+use Rattle.transfer_rx.specs.declared.verdict.Verdict.TheVariants.{Whole, Open, Spoiled}
+use Rattle.transfer_rx.specs.Verdicts.{IfPart, says}
 use Rattle.transfer_rx.proofs.Arrangement.{sum_besides}
 use Rattle.transfer_rx.proofs.Lengths.{total}
 use Rattle.transfer_rx.proofs.Soundness.{grows_only}
@@ -36,12 +37,12 @@ enough blocks piece taken rest open_end h =
     ltb-false blocks (blocks_used rest + blocks_for (length (joined (taken ++ piece ∷ [])))) few
 
 pub part_room : (verdict : Verdict) (blocks signature : ℕ) (piece : Piece) (places : Places) (sessions : List Session) (key : Key) (found : Found) (session : Session)
-    (chain : List ℕ) → IfPart verdict (GoesOn found piece) → says verdict ≡ outcome blocks signature piece session.taken (others key sessions) →
+    (payload chain : List ℕ) → IfPart verdict (GoesOn found piece) → says payload verdict ≡ outcome blocks signature piece session.taken (others key sessions) →
     Arranged places sessions → IsPlaceFor key places sessions found.place → IsProgressOf found.progress chain session →
     IfPart verdict (HasRoomFor blocks places found.place (7 * found.progress.taken + 7))
 unfolding blocks_used
-part_room (Ok (Some payload)) blocks signature piece places sessions key found session chain on e a p k = tt
-part_room (Ok None) blocks signature piece places sessions key found session chain on e a p k =
+part_room Whole blocks signature piece places sessions key found session payload chain on e a p k = tt
+part_room Open blocks signature piece places sessions key found session payload chain on e a p k =
     let room = enough blocks piece session.taken (others key sessions) on.open_end (does_not_lack blocks signature piece session.taken (others key sessions) e) in
     let beside = sum_besides session_blocks places sessions key found.place a p in
     let counted = total session.expected 0 session.taken piece k.part in
@@ -50,4 +51,4 @@ part_room (Ok None) blocks signature piece places sessions key found session cha
     let bytes : length (joined (session.taken ++ piece ∷ [])) ≡ 7 * found.progress.taken + 7 = omega arith in
     let needed = ap blocks_for bytes in
     omega arith
-part_room (Err why) blocks signature piece places sessions key found session chain on e a p k = tt
+part_room (Spoiled why) blocks signature piece places sessions key found session payload chain on e a p k = tt

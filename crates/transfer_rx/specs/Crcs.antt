@@ -1,5 +1,5 @@
 -- The running CRC of each session: what was taken is never read again for it.
-use Rattle.std.specs.Prelude.{⊤, ◌≡◌, ℕ, ◌<◌, List, [], drop, slice_index_or, Option, Some, None}
+use Rattle.std.specs.Prelude.{⊤, ◌≡◌, ℕ, ◌/◌, ◌%◌, ◌<◌, List, [], drop, slice_index_or, Option, Some, None}
 use Rattle.can_frame.specs.TransferCrc.{transfer_crc}
 use Rattle.transfer_rx.specs.declared.accept.AcceptRow.{AcceptRow}
 use Rattle.transfer_rx.specs.declared.key.Key.{Key}
@@ -9,9 +9,20 @@ use Rattle.transfer_rx.specs.declared.turn.Turn.{Turn}
 use Rattle.transfer_rx.specs.declared.turn.Turn.TheVariants.{Refused, Out, Next}
 use Rattle.transfer_rx.specs.Acceptance.{first_signature}
 
--- where frames were taken, the CRC is that of their bytes behind the two of the transfer's CRC
+-- bytes begin with a CRC, its low byte first
+pub record BeginsWithCrc (crc : ℕ) (bytes : List ℕ) : Type 0 where
+  pub low : slice_index_or bytes 0 0 ≡ crc % 256
+  pub high : slice_index_or bytes 1 0 ≡ crc / 256
+
+-- the bytes of a longer transfer, as far as they came: one CRC is that of the bytes behind the first two, and these two
+-- are the other one
+pub record CarriesCrcs (signature crc sent_crc : ℕ) (bytes : List ℕ) : Type 0 where
+  pub behind : crc ≡ transfer_crc signature (drop 2 bytes)
+  pub sent : BeginsWithCrc sent_crc bytes
+
+-- where frames were taken, both CRCs are those of their bytes
 abbrev pub HasCrc : ℕ → Progress → List ℕ → Type 0
-HasCrc signature progress chain = 0 < progress.taken → progress.crc ≡ transfer_crc signature (drop 2 chain)
+HasCrc signature progress chain = 0 < progress.taken → CarriesCrcs signature progress.crc progress.sent_crc chain
 
 -- where frames were taken, the CRC is that of their bytes, under the signature of the session's key
 abbrev pub HasOwnCrc : (Key → Option ℕ) → Progress → List ℕ → Type 0

@@ -3,6 +3,8 @@ pub mod Ages
 pub mod Chains
 pub mod Crcs
 pub mod Filled
+pub mod Fronts
+pub mod Heard
 pub mod Keys
 pub mod Marks
 pub mod Memory

@@ -12,3 +12,9 @@ abbrev pub told : Took → Answer
 told (Delivered transfer) = Gives (delivery_of transfer)
 told Part = Continues
 told (Dropped why) = Drops why
+
+-- the transfer that was delivered last, after this
+abbrev pub delivered_after : Took → Transfer → Transfer
+delivered_after (Delivered transfer) before = transfer
+delivered_after Part before = before
+delivered_after (Dropped why) before = before

@@ -2,6 +2,7 @@
 use Rattle.std.specs.Prelude.{ℕ, List, Option}
 use Rattle.transfer_rx.specs.declared.receiver.Receiver.{Receiver}
 use Rattle.transfer_rx.specs.declared.key.Key.{Key}
+use Rattle.transfer_rx.specs.declared.transfer.Transfer.{Transfer}
 use Rattle.transfer_rx.specs.Chains.{HaveChains, place_of}
 use Rattle.transfer_rx.specs.Places.{KeepSessions}
 use Rattle.transfer_rx.specs.Reassembly.{Setting}
@@ -18,6 +19,10 @@ setting_of {S} {N} receiver = record { rows = receiver.rows.items; me = receiver
 -- the closure that was given to a receiver
 abbrev pub accept_of : {F : Type 0} {S N : ℕ} → Receiver F S N → F
 accept_of receiver = receiver.accept
+
+-- the transfer that a receiver delivered last
+abbrev pub delivered_by : {F : Type 0} {S N : ℕ} → Receiver F S N → Transfer
+delivered_by receiver = receiver.delivered
 
 -- the chains of a receiver's pool, each as its bytes
 abbrev pub chains_in : {F : Type 0} {S N : ℕ} → Receiver F S N → List (List ℕ)

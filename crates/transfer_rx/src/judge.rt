@@ -1,5 +1,5 @@
-ghost use Rattle.std.specs.Prelude.{◌≡◌, ◌<◌, ◌≤◌, ◌+◌, ◌*◌, List, [], length, get_or, take, false, Some, None};
-ghost use Rattle.can_frame.specs.Cutting.{Piece};
+ghost use Rattle.std.specs.Prelude.{◌≡◌, ◌<◌, ◌≤◌, ◌+◌, ◌*◌, ◌++◌, ◌∷◌, List, [], length, get_or, Some, None};
+ghost use Rattle.can_frame.specs.Cutting.{Piece, payload_of};
 ghost use Rattle.can_frame.specs.Piece.{piece_of};
 ghost use Rattle.transfer_rx.specs.declared.key.Key.{Key};
 ghost use Rattle.transfer_rx.specs.Crcs.{HasCrc};
@@ -7,17 +7,15 @@ ghost use Rattle.transfer_rx.specs.Filled.{Fills, IsFree};
 ghost use Rattle.transfer_rx.specs.Outcome.{lacks_blocks, out_of_turn, outcome};
 ghost use Rattle.transfer_rx.specs.Places.{Arranged, IsSessionFound, Places, KeepPlaces, blocks_at, kept, left};
 ghost use Rattle.transfer_rx.specs.Sessions.{Session, others};
-ghost use Rattle.transfer_rx.specs.Turns.{GoesOn};
-ghost use Rattle.transfer_rx.specs.Verdicts.{IfPart, says};
+ghost use Rattle.transfer_rx.specs.Turns.{Completes, GoesOn};
+ghost use Rattle.transfer_rx.specs.Verdicts.{IfPart, IfWhole, says};
 ghost use Rattle.transfer_rx.specs.declared.verdict.TheConstants.{LONGEST};
 
 use crate::age::unless_old;
 use crate::progress::Found;
 use crate::sessions::Sessions;
 use crate::standard::FRAME_BYTES;
-use crate::verdict::{
-    LONGEST, Verdict, assemble, blocks_for, is_alone, is_wrong_end, is_wrong_part,
-};
+use crate::verdict::{LONGEST, Verdict, blocks_for, is_alone, is_wrong_end, is_wrong_part, tested};
 use can_frame::{Frame, Tail, Why};
 
 impl<const S: usize, const N: usize> Sessions<S, N> {
@@ -37,34 +35,35 @@ impl<const S: usize, const N: usize> Sessions<S, N> {
             (get_or self.now.pool found.now.place []) }
         requires few { free ≤ 16384 }
         ensures room { IfPart result (GoesOn found.now (piece_of frame.now)) }
+        ensures within { IfWhole result (Completes found.now (piece_of frame.now)) }
         ensures verdict { (places : Places) (sessions : List Session) (key : Key)
             (session : Session) →
             KeepPlaces self.now.progress self.now.pool places →
             Arranged (left now places) sessions →
             IsSessionFound self.now.pool key (left now places) sessions found.now session →
             out_of_turn (piece_of frame.now).tail session ≡ None → IsFree N (left now places) free →
-            says result ≡ outcome N signature (piece_of frame.now) session.taken
-            (others key sessions) }
+            says (payload_of (session.taken ++ piece_of frame.now ∷ [])) result ≡
+            outcome N signature (piece_of frame.now) session.taken (others key sessions) }
     {
         let tail = frame.tail();
         let data = frame.data();
         let taken = found.progress.taken;
         if tail.end {
             if is_wrong_end(taken, data.len()) {
-                return Err(Why::Length);
+                return Verdict::Spoiled(Why::Length);
             }
             if self.lacks_blocks(found, &tail, data.len(), now, free) {
-                return Err(Why::NoBlock);
+                return Verdict::Spoiled(Why::NoBlock);
             }
-            return assemble(taken, &self.bytes_at(found.place), data, found.progress.crc);
+            return tested(taken, data, found.progress.crc, found.progress.sent_crc);
         }
         if is_wrong_part(taken, data.len()) {
-            return Err(Why::Length);
+            return Verdict::Spoiled(Why::Length);
         }
         if self.lacks_blocks(found, &tail, data.len(), now, free) {
-            return Err(Why::NoBlock);
+            return Verdict::Spoiled(Why::NoBlock);
         }
-        Ok(None)
+        Verdict::Open
     }
 
     /// Whether a frame that is no transfer of its own asks for more blocks than the free ones and
@@ -138,26 +137,5 @@ impl<const S: usize, const N: usize> Sessions<S, N> {
             Some(progress) if unless_old(Some(progress), now).is_none() => progress.blocks(),
             _ => 0,
         }
-    }
-
-    /// The bytes that are kept at a place, at the front of as many as the longest transfer has.
-    fn bytes_at(&self, place: usize) -> [u8; LONGEST]
-        requires { place < S }
-        ensures bytes { take (length (get_or self.now.pool place [])) result ≡
-            get_or self.now.pool place [] }
-        ensures size { length result ≡ LONGEST }
-    {
-        let mut bytes = [0; LONGEST];
-        let len = self.len_at(place);
-        self.pool.copy_out(place, &mut bytes[..len]);
-        bytes
-    }
-
-    fn len_at(&self, place: usize) -> usize
-        requires { place < S }
-        ensures len { result ≡ length (get_or self.now.pool place []) }
-        ensures most { result ≤ LONGEST }
-    {
-        self.pool.len(place)
     }
 }

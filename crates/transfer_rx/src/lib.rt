@@ -8,7 +8,9 @@
 //!
 //! The one contract: for every list of sessions that a receiver stands for, [`Receiver::take`] gives
 //! the definition's answer to a frame and leaves a receiver that stands for the sessions afterwards;
-//! [`Receiver::peek`] tells what it would deliver. The code keeps places, counts,
+//! [`Receiver::peek`] tells what it would deliver. [`Receiver::hear`] is the same without a copy: the
+//! receiver keeps the transfer, and lends it by [`Receiver::delivered`]; [`Receiver::foretell`] tells
+//! its heading alone. The code keeps places, counts,
 //! a moment and a running CRC for each (`specs/Places.antt`), and the bytes in chains of a pool of
 //! blocks; none of these shows in a clause on what is answered. [`Receiver::pool`] and
 //! [`Receiver::chain_of`] lend what is kept (`specs/Chains.antt`): each session has a chain of its
@@ -24,6 +26,7 @@ mod change;
 mod judge;
 mod key;
 pub mod laws;
+mod payload;
 mod progress;
 mod receiver;
 mod search;
@@ -35,4 +38,4 @@ mod verdict;
 
 pub use accept::AcceptRow;
 pub use receiver::Receiver;
-pub use transfer::{Took, Transfer};
+pub use transfer::{Heading, Heard, Took, Transfer};

@@ -17,6 +17,8 @@ pub struct Progress {
     pub whole: bool,
     /// The CRC of the bytes taken, but for the two of the transfer's CRC at their front.
     pub crc: u16,
+    /// The transfer's CRC, at the front of the bytes taken.
+    pub sent_crc: u16,
     pub ghost id: { expected < 32 },
     pub ghost few: { taken ≤ 54 },
 }
@@ -31,7 +33,7 @@ pub struct Found {
 impl Progress {
     ghost use Rattle.can_frame.specs.Cutting.{Piece, tail_at};
     ghost use Rattle.can_frame.specs.TransferCrc.{transfer_crc};
-    ghost use Rattle.transfer_rx.specs.Crcs.{HasCrc};
+    ghost use Rattle.transfer_rx.specs.Crcs.{BeginsWithCrc, HasCrc};
     ghost use Rattle.transfer_rx.specs.Filled.{Fills};
     ghost use Rattle.transfer_rx.specs.Marks.{is_whole};
     ghost use Rattle.transfer_rx.specs.Outcome.{out_of_turn, session_blocks};
@@ -54,6 +56,7 @@ impl Progress {
             step: 0,
             whole: true,
             crc: 0,
+            sent_crc: 0,
         }
     }
 
@@ -124,6 +127,7 @@ impl Progress {
             step: 0,
             whole: true,
             crc: 0,
+            sent_crc: 0,
         }
     }
 
@@ -151,6 +155,7 @@ impl Progress {
             step: self.step_with(mark),
             whole: self.is_whole_with(mark),
             crc: self.crc_with(signature, more),
+            sent_crc: self.sent_crc_with(more),
         }
     }
 
@@ -164,6 +169,19 @@ impl Progress {
             crc(signature, &more[CRC_BYTES..])
         } else {
             crc_more(self.crc, more)
+        }
+    }
+
+    /// The CRC in front of the transfer, which its first frame begins with.
+    fn sent_crc_with(self, more: &[u8]) -> u16
+        requires { length more.now ≡ 7 }
+        ensures { (signature : ℕ) (chain : List ℕ) → length chain ≡ 7 * self.taken →
+            HasCrc signature self chain → BeginsWithCrc result (chain ++ more.now) }
+    {
+        if self.taken == 0 {
+            u16::from(more[0]) + 256 * u16::from(more[1])
+        } else {
+            self.sent_crc
         }
     }
 

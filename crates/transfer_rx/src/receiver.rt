@@ -1,20 +1,21 @@
-ghost use Rattle.std.specs.Prelude.{◌≡◌, ◌≤◌, [], IfOk, IfSome, List, Some, option_map};
+ghost use Rattle.std.specs.Prelude.{◌≡◌, ◌≤◌, ◌<◌, ◌++◌, [], IfOk, IfSome, List, None, Some, length, option_map};
 ghost use Rattle.can_frame.specs.Identifier.{IsIdentifier};
 ghost use Rattle.can_frame.specs.Piece.{piece_of};
 ghost use Rattle.transfer_rx.specs.Acceptance.{AnswersByRows, is_for, is_service, wanted};
 ghost use Rattle.transfer_rx.specs.Crcs.{HaveCrcs, signature_in};
+ghost use Rattle.transfer_rx.specs.Fronts.{HasFront, front_bytes};
+ghost use Rattle.transfer_rx.specs.Heard.{IfDelivers, UnlessDelivers, delivery_with, heading_in, told_with};
 ghost use Rattle.transfer_rx.specs.Keys.{is_anonymous, key_of};
 ghost use Rattle.transfer_rx.specs.Ranges.{IfDelivered, IsInRange};
-ghost use Rattle.transfer_rx.specs.Reassembly.{alone, answer, arrival_of, delivered, next};
+ghost use Rattle.transfer_rx.specs.Reassembly.{answer, arrival_of, delivered, next};
 ghost use Rattle.transfer_rx.specs.Sessions.{Session};
-ghost use Rattle.transfer_rx.specs.Told.{delivery_of, told};
+ghost use Rattle.transfer_rx.specs.Told.{delivered_after, delivery_of, told};
 
 use crate::accept::{AcceptRow, Wanted};
 use crate::key::Key;
 use crate::sessions::Sessions;
-use crate::transfer::{Took, Transfer};
-use crate::turn::foretell;
-use crate::verdict::{is_alone, joined};
+use crate::transfer::{Heading, Heard, Took, Transfer};
+use crate::turn::{Coming, alone};
 use arrayvec::ArrayVec;
 use block_pool::BlockPool;
 use can_frame::{Frame, Ident, Kind, Mark, Why};
@@ -27,11 +28,14 @@ pub struct Receiver<F, const S: usize, const N: usize> {
     rows: ArrayVec<AcceptRow, 16>,
     accept: F,
     sessions: Sessions<S, N>,
+
+    /// The transfer that was delivered last.
+    delivered: Transfer,
     ghost crcs: { HaveCrcs (signature_in rows.items) sessions.progress sessions.pool },
 }
 
 impl<F: Fn(Kind, u16) -> Option<u64> + Copy, const S: usize, const N: usize> Receiver<F, S, N> {
-    ghost use Rattle.transfer_rx.specs.Views.{HasChains, HasSessions, accept_of, chain_of, chains_in, setting_of};
+    ghost use Rattle.transfer_rx.specs.Views.{HasChains, HasSessions, accept_of, chain_of, chains_in, delivered_by, setting_of};
 
     /// A receiver without sessions. `me` is its own node ID, 1 to 127: it takes services for this node
     /// and no frame from it. With 0 it takes services for every node, and frames from every one.
@@ -42,6 +46,7 @@ impl<F: Fn(Kind, u16) -> Option<u64> + Copy, const S: usize, const N: usize> Rec
         requires most { S ≤ 1024 }
         requires blocks { N ≤ 1024 }
         ensures sessions { HasSessions result [] }
+        ensures blank { (delivered_by result).payload.items ≡ [] }
         ensures setting { setting_of result ≡
             record { rows = rows.items; me = me; sessions = S; blocks = N } }
         ensures accept { accept_of result ≡ accept }
@@ -51,6 +56,7 @@ impl<F: Fn(Kind, u16) -> Option<u64> + Copy, const S: usize, const N: usize> Rec
             rows,
             accept,
             sessions: Sessions::new(),
+            delivered: Transfer::blank(),
         }
     }
 
@@ -58,6 +64,7 @@ impl<F: Fn(Kind, u16) -> Option<u64> + Copy, const S: usize, const N: usize> Rec
     /// stays where it is: the time goes by the sessions that there were, and not by its size.
     pub fn reset(&mut self, me: u8)
         ensures sessions { HasSessions self.new [] }
+        ensures delivered { delivered_by self.new ≡ delivered_by self.old }
         ensures setting { setting_of self.new ≡ record (setting_of self.old) { me = me } }
         ensures accept { accept_of self.new ≡ accept_of self.old }
     {
@@ -65,9 +72,7 @@ impl<F: Fn(Kind, u16) -> Option<u64> + Copy, const S: usize, const N: usize> Rec
         self.me = me;
     }
 
-    /// Takes a frame at a moment in milliseconds, and tells what it led to. Of a frame that is dropped
-    /// the cause is told, and its session goes on as the definition says: after a wrong CRC or length,
-    /// or for want of blocks, it waits for the next transfer ID.
+    /// What `hear` tells of a frame, with a copy of the transfer that it delivers.
     pub fn take(&mut self, frame: &Frame, mark: Mark, now: u64) -> Took
         requires callable { F.IsAlwaysCallable (accept_of self.old) }
         requires answers { AnswersByRows (F.post (accept_of self.old)) (setting_of self.old).rows }
@@ -77,20 +82,56 @@ impl<F: Fn(Kind, u16) -> Option<u64> + Copy, const S: usize, const N: usize> Rec
         ensures sessions { (sessions : List Session) → HasSessions self.old sessions →
             HasSessions self.new (next (setting_of self.old) sessions
             (arrival_of frame.now mark now)) }
+        ensures delivered { delivered_by self.new ≡ delivered_after result (delivered_by self.old) }
+        ensures setting { setting_of self.new ≡ setting_of self.old }
+        ensures accept { accept_of self.new ≡ accept_of self.old }
+    {
+        match self.hear(frame, mark, now) {
+            Heard::Delivered => Took::Delivered(self.delivered.copy()),
+            Heard::Part => Took::Part,
+            Heard::Dropped(why) => Took::Dropped(why),
+        }
+    }
+
+    /// Takes a frame at a moment in milliseconds, and tells what it led to; a transfer that it delivers
+    /// is the one that `delivered` lends from then on. Of a frame that is dropped the cause is told, and its
+    /// session goes on as the definition says: after a wrong CRC or length, or for want of blocks, it
+    /// waits for the next transfer ID.
+    pub fn hear(&mut self, frame: &Frame, mark: Mark, now: u64) -> Heard
+        requires callable { F.IsAlwaysCallable (accept_of self.old) }
+        requires answers { AnswersByRows (F.post (accept_of self.old)) (setting_of self.old).rows }
+        ensures answer { (sessions : List Session) → HasSessions self.old sessions →
+            told_with (delivered_by self.new) result ≡
+            answer (setting_of self.old) sessions (arrival_of frame.now mark now) }
+        ensures ranges { IfDelivers result (IsInRange (delivered_by self.new)) }
+        ensures kept { UnlessDelivers result (delivered_by self.new ≡ delivered_by self.old) }
+        ensures sessions { (sessions : List Session) → HasSessions self.old sessions →
+            HasSessions self.new (next (setting_of self.old) sessions
+            (arrival_of frame.now mark now)) }
         ensures setting { setting_of self.new ≡ setting_of self.old }
         ensures accept { accept_of self.new ≡ accept_of self.old }
     {
         let wanted = match self.wanted(frame) {
             Ok(wanted) => wanted,
-            Err(why) => return Took::Dropped(why),
+            Err(why) => return Heard::Dropped(why),
         };
         if is_anonymous(wanted.ident.kind) {
-            return alone(wanted.ident, frame, mark);
+            return self
+                .sessions
+                .hear_alone(wanted.ident, frame, mark, &mut self.delivered);
         }
         self.sessions.forget(now);
         let free = self.sessions.free_blocks();
         let turn = self.sessions.turn(&wanted, frame, now, free);
-        self.sessions.settle(turn, &wanted, frame, mark, now)
+        self.sessions
+            .settle(turn, &wanted, frame, mark, now, &mut self.delivered)
+    }
+
+    /// The transfer that was delivered last. Before the first one it is a blank, without bytes.
+    pub fn delivered(&self) -> &Transfer
+        ensures { result.now ≡ delivered_by self.now }
+    {
+        &self.delivered
     }
 
     /// The transfer that `take` would deliver, if any. Nothing changes.
@@ -102,6 +143,40 @@ impl<F: Fn(Kind, u16) -> Option<u64> + Copy, const S: usize, const N: usize> Rec
             delivered (answer (setting_of self.now) sessions (arrival_of frame.now mark now)) }
         ensures ranges { IfSome result IsInRange }
     {
+        let coming = self.coming(frame, mark, now)?;
+        let mut transfer = Transfer::blank();
+        self.sessions.fill(coming, frame.data(), &mut transfer);
+        Some(transfer)
+    }
+
+    /// The transfer that `hear` would deliver, if any, without its payload. Nothing changes.
+    pub fn foretell(&self, frame: &Frame, mark: Mark, now: u64) -> Option<Heading>
+        requires callable { F.IsAlwaysCallable (accept_of self.now) }
+        requires answers { AnswersByRows (F.post (accept_of self.now)) (setting_of self.now).rows }
+        ensures answer { (sessions : List Session) → HasSessions self.now sessions →
+            result ≡ option_map heading_in
+            (delivered (answer (setting_of self.now) sessions (arrival_of frame.now mark now))) }
+        ensures ident { IfSome result (λ heading. IsIdentifier heading.ident) }
+        ensures id { IfSome result (λ heading. heading.id < 32) }
+    {
+        let coming = self.coming(frame, mark, now)?;
+        Some(coming.heading)
+    }
+
+    /// The transfer that a frame would complete.
+    fn coming(&self, frame: &Frame, mark: Mark, now: u64) -> Option<Coming>
+        requires callable { F.IsAlwaysCallable self.now.accept }
+        requires answers { AnswersByRows (F.post self.now.accept) self.now.rows.items }
+        ensures ident { IfSome result (λ coming. IsIdentifier coming.heading.ident) }
+        ensures id { IfSome result (λ coming. coming.heading.id < 32) }
+        ensures front { IfSome result (λ coming. HasFront S self.now.sessions.pool
+            coming.front (length (piece_of frame.now).bytes)) }
+        ensures delivery { (sessions : List Session) → HasSessions self.now sessions →
+            option_map (λ coming. delivery_with coming.heading
+            (front_bytes self.now.sessions.pool coming.front ++ (piece_of frame.now).bytes))
+            result ≡
+            delivered (answer (setting_of self.now) sessions (arrival_of frame.now mark now)) }
+    {
         if !frame.tail().end {
             return None;
         }
@@ -110,11 +185,14 @@ impl<F: Fn(Kind, u16) -> Option<u64> + Copy, const S: usize, const N: usize> Rec
             Err(_) => return None,
         };
         if is_anonymous(wanted.ident.kind) {
-            return delivered(alone(wanted.ident, frame, mark));
+            return match alone(wanted.ident, frame, mark) {
+                Ok(coming) => Some(coming),
+                Err(_) => None,
+            };
         }
         let free = self.sessions.free_without_old(now);
         let turn = self.sessions.turn(&wanted, frame, now, free);
-        foretell(turn, wanted.ident, frame, mark)
+        self.sessions.foretell(turn, wanted.ident, frame, mark)
     }
 
     /// The pool that keeps the bytes of the sessions, each in a chain of its own; every other chain
@@ -191,38 +269,5 @@ fn is_anonymous(kind: Kind) -> bool
         Kind::Anonymous => true,
         Kind::Request => false,
         Kind::Response => false,
-    }
-}
-
-/// An anonymous frame is a transfer of its own.
-fn alone(ident: Ident, frame: &Frame, mark: Mark) -> Took
-    requires { IsIdentifier ident }
-    ensures answer { told result ≡ alone ident (piece_of frame.now) mark }
-    ensures ranges { IfDelivered result IsInRange }
-{
-    let tail = frame.tail();
-    if !is_alone(&tail) {
-        return Took::Dropped(Why::Start);
-    }
-    if tail.toggle {
-        return Took::Dropped(Why::Toggle);
-    }
-    Took::Delivered(Transfer {
-        ident,
-        id: tail.id,
-        payload: joined(&[], frame.data()),
-        mark,
-        whole: mark.place == 0,
-    })
-}
-
-fn delivered(took: Took) -> Option<Transfer>
-    ensures delivery { option_map delivery_of result ≡ delivered (told took) }
-    ensures ranges { IfDelivered took IsInRange → IfSome result IsInRange }
-{
-    match took {
-        Took::Delivered(transfer) => Some(transfer),
-        Took::Part => None,
-        Took::Dropped(_) => None,
     }
 }

@@ -1,5 +1,6 @@
-ghost use Rattle.std.specs.Prelude.{◌≡◌, ℕ, ◌<◌, ◌≤◌, ◌+◌, ◌*◌, List, [], length, get_or, set, Some, None, Option};
+ghost use Rattle.std.specs.Prelude.{◌≡◌, ℕ, ◌<◌, ◌≤◌, ◌+◌, ◌*◌, ◌++◌, ◌∷◌, List, [], length, get_or, set, Some, None, Option};
 ghost use Rattle.std.proofs.Props.{props};
+ghost use Rattle.can_frame.specs.Cutting.{payload_of};
 ghost use Rattle.can_frame.specs.Identifier.{IsIdentifier};
 ghost use Rattle.can_frame.specs.Piece.{piece_of};
 ghost use Rattle.transfer_rx.specs.declared.key.Key.{Key};
@@ -9,19 +10,19 @@ ghost use Rattle.transfer_rx.specs.Filled.{AreFilled, Fills, HasRoomFor, IsFree}
 ghost use Rattle.transfer_rx.specs.Keys.{key_of};
 ghost use Rattle.transfer_rx.specs.Outcome.{out_of_turn};
 ghost use Rattle.transfer_rx.specs.Places.{Arranged, Places, KeepPlaces, KeepSessions, left};
-ghost use Rattle.transfer_rx.specs.Ranges.{IfDelivered, IsInRange};
+ghost use Rattle.transfer_rx.specs.Heard.{IfDelivers, UnlessDelivers, told_with};
+ghost use Rattle.transfer_rx.specs.Ranges.{IsInRange};
 ghost use Rattle.transfer_rx.specs.Reassembly.{answer_of, session_after, session_step};
 ghost use Rattle.transfer_rx.specs.Sessions.{Session, session_for};
 ghost use Rattle.transfer_rx.specs.Progress.{IsProgressOf};
-ghost use Rattle.transfer_rx.specs.Told.{told};
-ghost use Rattle.transfer_rx.specs.Turns.{GoesOn, IsRoomy, IsTurn};
+ghost use Rattle.transfer_rx.specs.Turns.{Completes, GoesOn, IsRoomy, IsTurn};
 ghost use Rattle.transfer_rx.specs.Used.{AreUnused};
-ghost use Rattle.transfer_rx.specs.Verdicts.{IfPart, says};
+ghost use Rattle.transfer_rx.specs.Verdicts.{IfPart, IfWhole, says};
 
 use crate::accept::Wanted;
 use crate::key::Key;
 use crate::progress::{Found, Progress};
-use crate::transfer::{Took, Transfer};
+use crate::transfer::{Heard, Transfer};
 use crate::turn::Turn;
 use crate::verdict::Verdict;
 use block_pool::{BlockPool, NoBlock};
@@ -89,7 +90,7 @@ impl<const S: usize, const N: usize> Sessions<S, N> {
         Turn::Next(found, verdict)
     }
 
-    /// Does what a turn says, and tells it.
+    /// Does what a turn says, and tells it. `delivered` becomes the transfer that is delivered, if any.
     pub fn settle(
         &mut self,
         turn: Turn,
@@ -97,17 +98,19 @@ impl<const S: usize, const N: usize> Sessions<S, N> {
         frame: &Frame,
         mark: Mark,
         now: u64,
-    ) -> Took
+        delivered: &mut Transfer,
+    ) -> Heard
         requires room { IsRoomy S self.old.pool (piece_of frame.now) turn }
         requires crc { IsTurnUnder
             (key_of wanted.now.ident) wanted.now.signature self.old.pool turn }
         requires ident { IsIdentifier wanted.now.ident }
-        ensures ranges { IfDelivered result IsInRange }
+        ensures ranges { IfDelivers result (IsInRange delivered.new) }
+        ensures kept { UnlessDelivers result (delivered.new ≡ delivered.old) }
         ensures answer { (most : ℕ) (places : Places) (sessions : List Session) →
             KeepPlaces self.old.progress self.old.pool places → Arranged places sessions →
             IsTurn most self.old.pool N (key_of wanted.now.ident) wanted.now.signature
             (piece_of frame.now) now places sessions turn →
-            told result ≡ (session_step most N wanted.now
+            told_with delivered.new result ≡ (session_step most N wanted.now
             (piece_of frame.now) mark now sessions).answer }
         ensures sessions { (most : ℕ) (places : Places) (sessions : List Session) →
             KeepPlaces self.old.progress self.old.pool places → Arranged places sessions →
@@ -121,12 +124,14 @@ impl<const S: usize, const N: usize> Sessions<S, N> {
             HaveCrcs signature_of self.new.progress self.new.pool }
     {
         match turn {
-            Turn::Refused(why) => Took::Dropped(why),
+            Turn::Refused(why) => Heard::Dropped(why),
             Turn::Out(found, why) => {
                 self.put(found.place, found.progress);
-                Took::Dropped(why)
+                Heard::Dropped(why)
             }
-            Turn::Next(found, verdict) => self.apply(found, verdict, wanted, frame, mark, now),
+            Turn::Next(found, verdict) => {
+                self.apply(found, verdict, wanted, frame, mark, now, delivered)
+            }
         }
     }
 
@@ -139,43 +144,47 @@ impl<const S: usize, const N: usize> Sessions<S, N> {
         frame: &Frame,
         mark: Mark,
         now: u64,
-    ) -> Took
+        delivered: &mut Transfer,
+    ) -> Heard
         requires place { found.place < S }
         requires filled { Fills found.progress (get_or self.old.pool found.place []) }
         requires crc { IsUnder (key_of wanted.now.ident) wanted.now.signature self.old.pool found }
         requires room { IfPart verdict (GoesOn found (piece_of frame.now)) }
+        requires within { IfWhole verdict (Completes found (piece_of frame.now)) }
         requires ident { IsIdentifier wanted.now.ident }
-        ensures ranges { IfDelivered result IsInRange }
+        ensures ranges { IfDelivers result (IsInRange delivered.new) }
+        ensures kept { UnlessDelivers result (delivered.new ≡ delivered.old) }
         ensures answer { (places : Places) (session : Session) →
             KeepPlaces self.old.progress self.old.pool places →
             IfPart verdict (HasRoomFor N places found.place (7 * found.progress.taken + 7)) →
             IsProgressOf found.progress (get_or self.old.pool found.place []) session →
-            told result ≡ answer_of wanted.now.ident (piece_of frame.now) mark session
-            (says verdict) }
+            told_with delivered.new result ≡
+            answer_of wanted.now.ident (piece_of frame.now) mark session
+            (says (payload_of (session.taken ++ piece_of frame.now ∷ [])) verdict) }
         ensures session { (places : Places) (session : Session) →
             KeepPlaces self.old.progress self.old.pool places →
             IfPart verdict (HasRoomFor N places found.place (7 * found.progress.taken + 7)) →
             IsProgressOf found.progress (get_or self.old.pool found.place []) session →
             out_of_turn (piece_of frame.now).tail session ≡ None →
             KeepPlaces self.new.progress self.new.pool (set places found.place (Some
-            (session_after (piece_of frame.now) mark now session (says verdict)))) }
+            (session_after (piece_of frame.now) mark now session
+            (says (payload_of (session.taken ++ piece_of frame.now ∷ [])) verdict)))) }
         ensures crcs { (signature_of : Key → Option ℕ) →
             signature_of (key_of wanted.now.ident) ≡ Some wanted.now.signature →
             HaveCrcs signature_of self.old.progress self.old.pool →
             HaveCrcs signature_of self.new.progress self.new.pool }
     {
         match verdict {
-            Ok(Some(payload)) => {
+            Verdict::Whole => {
+                self.fill(
+                    found.completed(wanted.ident, frame, mark),
+                    frame.data(),
+                    delivered,
+                );
                 self.put(found.place, found.progress.cut_off(now));
-                Took::Delivered(Transfer {
-                    ident: wanted.ident,
-                    id: frame.tail().id,
-                    payload,
-                    mark,
-                    whole: found.progress.is_whole_with(mark),
-                })
+                Heard::Delivered
             }
-            Ok(None) => {
+            Verdict::Open => {
                 let more = frame.data();
                 match self.grow(
                     found.place,
@@ -185,13 +194,13 @@ impl<const S: usize, const N: usize> Sessions<S, N> {
                     mark,
                     now,
                 ) {
-                    Ok(()) => Took::Part,
-                    Err(NoBlock) => Took::Dropped(Why::NoBlock),
+                    Ok(()) => Heard::Part,
+                    Err(NoBlock) => Heard::Dropped(Why::NoBlock),
                 }
             }
-            Err(why) => {
+            Verdict::Spoiled(why) => {
                 self.put(found.place, found.progress.cut_off(now));
-                Took::Dropped(why)
+                Heard::Dropped(why)
             }
         }
     }

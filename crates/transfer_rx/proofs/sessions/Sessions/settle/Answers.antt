@@ -1,4 +1,5 @@
-use Rattle.std.proofs.Common.{[], Some, get_or, set, sym, ◌∙◌, ap, subst}
+use Rattle.std.proofs.Common.{◌++◌, ◌∷◌, [], Some, get_or, set, sym, ◌∙◌, ap, subst}
+use Rattle.can_frame.specs.Cutting.{payload_of}
 use Rattle.can_frame.specs.Piece.{piece_of}
 use Rattle.transfer_rx.specs.Crcs.{IsTurnUnder}
 use Rattle.transfer_rx.specs.Keys.{key_of}
@@ -46,25 +47,25 @@ pub returns-in-Next-clause-answer : goal.returns-in-Next-clause-answer
 returns-in-Next-clause-answer g c = λ most places sessions s a h.
     let t = subst (λ t. IsTurn most c.args.self.now.pool g.row.N (key_of c.args.wanted.now.ident) c.args.wanted.now.signature (piece_of c.args.frame.now) c.args.now places sessions t) c.in-Next.is h in
     c.apply.ensures.answer places t.0.session s
-    (part_room c.in-Next.verdict g.row.N c.args.wanted.now.signature (piece_of c.args.frame.now) places sessions (key_of c.args.wanted.now.ident) c.in-Next.found t.0.session _
+    (part_room c.in-Next.verdict g.row.N c.args.wanted.now.signature (piece_of c.args.frame.now) places sessions (key_of c.args.wanted.now.ident) c.in-Next.found t.0.session _ _
     (subst (λ t. IsRoomy g.row.S c.args.self.now.pool (piece_of c.args.frame.now) t) c.in-Next.is c.requires.room).2 t.2 a t.0.finds.place t.0.finds.keeps) t.0.finds.keeps
     ∙ ap (λ (x : Step). x.answer) (sym (next most g.row.N c.args.wanted.now (piece_of c.args.frame.now) c.args.mark c.args.now sessions
-    t.0.session (says c.in-Next.verdict) t.0.there t.1 t.2))
+    t.0.session (says (payload_of (t.0.session.taken ++ piece_of c.args.frame.now ∷ [])) c.in-Next.verdict) t.0.there t.1 t.2))
 
 pub returns-in-Next-clause-sessions : goal.returns-in-Next-clause-sessions
 returns-in-Next-clause-sessions g c = λ most places sessions s a h.
     let t = subst (λ t. IsTurn most c.args.self.now.pool g.row.N (key_of c.args.wanted.now.ident) c.args.wanted.now.signature (piece_of c.args.frame.now) c.args.now places sessions t) c.in-Next.is h in
-    let after = session_after (piece_of c.args.frame.now) c.args.mark c.args.now t.0.session (says c.in-Next.verdict) in
+    let after = session_after (piece_of c.args.frame.now) c.args.mark c.args.now t.0.session (says (payload_of (t.0.session.taken ++ piece_of c.args.frame.now ∷ [])) c.in-Next.verdict) in
     subst (λ (x : Step). KeepSessions c.apply.new.self.progress c.apply.new.self.pool x.sessions)
     (sym (next most g.row.N c.args.wanted.now (piece_of c.args.frame.now) c.args.mark c.args.now sessions
-    t.0.session (says c.in-Next.verdict) t.0.there t.1 t.2))
+    t.0.session (says (payload_of (t.0.session.taken ++ piece_of c.args.frame.now ∷ [])) c.in-Next.verdict) t.0.there t.1 t.2))
     (record {
       places = set places c.in-Next.found.place (Some after);
       stand = c.apply.ensures.session places t.0.session s
-          (part_room c.in-Next.verdict g.row.N c.args.wanted.now.signature (piece_of c.args.frame.now) places sessions (key_of c.args.wanted.now.ident) c.in-Next.found t.0.session _
+          (part_room c.in-Next.verdict g.row.N c.args.wanted.now.signature (piece_of c.args.frame.now) places sessions (key_of c.args.wanted.now.ident) c.in-Next.found t.0.session _ _
           (subst (λ t. IsRoomy g.row.S c.args.self.now.pool (piece_of c.args.frame.now) t) c.in-Next.is c.requires.room).2 t.2 a t.0.finds.place t.0.finds.keeps) t.0.finds.keeps t.1;
       arranged = put places sessions (key_of c.args.wanted.now.ident) after c.in-Next.found.place a
-          (key-after (piece_of c.args.frame.now) c.args.mark c.args.now t.0.session (says c.in-Next.verdict)
+          (key-after (piece_of c.args.frame.now) c.args.mark c.args.now t.0.session (says (payload_of (t.0.session.taken ++ piece_of c.args.frame.now ∷ [])) c.in-Next.verdict)
           ∙ for-key most (key_of c.args.wanted.now.ident) (piece_of c.args.frame.now).tail c.args.now sessions t.0.session t.0.there) t.0.finds.place;
     })
 

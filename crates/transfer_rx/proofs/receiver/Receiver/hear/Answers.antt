@@ -11,7 +11,7 @@ use Rattle.transfer_rx.proofs.Arrangement.{forget}
 use Rattle.transfer_rx.proofs.Crcs.{of_key}
 use Rattle.transfer_rx.proofs.Places.{left_twice}
 use Rattle.transfer_rx.proofs.Steps.{anonymous, of_session, unwanted}
-use Rattle.transfer_rx.proofs.receiver.Receiver.take.Goals as goal
+use Rattle.transfer_rx.proofs.receiver.Receiver.hear.Goals as goal
 
 pub returns-in-Err-clause-answer : goal.returns-in-Err-clause-answer
 returns-in-Err-clause-answer g c = λ sessions s.
@@ -24,7 +24,7 @@ returns-in-Err-clause-sessions g c = λ sessions s.
 
 pub returns-then-is_anonymous-clause-answer : goal.returns-then-is_anonymous-clause-answer
 returns-then-is_anonymous-clause-answer g c = λ sessions s.
-    c.alone.ensures.answer
+    c.hear_alone.ensures.answer
     ∙ ap (λ (x : Step). x.answer) (sym (anonymous (record { rows = c.args.self.now.rows.items; me = c.args.self.now.me; sessions = g.row.S; blocks = g.row.N }) sessions (arrival_of c.args.frame.now c.args.mark c.args.now) c.in-Ok.wanted (sym c.wanted.ensures.wanted ∙ c.in-Ok.is) (sym c.is_anonymous.ensures ∙ c.if-is_anonymous.true)))
 
 pub returns-then-is_anonymous-clause-sessions : goal.returns-then-is_anonymous-clause-sessions
@@ -71,6 +71,9 @@ turn-turn-requires g c =
     )
 
 pub invariant_of-self : goal.invariant_of-self
-invariant_of-self g c =
+invariant_of-self g c = record { crcs = c.args.self.now.crcs }
+
+pub invariant_of-self-2 : goal.invariant_of-self-2
+invariant_of-self-2 g c =
     let signatures = signature_in c.args.self.now.rows.items in
     record { crcs = c.settle.ensures.crcs signatures c.in-Ok.ensures.signature (c.forget.ensures.crcs signatures c.args.self.now.crcs) }
