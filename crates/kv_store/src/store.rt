@@ -11,7 +11,7 @@ use crate::fault::{Fault, OpenFault, OpenRefused};
 use crate::load::load;
 use crate::replace::replace;
 use crate::table::Table;
-use crate::value::Value;
+use crate::value::{Value, value_of};
 use disk_model::{Disk, IMAGE, MemoryDisk};
 use outside::{Failed, Pattern};
 
@@ -223,7 +223,7 @@ impl<D: Disk> Store<D> {
         let copy = 1 - self.table.copy(key);
         match replace(&mut self.disk, key as usize, copy, value) {
             Ok(()) => {
-                self.table.set(key, copy, value);
+                self.table.set(key, copy, value_of(value));
                 Ok(())
             }
             Err(Failed) => {

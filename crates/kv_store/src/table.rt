@@ -3,7 +3,7 @@ ghost use Rattle.arrayvec.specs.ArrayVec.{array_vec_len};
 ghost use Rattle.kv_store.specs.Image.{StandsFor, IsFirstDamaged, chosen_copy, key_count, put_in, value_limit};
 ghost use Rattle.kv_store.specs.Table.{value_at};
 
-use crate::value::{KEY_SIZE, KEYS, Value, read_value, value_of};
+use crate::value::{KEY_SIZE, KEYS, Value, read_value};
 use arrayvec::ArrayVec;
 use disk_model::IMAGE;
 
@@ -42,7 +42,7 @@ impl Table {
     {
         for key in 0..KEYS {
             match read_value(image, key) {
-                Some(value) => self.set(key as u8, image[KEY_SIZE * key] % 2, &value),
+                Some(value) => self.set(key as u8, image[KEY_SIZE * key] % 2, value),
                 None => return Err(key as u8),
             }
         }
@@ -81,16 +81,16 @@ impl Table {
         self.copies[key as usize]
     }
 
-    pub fn set(&mut self, key: u8, copy: u8, value: &Value)
+    pub fn set(&mut self, key: u8, copy: u8, value: Value)
         requires key { key < key_count }
         requires copy { copy < 2 }
-        requires short { array_vec_len value.now ≤ value_limit }
+        requires short { array_vec_len value ≤ value_limit }
         ensures map { (k : ℕ) →
-            table_map self.new k ≡ put_in (table_map self.old) key value.now.items k }
+            table_map self.new k ≡ put_in (table_map self.old) key value.items k }
         ensures copy { table_copy self.new key ≡ copy }
         ensures others { (k : ℕ) → k ≢ key → table_copy self.new k ≡ table_copy self.old k }
     {
         self.copies[key as usize] = copy;
-        self.values[key as usize] = value_of(value);
+        self.values[key as usize] = value;
     }
 }

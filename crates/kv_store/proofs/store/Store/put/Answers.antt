@@ -1,5 +1,5 @@
-use Rattle.std.proofs.Common.{rules, ◌-◌, true, false, sym, subst, ◌∙◌}
-use Rattle.kv_store.specs.Image.{StandsFor, put_calls}
+use Rattle.std.proofs.Common.{rules, ◌≡◌, ℕ, ◌-◌, true, false, sym, subst, ◌∙◌}
+use Rattle.kv_store.specs.Image.{StandsFor, put_calls, put_in}
 use Rattle.disk_model.specs.Device.{Makes}
 use Rattle.kv_store.specs.TableViews.{table_map}
 use Rattle.kv_store.proofs.DeviceCalls.{only_image}
@@ -10,7 +10,8 @@ pub returns-in-Ok-clause-durable : goal.returns-in-Ok-clause-durable
 returns-in-Ok-clause-durable g c = λ told image left.
     let held = c.args.self.now.holds (search rules) told in
     let only = only_image (g.D.Disk.contents c.replace.new.disk) image (g.met.D.Disk.sound c.replace.new.disk (c.replace.ensures.tells ∙ told)) (c.in-Ok.ensures.settled told) left in
-    subst (λ xs. StandsFor xs (table_map c.set.new.self)) (sym only) (same_map _ _ _ c.set.ensures.map (c.in-Ok.ensures.map told (table_map c.args.self.now.table) held.shown))
+    let set = subst (λ bytes. (k : ℕ) → table_map c.set.new.self k ≡ put_in (table_map c.args.self.now.table) c.args.key bytes k) (c.value_of.ensures ∙ c.deref.ensures.0) c.set.ensures.map in
+    subst (λ xs. StandsFor xs (table_map c.set.new.self)) (sym only) (same_map _ _ _ set (c.in-Ok.ensures.map told (table_map c.args.self.now.table) held.shown))
 
 pub returns-in-Ok-clause-made : goal.returns-in-Ok-clause-made
 returns-in-Ok-clause-made g c = λ works.
