@@ -5,7 +5,7 @@ ghost use Rattle.transfer_rx.specs.Acceptance.{AnswersByRows};
 ghost use Rattle.transfer_rx.specs.Keys.{is_anonymous};
 ghost use Rattle.transfer_rx.specs.Memory.{ReceiverFitsInMemory};
 ghost use Rattle.transfer_rx.specs.Reassembly.{arrival_of};
-ghost use Rattle.transfer_rx.specs.Told.{told};
+ghost use Rattle.transfer_rx.specs.Heard.{told_with};
 ghost use Rattle.transfer_rx.specs.Views.{setting_of};
 ghost use Rattle.transfer_tx.specs.Queue.{next_out};
 ghost use Rattle.transfer_tx.specs.Views.{queued_of};
@@ -19,7 +19,7 @@ use crate::event::{AEvent, AOutcome};
 use arrayvec::ArrayVec;
 use can_frame::{Frame, Judged, Kind, Mark, NodeId, Seen, Uid};
 use dsdl_codec::Allocation;
-use transfer_rx::{AcceptRow, Receiver, Took, Transfer};
+use transfer_rx::{AcceptRow, Heard, Receiver, Transfer};
 use transfer_tx::Marked;
 
 /// A device that asks for a node ID.
@@ -89,8 +89,8 @@ impl<G: Fn(Kind, u16) -> Option<u64> + Copy> Allocatee<G> {
                 word,
             } => {
                 self.applicant.begin(now);
-                let took = self.receiver.take(&frame, mark, self.applicant.moment());
-                let seen = take(&mut self.applicant, &took, word);
+                let heard = self.receiver.hear(&frame, mark, self.applicant.moment());
+                let seen = take(&mut self.applicant, heard, self.receiver.delivered(), word);
                 AOutcome {
                     seen,
                     sent: ArrayVec::new(),
@@ -138,8 +138,8 @@ impl<G: Fn(Kind, u16) -> Option<u64> + Copy> Allocatee<G> {
             result ≡ arrival_judgement d (arrival_of frame.now mark now) }
     {
         let now = self.applicant.moment().max(now);
-        match self.receiver.peek(frame, mark, now) {
-            Some(transfer) => verdict(transfer.whole, mark.step),
+        match self.receiver.foretell(frame, mark, now) {
+            Some(heading) => verdict(heading.whole, mark.step),
             None => Judged::Fine,
         }
     }
@@ -155,15 +155,16 @@ fn verdict(whole: bool, step: u64) -> Judged
     }
 }
 
-/// What its receiver made of a frame.
-fn take(applicant: &mut Applicant, took: &Took, word: u32) -> Seen
-    ensures seen { result ≡ device.seen_of (told took.now) }
-    ensures asking { applicant.new ≡ device.after_receiver_answer word (told took.now) applicant.old }
+/// What its receiver made of a frame. `transfer` is the one that was delivered last.
+fn take(applicant: &mut Applicant, heard: Heard, transfer: &Transfer, word: u32) -> Seen
+    ensures seen { result ≡ device.seen_of (told_with transfer.now heard) }
+    ensures asking { applicant.new ≡
+        device.after_receiver_answer word (told_with transfer.now heard) applicant.old }
 {
-    match took {
-        Took::Delivered(transfer) => hear(applicant, transfer, word),
-        Took::Part => Seen::Part,
-        Took::Dropped(why) => Seen::Dropped(*why),
+    match heard {
+        Heard::Delivered => hear(applicant, transfer, word),
+        Heard::Part => Seen::Part,
+        Heard::Dropped(why) => Seen::Dropped(why),
     }
 }
 
