@@ -10,7 +10,7 @@ use arrayvec::ArrayVec;
 use block_pool::BlockPool;
 use can_frame::{Frame, Ident, Kind, Mark, Why};
 use std::test::Fail;
-use transfer_rx::{AcceptRow, Receiver, Took, Transfer};
+use transfer_rx::{AcceptRow, Heard, Receiver, Took, Transfer};
 
 const ALLOCATION: u64 = 0x0b2a_8126_20a1_1d40;
 
@@ -328,6 +328,10 @@ fn peek_tells_what_take_delivers(rt: HostRuntime) -> Result<(), Fail> {
     let seen = receiver.peek(&third, mark(2), 0).ok_or("nothing")?;
     assert_eq!(rt; seen.payload.as_slice(), PAYLOAD.as_slice());
     assert_eq!(rt; seen.whole, true);
+    let heading = receiver.foretell(&third, mark(2), 0).ok_or("no heading")?;
+    assert_eq!(rt; heading.ident, seen.ident);
+    assert_eq!(rt; heading.id, 1);
+    assert_eq!(rt; heading.whole, true);
     assert_eq!(rt; receiver.take(&third, mark(2), 0), Took::Delivered(seen));
     Ok(())
 }
@@ -350,6 +354,38 @@ fn a_reset_begins_anew(rt: HostRuntime) {
         comes(0x1e00_0102, &C, 0, Then::Delivered(&PAYLOAD)),
     ];
     assert_eq!(rt; first_wrong(&mut receiver, &rows), None);
+}
+
+#[test]
+fn what_was_heard_is_lent_until_the_next(rt: HostRuntime) -> Result<(), Fail> {
+    let mut receiver: Receiver<_, 1, 1> = Receiver::new(
+        0,
+        accept_rows(Kind::Message, ALLOCATION),
+        allocation,
+    );
+    let mark = Mark {
+        step: 0,
+        re: 0,
+        place: 0,
+    };
+    assert_eq!(rt; receiver.delivered().payload.len(), 0);
+    let first = Frame::from_parts(NODE_1, &A)?;
+    let second = Frame::from_parts(NODE_1, &B)?;
+    let third = Frame::from_parts(NODE_1, &C)?;
+    let next = Frame::from_parts(NODE_1, &[7, 0xc2])?;
+    assert_eq!(rt; receiver.hear(&first, mark, 0), Heard::Part);
+    assert_eq!(rt; receiver.hear(&second, mark, 0), Heard::Part);
+    assert_eq!(rt; receiver.hear(&third, mark, 0), Heard::Delivered);
+    assert_eq!(rt;
+        receiver.hear(&third, mark, 0),
+        Heard::Dropped(Why::TransferId)
+    );
+    assert_eq!(rt; receiver.delivered().payload.as_slice(), PAYLOAD.as_slice());
+    assert_eq!(rt; receiver.delivered().id, 1);
+    assert_eq!(rt; receiver.hear(&next, mark, 0), Heard::Delivered);
+    assert_eq!(rt; receiver.delivered().payload.as_slice(), [7].as_slice());
+    assert_eq!(rt; receiver.delivered().id, 2);
+    Ok(())
 }
 
 /// Whoever keeps a receiver and is generic in its closure.
