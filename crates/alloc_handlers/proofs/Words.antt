@@ -47,4 +47,5 @@ pub use Rattle.std.proofs.lemmas.List.{get_or-replicate, map-append, nil_from_le
 pub use Rattle.std.proofs.lemmas.List.FromFn.{fill_by_all, get_or-map-range_with_len}
 pub use Rattle.std.specs.List.{list_any, range_with_len}
 pub use Rattle.std.specs.Result.{result_err}
-pub use Rattle.transfer_rx.specs.Told.{delivery_of, told}
+pub use Rattle.transfer_rx.specs.Heard.{told_with}
+pub use Rattle.transfer_rx.specs.Told.{delivery_of}

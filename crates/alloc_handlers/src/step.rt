@@ -6,8 +6,8 @@ ghost use Rattle.arrayvec.specs.ArrayVec.{array_vec_len};
 ghost use Rattle.raft_core.specs.StoredPuts.{CallFaultIsSticky};
 ghost use Rattle.alloc_spec.specs.Step.{Tick, step, takes_answer, with_answer};
 ghost use Rattle.alloc_spec.specs.AllocatorState.{AllocatorState};
-ghost use Rattle.transfer_rx.specs.Ranges.{IfDelivered, IsInRange};
-ghost use Rattle.transfer_rx.specs.Told.{told};
+ghost use Rattle.transfer_rx.specs.Heard.{IfDelivers, told_with};
+ghost use Rattle.transfer_rx.specs.Ranges.{IsInRange};
 
 use crate::member::Member;
 use crate::puts::puts_go_on;
@@ -16,7 +16,7 @@ use alloc_spec::laws::phases_add_puts;
 use can_frame::Seen;
 use disk_model::Disk;
 use kv_store::Fault;
-use transfer_rx::Took;
+use transfer_rx::{Heard, Transfer};
 
 impl<D: Disk> Member<D> {
     ghost use Rattle.alloc_handlers.specs.Stands.{IsFresh, IsReady, LeavesUpTo, SeesTo, SeesUpTo, StandsFor};
@@ -39,38 +39,49 @@ impl<D: Disk> Member<D> {
         Ok(Seen::Ticked)
     }
 
-    /// What its receiver made of a frame, in a step that has begun; then the step ends.
-    pub fn take_answer(&mut self, took: &Took, offered: &mut Offered) -> Result<Seen, Fault>
+    /// What its receiver made of a frame, in a step that has begun; then the step ends. `transfer` is the
+    /// one that was delivered last.
+    pub fn take_heard(
+        &mut self,
+        heard: Heard,
+        transfer: &Transfer,
+        offered: &mut Offered,
+    ) -> Result<Seen, Fault>
         requires ready { IsReady self.old }
-        requires ranges { IfDelivered took.now IsInRange }
+        requires ranges { IfDelivers heard (IsInRange transfer.now) }
         requires room { array_vec_len offered.old.sent ≤ 5 }
         requires pairs { array_vec_len offered.old.answers ≡ 0 }
         ensures sees { SeesUpTo self.old self.new offered.old offered.new
-            (takes_answer offered.old.step (told took.now)) result }
+            (takes_answer offered.old.step (told_with transfer.now heard)) result }
         ensures ready { OnOk result (IsReady self.new) }
         ensures faults { CallFaultIsSticky self.old.durable self.new.durable (result_err result) }
     {
         puts_go_on::<D>();
         phases_add_puts();
-        let seen = self.take_delivery(took, offered)?;
+        let seen = self.take_delivery(heard, transfer, offered)?;
         self.end(offered)?;
         Ok(seen)
     }
 
     /// A transfer that was delivered is taken; of any other frame it is told what it led to.
-    fn take_delivery(&mut self, took: &Took, offered: &mut Offered) -> Result<Seen, Fault>
+    fn take_delivery(
+        &mut self,
+        heard: Heard,
+        transfer: &Transfer,
+        offered: &mut Offered,
+    ) -> Result<Seen, Fault>
         requires ready { IsReady self.old }
-        requires ranges { IfDelivered took.now IsInRange }
+        requires ranges { IfDelivers heard (IsInRange transfer.now) }
         requires room { array_vec_len offered.old.sent < 12 }
         requires pairs { array_vec_len offered.old.answers < 2 }
         ensures sees { SeesUpTo self.old self.new offered.old offered.new
-            (with_answer offered.old.step (told took.now)) result }
+            (with_answer offered.old.step (told_with transfer.now heard)) result }
         ensures leaves { LeavesUpTo 1 1 self.old self.new offered.old offered.new result }
     {
-        match took {
-            Took::Delivered(transfer) => self.deliver(transfer, offered),
-            Took::Part => Ok(Seen::Part),
-            Took::Dropped(why) => Ok(Seen::Dropped(*why)),
+        match heard {
+            Heard::Delivered => self.deliver(transfer, offered),
+            Heard::Part => Ok(Seen::Part),
+            Heard::Dropped(why) => Ok(Seen::Dropped(why)),
         }
     }
 }

@@ -1,19 +1,19 @@
 use Rattle.std.proofs.Common.{refl, sym, subst, Ok}
-use Rattle.alloc_handlers.proofs.Words.{Dropped, Part, SeesTo, told, with_answer}
-use Rattle.transfer_rx.specs.declared.transfer.Took.{Took}
+use Rattle.alloc_handlers.proofs.Words.{Dropped, Part, SeesTo, told_with, with_answer}
+use Rattle.transfer_rx.specs.declared.transfer.Heard.{Heard}
 use Rattle.alloc_handlers.proofs.Sights.{sees}
 use Rattle.alloc_handlers.proofs.member.Member.take_delivery.Goals as goal
 
 pub returns-in-Delivered-clause-sees : goal.returns-in-Delivered-clause-sees
 returns-in-Delivered-clause-sees g c start step_state h =
-    subst (λ (took : Took). SeesTo start c.deliver.new.self c.deliver.new.offered (with_answer c.args.offered.now.step (told took) step_state) c.deliver.result) (sym c.in-Delivered.is) (c.deliver.ensures.sees start step_state h)
+    subst (λ (heard : Heard). SeesTo start c.deliver.new.self c.deliver.new.offered (with_answer c.args.offered.now.step (told_with c.args.transfer.now heard) step_state) c.deliver.result) (sym c.in-Delivered.is) (c.deliver.ensures.sees start step_state h)
 
 pub returns-in-Part-clause-sees : goal.returns-in-Part-clause-sees
 returns-in-Part-clause-sees g c start step_state h =
-    subst (λ (took : Took). SeesTo start c.args.self.now c.args.offered.now (with_answer c.args.offered.now.step (told took) step_state) (Ok Part)) (sym c.in-Part.is)
+    subst (λ (heard : Heard). SeesTo start c.args.self.now c.args.offered.now (with_answer c.args.offered.now.step (told_with c.args.transfer.now heard) step_state) (Ok Part)) (sym c.in-Part.is)
     (sees refl h)
 
 pub returns-in-Dropped-clause-sees : goal.returns-in-Dropped-clause-sees
 returns-in-Dropped-clause-sees g c start step_state h =
-    subst (λ (took : Took). SeesTo start c.args.self.now c.args.offered.now (with_answer c.args.offered.now.step (told took) step_state) (Ok (Dropped c.in-Dropped.why))) (sym c.in-Dropped.is)
+    subst (λ (heard : Heard). SeesTo start c.args.self.now c.args.offered.now (with_answer c.args.offered.now.step (told_with c.args.transfer.now heard) step_state) (Ok (Dropped c.in-Dropped.why))) (sym c.in-Dropped.is)
     (sees refl h)
