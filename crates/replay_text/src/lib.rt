@@ -20,7 +20,7 @@ mod told;
 mod word;
 
 pub use line::Line;
-pub use report::write_told;
+pub use report::{tell, write_told};
 pub use row::Row;
 pub use schedule::{read_frame, read_row};
 pub use told::Told;

@@ -1,24 +1,27 @@
-ghost use Rattle.std.specs.Prelude.{◌≡◌, ◌<◌, ◌≤◌, ◌+◌, ◌*◌, ◌++◌, [], length, decimal, codes};
+ghost use Rattle.std.specs.Prelude.{◌≡◌, ◌<◌, ◌≤◌, ◌+◌, ◌*◌, ◌++◌, ◌∷◌, [], length, decimal, codes};
 ghost use Rattle.hex.specs.Hex.{encode_lower};
 
 use arrayvec::ArrayVec;
-use itoa::Buffer;
 use std::marker::Model;
+
+/// How many bytes a line has at the most.
+const LONGEST: usize = 400;
 
 /// A line of a report while it is written, of at most 400 bytes.
 #[derive(Drop)]
 pub struct Line {
-    bytes: ArrayVec<u8, 400>,
+    bytes: [u8; LONGEST],
+    len: usize,
 }
 
 impl Model for Line {
-    ghost use Rattle.std.specs.Prelude.{ℕ, List, ◌≤◌, length};
+    ghost use Rattle.std.specs.Prelude.{ℕ, List, ◌≡◌, ◌≤◌, length, take};
 
     ghost Value = { List ℕ };
 
-    ghost view = { λ line. line.bytes.items };
+    ghost view = { λ line. take line.len line.bytes };
 
-    ghost invariant = { λ line. length line.bytes.items ≤ 400 };
+    ghost invariant = { λ line. (length line.bytes ≡ 400) × (line.len ≤ 400) };
 }
 
 impl Line {
@@ -27,8 +30,26 @@ impl Line {
         ensures { result ≡ [] }
     {
         Line {
-            bytes: ArrayVec::new(),
+            bytes: [0; LONGEST],
+            len: 0,
         }
+    }
+
+    /// Takes all bytes away.
+    pub fn clear(&mut self)
+        ensures { self.new ≡ [] }
+    {
+        self.len = 0;
+    }
+
+    /// Appends a byte.
+    pub fn byte(&mut self, byte: u8)
+        requires { length self.old < 400 }
+        ensures text { self.new ≡ self.old ++ byte ∷ [] }
+        ensures len { length self.new ≡ length self.old + 1 }
+    {
+        self.bytes[self.len] = byte;
+        self.len += 1;
     }
 
     /// Appends a text.
@@ -37,7 +58,9 @@ impl Line {
         ensures text { self.new ≡ self.old ++ text.now }
         ensures len { length self.new ≡ length self.old + length text.now }
     {
-        self.bytes.try_extend_from_slice(text).unwrap();
+        let end = self.len + text.len();
+        self.bytes[self.len..end].copy_from_slice(text);
+        self.len = end;
     }
 
     /// Appends a number in decimal. Most have one digit.
@@ -48,10 +71,12 @@ impl Line {
         ensures short { n < 1000 → length self.new ≤ length self.old + 3 }
     {
         if n < 10 {
-            self.text(&[b'0' + n as u8]);
-        } else {
-            self.text(Buffer::new().format(n).as_bytes());
+            self.byte(b'0' + n as u8);
+            return;
         }
+        let end = self.len + count_digits(n);
+        itoa::write_digits(n, &mut self.bytes, end);
+        self.len = end;
     }
 
     /// Appends a space and a number in decimal.
@@ -61,7 +86,7 @@ impl Line {
         ensures len { length self.new ≤ length self.old + 21 }
         ensures short { n < 1000 → length self.new ≤ length self.old + 4 }
     {
-        self.text(b" ");
+        self.byte(b' ');
         self.number(n);
     }
 
@@ -72,10 +97,9 @@ impl Line {
         ensures text { self.new ≡ self.old ++ encode_lower bytes.now }
         ensures len { length self.new ≡ length self.old + 2 * length bytes.now }
     {
-        let mut digits = [0; 32];
-        let digits = &mut digits[..2 * bytes.len()];
-        match hex::encode_to_slice(bytes, digits) {
-            Ok(()) => self.text(digits),
+        let end = self.len + 2 * bytes.len();
+        match hex::encode_to_slice(bytes, &mut self.bytes[self.len..end]) {
+            Ok(()) => self.len = end,
             Err(_) => unreachable!(),
         }
     }
@@ -84,7 +108,7 @@ impl Line {
     pub fn as_bytes(&self) -> &[u8]
         ensures bytes { result.now ≡ self.now }
     {
-        &self.bytes
+        &self.bytes[..self.len]
     }
 
     /// The bytes, at most 400.
@@ -92,6 +116,25 @@ impl Line {
         ensures bytes { result.items ≡ self }
         ensures fits { length result.items ≤ 400 }
     {
-        self.bytes
+        let mut bytes = ArrayVec::new();
+        bytes.try_extend_from_slice(self.as_bytes()).unwrap();
+        bytes
+    }
+}
+
+/// How many digits a number has in decimal.
+fn count_digits(n: u64) -> usize
+    ensures { result ≡ length (decimal n) }
+{
+    if n < 10 {
+        1
+    } else if n < 100 {
+        2
+    } else if n < 1_000 {
+        3
+    } else if n < 10_000 {
+        4
+    } else {
+        4 + count_digits(n / 10_000)
     }
 }

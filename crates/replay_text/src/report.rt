@@ -1,4 +1,4 @@
-ghost use Rattle.std.specs.Prelude.{◌≡◌, ◌≤◌, ◌<◌, ◌+◌, ◌*◌, ◌++◌, codes, length, decimal, flat_map};
+ghost use Rattle.std.specs.Prelude.{◌≡◌, ◌≤◌, ◌<◌, ◌+◌, ◌*◌, ◌++◌, ◌∷◌, [], codes, length, decimal, flat_map};
 ghost use Rattle.hex.specs.Hex.{encode_lower};
 ghost use Rattle.replay_text.specs.Words.{identifier_bytes};
 ghost use Rattle.replay_text.specs.Report.{role_letter, seen_word, sent_mark, state_word, told_line};
@@ -15,6 +15,16 @@ pub fn write_told(row: u64, told: &Told) -> ArrayVec<u8, 400>
     ensures fits { length result.items ≤ 400 }
 {
     let mut line = Line::new();
+    tell(&mut line, row, told);
+    line.into_bytes()
+}
+
+/// Makes a line that of what row number `row` did, as `write_told` gives it; what it was before is gone.
+pub fn tell(line: &mut Line, row: u64, told: &Told)
+    ensures line { line.new ≡ told_line row told.now }
+    ensures fits { length line.new ≤ 400 }
+{
+    line.clear();
     line.number(row);
     match told {
         Told::Opened {
@@ -24,8 +34,8 @@ pub fn write_told(row: u64, told: &Told) -> ArrayVec<u8, 400>
             last,
             commit,
         } => {
-            write_event(&mut line, *n, b" open");
-            write_state(&mut line, *term, *vote, *last, *commit);
+            write_event(line, *n, b" open");
+            write_state(line, *term, *vote, *last, *commit);
         }
         Told::Stepped {
             n,
@@ -37,23 +47,25 @@ pub fn write_told(row: u64, told: &Told) -> ArrayVec<u8, 400>
             seen,
             sent,
         } => {
-            write_event(&mut line, *n, letter(*role));
-            write_state(&mut line, *term, *last, *commit, *queued);
-            write_seen(&mut line, *seen);
-            write_marks(&mut line, sent);
+            line.field(u64::from(*n));
+            line.byte(b' ');
+            line.byte(letter(*role));
+            write_state(line, *term, *last, *commit, *queued);
+            write_seen(line, *seen);
+            write_marks(line, sent);
         }
-        Told::Failed { n } => write_event(&mut line, *n, b" fault"),
-        Told::Stopped { n } => write_event(&mut line, *n, b" stop"),
-        Told::Armed { n } => write_event(&mut line, *n, b" armed"),
+        Told::Failed { n } => write_event(line, *n, b" fault"),
+        Told::Stopped { n } => write_event(line, *n, b" stop"),
+        Told::Armed { n } => write_event(line, *n, b" armed"),
         Told::Popped { n, k, frame } => {
-            write_event(&mut line, *n, b" send");
-            write_frame(&mut line, *k, frame);
+            write_event(line, *n, b" send");
+            write_frame(line, *k, frame);
         }
         Told::Outside { k } => {
             line.text(b" ext");
             line.field(u64::from(*k));
         }
-        Told::AOpened { a } => write_allocatee(&mut line, *a, b" open"),
+        Told::AOpened { a } => write_allocatee(line, *a, b" open"),
         Told::AStepped {
             a,
             holds,
@@ -61,20 +73,19 @@ pub fn write_told(row: u64, told: &Told) -> ArrayVec<u8, 400>
             seen,
             sent,
         } => {
-            write_allocatee(&mut line, *a, b" ");
-            write_holds(&mut line, *holds);
+            write_allocatee(line, *a, b" ");
+            write_holds(line, *holds);
             line.field(u64::from(*queued));
-            write_seen(&mut line, *seen);
-            write_marks(&mut line, sent);
+            write_seen(line, *seen);
+            write_marks(line, sent);
         }
         Told::APopped { a, k, frame } => {
-            write_allocatee(&mut line, *a, b" send");
-            write_frame(&mut line, *k, frame);
+            write_allocatee(line, *a, b" send");
+            write_frame(line, *k, frame);
         }
-        Told::AEnded { a } => write_allocatee(&mut line, *a, b" end"),
+        Told::AEnded { a } => write_allocatee(line, *a, b" end"),
     }
-    line.text(b"\n");
-    line.into_bytes()
+    line.byte(b'\n');
 }
 
 /// A node and what happened to it.
@@ -134,20 +145,19 @@ fn write_frame(line: &mut Line, k: u32, frame: &Frame)
     ensures len { length line.new ≤ length line.old + 47 }
 {
     line.field(u64::from(k));
-    line.text(b" ");
+    line.byte(b' ');
     line.hex(&frame.id.to_be_bytes());
-    line.text(b" ");
+    line.byte(b' ');
     line.hex(&frame.bytes);
 }
 
-fn letter(role: Role) -> &'static [u8]
-    ensures letter { result.now ≡ codes " " ++ role_letter role }
-    ensures len { length result.now ≡ 2 }
+fn letter(role: Role) -> u8
+    ensures { result ∷ [] ≡ role_letter role }
 {
     match role {
-        Role::Follower => b" F",
-        Role::Candidate => b" C",
-        Role::Leader => b" L",
+        Role::Follower => b'F',
+        Role::Candidate => b'C',
+        Role::Leader => b'L',
     }
 }
 
@@ -156,7 +166,7 @@ fn write_seen(line: &mut Line, seen: Seen)
     ensures text { line.new ≡ line.old ++ codes " " ++ seen_word seen }
     ensures len { length line.new ≤ length line.old + 9 }
 {
-    line.text(b" ");
+    line.byte(b' ');
     match seen {
         Seen::Ticked => line.text(b"tick"),
         Seen::Took => line.text(b"took"),
@@ -184,8 +194,9 @@ fn write_mark(line: &mut Line, transfer: Sent)
     ensures text { line.new ≡ line.old ++ sent_mark transfer }
     ensures len { length line.new ≤ length line.old + 11 }
 {
-    line.text(if transfer.fitted { b" +" } else { b" -" });
+    line.byte(b' ');
+    line.byte(if transfer.fitted { b'+' } else { b'-' });
     line.text(transfer.what.transfer_type().name);
-    line.text(b":");
+    line.byte(b':');
     line.number(u64::from(transfer.to));
 }
