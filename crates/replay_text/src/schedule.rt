@@ -10,8 +10,8 @@ ghost use Rattle.replay_text.specs.Words.{IsHex, identifier_bytes, words};
 use crate::Row;
 use crate::laws::a_line_has_one_row;
 use crate::word::{
-    four_words, one_word, read_bytes, read_identifier, read_number, read_u8, read_u32, read_uid,
-    split_word, three_words, two_words,
+    a_number_is_one_word, four_words, one_word, read_bytes, read_identifier, read_number, read_u8,
+    read_u32, read_uid, split_word, three_words, two_words,
 };
 use can_frame::Frame;
 use can_frame::laws::frames_are_their_parts;
@@ -34,9 +34,10 @@ pub fn read_row(line: &[u8]) -> Option<Row>
 {
     a_line_has_one_row();
     let (name, fields) = split_word(line)?;
-    match read_cluster_row(name, fields) {
-        Some(row) => Some(row),
-        None => read_allocatee_row(name, fields),
+    if name.first() == Some(&b'a') {
+        read_allocatee_row(name, fields)
+    } else {
+        read_cluster_row(name, fields)
     }
 }
 
@@ -99,7 +100,9 @@ fn read_turn(fields: &[u8]) -> Option<(u8, u64, u32)>
         → words fields.now ≡ decimal n ∷ decimal ms ∷ decimal word ∷ [] →
         result ≡ Some (n, ms, word) }
 {
-    let (n, ms, word) = three_words(fields)?;
+    a_number_is_one_word();
+    let (n, rest) = split_word(fields)?;
+    let (ms, word) = split_word(rest)?;
     let n = read_u8(n)?;
     let ms = read_number(ms, LAST_MOMENT)?;
     let word = read_u32(word, u32::MAX)?;
@@ -111,7 +114,9 @@ fn read_rx(fields: &[u8]) -> Option<Row>
     ensures only { (row : RowValue) → ReadsWords row (codes "rx" ∷ words fields.now) →
         result ≡ Some row }
 {
-    let (n, k, ms) = three_words(fields)?;
+    a_number_is_one_word();
+    let (n, rest) = split_word(fields)?;
+    let (k, ms) = split_word(rest)?;
     let n = read_u8(n)?;
     let k = read_u32(k, u32::MAX)?;
     let ms = read_number(ms, LAST_MOMENT)?;
@@ -123,8 +128,8 @@ fn read_send(fields: &[u8]) -> Option<Row>
     ensures only { (row : RowValue) → ReadsWords row (codes "send" ∷ words fields.now) →
         result ≡ Some row }
 {
-    let n = one_word(fields)?;
-    let n = read_u8(n)?;
+    a_number_is_one_word();
+    let n = read_u8(fields)?;
     Some(Row::Send { n })
 }
 
@@ -252,8 +257,8 @@ fn read_asend(fields: &[u8]) -> Option<Row>
     ensures only { (row : RowValue) → ReadsWords row (codes "asend" ∷ words fields.now) →
         result ≡ Some row }
 {
-    let a = one_word(fields)?;
-    let a = read_u8(a)?;
+    a_number_is_one_word();
+    let a = read_u8(fields)?;
     Some(Row::ASend { a })
 }
 
@@ -262,7 +267,7 @@ fn read_aend(fields: &[u8]) -> Option<Row>
     ensures only { (row : RowValue) → ReadsWords row (codes "aend" ∷ words fields.now) →
         result ≡ Some row }
 {
-    let a = one_word(fields)?;
-    let a = read_u8(a)?;
+    a_number_is_one_word();
+    let a = read_u8(fields)?;
     Some(Row::AEnd { a })
 }

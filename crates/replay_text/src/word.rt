@@ -171,6 +171,12 @@ pub fn four_words(text: &[u8]) -> Option<(&[u8], &[u8], &[u8], &[u8])>
     Some((first, second, third, fourth))
 }
 
+/// A law: a text is one word that spells a number exactly where the text itself spells it.
+pub fn a_number_is_one_word()
+    ensures alone { (n : ℕ) (text : List ℕ) → n < 2 ^ 64 → text ≡ decimal n → words text ≡ decimal n ∷ [] }
+    ensures whole { (n : ℕ) (text : List ℕ) → words text ≡ decimal n ∷ [] → text ≡ decimal n }
+{}
+
 /// A unique ID: 16 bytes.
 pub fn read_uid(word: &[u8]) -> Option<Uid>
     ensures found { IfSome result (λ uid. IsUid uid × IsHex uid word.now) }
