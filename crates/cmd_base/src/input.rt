@@ -110,7 +110,7 @@ fn line_end(bytes: &[u8], end: u8) -> Option<usize>
     ensures found { IfSome result (IsLineEnd end bytes.now) }
     ensures none { IsNone result → HasNoLineEnd end bytes.now }
 {
-    bytes.iter().position(|byte| *byte == end)
+    memchr::memchr(end, bytes)
 }
 
 /// Moves the bytes from `start` to `end` to the front.
