@@ -1,6 +1,7 @@
 pub mod Digits
 pub mod FirstLine
 pub mod Frames
+pub mod Front
 pub mod Numbers
 pub mod OneRow
 pub mod Spelled

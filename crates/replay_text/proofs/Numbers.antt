@@ -35,7 +35,7 @@ pub record WritesSoFar (all rest : List ℕ) (n : ℕ) : Type 0 where
   pub on : AllDigits 10 all → AllDigits 10 rest
 
 -- more digits write no smaller number
-rises : (n : ℕ) (digits : List ℕ) → n ≤ digits_value_after 10 n digits
+pub rises : (n : ℕ) (digits : List ℕ) → n ≤ digits_value_after 10 n digits
 rises n [] = omega arith
 rises n (digit ∷ digits) = omega (arith, rises (n * 10 + digit_value digit) digits)
 

@@ -37,7 +37,7 @@ visible-hex bytes word read =
 abbrev pub AreVisible : List (List ℕ) → Type 0
 AreVisible line = All IsVisible line
 
-no_space : (word : List ℕ) → IsVisible word → All (λ byte. (byte == 32) ≡ false) word
+pub no_space : (word : List ℕ) → IsVisible word → All (λ byte. (byte == 32) ≡ false) word
 no_space word visible =
     All-weaker (λ byte. 33 ≤ byte) (λ byte. (byte == 32) ≡ false) (λ byte h. ne_eqb byte 32 (λ e. absurd (omega arith))) word visible
 

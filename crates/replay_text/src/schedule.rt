@@ -10,8 +10,8 @@ ghost use Rattle.replay_text.specs.Words.{IsHex, identifier_bytes, words};
 use crate::Row;
 use crate::laws::a_line_has_one_row;
 use crate::word::{
-    a_number_is_one_word, four_words, one_word, read_bytes, read_identifier, read_number, read_u8,
-    read_u32, read_uid, split_word, three_words, two_words,
+    front_number, last_number, one_word, read_bytes, read_identifier, read_uid, split_word,
+    two_words,
 };
 use can_frame::Frame;
 use can_frame::laws::frames_are_their_parts;
@@ -24,7 +24,13 @@ const LAST_MOMENT: u64 = 1_000_000_000_000_000;
 const LAST_PREFERENCE: u64 = 127;
 
 /// The highest number of a disk call.
-const LAST_CALL: u32 = 1_000_000;
+const LAST_CALL: u64 = 1_000_000;
+
+/// The highest number of 8 bits.
+const MOST_OF_8_BITS: u64 = 255;
+
+/// The highest number of 32 bits.
+const MOST_OF_32_BITS: u64 = 4_294_967_295;
 
 /// The row that a line reads as, without its line feed; `None` where it reads as none.
 pub fn read_row(line: &[u8]) -> Option<Row>
@@ -100,13 +106,22 @@ fn read_turn(fields: &[u8]) -> Option<(u8, u64, u32)>
         → words fields.now ≡ decimal n ∷ decimal ms ∷ decimal word ∷ [] →
         result ≡ Some (n, ms, word) }
 {
-    a_number_is_one_word();
-    let (n, rest) = split_word(fields)?;
-    let (ms, word) = split_word(rest)?;
-    let n = read_u8(n)?;
-    let ms = read_number(ms, LAST_MOMENT)?;
-    let word = read_u32(word, u32::MAX)?;
-    Some((n, ms, word))
+    let (n, rest) = front_number(fields, MOST_OF_8_BITS)?;
+    let (ms, word) = read_moment(rest)?;
+    Some((n as u8, ms, word))
+}
+
+/// A moment and a random word, which are the last fields of a row.
+fn read_moment(fields: &[u8]) -> Option<(u64, u32)>
+    ensures found { IfSome result (λ moment. (moment.0 ≤ last_moment)
+        × (words fields.now ≡ decimal moment.0 ∷ decimal moment.1 ∷ [])) }
+    ensures only { (ms word : ℕ) → ms ≤ last_moment → word < 2 ^ 32
+        → words fields.now ≡ decimal ms ∷ decimal word ∷ [] →
+        result ≡ Some (ms, word) }
+{
+    let (ms, rest) = front_number(fields, LAST_MOMENT)?;
+    let word = last_number(rest, MOST_OF_32_BITS)?;
+    Some((ms, word as u32))
 }
 
 fn read_rx(fields: &[u8]) -> Option<Row>
@@ -114,13 +129,14 @@ fn read_rx(fields: &[u8]) -> Option<Row>
     ensures only { (row : RowValue) → ReadsWords row (codes "rx" ∷ words fields.now) →
         result ≡ Some row }
 {
-    a_number_is_one_word();
-    let (n, rest) = split_word(fields)?;
-    let (k, ms) = split_word(rest)?;
-    let n = read_u8(n)?;
-    let k = read_u32(k, u32::MAX)?;
-    let ms = read_number(ms, LAST_MOMENT)?;
-    Some(Row::Rx { n, k, ms })
+    let (n, rest) = front_number(fields, MOST_OF_8_BITS)?;
+    let (k, rest) = front_number(rest, MOST_OF_32_BITS)?;
+    let ms = last_number(rest, LAST_MOMENT)?;
+    Some(Row::Rx {
+        n: n as u8,
+        k: k as u32,
+        ms,
+    })
 }
 
 fn read_send(fields: &[u8]) -> Option<Row>
@@ -128,9 +144,8 @@ fn read_send(fields: &[u8]) -> Option<Row>
     ensures only { (row : RowValue) → ReadsWords row (codes "send" ∷ words fields.now) →
         result ≡ Some row }
 {
-    a_number_is_one_word();
-    let n = read_u8(fields)?;
-    Some(Row::Send { n })
+    let n = last_number(fields, MOST_OF_8_BITS)?;
+    Some(Row::Send { n: n as u8 })
 }
 
 fn read_ext(fields: &[u8]) -> Option<Row>
@@ -164,11 +179,14 @@ fn read_crash(fields: &[u8]) -> Option<Row>
     ensures only { (row : RowValue) → ReadsWords row (codes "crash" ∷ words fields.now) →
         result ≡ Some row }
 {
-    let (n, calls, pattern) = three_words(fields)?;
-    let n = read_u8(n)?;
-    let calls = read_u32(calls, LAST_CALL)?;
-    let pattern = read_pattern(pattern)?;
-    Some(Row::Crash { n, calls, pattern })
+    let (n, rest) = front_number(fields, MOST_OF_8_BITS)?;
+    let (calls, rest) = front_number(rest, LAST_CALL)?;
+    let pattern = read_pattern(one_word(rest)?)?;
+    Some(Row::Crash {
+        n: n as u8,
+        calls: calls as u32,
+        pattern,
+    })
 }
 
 fn read_pattern(word: &[u8]) -> Option<Pattern>
@@ -200,13 +218,15 @@ fn read_fault(fields: &[u8]) -> Option<Row>
     ensures only { (row : RowValue) → ReadsWords row (codes "fault" ∷ words fields.now) →
         result ≡ Some row }
 {
-    let (n, call) = two_words(fields)?;
-    let n = read_u8(n)?;
-    let call = read_u32(call, LAST_CALL)?;
+    let (n, rest) = front_number(fields, MOST_OF_8_BITS)?;
+    let call = last_number(rest, LAST_CALL)?;
     if call == 0 {
         return None;
     }
-    Some(Row::Fault { n, call })
+    Some(Row::Fault {
+        n: n as u8,
+        call: call as u32,
+    })
 }
 
 fn read_aopen(fields: &[u8]) -> Option<Row>
@@ -214,17 +234,15 @@ fn read_aopen(fields: &[u8]) -> Option<Row>
     ensures only { (row : RowValue) → ReadsWords row (codes "aopen" ∷ words fields.now) →
         result ≡ Some row }
 {
-    let (a, rest) = split_word(fields)?;
-    let (uid, pref, ms, word) = four_words(rest)?;
-    let a = read_u8(a)?;
+    let (a, rest) = front_number(fields, MOST_OF_8_BITS)?;
+    let (uid, rest) = split_word(rest)?;
     let uid = read_uid(uid)?;
-    let pref = read_number(pref, LAST_PREFERENCE)? as u8;
-    let ms = read_number(ms, LAST_MOMENT)?;
-    let word = read_u32(word, u32::MAX)?;
+    let (pref, rest) = front_number(rest, LAST_PREFERENCE)?;
+    let (ms, word) = read_moment(rest)?;
     Some(Row::AOpen {
-        a,
+        a: a as u8,
         uid,
-        pref,
+        pref: pref as u8,
         ms,
         word,
     })
@@ -244,12 +262,15 @@ fn read_arx(fields: &[u8]) -> Option<Row>
     ensures only { (row : RowValue) → ReadsWords row (codes "arx" ∷ words fields.now) →
         result ≡ Some row }
 {
-    let (a, k, ms, word) = four_words(fields)?;
-    let a = read_u8(a)?;
-    let k = read_u32(k, u32::MAX)?;
-    let ms = read_number(ms, LAST_MOMENT)?;
-    let word = read_u32(word, u32::MAX)?;
-    Some(Row::ARx { a, k, ms, word })
+    let (a, rest) = front_number(fields, MOST_OF_8_BITS)?;
+    let (k, rest) = front_number(rest, MOST_OF_32_BITS)?;
+    let (ms, word) = read_moment(rest)?;
+    Some(Row::ARx {
+        a: a as u8,
+        k: k as u32,
+        ms,
+        word,
+    })
 }
 
 fn read_asend(fields: &[u8]) -> Option<Row>
@@ -257,9 +278,8 @@ fn read_asend(fields: &[u8]) -> Option<Row>
     ensures only { (row : RowValue) → ReadsWords row (codes "asend" ∷ words fields.now) →
         result ≡ Some row }
 {
-    a_number_is_one_word();
-    let a = read_u8(fields)?;
-    Some(Row::ASend { a })
+    let a = last_number(fields, MOST_OF_8_BITS)?;
+    Some(Row::ASend { a: a as u8 })
 }
 
 fn read_aend(fields: &[u8]) -> Option<Row>
@@ -267,7 +287,6 @@ fn read_aend(fields: &[u8]) -> Option<Row>
     ensures only { (row : RowValue) → ReadsWords row (codes "aend" ∷ words fields.now) →
         result ≡ Some row }
 {
-    a_number_is_one_word();
-    let a = read_u8(fields)?;
-    Some(Row::AEnd { a })
+    let a = last_number(fields, MOST_OF_8_BITS)?;
+    Some(Row::AEnd { a: a as u8 })
 }

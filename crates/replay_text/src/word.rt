@@ -1,8 +1,9 @@
-ghost use Rattle.std.specs.Prelude.{◌≡◌, ◌<◌, ◌≤◌, ◌∷◌, ◌^◌, ◌↔◌, [], ℕ, List, decimal, length, slice_index, Some, IfSome, IsNone, IsTrue, ◌==◌};
+ghost use Rattle.std.specs.Prelude.{◌≡◌, ◌<◌, ◌≤◌, ◌∷◌, ◌^◌, ◌↔◌, [], ℕ, List, decimal, length, take, slice_index, Some, IfSome, IsNone, IsTrue, ◌==◌};
 ghost use Rattle.std.specs.List.{position_or_len};
-ghost use Rattle.std.specs.Str.Parse.{IsNumeral, digits_value};
+ghost use Rattle.std.specs.Str.Parse.{AllDigits, IsNumeral, digits_value};
 ghost use Rattle.arrayvec.specs.ArrayVec.{ArrayVec as Items};
-ghost use Rattle.replay_text.specs.Schedule.{IsUid};
+ghost use Rattle.replay_text.specs.Digits.{digits_in_front};
+ghost use Rattle.replay_text.specs.Schedule.{IsUid, last_moment};
 ghost use Rattle.replay_text.specs.Words.{IsHex, identifier_bytes, words};
 
 use arrayvec::ArrayVec;
@@ -25,22 +26,12 @@ pub fn read_number(word: &[u8], most: u64) -> Option<u64>
     Some(n)
 }
 
-/// The same for a number of 8 bits.
-pub fn read_u8(word: &[u8]) -> Option<u8>
-    ensures found { IfSome result (λ n. word.now ≡ decimal n) }
-    ensures only { (n : ℕ) → n < 256 → word.now ≡ decimal n → result ≡ Some n }
+/// Whether digits are those of a number: there are some, and no zero leads more of them.
+fn is_numeral(digits: &[u8]) -> bool
+    ensures { IsTrue result ↔ ((0 < length digits.now)
+        × (slice_index digits.now 0 ≡ 48 → length digits.now ≡ 1)) }
 {
-    let n = read_number(word, 255)?;
-    Some(n as u8)
-}
-
-/// The same for a number of 32 bits.
-pub fn read_u32(word: &[u8], most: u32) -> Option<u32>
-    ensures found { IfSome result (λ n. (n ≤ most) × (word.now ≡ decimal n)) }
-    ensures only { (n : ℕ) → n ≤ most → word.now ≡ decimal n → result ≡ Some n }
-{
-    let n = read_number(word, u64::from(most))?;
-    Some(n as u32)
+    !digits.is_empty() && !has_leading_zero(digits)
 }
 
 fn has_leading_zero(word: &[u8]) -> bool
@@ -66,6 +57,62 @@ fn value_of_digits(word: &[u8]) -> Option<u64>
         n = n.checked_mul(10)?.checked_add(u64::from(*byte - b'0'))?;
     }
     Some(n)
+}
+
+/// The number of a first word that spells one, where it is at most `most`, and what stands behind the
+/// space after it; `None` where there is no space.
+pub fn front_number(text: &[u8], most: u64) -> Option<(u64, &[u8])>
+    requires { most ≤ last_moment }
+    ensures found { IfSome result (λ parts. (parts.0 ≤ most)
+        × (words text.now ≡ decimal parts.0 ∷ words parts.1.now)) }
+    ensures none { IsNone result → (n : ℕ) (next : List ℕ) (more : List (List ℕ)) → n ≤ most →
+        words text.now ≡ decimal n ∷ next ∷ more → ⊥ }
+    ensures only { IfSome result (λ parts. (n : ℕ) → n ≤ most → decimal parts.0 ≡ decimal n → parts.0 ≡ n) }
+{
+    let (n, size) = front_digits(text, most)?;
+    if size == text.len() || text[size] != b' ' {
+        return None;
+    }
+    if !is_numeral(&text[..size]) {
+        return None;
+    }
+    Some((n, &text[size + 1..]))
+}
+
+/// The number that a text of one word spells, where it is at most `most`.
+pub fn last_number(text: &[u8], most: u64) -> Option<u64>
+    requires { most ≤ last_moment }
+    ensures found { IfSome result (λ n. (n ≤ most) × (words text.now ≡ decimal n ∷ [])) }
+    ensures only { (n : ℕ) → n ≤ most → words text.now ≡ decimal n ∷ [] → result ≡ Some n }
+{
+    let (n, size) = front_digits(text, most)?;
+    if size < text.len() || !is_numeral(text) {
+        return None;
+    }
+    Some(n)
+}
+
+/// The digits at the front of a text: the number that they write, and how many they are; `None` where it
+/// is above `most`.
+fn front_digits(text: &[u8], most: u64) -> Option<(u64, usize)>
+    requires { most ≤ last_moment }
+    ensures found { IfSome result (λ front. (front.0 ≤ most) × (front.1 ≤ length text.now)
+        × AllDigits 10 (take front.1 text.now) × (front.0 ≡ digits_value 10 (take front.1 text.now))) }
+    ensures exact { result ≡ digits_in_front most 0 0 text.now }
+{
+    let mut n = 0;
+    let mut size = 0;
+    for byte in text {
+        if !byte.is_ascii_digit() {
+            return Some((n, size));
+        }
+        n = 10 * n + u64::from(*byte - b'0');
+        if n > most {
+            return None;
+        }
+        size += 1;
+    }
+    Some((n, size))
 }
 
 /// The bytes that a word of hexadecimal digits spells, where they are at most `N`.
@@ -148,34 +195,6 @@ pub fn two_words(text: &[u8]) -> Option<(&[u8], &[u8])>
     let second = one_word(rest)?;
     Some((first, second))
 }
-
-/// The three words of a text; `None` where it has fewer or more.
-pub fn three_words(text: &[u8]) -> Option<(&[u8], &[u8], &[u8])>
-    ensures some { IfSome result
-        (λ parts. words text.now ≡ parts.0.now ∷ parts.1.now ∷ parts.2.now ∷ []) }
-    ensures none { IsNone result → (a b c : List ℕ) → words text.now ≡ a ∷ b ∷ c ∷ [] → ⊥ }
-{
-    let (first, rest) = split_word(text)?;
-    let (second, third) = two_words(rest)?;
-    Some((first, second, third))
-}
-
-/// The four words of a text; `None` where it has fewer or more.
-pub fn four_words(text: &[u8]) -> Option<(&[u8], &[u8], &[u8], &[u8])>
-    ensures some { IfSome result (λ parts. words text.now
-        ≡ parts.0.now ∷ parts.1.now ∷ parts.2.now ∷ parts.3.now ∷ []) }
-    ensures none { IsNone result → (a b c d : List ℕ) → words text.now ≡ a ∷ b ∷ c ∷ d ∷ [] → ⊥ }
-{
-    let (first, rest) = split_word(text)?;
-    let (second, third, fourth) = three_words(rest)?;
-    Some((first, second, third, fourth))
-}
-
-/// A law: a text is one word that spells a number exactly where the text itself spells it.
-pub fn a_number_is_one_word()
-    ensures alone { (n : ℕ) (text : List ℕ) → n < 2 ^ 64 → text ≡ decimal n → words text ≡ decimal n ∷ [] }
-    ensures whole { (n : ℕ) (text : List ℕ) → words text ≡ decimal n ∷ [] → text ≡ decimal n }
-{}
 
 /// A unique ID: 16 bytes.
 pub fn read_uid(word: &[u8]) -> Option<Uid>
