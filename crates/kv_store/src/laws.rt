@@ -25,7 +25,8 @@ pub fn an_image_stands_for_one_map()
         IsFirstDamaged image key → ⊥ }
 {}
 
-/// Whatever a stop leaves of the disk of a store stands for its map, while no put has failed.
+/// Whatever a stop leaves of the disk of a store stands for its map, while the store is open and no put has
+/// failed.
 pub fn a_store_is_durable<D: Disk>()
     ensures { (store : Store D D.Disk) → store_fault store ≡ None →
         D.tells (store_disk store) ≡ true →

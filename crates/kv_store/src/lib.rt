@@ -3,8 +3,9 @@
 //! An image of the disk stands for a map from keys to values (`specs/Image.antt`). Each key has two
 //! copies and a selector that chooses one of them. A put writes the other copy, and then turns the
 //! selector: a stop at any moment leaves the old map or the new one, and once the put has succeeded the
-//! new one alone. After a put that failed a store answers the same fault for ever; whether that put is
-//! done, only an opening finds.
+//! new one alone. After a put that failed a store answers the same fault until it is opened again; whether
+//! that put is done, only an opening finds. [`Store::reopen`] opens a store where it stands, [`Store::open`]
+//! one of its own.
 //!
 //! What an image holds can be read without a store, too: one value of it by [`Image::value`], all of them by
 //! [`Table::read`].

@@ -21,8 +21,8 @@ pub struct Store<D: Disk> {
     disk: D,
     table: Table,
 
-    /// What every put answers, until the store is opened: the fault of the put that failed, or the count
-    /// of the disk when the store was closed.
+    /// What every put answers until the store is opened: the fault of the put that failed, or the count that
+    /// the disk had when the store was closed. None while it is open.
     failed: Option<Fault>,
     ghost holds: { failed ≡ None → D.tells disk ≡ true →
         Holds (D.contents disk) (table_map table) (table_copy table) },
@@ -94,8 +94,9 @@ impl<D: Disk> Store<D> {
         }
     }
 
-    /// Opens the store that its disk holds, found by a sync and one read, whatever it held before. After a
-    /// refusal it is closed, and its values are not those of the disk.
+    /// Opens the store that its disk holds where it stands, by a sync and one read, whatever values it had
+    /// before. After a refusal it is closed: every put answers a fault until it is opened, and its values are
+    /// not those of the disk.
     pub fn reopen(&mut self) -> Result<(), OpenFault>
         // The map is that of what reads give, and of whatever a stop may leave from now on.
         ensures map { OnOk result (D.tells (store_disk self.old) ≡ true →

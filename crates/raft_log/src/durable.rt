@@ -97,8 +97,9 @@ impl<D: Disk> Durable<D> {
         }
     }
 
-    /// Opens the store of its disk again, as `open` does, whatever was known of it before. After a refusal it
-    /// is closed: every change answers a fault until it is opened.
+    /// Opens the store of its disk where it stands, as `open` does, whatever state it had before. After a
+    /// refusal it is closed: every change answers a fault until it is opened, and its state is not that of
+    /// the disk.
     pub fn reopen(&mut self) -> Result<(), OpenFault>
         // What reads give is found and its puts are made, and a stop leaves the state after them.
         ensures opens { OnOk result (OpensTo (durable_disk self.old) self.new) }

@@ -64,7 +64,7 @@ pub fn zeros_are_the_first_state()
         }) }
 {}
 
-/// Whatever a stop leaves of the disk stands for the state, while no put has failed.
+/// Whatever a stop leaves of the disk stands for the state, while it is open and no put has failed.
 pub fn a_state_is_durable<D: Disk>()
     ensures { (durable : Durable D D.Disk) → durable_fault durable ≡ None →
         D.tells (durable_disk durable) ≡ true →

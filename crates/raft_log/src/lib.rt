@@ -9,6 +9,9 @@
 //!
 //! [`Stored::read`] reads the state of an image alone, by the same rules; nothing is opened and nothing put.
 //!
+//! [`Durable::reopen`] opens a stored state where it stands, so that a member keeps its place in memory
+//! through stops; [`Durable::open`] opens one of its own.
+//!
 //! Opening brings a store of an older version to version 2, in which each entry has its origin. Its puts are
 //! puts like any other, and change nothing that is read of the state. Where it is cut off, the next opening
 //! makes the puts that are left (`specs/Opening.antt`, [`laws::an_opening_goes_on`]).
