@@ -116,7 +116,8 @@ impl<D: Disk, F: Fn(Kind, u16) -> Option<u64> + Copy> Server<D, F> {
     }
 
     /// A server of the node `me`, in a cluster of `size` members, that is not open: its disk was not read
-    /// yet, its queue is empty, and its steps answer a fault until it is opened.
+    /// yet, its queue is empty, and its steps answer a fault until it is opened. It is not inlined: no caller
+    /// is to pay for the place of its parts on the stack.
     #[inline(never)]
     pub fn closed(
         me: u8,
@@ -151,7 +152,8 @@ impl<D: Disk, F: Fn(Kind, u16) -> Option<u64> + Copy> Server<D, F> {
     }
 
     /// Opens again where it is, as `open` does, whatever was known of its disk before. After a refusal it is
-    /// closed: its queue is empty, and its steps answer a fault until it is opened.
+    /// closed: its queue is empty, and its steps answer a fault until it is opened. It is not inlined: no
+    /// caller is to pay for the place of the image that it reads.
     #[inline(never)]
     pub fn reopen(&mut self, me: u8, size: u8, now: u64, word: u32) -> Result<(), OpenFault>
         requires least { 1 ≤ me }
