@@ -1,7 +1,9 @@
 -- What a frame would deliver, and how it is judged.
 use Rattle.std.proofs.Common.{◌≡◌, ℕ, Bool, true, List, Option, Some, None, refl, sym, ap, ◌∙◌, ◌≤◌, arith}
-use Rattle.std.specs.Prelude.{max, nat_le, ◌&&◌}
+use Rattle.std.specs.Prelude.{max, nat_le, option_map, ◌&&◌}
 use Rattle.can_frame.specs.declared.step.Judged.TheVariants.{Fine}
+use Rattle.transfer_rx.specs.declared.transfer.Heading.{Heading}
+use Rattle.transfer_rx.specs.Heard.{delivery_with, heading_in}
 use Rattle.transfer_rx.specs.Reassembly.{Answer, Arrival, Continues, Delivery, Drops, Gives, Setting, answer, arrival_of, delivered}
 use Rattle.transfer_rx.specs.Sessions.{Session}
 use Rattle.can_frame.specs.declared.frame.Frame.{Frame}
@@ -17,10 +19,18 @@ judged_none t step now (Gives d) none = cc
 judged_none t step now Continues none = refl
 judged_none t step now (Drops why) none = refl
 
-judged_some : (t : AllocatorState) (step now : ℕ) (a : Answer) (d : Delivery) → delivered a ≡ Some d → answer_judgement t step now a ≡ answer_judgement t step now (Gives d)
-judged_some t step now (Gives e) d some = let same : e ≡ d = cc in ap (λ (x : Delivery). answer_judgement t step now (Gives x)) same
-judged_some t step now Continues d some = cc
-judged_some t step now (Drops why) d some = cc
+-- a transfer is judged without its payload
+judged_some : (t : AllocatorState) (step now : ℕ) (a : Answer) (h : Heading) → option_map heading_in (delivered a) ≡ Some h →
+    (payload : List ℕ) × (answer_judgement t step now a ≡ answer_judgement t step now (Gives (delivery_with h payload)))
+judged_some t step now (Gives d) h some =
+    let same : heading_in d ≡ h = cc in
+    (d.payload, ap (λ (x : Heading). answer_judgement t step now (Gives (delivery_with x d.payload))) same)
+judged_some t step now Continues h some = absurd cc
+judged_some t step now (Drops why) h some = absurd cc
+
+pub none_foretold : (delivers : Option Delivery) → option_map heading_in delivers ≡ None → delivers ≡ None
+none_foretold None e = refl
+none_foretold (Some d) e = absurd cc
 
 module _ (t : AllocatorState) (arrival : Arrival) where
   abbrev pub now_then : Arrival
@@ -30,15 +40,18 @@ module _ (t : AllocatorState) (arrival : Arrival) where
   unfolding arrival_judgement
   judges_none none = judged_none t arrival.mark.step (max t.now arrival.moment) _ none
 
-  pub judges_some : (d : Delivery) → delivered (answer (setting_for t.me) t.sessions now_then) ≡ Some d → arrival_judgement t arrival ≡ answer_judgement t arrival.mark.step (max t.now arrival.moment) (Gives d)
+  pub judges_some : (h : Heading) → option_map heading_in (delivered (answer (setting_for t.me) t.sessions now_then)) ≡ Some h →
+      (payload : List ℕ) × (arrival_judgement t arrival ≡ answer_judgement t arrival.mark.step (max t.now arrival.moment) (Gives (delivery_with h payload)))
   unfolding arrival_judgement
-  judges_some d some = judged_some t arrival.mark.step (max t.now arrival.moment) _ d some
+  judges_some h some = judged_some t arrival.mark.step (max t.now arrival.moment) _ h some
 
 -- what is foretold at the moment of a step
-pub foretold : (mine yours : Setting) (sessions : List Session) (frame : Frame) (mark : Mark) (n m : ℕ) (delivers : Option Delivery) → mine ≡ yours → n ≡ m
-    → delivers ≡ delivered (answer mine sessions (arrival_of frame mark n)) → delivered (answer yours sessions (arrival_of frame mark m)) ≡ delivers
-foretold mine yours sessions frame mark n m delivers same at tells =
-    sym (tells ∙ ap (λ (s : Setting). delivered (answer s sessions (arrival_of frame mark n))) same ∙ ap (λ (k : ℕ). delivered (answer yours sessions (arrival_of frame mark k))) at)
+pub foretold : (mine yours : Setting) (sessions : List Session) (frame : Frame) (mark : Mark) (n m : ℕ) (heading : Option Heading) → mine ≡ yours → n ≡ m
+    → heading ≡ option_map heading_in (delivered (answer mine sessions (arrival_of frame mark n)))
+    → option_map heading_in (delivered (answer yours sessions (arrival_of frame mark m))) ≡ heading
+foretold mine yours sessions frame mark n m heading same at tells =
+    sym (tells ∙ ap (λ (s : Setting). option_map heading_in (delivered (answer s sessions (arrival_of frame mark n)))) same
+    ∙ ap (λ (k : ℕ). option_map heading_in (delivered (answer yours sessions (arrival_of frame mark k)))) at)
 
 both : (a b m : Bool) → a ≡ true → b ≡ true → m ≡ ((a && b) && m)
 both a b m x y = rw (x, y) refl

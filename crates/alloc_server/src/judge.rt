@@ -1,12 +1,12 @@
 //! Whether a frame may be given to a server in a cluster under test.
 
-ghost use Rattle.std.specs.Prelude.{◌≡◌, ◌&&◌, true, false, Some, IsSome, nat_eq, not, if◌then◌else◌};
+ghost use Rattle.std.specs.Prelude.{◌≡◌, ◌&&◌, ℕ, List, true, false, Some, IsSome, nat_eq, not, if◌then◌else◌};
 ghost use Rattle.can_frame.specs.declared.identifier.Ident.{Ident as IdentValue};
 ghost use Rattle.can_frame.specs.Identifier.{identifier_of};
 ghost use Rattle.raft_core.specs.Calls.{IsPending};
 ghost use Rattle.raft_core.specs.Times.{Sending};
 ghost use Rattle.raft_model.specs.Messages.{Request};
-ghost use Rattle.transfer_rx.specs.Told.{delivery_of};
+ghost use Rattle.transfer_rx.specs.Heard.{delivery_with};
 ghost use Rattle.can_frame.specs.declared.step.Judged.TheVariants.{Fine, Stale, Torn};
 ghost use Rattle.transfer_rx.specs.Acceptance.{AnswersByRows};
 ghost use Rattle.transfer_rx.specs.Reassembly.{arrival_of};
@@ -20,7 +20,7 @@ use can_frame::timing::CALL_TIMEOUT;
 use can_frame::{Frame, Ident, Judged, Kind, Mark};
 use disk_model::Disk;
 use raft_core::Pending;
-use transfer_rx::Transfer;
+use transfer_rx::Heading;
 
 impl<D: Disk, F: Fn(Kind, u16) -> Option<u64> + Copy> Server<D, F> {
     ghost use Rattle.alloc_server.specs.Server.{StandsFor, accepts, fault_of};
@@ -46,8 +46,8 @@ impl<D: Disk, F: Fn(Kind, u16) -> Option<u64> + Copy> Server<D, F> {
         self.judge_last(frame, mark, now)
     }
 
-    /// Judges the last frame of a transfer. No other frame is to pay for the place of a transfer, nor one
-    /// that is fine whatever it delivers.
+    /// Judges the last frame of a transfer. A frame that is fine whatever it delivers is not to pay for
+    /// what the receiver foretells.
     fn judge_last(&self, frame: &Frame, mark: Mark, now: u64) -> Judged
         requires memory { ReceiverFitsInMemory F.row 160 128 }
         requires callable { F.IsAlwaysCallable (accepts self.now) }
@@ -59,26 +59,26 @@ impl<D: Disk, F: Fn(Kind, u16) -> Option<u64> + Copy> Server<D, F> {
             return Judged::Fine;
         }
         let now = self.member.latest.max(now);
-        let Some(transfer) = self.receiver.peek(frame, mark, now) else {
+        let Some(heading) = self.receiver.foretell(frame, mark, now) else {
             return Judged::Fine;
         };
-        verdict(transfer.whole, mark.step, self.is_stale(&transfer, now))
+        verdict(heading.whole, mark.step, self.is_stale(&heading, now))
     }
 
     /// A pending call that is not given up yet would take the response, and was made in another
     /// step than the request that it answers.
-    fn is_stale(&self, transfer: &Transfer, now: u64) -> bool
-        ensures { (t : AllocatorState) → StandsFor self.now t → result ≡ is_stale t
-            (delivery_of transfer.now) now }
+    fn is_stale(&self, heading: &Heading, now: u64) -> bool
+        ensures { (t : AllocatorState) → StandsFor self.now t → (payload : List ℕ) →
+            result ≡ is_stale t (delivery_with heading.now payload) now }
     {
-        if !is_response(transfer.ident.kind) {
+        if !is_response(heading.ident.kind) {
             return false;
         }
-        if transfer.ident.source > 125 {
+        if heading.ident.source > 125 {
             return false;
         }
-        match self.member.raft.pending(transfer.ident.source) {
-            Some(call) => misses(&call, transfer, now),
+        match self.member.raft.pending(heading.ident.source) {
+            Some(call) => misses(&call, heading, now),
             None => false,
         }
     }
@@ -114,14 +114,15 @@ fn is_response(kind: Kind) -> bool
 }
 
 /// The call would take the response, and was made in another step than the request that it answers.
-fn misses(call: &Pending, transfer: &Transfer, now: u64) -> bool
+fn misses(call: &Pending, heading: &Heading, now: u64) -> bool
     ensures { (request : Request) (sending : Sending) → IsPending call.now request sending →
-        result ≡ misses (delivery_of transfer.now) now (Some request) (Some sending) }
+        (payload : List ℕ) →
+        result ≡ misses (delivery_with heading.now payload) now (Some request) (Some sending) }
 {
-    u16::from(call.service) == transfer.ident.number
-        && call.id == transfer.id
+    u16::from(call.service) == heading.ident.number
+        && call.id == heading.id
         && now.saturating_sub(call.sent) < CALL_TIMEOUT
-        && call.step != transfer.mark.re
+        && call.step != heading.mark.re
 }
 
 fn verdict(whole: bool, step: u64, stale: bool) -> Judged

@@ -47,8 +47,8 @@ pub fn take<D: Disk, F: Fn(Kind, u16) -> Option<u64> + Copy>(
         Event::Tick { now, word } => member.take_tick(now, word, offered),
         Event::Rx { frame, mark, now } => {
             member.begin(now);
-            let took = receiver.take(&frame, mark, member.latest);
-            member.take_answer(&took, offered)
+            let heard = receiver.hear(&frame, mark, member.latest);
+            member.take_heard(heard, receiver.delivered(), offered)
         }
     }
 }

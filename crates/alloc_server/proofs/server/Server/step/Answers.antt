@@ -4,6 +4,7 @@ use Rattle.std.specs.Result.{result_err}
 use Rattle.can_frame.specs.declared.step.Seen.{Seen}
 use Rattle.kv_store.specs.declared.fault.Fault.{Fault}
 use Rattle.raft_core.specs.StoredPuts.{CallWrites}
+use Rattle.transfer_rx.specs.Reassembly.{Setting}
 use Rattle.alloc_spec.specs.Accepted.{setting_for}
 use Rattle.alloc_spec.specs.Delivered.{StepResult}
 use Rattle.alloc_spec.specs.Step as steps
@@ -57,3 +58,30 @@ returns-in-Err-clause-steps g c t h =
       put = tt;
       puts = puts.made;
     }
+
+pub invariant_of-self : goal.invariant_of-self
+invariant_of-self g c =
+    let tells = c.in-Ok.ensures.faults.works (c.args.self.now.kept ∙ c.in_default.is) in
+    record {
+      rows = ap (λ (setting : Setting). setting.rows) c.take.ensures.setting ∙ c.args.self.now.rows;
+      ready = λ none. c.in-Ok.ensures.ready;
+      kept = tells.kept ∙ sym c.in_default.is;
+      silent = λ why is. absurd (c.in_default.not-Some why is);
+    }
+
+pub returns-in-Ok-clause-later : goal.returns-in-Ok-clause-later
+returns-in-Ok-clause-later g c = (c.in-Ok.ensures.faults.works (c.args.self.now.kept ∙ c.in_default.is)).later
+
+pub returns-in-Ok-clause-told : goal.returns-in-Ok-clause-told
+returns-in-Ok-clause-told g c = (c.in-Ok.ensures.faults.works (c.args.self.now.kept ∙ c.in_default.is)).tells
+
+pub returns-in-Err-clause-cause : goal.returns-in-Err-clause-cause
+returns-in-Err-clause-cause g c = λ none.
+    let works = c.args.self.now.kept ∙ c.in_default.is in
+    (c.in-Err.ensures.faults.works works).cause works
+
+pub returns-in-Err-clause-later : goal.returns-in-Err-clause-later
+returns-in-Err-clause-later g c = (c.in-Err.ensures.faults.works (c.args.self.now.kept ∙ c.in_default.is)).later
+
+pub returns-in-Err-clause-told : goal.returns-in-Err-clause-told
+returns-in-Err-clause-told g c = (c.in-Err.ensures.faults.works (c.args.self.now.kept ∙ c.in_default.is)).tells
