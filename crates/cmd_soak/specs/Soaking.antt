@@ -1,5 +1,5 @@
 -- What the code of a soak stands for.
-use Rattle.std.specs.Prelude.{◌≡◌, ◌<◌, ℕ, Bool, true, false, List, Option}
+use Rattle.std.specs.Prelude.{◌≡◌, ◌<◌, ◌^◌, ℕ, Bool, true, false, List, Option}
 use Rattle.std.specs.Borrow.{RattleType}
 use Rattle.allocatee.specs.Accepted as device
 use Rattle.alloc_spec.specs.Accepted as accepted
@@ -33,7 +33,7 @@ module _ {F G : Type 0} where
   pub record StandsFor (soaking : Soaking F G) (s : Soak) : Type 0 where
     pub world : IsWorld soaking.world s.world
     pub room : frame_room soaking.world ≡ soaking.room
-    pub narrow : soaking.room < 4294967296
+    pub narrow : soaking.room < 2 ^ 32
     pub chance : soaking.chance ≡ s.chance
     pub moment : soaking.moment ≡ s.moment
     pub heard : soaking.heard ≡ s.heard

@@ -1,4 +1,4 @@
-ghost use Rattle.std.specs.Prelude.{◌≡◌, ◌≤◌, ◌<◌, ◌*◌, ◌⊎◌};
+ghost use Rattle.std.specs.Prelude.{◌≡◌, ◌≤◌, ◌<◌, ◌*◌, ◌^◌, ◌⊎◌};
 ghost use Rattle.std.specs.Io.KnownBytes.{Appends};
 ghost use Rattle.outside.specs.Faults.{Rose};
 ghost use Rattle.cmd_base.specs.Output.{WritesFront};
@@ -71,7 +71,7 @@ fn room_for(rounds: u64) -> usize
     requires { rounds ≤ 20000 }
     ensures enough { rounds * 41 ≤ result }
     ensures least { 1 ≤ result }
-    ensures narrow { result < 4294967296 }
+    ensures narrow { result < 2 ^ 32 }
 {
     (FRAMES_PER_ROUND * rounds).max(1) as usize
 }

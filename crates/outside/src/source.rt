@@ -1,4 +1,4 @@
-ghost use Rattle.std.specs.Prelude.{◌≡◌, ◌↔◌, ℕ, ◌<◌, min, length, List, [], Option, Some, None, Ok, IfOk, IsErr, OnOk, true, false};
+ghost use Rattle.std.specs.Prelude.{◌≡◌, ◌↔◌, ℕ, ◌^◌, ◌<◌, min, length, List, [], Option, Some, None, Ok, IfOk, IsErr, OnOk, true, false};
 ghost use Rattle.std.specs.Io.{ReadsAtMost};
 ghost use Rattle.std.specs.Io.KnownBytes.{ReadConsumes};
 ghost use Rattle.outside.specs.Faults.{HasCause, counted, one_more};
@@ -46,7 +46,7 @@ impl<'a> Model for MemorySource<'a> {
       faults = s.faults;
     } };
 
-    ghost invariant = { λ s. length s.bytes.now < 18446744073709551616 };
+    ghost invariant = { λ s. length s.bytes.now < 2 ^ 64 };
 }
 
 impl<'a> MemorySource<'a> {
