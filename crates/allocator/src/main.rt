@@ -10,7 +10,7 @@
 
 use allocator_app::{Plan, Status, plan, run};
 use disk_model::FileDisk;
-use node_outside::{PacedClock, TimelyLink};
+use node_clock_and_links::{PacedClock, TimelyLink};
 use outside::{StdSink, StdSource};
 use std::alloc::{AllocError, Global};
 use std::cell::Cell;

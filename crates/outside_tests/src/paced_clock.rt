@@ -1,6 +1,6 @@
 //! A clock that sleeps while nothing comes.
 
-use node_outside::PacedClock;
+use node_clock_and_links::PacedClock;
 use outside::Clock;
 use std::cell::Cell;
 

@@ -1,7 +1,7 @@
 //! A link that lets no old frame pass.
 
 use crate::frame::FRAME;
-use node_outside::TimelyLink;
+use node_clock_and_links::TimelyLink;
 use outside::{Failed, Link, Received};
 use std::cell::Cell;
 use std::net::Net;
