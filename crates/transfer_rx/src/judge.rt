@@ -15,7 +15,9 @@ use crate::age::unless_old;
 use crate::progress::Found;
 use crate::sessions::Sessions;
 use crate::standard::FRAME_BYTES;
-use crate::verdict::{LONGEST, Verdict, blocks_for, is_alone, is_wrong_end, is_wrong_part, tested};
+use crate::verdict::{
+    LONGEST, Verdict, blocks_for, check_crc, is_alone, is_wrong_end, is_wrong_part,
+};
 use can_frame::{Frame, Tail, Why};
 
 impl<const S: usize, const N: usize> Sessions<S, N> {
@@ -55,7 +57,7 @@ impl<const S: usize, const N: usize> Sessions<S, N> {
             if self.lacks_blocks(found, &tail, data.len(), now, free) {
                 return Verdict::Spoiled(Why::NoBlock);
             }
-            return tested(taken, data, found.progress.crc, found.progress.sent_crc);
+            return check_crc(taken, data, found.progress.crc, found.progress.sent_crc);
         }
         if is_wrong_part(taken, data.len()) {
             return Verdict::Spoiled(Why::Length);

@@ -10,12 +10,12 @@
 //! the definition's answer to a frame and leaves a receiver that stands for the sessions afterwards;
 //! [`Receiver::peek`] tells what it would deliver. [`Receiver::hear`] is the same without a copy: the
 //! receiver keeps the transfer, and lends it by [`Receiver::delivered`]; [`Receiver::foretell`] tells
-//! its heading alone. The code keeps places, counts,
-//! a moment and a running CRC for each (`specs/Places.antt`), and the bytes in chains of a pool of
-//! blocks; none of these shows in a clause on what is answered. [`Receiver::pool`] and
-//! [`Receiver::chain_of`] lend what is kept (`specs/Chains.antt`): each session has a chain of its
-//! own, with the bytes of its frames, and every other chain is empty. [`laws`] says what the
-//! definition means: it delivers exactly cuttings, and each undamaged transfer that comes in order.
+//! its heading alone. The code keeps places, counts, a moment, a running CRC and the transfer's own for
+//! each (`specs/Places.antt`), and the bytes in chains of a pool of blocks; none of these shows in a
+//! clause on what is answered. [`Receiver::pool`] and [`Receiver::chain_of`] lend what is kept
+//! (`specs/Chains.antt`): each session has a chain of its own, with the bytes of its frames, and every
+//! other chain is empty. [`laws`] says what the definition means: it delivers exactly cuttings, and each
+//! undamaged transfer that comes in order.
 //!
 //! The rules are those of the UAVCAN v0 specification, "CAN bus transport layer", for one interface.
 #![tactic(auto)]

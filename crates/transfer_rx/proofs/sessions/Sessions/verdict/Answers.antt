@@ -39,7 +39,7 @@ returns-then-tail-clause-verdict g c = λ places sessions key session s a f t fr
     (end_length g.row.N c.args.signature (piece_of c.args.frame.now) session.taken (others key sessions) c.is_wrong_end.result end
     (c.is_wrong_end.ensures.wrong c.args.signature piece.tail.id session.taken piece (in_turn_part piece.tail session t f.keeps.part) (sym f.keeps.taken) size) ∙ c.if-is_wrong_end.false)
     (sym c.if-lacks_blocks.false ∙ c.lacks_blocks.ensures places sessions key session piece s a f (sym tail) size free) end
-    (c.tested.ensures.says c.args.signature piece.tail.id session.taken piece
+    (c.check_crc.ensures.says c.args.signature piece.tail.id session.taken piece
     (λ some. subst (CarriesCrcs c.args.signature c.args.found.now.progress.crc c.args.found.now.progress.sent_crc)
     (all_taken c.args.found.now.progress (get_or c.args.self.now.pool c.args.found.now.place []) session c.requires.filled some f.keeps) (c.requires.crc some))
     (in_turn_part piece.tail session t f.keeps.part) (sym f.keeps.taken)
@@ -78,10 +78,10 @@ returns-clause-verdict g c = λ places sessions key session s a f t free.
     (sym c.if-lacks_blocks-2.false ∙ c.lacks_blocks-2.ensures places sessions key session piece s a f (sym tail) size free) end
 
 pub returns-then-tail-clause-room : goal.returns-then-tail-clause-room
-returns-then-tail-clause-room g c = no_part c.tested.result _ c.tested.ensures.ended
+returns-then-tail-clause-room g c = no_part c.check_crc.result _ c.check_crc.ensures.ended
 
 pub returns-then-tail-clause-within : goal.returns-then-tail-clause-within
-returns-then-tail-clause-within g c = where_whole c.tested.result _ (record {
+returns-then-tail-clause-within g c = where_whole c.check_crc.result _ (record {
   short = subst (λ (bytes : List ℕ). length bytes ≤ 7) c.data-data.ensures.bytes c.data-data.ensures.short;
   within = subst (λ (bytes : List ℕ). 7 * c.args.found.now.progress.taken + length bytes ≤ 378) c.data-data.ensures.bytes (omega (arith, c.is_wrong_end.ensures.within c.if-is_wrong_end.false));
 })

@@ -1,6 +1,6 @@
 use Rattle.std.proofs.Common.{◌≡◌, length, ap, arith}
 use Rattle.transfer_rx.proofs.Assembly.{single, several_whole, several_damaged}
-use Rattle.transfer_rx.proofs.verdict.tested.Goals as goal
+use Rattle.transfer_rx.proofs.verdict.check_crc.Goals as goal
 
 pub returns-then-taken-eq0-clause-says : goal.returns-then-taken-eq0-clause-says
 returns-then-taken-eq0-clause-says c = λ signature id pieces piece known part n b t.
