@@ -1,6 +1,6 @@
 -- A server after a step, on the disk by states.
-use Rattle.std.proofs.Common.{◌≡◌, ℕ, Bool, true, false, List, refl, sym, ap, subst, ◌∙◌}
-use Rattle.std.specs.Prelude.{None, Option, Some, IfSome, Result, Ok, Err, if◌then◌else◌, is_ok}
+use Rattle.std.proofs.Common.{rules, ◌≡◌, ℕ, Bool, true, false, List, refl, sym, ap, subst, ◌∙◌}
+use Rattle.std.specs.Prelude.{None, Option, Some, IfSome, IsSome, Result, Ok, Err, if◌then◌else◌, is_ok}
 use Rattle.can_frame.specs.declared.step.Seen.{Seen}
 use Rattle.can_frame.specs.declared.step.Sent.{Sent}
 use Rattle.disk_model.specs.declared.calls.Calls.{Calls}
@@ -23,7 +23,7 @@ use Rattle.alloc_server.specs.declared.server.Server.{Server}
 use Rattle.alloc_server.specs.Server.{StepsTo, disk_of, durable_of, fault_of}
 use Rattle.cluster_spec.specs.Report.{line_of_failure}
 use Rattle.cluster_spec.specs.ReportLine.ReportLine.{HasFailed, HasStepped, HasStopped}
-use Rattle.bus_world.specs.OnDisk.{IsCutOn, IsUpOn}
+use Rattle.bus_world.specs.OnDisk.{IsClosedOn, IsUpOn}
 
 abbrev pub LawOfMemberPuts : Ghosts MemoryDisk → Type 0
 LawOfMemberPuts disk = (puts : List Put) (old new : Durable MemoryDisk disk) (key_disk : KeyDisk Stored) (ok : Bool) → IsKeyDisk old key_disk →
@@ -57,8 +57,8 @@ module _ {F : Type 0} {disk : Ghosts MemoryDisk} (server new : Server MemoryDisk
   pub not_all_put : (why : Fault) → StepsTo server new step_result (Err why) → are_put puts key_disk.calls ≡ true → ⊥
   not_all_put why steps e = let f : false ≡ are_put puts key_disk.calls = (follows_err why steps).1 in cc (f, e)
 
-  pub cut_after : (why : Fault) → StepsTo server new step_result (Err why) → fault_of new ≡ Some why → IsCutOn new (puts_on puts key_disk)
-  cut_after why steps closed = record { why = why; closed = closed; on = (follows_err why steps).0 }
+  pub cut_after : (why : Fault) → StepsTo server new step_result (Err why) → fault_of new ≡ Some why → IsClosedOn new (puts_on puts key_disk)
+  cut_after why steps closed = record { closed = subst (λ (o : Option Fault). IsSome o) (sym closed) (search rules); on = (follows_err why steps).0 }
 
   pub failure_after : (why : Fault) (n : ℕ) (b : Bool) → StepsTo server new step_result (Err why) → (memory_calls (disk_of new)).stopped ≡ b →
       (if b then HasStopped n else HasFailed n) ≡ line_of_failure n (puts_on puts key_disk)
@@ -74,8 +74,9 @@ told_same n a b seen s sent l e f g =
     ∙ ap (λ (x : List Sent). HasStepped n b.role b.term b.last b.commit b.queued s x) g)
 
 -- a server that had failed answers the same again
-pub again_by : (P : Fault → Type 0) (o : Option Fault) (why : Fault) → o ≡ Some why → IfSome o P → P why
-again_by P o why e again = subst (λ (f : Option Fault). IfSome f P) e again
+pub again_by : (P : Fault → Type 0) (o : Option Fault) → IsSome o → IfSome o P → (why : Fault) × P why
+again_by P (Some why) closed again = (why, again)
+again_by P None closed again = absurd (search (rules, closed))
 
 pub same_stopped : {F : Type 0} {disk : Ghosts MemoryDisk} (new server : Server MemoryDisk F disk) → new ≡ server
     → (memory_calls (disk_of new)).stopped ≡ (memory_calls (disk_of server)).stopped

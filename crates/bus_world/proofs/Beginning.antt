@@ -5,7 +5,7 @@ use Rattle.std.proofs.lemmas.List.{length-map, map-append}
 use Rattle.raft_model.specs.Lists.{In}
 use Rattle.cluster_spec.specs.Members.{fresh_member}
 use Rattle.bus_world.specs.Fresh.{AreFresh}
-use Rattle.bus_world.specs.Places.{Accepts}
+use Rattle.bus_world.specs.Places.{closure_of}
 use Rattle.bus_world.specs.Stands.{StandsFor}
 use Rattle.bus_world.specs.declared.member.Member.{Member}
 
@@ -28,19 +28,18 @@ each_and_last (y ∷ ys) x P all own (suc i) d h =
     each_and_last ys x P (λ j e k. all (suc j) e (omega (arith, k))) own i d (omega (arith, h))
 
 -- one member more
-pub one_more : {F : Type 0} (ids : List ℕ) (i : ℕ) (members more : List (Member F)) (m : Member F) → i < length ids → AreFresh (take i ids) members
-    → StandsFor m fresh_member → ((accept : F) → Accepts m.place accept) → m.id ≡ slice_index_or ids i 0 → more ≡ members ++ m ∷ []
-    → AreFresh (take (i + 1) ids) more
-one_more {F} ids i members more m h so_far stands accepts id is =
-    subst (λ (l : List (Member F)). AreFresh (take (i + 1) ids) l) (sym is) (record {
+pub one_more : {F : Type 0} (ids : List ℕ) (i : ℕ) (accept : F) (members more : List (Member F)) (m : Member F) → i < length ids → AreFresh (take i ids) accept members
+    → StandsFor m fresh_member → closure_of m.place ≡ accept → m.id ≡ slice_index_or ids i 0 → more ≡ members ++ m ∷ []
+    → AreFresh (take (i + 1) ids) accept more
+one_more {F} ids i accept members more m h so_far stands own id is =
+    subst (λ (l : List (Member F)). AreFresh (take (i + 1) ids) accept l) (sym is) (record {
       same = map-append (λ (member : Member F). member.id) members (m ∷ [])
           ∙ (ap (λ (l : List ℕ). l ++ m.id ∷ []) so_far.same
           ∙ (ap (λ (k : ℕ). take i ids ++ k ∷ []) id
           ∙ (sym (take_one_more ids i h) ∙ ap (λ (k : ℕ). take k ids) (sym (add-one i)))));
       begun = each_and_last members m (λ (member : Member F). StandsFor member fresh_member) so_far.begun stands;
-      alike = λ j d accept k.
-          each_and_last members m (λ (member : Member F). Accepts member.place accept) (λ l e q. so_far.alike l e accept q) (accepts accept) j d k;
+      alike = each_and_last members m (λ (member : Member F). closure_of member.place ≡ accept) so_far.alike own;
     })
 
-pub as_many : {F : Type 0} (ids : List ℕ) (members : List (Member F)) → AreFresh ids members → length members ≡ length ids
-as_many {F} ids members is = sym (length-map members (λ (member : Member F). member.id)) ∙ ap (λ (l : List ℕ). length l) is.same
+pub as_many : {F : Type 0} (ids : List ℕ) (accept : F) (members : List (Member F)) → AreFresh ids accept members → length members ≡ length ids
+as_many {F} ids accept members is = sym (length-map members (λ (member : Member F). member.id)) ∙ ap (λ (l : List ℕ). length l) is.same

@@ -18,12 +18,11 @@ use Rattle.transfer_rx.specs.Reassembly.{Arrival, arrival_of}
 use Rattle.transfer_tx.specs.Queue.{Queued}
 use Rattle.transfer_tx.specs.Views.{queued_of}
 use Rattle.cluster_spec.specs.Lawful.{already_running, because, arrival_refusal, no_such_frame, no_node, not_running, or_else}
-use Rattle.bus_world.specs.Stands.{StandsFor}
+use Rattle.bus_world.specs.Stands.{AreAlike, StandsFor}
 use Rattle.raft_model.specs.Members.{HasNoneTwice}
 use Rattle.bus_world.specs.Members.{Holds, ids_of, place_of}
-use Rattle.bus_world.specs.Places.{Accepts, Serves}
+use Rattle.bus_world.specs.Places.{closure_of}
 use Rattle.bus_world.specs.declared.member.Member.{Member}
-use Rattle.bus_world.specs.declared.place.Place.{Place}
 
 not_both : {X : Type 0} (b : Bool) → b ≡ true → b ≡ false → X
 not_both b e f = absurd (cc (sym e ∙ f))
@@ -215,23 +214,20 @@ module _ (c : Cluster) (bus : List Marked) (k : ℕ) (e : map queued_of bus ≡ 
 
 -- the closures of members, of which one is set
 module _ {F : Type 0} where
-  abbrev pub AreAlike : List (Member F) → F → Type 0
-  AreAlike members accept = (i : ℕ) (d : Member F) → i < length members → Accepts (slice_index_or members i d).place accept
-
-  pub alike_there : (xs : List (Member F)) (n i : ℕ) (m : Member F) (accept : F) → AreAlike xs accept → place_of xs n ≡ Some i → m ≡ slice_index_or xs i m → Accepts m.place accept
+  pub alike_there : (xs : List (Member F)) (n i : ℕ) (m : Member F) (accept : F) → AreAlike xs accept → place_of xs n ≡ Some i → m ≡ slice_index_or xs i m → closure_of m.place ≡ accept
   alike_there xs n i m accept alike found is =
-      let there = position-Some (λ (member : Member F). member.id == n) xs i m found in subst (λ (y : Member F). Accepts y.place accept) (sym is) (alike i m there.0)
+      let there = position-Some (λ (member : Member F). member.id == n) xs i m found in subst (λ (y : Member F). closure_of y.place ≡ accept) (sym is) (alike i m there.0)
 
-  pub set_alike : (xs : List (Member F)) (i : ℕ) (m : Member F) (accept : F) → AreAlike xs accept → Accepts m.place accept → AreAlike (slice_set xs i m) accept
+  pub set_alike : (xs : List (Member F)) (i : ℕ) (m : Member F) (accept : F) → AreAlike xs accept → closure_of m.place ≡ accept → AreAlike (slice_set xs i m) accept
   set_alike xs i m accept alike own j d h =
       let within : j < length xs = omega (arith, h, length-set xs i m) in
-      elim (eqb_tells j i) as (λ _. Accepts (slice_index_or (slice_set xs i m) j d).place accept) [
-        | inl same ↦ subst (λ (y : Member F). Accepts y.place accept) (sym (ap (λ (k : ℕ). slice_index_or (slice_set xs i m) k d) same.1 ∙ get_or-set_same xs i m d (omega (arith, within, same.1)))) own
-        | inr diff ↦ subst (λ (y : Member F). Accepts y.place accept) (sym (get_or-set_other xs i j m d diff.1)) (alike j d within)
+      elim (eqb_tells j i) as (λ _. closure_of (slice_index_or (slice_set xs i m) j d).place ≡ accept) [
+        | inl same ↦ subst (λ (y : Member F). closure_of y.place ≡ accept) (sym (ap (λ (k : ℕ). slice_index_or (slice_set xs i m) k d) same.1 ∙ get_or-set_same xs i m d (omega (arith, within, same.1)))) own
+        | inr diff ↦ subst (λ (y : Member F). closure_of y.place ≡ accept) (sym (get_or-set_other xs i j m d diff.1)) (alike j d within)
       ]
 
-  pub serves : (Fact : F → Type 0) (place : Place F) (accept : F) → Accepts place accept → Fact accept → Serves Fact place
-  serves Fact place accept alike fact other is = subst Fact (sym (alike other is)) fact
+  pub set_some : (xs : List (Member F)) (i : ℕ) (m : Member F) → 1 ≤ length xs → 1 ≤ length (slice_set xs i m)
+  set_some xs i m some = omega (arith, some, length-set xs i m)
 
   pub set_few : (xs : List (Member F)) (i : ℕ) (m : Member F) → length xs ≤ 5 → length (slice_set xs i m) ≤ 5
   set_few xs i m few = omega (arith, few, length-set xs i m)

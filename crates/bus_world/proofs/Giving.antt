@@ -28,13 +28,12 @@ use Rattle.cluster_spec.specs.Lawful.{because, cause, or_else}
 use Rattle.cluster_spec.specs.Members.{MemberStatus, Member as MemberState, after_cut_off, puts_of, member_after_step}
 use Rattle.cluster_spec.specs.Members.MemberStatus.{Down, Up, Failed}
 use Rattle.cluster_spec.specs.Promise.{AreOwn, OffersItsOwn, pairs_of_step}
-use Rattle.bus_world.specs.OnDisk.{IsUpOn, RunsAs}
+use Rattle.bus_world.specs.OnDisk.{IsUpOn}
 use Rattle.bus_world.specs.Places.{HasStatus}
 use Rattle.bus_world.specs.Stands.{StandsFor as StandsForMember}
 use Rattle.bus_world.specs.Members.{AreMembersOf, StandsFor, ids_of}
 use Rattle.bus_world.specs.declared.member.Member.{Member}
 use Rattle.bus_world.specs.declared.place.Place.{Place}
-use Rattle.bus_world.specs.declared.place.Place.TheVariants.{Down as DownAt, Up as UpAt, Absent}
 use Rattle.bus_world.specs.declared.members.Members.{Members}
 use Rattle.bus_world.proofs.Promising.{one_of, same_log}
 
@@ -58,18 +57,10 @@ inside_up : {F : Type 0} {ghosts : Ghosts MemoryDisk} (server : Server MemoryDis
 inside_up server t key_disk is =
     subst IsInside (sym (is.stands.member.raft.store ∙ ap store_of is.keeps.state)) is.keeps.disk.on.stores.storable.commit
 
-inside_running : {F : Type 0} {ghosts : Ghosts MemoryDisk} (server : Server MemoryDisk F ghosts) (status : MemberStatus) (key_disk : KeyDisk Stored) → RunsAs server status key_disk
-    → AreInside status
-inside_running server Down key_disk is = tt
-inside_running server (Up t) key_disk is = inside_up server t key_disk is
-inside_running server (Failed failure) key_disk is = tt
-
 inside_status : {F : Type 0} (place : Place F) (status : MemberStatus) (key_disk : KeyDisk Stored) → HasStatus place status key_disk → AreInside status
 inside_status place Down key_disk is = tt
+inside_status place (Up t) key_disk is = inside_up place.server t key_disk is.server
 inside_status place (Failed failure) key_disk is = tt
-inside_status (DownAt disk) (Up t) key_disk is = absurd is
-inside_status (UpAt server) (Up t) key_disk is = inside_running server (Up t) key_disk is
-inside_status Absent (Up t) key_disk is = absurd is
 
 -- ---- each entry of a log is well formed
 
@@ -84,18 +75,10 @@ formed_up server t key_disk is =
     subst (λ (log : List Entry). (place : ℕ) → place < length log → IsWellFormed (slice_index_or log place (blank 0))) (sym (same_log server t key_disk is))
     (λ place h. (is.keeps.disk.on.stores.storable.follows place h).formed)
 
-formed_running : {F : Type 0} {ghosts : Ghosts MemoryDisk} (server : Server MemoryDisk F ghosts) (status : MemberStatus) (key_disk : KeyDisk Stored) → RunsAs server status key_disk
-    → AreFormed status
-formed_running server Down key_disk is = tt
-formed_running server (Up t) key_disk is = formed_up server t key_disk is
-formed_running server (Failed failure) key_disk is = tt
-
 formed_status : {F : Type 0} (place : Place F) (status : MemberStatus) (key_disk : KeyDisk Stored) → HasStatus place status key_disk → AreFormed status
 formed_status place Down key_disk is = tt
+formed_status place (Up t) key_disk is = formed_up place.server t key_disk is.server
 formed_status place (Failed failure) key_disk is = tt
-formed_status (DownAt disk) (Up t) key_disk is = absurd is
-formed_status (UpAt server) (Up t) key_disk is = formed_running server (Up t) key_disk is
-formed_status Absent (Up t) key_disk is = absurd is
 
 -- of members that stand for those of a cluster
 pub formed_at : {F : Type 0} (own : List (Member F)) (c : Cluster) → AreMembersOf own c.member → ids_of own ≡ c.ids

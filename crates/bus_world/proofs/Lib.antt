@@ -1,5 +1,4 @@
 pub mod Advancing
-pub mod Alike
 pub mod Beginning
 pub mod Filled
 pub mod Finding

@@ -1,11 +1,10 @@
 -- What a server that runs, or has failed, answers without a step.
-use Rattle.std.proofs.Common.{rules, ◌≡◌, ◌≤◌, ℕ, refl, sym, ap, subst, ◌∙◌}
+use Rattle.std.proofs.Common.{rules, ◌≡◌, ◌≤◌, ℕ, refl, ap, ◌∙◌}
 use Rattle.std.specs.Prelude.{IsNone, IsSome, None, Option, Some, option_map}
 use Rattle.can_frame.specs.declared.step.Judged.{Judged}
 use Rattle.can_frame.specs.declared.step.Judged.TheVariants.{Fine}
 use Rattle.disk_model.specs.declared.disk.Disk.{Ghosts}
 use Rattle.disk_model.specs.declared.memory.MemoryDisk.{MemoryDisk}
-use Rattle.kv_store.specs.declared.fault.Fault.{Fault}
 use Rattle.kv_store.specs.KeyDisk.{KeyDisk}
 use Rattle.raft_log.specs.Stored.{Stored}
 use Rattle.transfer_rx.specs.Reassembly.{Arrival}
@@ -21,19 +20,10 @@ use Rattle.cluster_spec.specs.Members.{MemberStatus, next_frame}
 use Rattle.cluster_spec.specs.Members.MemberStatus.{Down, Up, Failed}
 use Rattle.std.proofs.Props.{props}
 use Rattle.outside.specs.declared.pattern.Pattern.{Pattern}
-use Rattle.bus_world.specs.OnDisk.{RunsAs}
+use Rattle.bus_world.specs.OnDisk.{IsServerOf}
 use Rattle.bus_world.specs.Patterns.{IsFilled}
-use Rattle.bus_world.specs.Places.{Accepts, closure_of}
 use Rattle.bus_world.specs.declared.member.Member.{Member}
 use Rattle.bus_world.specs.declared.place.Place.{Place}
-
-pub is_some : (o : Option Fault) (why : Fault) → o ≡ Some why → IsSome o
-is_some o why e = subst (λ (f : Option Fault). IsSome f) (sym e) (search rules)
-
--- the closure of a server that goes on is the one that it had
-pub accepted_on : {F : Type 0} (place : Place F) (before after accept other : F) → closure_of place ≡ Some before → after ≡ before
-    → Accepts place accept → Some after ≡ Some other → other ≡ accept
-accepted_on place before after accept other is same all e = let one : after ≡ other = cc (e) in sym one ∙ (same ∙ all before is)
 
 -- a member whose place is as it was is the same
 filled_prop : (pattern : Pattern) → IsProp (IsFilled pattern)
@@ -54,21 +44,20 @@ same_but_place member place filled least most e = λ i. record {
 }
 
 module _ {F : Type 0} {ghosts : Ghosts MemoryDisk} (server : Server MemoryDisk F ghosts) where
-  pub judged_as : (status : MemberStatus) (key_disk : KeyDisk Stored) (arrival : Arrival) (result : Judged) → RunsAs server status key_disk
+  pub judged_as : (status : MemberStatus) (key_disk : KeyDisk Stored) (arrival : Arrival) (result : Judged) → IsServerOf status server key_disk
       → ((t : AllocatorState) → StandsFor server t → result ≡ arrival_judgement t arrival) → (IsSome (fault_of server) → result ≡ Fine)
       → cause_of_judgement result ≡ arrival_refusal status arrival
-  judged_as Down key_disk arrival result is by_state by_fault = absurd is
+  judged_as Down key_disk arrival result is by_state by_fault = ap cause_of_judgement (by_fault is.closed)
   judged_as (Up t) key_disk arrival result is by_state by_fault = ap cause_of_judgement (by_state t is.stands)
-  judged_as (Failed failure) key_disk arrival result is by_state by_fault =
-      ap cause_of_judgement (by_fault (is_some (fault_of server) is.cut.why is.cut.closed))
+  judged_as (Failed failure) key_disk arrival result is by_state by_fault = ap cause_of_judgement (by_fault is.closed.closed)
 
   nothing_in : (o : Option Marked) → IsNone o → option_map queued_of o ≡ None
   nothing_in None is = refl
   nothing_in (Some marked) is = absurd (search (rules, is))
 
-  pub next_as : (status : MemberStatus) (key_disk : KeyDisk Stored) (result : Option Marked) → RunsAs server status key_disk
+  pub next_as : (status : MemberStatus) (key_disk : KeyDisk Stored) (result : Option Marked) → IsServerOf status server key_disk
       → option_map queued_of result ≡ next_out (queued server) → (IsSome (fault_of server) → IsNone result)
       → option_map queued_of result ≡ next_frame status
-  next_as Down key_disk result is next closed = absurd is
+  next_as Down key_disk result is next closed = nothing_in result (closed is.closed)
   next_as (Up t) key_disk result is next closed = next ∙ ap (λ outbox. next_out outbox.queue) is.stands.member.outbox
-  next_as (Failed failure) key_disk result is next closed = nothing_in result (closed (is_some (fault_of server) is.cut.why is.cut.closed))
+  next_as (Failed failure) key_disk result is next closed = nothing_in result (closed is.closed.closed)

@@ -15,15 +15,14 @@ use Rattle.alloc_spec.specs.declared.event.View.{View}
 use Rattle.alloc_spec.specs.AllocatorState.{opening}
 use Rattle.alloc_server.specs.declared.server.Server.{Server}
 use Rattle.alloc_server.specs.Server.{StandsFor, durable_of}
-use Rattle.cluster_spec.specs.Members.{Member as MemberState, after_opening, stopped_with, after_failed_opening}
-use Rattle.cluster_spec.specs.Members.MemberStatus.{Down}
+use Rattle.cluster_spec.specs.Members.{Member as MemberState, MemberStatus, after_opening, is_running, stopped_with}
+use Rattle.cluster_spec.specs.Members.MemberStatus.{Down, Up, Failed}
 use Rattle.cluster_spec.specs.Report.{line_of_failure, line_of_opening, line_of_stored}
 use Rattle.cluster_spec.specs.ReportLine.{ReportLine}
 use Rattle.cluster_spec.specs.ReportLine.ReportLine.{HasOpened}
 use Rattle.bus_world.specs.OnDisk.{IsUpOn}
-use Rattle.bus_world.specs.Places.{IsDownOn, HasStatus}
+use Rattle.bus_world.specs.Places.{HasStatus}
 use Rattle.bus_world.specs.declared.place.Place.{Place}
-use Rattle.bus_world.proofs.Stepping.{is_status_down}
 
 -- ---- an opening that succeeded
 
@@ -49,25 +48,30 @@ module _ {F : Type 0} {ghosts : Ghosts MemoryDisk} (server : Server MemoryDisk F
 -- ---- the place and the pattern of a member after an opening
 
 module _ {F : Type 0} (place : Place F) where
-  pub opened_by : (b : Bool) (a c : MemberState) → HasStatus place a.status a.disk → b ≡ true → HasStatus place (if b then a else c).status (if b then a else c).disk
-  opened_by true a c is e = is
-  opened_by false a c is e = absurd (cc (e))
+  choice_by : (b c : Bool) (x y : MemberState) → HasStatus place (if c then x else y).status (if c then x else y).disk → b ≡ c
+      → HasStatus place (if b then x else y).status (if b then x else y).disk
+  choice_by b c x y is e = subst (λ (d : Bool). HasStatus place (if d then x else y).status (if d then x else y).disk) (sym e) is
 
-  unopened_by : (b : Bool) (a c : MemberState) → HasStatus place c.status c.disk → b ≡ false → HasStatus place (if b then a else c).status (if b then a else c).disk
-  unopened_by true a c is e = absurd (cc (e))
-  unopened_by false a c is e = is
+  module _ (x : MemberState) (id size now word : ℕ) where
+    pub opened_by : place.runs ≡ true → IsUpOn place.server (opening id size (store_of (opening_on x.disk).store) now word) (opening_on x.disk) → is_open_on x.disk ≡ true
+        → HasStatus place (after_opening id size now word x).status (after_opening id size now word x).disk
+    opened_by runs is e = choice_by (is_open_on x.disk) true _ _ (record { runs = runs; server = is }) e
 
-  module _ (x : MemberState) where
-    down_by : (disk : KeyDisk Stored) → (b : Bool) → IsDownOn place (if b then restarted_on x.pattern disk else disk) →
+    down_by : (disk : KeyDisk Stored) → (b : Bool) → HasStatus place Down (if b then restarted_on x.pattern disk else disk) →
         let after = if b then stopped_with x.pattern disk x else record x { status = Down; disk = disk } in HasStatus place after.status after.disk
-    down_by disk true on = is_status_down place (restarted_on x.pattern disk) on
-    down_by disk false on = is_status_down place disk on
+    down_by disk true is = is
+    down_by disk false is = is
 
-    pub is_down : (id size now word : ℕ) → is_open_on x.disk ≡ false →
-        IsDownOn place (if (opening_on x.disk).calls.stopped then restarted_on x.pattern (opening_on x.disk) else opening_on x.disk) →
-        HasStatus place (after_opening id size now word x).status (after_opening id size now word x).disk
-    is_down id size now word e on =
-        unopened_by (is_open_on x.disk) _ (after_failed_opening x (opening_on x.disk)) (down_by (opening_on x.disk) ((opening_on x.disk).calls.stopped) on) e
+    pub unopened_by : HasStatus place Down (if (opening_on x.disk).calls.stopped then restarted_on x.pattern (opening_on x.disk) else opening_on x.disk)
+        → is_open_on x.disk ≡ false → HasStatus place (after_opening id size now word x).status (after_opening id size now word x).disk
+    unopened_by is e = choice_by (is_open_on x.disk) false _ _ (down_by (opening_on x.disk) ((opening_on x.disk).calls.stopped) is) e
+
+-- a member that does not run is on its disk
+pub stopped_on : {F : Type 0} (place : Place F) (status : MemberStatus) (key_disk : KeyDisk Stored) → HasStatus place status key_disk → is_running status ≡ false
+    → HasStatus place Down key_disk
+stopped_on place Down key_disk is stopped = is
+stopped_on place (Up t) key_disk is stopped = absurd (cc (stopped))
+stopped_on place (Failed failure) key_disk is stopped = absurd (cc (stopped))
 
 pattern_by : (b c : Bool) (x a d e : MemberState) → a.pattern ≡ x.pattern → d.pattern ≡ x.pattern → e.pattern ≡ x.pattern
     → (if b then a else (if c then d else e)).pattern ≡ x.pattern

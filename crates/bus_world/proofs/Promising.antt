@@ -15,13 +15,12 @@ use Rattle.cluster_spec.specs.Cluster.{Cluster}
 use Rattle.cluster_spec.specs.Members.{MemberStatus}
 use Rattle.cluster_spec.specs.Members.MemberStatus.{Down, Up, Failed}
 use Rattle.cluster_spec.specs.Promise.{GivesOnce, log_on}
-use Rattle.bus_world.specs.OnDisk.{IsUpOn, RunsAs}
+use Rattle.bus_world.specs.OnDisk.{IsUpOn}
 use Rattle.bus_world.specs.Places.{HasStatus}
 use Rattle.bus_world.specs.Stands.{StandsFor as StandsForMember}
 use Rattle.bus_world.specs.Members.{StandsFor, ids_of}
 use Rattle.bus_world.specs.declared.member.Member.{Member}
 use Rattle.bus_world.specs.declared.place.Place.{Place}
-use Rattle.bus_world.specs.declared.place.Place.TheVariants.{Down as DownAt, Up as UpAt, Absent}
 use Rattle.bus_world.specs.World.{StandsFor as StandsForWorld}
 use Rattle.bus_world.specs.declared.members.Members.{Members}
 use Rattle.bus_world.specs.declared.world.World.{World}
@@ -38,19 +37,11 @@ pub same_log : {F : Type 0} {ghosts : Ghosts MemoryDisk} (server : Server Memory
     → t.raft_server.store.log ≡ key_disk.store.log
 same_log server t key_disk is = ap (λ (s : Store). s.log) is.stands.member.raft.store ∙ ap (λ (s : Stored). s.log) is.keeps.state
 
-runs_once : {F : Type 0} {ghosts : Ghosts MemoryDisk} (server : Server MemoryDisk F ghosts) (status : MemberStatus) (key_disk : KeyDisk Stored) → RunsAs server status key_disk
-    → IsInjective (log_on status key_disk)
-runs_once server Down key_disk is = absurd is
-runs_once server (Up t) key_disk is =
-    subst (λ (log : List Entry). IsInjective log) (sym (same_log server t key_disk is)) is.keeps.disk.on.stores.storable.injective
-runs_once server (Failed failure) key_disk is = is.cut.on.stores.storable.injective
-
 is_once : {F : Type 0} (place : Place F) (status : MemberStatus) (key_disk : KeyDisk Stored) → HasStatus place status key_disk → IsInjective (log_on status key_disk)
-is_once (DownAt disk) Down key_disk is = is.stores.storable.injective
-is_once (DownAt disk) (Up t) key_disk is = absurd is
-is_once (DownAt disk) (Failed failure) key_disk is = absurd is
-is_once (UpAt server) status key_disk is = runs_once server status key_disk is
-is_once Absent status key_disk is = absurd is
+is_once place Down key_disk is = is.server.on.stores.storable.injective
+is_once place (Up t) key_disk is =
+    subst (λ (log : List Entry). IsInjective log) (sym (same_log place.server t key_disk is.server)) is.server.keeps.disk.on.stores.storable.injective
+is_once place (Failed failure) key_disk is = is.server.closed.on.stores.storable.injective
 
 gives_once : {F : Type 0} (world : Members F) (c : Cluster) → StandsFor world c → GivesOnce c
 gives_once {F} world c stands n there =

@@ -1,9 +1,11 @@
 -- A server whose disk is set to stop or to fail.
-use Rattle.std.proofs.Common.{◌≡◌, sym, ap, ◌∙◌}
+use Rattle.std.proofs.Common.{◌≡◌, sym, ap, subst, ◌∙◌}
+use Rattle.std.specs.Prelude.{IsSome, Option}
 use Rattle.disk_model.specs.declared.calls.Calls.{Calls}
 use Rattle.disk_model.specs.declared.disk.Disk.{Ghosts}
 use Rattle.disk_model.specs.declared.memory.MemoryDisk.{MemoryDisk}
 use Rattle.disk_model.specs.Memory.{memory_calls, memory_contents}
+use Rattle.kv_store.specs.declared.fault.Fault.{Fault}
 use Rattle.kv_store.specs.KeyDisk.{KeyDisk}
 use Rattle.raft_log.specs.declared.durable.Durable.{Durable}
 use Rattle.raft_log.specs.DurableViews.{durable_copies, durable_disk, durable_fault, durable_state}
@@ -14,7 +16,7 @@ use Rattle.alloc_server.specs.declared.server.Server.{Server}
 use Rattle.alloc_server.specs.Server.{StandsFor, disk_of, durable_of, fault_of}
 use Rattle.cluster_spec.specs.Members.{MemberStatus}
 use Rattle.cluster_spec.specs.Members.MemberStatus.{Down, Up, Failed}
-use Rattle.bus_world.specs.OnDisk.{RunsAs}
+use Rattle.bus_world.specs.OnDisk.{IsClosedOn, IsServerOf}
 
 abbrev pub LawOfSet : Type 0
 LawOfSet = (old new : MemoryDisk) (key_disk : KeyDisk Stored) (calls : Calls) → IsOn old key_disk →
@@ -32,18 +34,20 @@ module _ {F : Type 0} {disk : Ghosts MemoryDisk} (server new : Server MemoryDisk
     (stands : (t : AllocatorState) → StandsFor server t → StandsFor new t) (fault : fault_of new ≡ fault_of server)
     (state : durable_state (durable_of new) ≡ durable_state (durable_of server)) (copies : durable_copies (durable_of new) ≡ durable_copies (durable_of server))
     (runs : (calls : Calls) → (setting calls).stopped ≡ calls.stopped) where
-  pub runs_set : (status : MemberStatus) (key_disk : KeyDisk Stored) → RunsAs server status key_disk → RunsAs new status (record key_disk { calls = setting key_disk.calls })
-  runs_set Down key_disk is = absurd is
-  runs_set (Up t) key_disk is = record {
+  closed_set : (key_disk : KeyDisk Stored) → IsClosedOn server key_disk → IsClosedOn new (record key_disk { calls = setting key_disk.calls })
+  closed_set key_disk is = record {
+    closed = subst (λ (o : Option Fault). IsSome o) (sym fault) is.closed;
+    on = law (disk_of server) (disk_of new) key_disk (setting key_disk.calls) is.on contents (calls ∙ ap setting is.on.on.calls);
+  }
+
+  pub server_set : (status : MemberStatus) (key_disk : KeyDisk Stored) → IsServerOf status server key_disk → IsServerOf status new (record key_disk { calls = setting key_disk.calls })
+  server_set Down key_disk is = closed_set key_disk is
+  server_set (Up t) key_disk is = record {
     stands = stands t is.stands;
     keeps = member_law (durable_of server) (durable_of new) key_disk (setting key_disk.calls) is.keeps state copies
         ((stands t is.stands).works ∙ sym is.stands.works) contents (calls ∙ ap setting is.keeps.disk.on.on.calls);
   }
-  runs_set (Failed failure) key_disk is = record {
-    cut = record {
-      why = is.cut.why;
-      closed = fault ∙ is.cut.closed;
-      on = law (disk_of server) (disk_of new) key_disk (setting key_disk.calls) is.cut.on contents (calls ∙ ap setting is.cut.on.on.calls);
-    };
+  server_set (Failed failure) key_disk is = record {
+    closed = closed_set key_disk is.closed;
     runs = runs key_disk.calls ∙ is.runs;
   }

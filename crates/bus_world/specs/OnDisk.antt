@@ -1,8 +1,7 @@
 -- A server on a disk in memory that is seen by its stored state.
-use Rattle.std.specs.Prelude.{◌≡◌, Some, false}
+use Rattle.std.specs.Prelude.{◌≡◌, IsSome, false}
 use Rattle.disk_model.specs.declared.disk.Disk.{Ghosts}
 use Rattle.disk_model.specs.declared.memory.MemoryDisk.{MemoryDisk}
-use Rattle.kv_store.specs.declared.fault.Fault.{Fault}
 use Rattle.kv_store.specs.KeyDisk.{KeyDisk}
 use Rattle.raft_log.specs.KeyDisk.{IsOn, IsKeyDisk}
 use Rattle.raft_log.specs.Stored.{Stored}
@@ -18,25 +17,18 @@ module _ {F : Type 0} {disk : Ghosts MemoryDisk} where
     pub stands : StandsFor server t
     pub keeps : IsKeyDisk (durable_of server) key_disk
 
-  -- a server whose step was cut off
-  pub record IsCutOn (server : Server MemoryDisk F disk) (key_disk : KeyDisk Stored) : Type 0 where
-    pub why : Fault
-    pub closed : fault_of server ≡ Some why
+  -- a server that takes no step any more: its step was cut off, or its process stopped
+  pub record IsClosedOn (server : Server MemoryDisk F disk) (key_disk : KeyDisk Stored) : Type 0 where
+    pub closed : IsSome (fault_of server)
     pub on : IsOn (disk_of server) key_disk
 
   -- a server whose step was cut off, and whose disk goes on
   pub record HasFailedOn (server : Server MemoryDisk F disk) (key_disk : KeyDisk Stored) : Type 0 where
-    pub cut : IsCutOn server key_disk
+    pub closed : IsClosedOn server key_disk
     pub runs : key_disk.calls.stopped ≡ false
 
-  -- a server is that of a member that runs, or has failed
-  abbrev pub RunsAs : Server MemoryDisk F disk → MemberStatus → KeyDisk Stored → Type 0
-  RunsAs server Down key_disk = ⊥
-  RunsAs server (Up t) key_disk = IsUpOn server t key_disk
-  RunsAs server (Failed failure) key_disk = HasFailedOn server key_disk
-
--- a disk is that of a stopped member
-abbrev pub IsDownAs : MemoryDisk → MemberStatus → KeyDisk Stored → Type 0
-IsDownAs disk Down key_disk = IsOn disk key_disk
-IsDownAs disk (Up t) key_disk = ⊥
-IsDownAs disk (Failed failure) key_disk = ⊥
+  -- a server is that of a member with this status; where the member is stopped, only the disk counts
+  abbrev pub IsServerOf : MemberStatus → Server MemoryDisk F disk → KeyDisk Stored → Type 0
+  IsServerOf Down server key_disk = IsClosedOn server key_disk
+  IsServerOf (Up t) server key_disk = IsUpOn server t key_disk
+  IsServerOf (Failed failure) server key_disk = HasFailedOn server key_disk

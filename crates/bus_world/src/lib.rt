@@ -11,7 +11,8 @@
 //! of allocatees. The allocatees have a seat each (`seat`, with their rows in `allocatees`), and of the members they
 //! touch the frames of the bus alone. `world` puts the two together.
 //!
-//! All memory is taken when the world is made. A row moves a server only where a member opens or stops.
+//! All memory is taken when the world is made. A server stays where it is for ever: an opening and a stop change it
+//! there.
 #![tactic(auto)]
 
 mod allocatees;

@@ -1,6 +1,5 @@
 ghost use Rattle.std.specs.Prelude.{◌≡◌, ◌≤◌, ◌<◌, ℕ, true, false, IsNone, option_map, if◌then◌else◌};
 ghost use Rattle.kv_store.specs.KeyDisk.{KeyDisk, restarted_on};
-ghost use Rattle.raft_log.specs.KeyDisk.{IsOn};
 ghost use Rattle.raft_log.specs.Stored.{Stored};
 ghost use Rattle.transfer_rx.specs.Acceptance.{AnswersByRows};
 ghost use Rattle.transfer_rx.specs.Memory.{ReceiverFitsInMemory};
@@ -29,7 +28,6 @@ use raft_log::laws::{
     zeros_are_the_first_state,
 };
 use replay_text::Told;
-use std::mem;
 use transfer_rx::AcceptRow;
 use transfer_tx::Marked;
 
@@ -47,22 +45,32 @@ pub(crate) struct Member<F> {
 }
 
 impl<F: Fn(Kind, u16) -> Option<u64> + Copy> Member<F> {
-    ghost use Rattle.bus_world.specs.Places.{Accepts, IsDownOn, IsRunningOn, Serves};
+    ghost use Rattle.bus_world.specs.Places.{HasStatus, closure_of};
     ghost use Rattle.bus_world.specs.Stands.{StandsFor};
 
-    /// A member that is stopped, on a disk of zeros.
-    pub fn new(id: u8) -> Member<F>
+    /// A member of a cluster of this size. It is stopped, on a disk of zeros.
+    pub fn new(id: u8, size: u8, rows: ArrayVec<AcceptRow, 16>, accept: F) -> Member<F>
         requires least { 1 ≤ id }
         requires most { id ≤ 125 }
+        requires some { 1 ≤ size }
+        requires five { size ≤ 5 }
+        requires rows { rows.items ≡ accepted.rows }
+        requires memory { ReceiverFitsInMemory F.row 160 128 }
+        requires callable { F.IsAlwaysCallable accept }
+        requires answers { AnswersByRows (F.post accept) rows.items }
         ensures stands { StandsFor result fresh_member }
         ensures id { result.id ≡ id }
-        ensures accepts { (accept : F) → Accepts result.place accept }
+        ensures accepts { closure_of result.place ≡ accept }
     {
         the_disk_by_states();
         zeros_are_the_first_state();
+        let disk = MemoryDisk::new(&[0; IMAGE]);
         Member {
             id,
-            place: Place::Down(MemoryDisk::new(&[0; IMAGE])),
+            place: Place {
+                server: Server::closed(id, size, disk, rows, accept),
+                runs: false,
+            },
             pattern: Pattern::Old,
         }
     }
@@ -70,122 +78,67 @@ impl<F: Fn(Kind, u16) -> Option<u64> + Copy> Member<F> {
     pub fn is_running(&self) -> bool
         ensures { (x : MemberState) → StandsFor self.now x → result ≡ is_running x.status }
     {
-        match &self.place {
-            Place::Up(_) => true,
-            Place::Down(_) | Place::Absent => false,
-        }
+        self.place.runs
     }
 
     /// Opens a member that is stopped, in a cluster of this size.
-    pub fn open(
-        &mut self,
-        size: u8,
-        moment: u64,
-        word: u32,
-        rows: ArrayVec<AcceptRow, 16>,
-        accept: F,
-    ) -> Told
+    pub fn open(&mut self, size: u8, moment: u64, word: u32) -> Told
         requires some { 1 ≤ size }
         requires five { size ≤ 5 }
-        requires rows { rows.items ≡ accepted.rows }
         requires memory { ReceiverFitsInMemory F.row 160 128 }
-        requires callable { F.IsAlwaysCallable accept }
-        requires answers { AnswersByRows (F.post accept) rows.items }
         ensures told { (x : MemberState) → StandsFor self.old x → is_running x.status ≡ false →
             report_line_of result ≡ line_of_opening self.old.id x.disk }
         ensures stands { (x : MemberState) → StandsFor self.old x → is_running x.status ≡ false →
             StandsFor self.new (opened_member self.old.id size moment word x) }
         ensures id { self.new.id ≡ self.old.id }
-        ensures accepts { Accepts self.old.place accept → Accepts self.new.place accept }
-    {
-        match mem::replace(&mut self.place, Place::Absent) {
-            Place::Down(disk) => self.open_disk(disk, size, moment, word, rows, accept),
-            other => {
-                self.place = other;
-                Told::Failed { n: self.id }
-            }
-        }
-    }
-
-    fn open_disk(
-        &mut self,
-        disk: MemoryDisk,
-        size: u8,
-        moment: u64,
-        word: u32,
-        rows: ArrayVec<AcceptRow, 16>,
-        accept: F,
-    ) -> Told
-        requires some { 1 ≤ size }
-        requires five { size ≤ 5 }
-        requires rows { rows.items ≡ accepted.rows }
-        requires memory { ReceiverFitsInMemory F.row 160 128 }
-        requires callable { F.IsAlwaysCallable accept }
-        requires answers { AnswersByRows (F.post accept) rows.items }
-        ensures told { (key_disk : KeyDisk Stored) → IsOn disk key_disk →
-            report_line_of result ≡ line_of_opening self.old.id key_disk }
-        ensures stands { (x : MemberState) → IsOn disk x.disk → self.old.pattern ≡ x.pattern →
-            x.status ≡ Down →
-            StandsFor self.new (opened_member self.old.id size moment word x) }
-        ensures id { self.new.id ≡ self.old.id }
-        ensures accepts { Accepts self.new.place accept }
+        ensures accepts { closure_of self.new.place ≡ closure_of self.old.place }
     {
         a_member_on_the_disk_by_states();
         the_disk_by_states();
         an_image_stands_for_one_state();
         let n = self.id;
-        match Server::open(n, size, disk, rows, accept, moment, word) {
-            Ok(server) => {
-                let told = opened(n, server.view());
-                self.place = Place::Up(server);
-                told
+        match self.place.server.reopen(n, size, moment, word) {
+            Ok(()) => {
+                self.place.runs = true;
+                opened(n, self.place.server.view())
             }
-            Err(refused) => self.stay_stopped(refused.disk),
+            Err(_) => self.stay_stopped(),
         }
     }
 
     /// An opening failed: the member stays stopped. Where its disk stopped, it is started again.
-    fn stay_stopped(&mut self, disk: MemoryDisk) -> Told
-        ensures told { (key_disk : KeyDisk Stored) → IsOn disk key_disk →
+    fn stay_stopped(&mut self) -> Told
+        ensures told { (key_disk : KeyDisk Stored) → HasStatus self.old.place Down key_disk →
             report_line_of result ≡ line_of_failure self.old.id key_disk }
-        ensures down { (key_disk : KeyDisk Stored) → IsOn disk key_disk → IsDownOn self.new.place
+        ensures status { (key_disk : KeyDisk Stored) → HasStatus self.old.place Down key_disk →
+            HasStatus self.new.place Down
             (if key_disk.calls.stopped then restarted_on self.old.pattern key_disk else key_disk) }
         ensures pattern { self.new.pattern ≡ self.old.pattern }
         ensures id { self.new.id ≡ self.old.id }
-        ensures accepts { (accept : F) → Accepts self.new.place accept }
+        ensures accepts { closure_of self.new.place ≡ closure_of self.old.place }
     {
-        the_disk_by_states();
-        let mut disk = disk;
-        if disk.stopped() {
-            disk.restart(copy_of(&self.pattern));
-            self.place = Place::Down(disk);
+        if self.place.server.stopped() {
+            self.place.restart(&self.pattern);
             return Told::Stopped { n: self.id };
         }
-        self.place = Place::Down(disk);
         Told::Failed { n: self.id }
     }
 
     /// A step with a number. It may end in a stop, and then the member is stopped, or in a failure.
     pub fn step(&mut self, event: Event, number: u64) -> Told
         requires memory { ReceiverFitsInMemory F.row 160 128 }
-        requires callable { Serves (λ accept. F.IsAlwaysCallable accept) self.old.place }
-        requires answers { Serves (λ accept. AnswersByRows (F.post accept) accepted.rows)
-            self.old.place }
+        requires callable { F.IsAlwaysCallable (closure_of self.old.place) }
+        requires answers { AnswersByRows (F.post (closure_of self.old.place)) accepted.rows }
         ensures told { (x : MemberState) → StandsFor self.old x → is_running x.status ≡ true →
             report_line_of result ≡ line_of_step self.old.id number (event_of event) x.status x }
         ensures stands { (x : MemberState) → StandsFor self.old x → is_running x.status ≡ true →
             StandsFor self.new (stepped_member number (event_of event) x.status x) }
         ensures id { self.new.id ≡ self.old.id }
-        ensures accepts { (accept : F) → Accepts self.old.place accept →
-            Accepts self.new.place accept }
+        ensures accepts { closure_of self.new.place ≡ closure_of self.old.place }
     {
-        let n = self.id;
-        let Place::Up(server) = &mut self.place else {
-            return Told::Failed { n };
-        };
-        let told = advance(server, n, event, number);
+        let told = advance(&mut self.place.server, self.id, event, number);
         if has_stopped(&told) {
-            self.stop_now();
+            self.place.restart(&self.pattern);
         }
         told
     }
@@ -198,28 +151,20 @@ impl<F: Fn(Kind, u16) -> Option<u64> + Copy> Member<F> {
             StandsFor self.new (record x { status = after_sending x.status }) }
         ensures none { IsNone result → self.new ≡ self.old }
         ensures id { self.new.id ≡ self.old.id }
-        ensures accepts { (accept : F) → Accepts self.old.place accept →
-            Accepts self.new.place accept }
+        ensures accepts { closure_of self.new.place ≡ closure_of self.old.place }
     {
-        match &mut self.place {
-            Place::Up(server) => server.pop(),
-            Place::Down(_) | Place::Absent => None,
-        }
+        self.place.server.pop()
     }
 
     /// What a frame would deliver. Nothing changes.
     pub fn judge(&self, frame: &Frame, mark: Mark, moment: u64) -> Judged
         requires memory { ReceiverFitsInMemory F.row 160 128 }
-        requires callable { Serves (λ accept. F.IsAlwaysCallable accept) self.now.place }
-        requires answers { Serves (λ accept. AnswersByRows (F.post accept) accepted.rows)
-            self.now.place }
+        requires callable { F.IsAlwaysCallable (closure_of self.now.place) }
+        requires answers { AnswersByRows (F.post (closure_of self.now.place)) accepted.rows }
         ensures { (x : MemberState) → StandsFor self.now x →
             cause_of_judgement result ≡ arrival_refusal x.status (arrival_of frame.now mark moment) }
     {
-        match &self.place {
-            Place::Up(server) => server.judge(frame, mark, moment),
-            Place::Down(_) | Place::Absent => Judged::Fine,
-        }
+        self.place.server.judge(frame, mark, moment)
     }
 
     /// Stops a member that runs. Its disk keeps what the pattern says of the bytes that were not
@@ -230,11 +175,10 @@ impl<F: Fn(Kind, u16) -> Option<u64> + Copy> Member<F> {
         ensures stands { (x : MemberState) → StandsFor self.old x → is_running x.status ≡ true →
             StandsFor self.new (stopped_with pattern.now x.disk x) }
         ensures id { self.new.id ≡ self.old.id }
-        ensures accepts { (accept : F) → Accepts self.old.place accept →
-            Accepts self.new.place accept }
+        ensures accepts { closure_of self.new.place ≡ closure_of self.old.place }
     {
         self.pattern = copy_of(pattern);
-        self.stop_now();
+        self.place.restart(pattern);
         Told::Stopped { n: self.id }
     }
 
@@ -245,8 +189,7 @@ impl<F: Fn(Kind, u16) -> Option<u64> + Copy> Member<F> {
         ensures stands { (x : MemberState) → StandsFor self.old x →
             StandsFor self.new (with_stop_armed call pattern.now x) }
         ensures id { self.new.id ≡ self.old.id }
-        ensures accepts { (accept : F) → Accepts self.old.place accept →
-            Accepts self.new.place accept }
+        ensures accepts { closure_of self.new.place ≡ closure_of self.old.place }
     {
         self.pattern = copy_of(pattern);
         self.place.stop_at(u64::from(call));
@@ -259,8 +202,7 @@ impl<F: Fn(Kind, u16) -> Option<u64> + Copy> Member<F> {
         ensures stands { (x : MemberState) → StandsFor self.old x →
             StandsFor self.new (with_failure_armed call x) }
         ensures id { self.new.id ≡ self.old.id }
-        ensures accepts { (accept : F) → Accepts self.old.place accept →
-            Accepts self.new.place accept }
+        ensures accepts { closure_of self.new.place ≡ closure_of self.old.place }
     {
         self.place.fail_at(u64::from(call));
         Told::Armed { n: self.id }
@@ -270,52 +212,22 @@ impl<F: Fn(Kind, u16) -> Option<u64> + Copy> Member<F> {
     pub fn view(&self) -> Option<View>
         ensures { (x : MemberState) → StandsFor self.now x → result ≡ running_view x.status }
     {
-        match &self.place {
-            Place::Up(server) => {
-                if server.failed() {
-                    return None;
-                }
-                Some(server.view())
-            }
-            Place::Down(_) | Place::Absent => None,
+        let server = &self.place.server;
+        if server.failed() {
+            return None;
         }
+        Some(server.view())
     }
 
     /// The entry at a place of a member that runs and has not failed, up to its last.
     pub fn entry(&self, place: u8) -> Option<Entry>
         ensures { (x : MemberState) → StandsFor self.now x → result ≡ running_entry x.status place }
     {
-        match &self.place {
-            Place::Up(server) => {
-                if server.failed() || place > server.view().last {
-                    return None;
-                }
-                Some(server.entry(place))
-            }
-            Place::Down(_) | Place::Absent => None,
+        let server = &self.place.server;
+        if server.failed() || place > server.view().last {
+            return None;
         }
-    }
-
-    /// A member that runs stops. Its disk keeps what the pattern says of the bytes that were not
-    /// synced. It is not inlined: no step is to pay for the place of a whole server on the stack.
-    #[inline(never)]
-    fn stop_now(&mut self)
-        ensures stopped { (key_disk : KeyDisk Stored) → IsRunningOn self.old.place key_disk →
-            IsDownOn self.new.place (restarted_on self.old.pattern key_disk) }
-        ensures pattern { self.new.pattern ≡ self.old.pattern }
-        ensures id { self.new.id ≡ self.old.id }
-        ensures accepts { (accept : F) → Accepts self.old.place accept →
-            Accepts self.new.place accept }
-    {
-        the_disk_by_states();
-        match mem::replace(&mut self.place, Place::Absent) {
-            Place::Up(server) => {
-                let mut disk = server.stop();
-                disk.restart(copy_of(&self.pattern));
-                self.place = Place::Down(disk);
-            }
-            other => self.place = other,
-        }
+        Some(server.entry(place))
     }
 }
 

@@ -2,15 +2,16 @@ ghost use Rattle.std.specs.Prelude.{◌≡◌, ◌≤◌, ◌<◌, ◌+◌, ◌+
 ghost use Rattle.transfer_rx.specs.Acceptance.{AnswersByRows};
 ghost use Rattle.transfer_rx.specs.Memory.{ReceiverFitsInMemory};
 ghost use Rattle.alloc_spec.specs.Accepted as accepted;
-ghost use Rattle.cluster_spec.specs.Cluster.{AreMembers, AreNodes, Cluster, cluster};
+ghost use Rattle.cluster_spec.specs.Cluster.{AreMembers, Cluster, cluster};
 ghost use Rattle.cluster_spec.specs.Report.{entry_of, view_at};
 ghost use Rattle.cluster_spec.specs.declared.unlawful.WorldFault.TheVariants.{BadIds};
 ghost use Rattle.bus_world.specs.Fresh.{AreFresh};
-ghost use Rattle.bus_world.specs.Places.{Accepts};
+ghost use Rattle.bus_world.specs.Places.{closure_of};
 ghost use Rattle.bus_world.specs.declared.member.Member.{Member};
 
 use crate::bus::put_on;
 use crate::member::Member;
+use crate::rows::copy_of;
 use alloc_server::View;
 use arrayvec::ArrayVec;
 use can_frame::{Entry, Kind};
@@ -31,17 +32,15 @@ pub(crate) struct Members<F> {
     /// How many rows it has taken.
     pub(crate) taken: u64,
 
-    /// What each member's receiver accepts, as rows and as a closure.
-    pub(crate) rows: ArrayVec<AcceptRow, 16>,
+    /// What each member's receiver accepts, as a closure.
     pub(crate) accept: F,
     ghost below: { room < 4294967296 },
     ghost fits: { length frames.items ≤ room },
     ghost kept: { room ≤ vec_capacity frames },
     ghost some: { 1 ≤ length members.items },
     ghost five: { length members.items ≤ 5 },
-    ghost by_rows: { rows.items ≡ accepted.rows },
     ghost alike: { (i : ℕ) (d : Member F) → i < length members.items →
-        Accepts (slice_index_or members.items i d).place accept },
+        closure_of (slice_index_or members.items i d).place ≡ accept },
 }
 
 impl<F: Fn(Kind, u16) -> Option<u64> + Copy> Members<F> {
@@ -76,7 +75,7 @@ impl<F: Fn(Kind, u16) -> Option<u64> + Copy> Members<F> {
         let Ok(bus) = Vec::with_capacity(alloc, frames) else {
             return Err(WorldFault::Memory);
         };
-        let Some(members) = stopped_members(alloc, ids) else {
+        let Some(members) = stopped_members(alloc, ids, &rows, accept) else {
             return Err(WorldFault::Memory);
         };
         Ok(Members {
@@ -84,7 +83,6 @@ impl<F: Fn(Kind, u16) -> Option<u64> + Copy> Members<F> {
             frames: bus,
             room: frames,
             taken: 0,
-            rows,
             accept,
         })
     }
@@ -142,15 +140,22 @@ impl<F: Fn(Kind, u16) -> Option<u64> + Copy> Members<F> {
 fn stopped_members<F: Fn(Kind, u16) -> Option<u64> + Copy>(
     alloc: Global,
     ids: &[u8],
+    rows: &ArrayVec<AcceptRow, 16>,
+    accept: F,
 ) -> Option<Vec<Member<F>>>
-    requires { AreNodes ids.now }
-    ensures { IfSome result (λ members. AreFresh ids.now members.items) }
+    requires members { AreMembers ids.now }
+    requires rows { rows.now.items ≡ accepted.rows }
+    requires memory { ReceiverFitsInMemory F.row 160 128 }
+    requires callable { F.IsAlwaysCallable accept }
+    requires answers { AnswersByRows (F.post accept) accepted.rows }
+    ensures { IfSome result (λ members. AreFresh ids.now accept members.items) }
 {
     let Ok(mut members) = Vec::with_capacity(alloc, ids.len()) else {
         return None;
     };
+    let size = ids.len() as u8;
     for id in ids {
-        let Ok(()) = members.push(Member::new(*id)) else {
+        let Ok(()) = members.push(Member::new(*id, size, copy_of(rows), accept)) else {
             return None;
         };
     }

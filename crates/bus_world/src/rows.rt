@@ -19,13 +19,9 @@ use transfer_rx::AcceptRow;
 impl<F: Fn(Kind, u16) -> Option<u64> + Copy> Members<F> {
     ghost use Rattle.bus_world.specs.MemberRows.{Keeps, Leaves, Refuses, Tells};
 
-    /// A stopped member opens. It is not inlined: no other row is to pay for the place of a whole server
-    /// on the stack.
-    #[inline(never)]
+    /// A stopped member opens.
     pub(crate) fn open(&mut self, n: u8, moment: u64, word: u32) -> Result<Told, Unlawful>
         requires memory { ReceiverFitsInMemory F.row 160 128 }
-        requires callable { F.IsAlwaysCallable self.old.accept }
-        requires answers { AnswersByRows (F.post self.old.accept) accepted.rows }
         ensures refused { IfErr result (Refuses self.old (Open n moment word)) }
         ensures told { IfOk result (Tells self.old (Open n moment word)) }
         ensures leaves { OnOk result (Leaves self.old self.new (Open n moment word)) }
@@ -33,10 +29,8 @@ impl<F: Fn(Kind, u16) -> Option<u64> + Copy> Members<F> {
         ensures keeps { Keeps self.old self.new }
     {
         let size = self.members.as_slice().len() as u8;
-        let rows = copy_of(&self.rows);
-        let accept = self.accept;
         match self.stopped(n) {
-            Ok(place) => Ok(self.members[place].open(size, moment, word, rows, accept)),
+            Ok(place) => Ok(self.members[place].open(size, moment, word)),
             Err(why) => Err(why),
         }
     }

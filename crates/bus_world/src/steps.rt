@@ -12,7 +12,7 @@ ghost use Rattle.alloc_server.specs.Server.{accepts, event_of};
 ghost use Rattle.cluster_spec.specs.Report.{line_of_failure, line_of_view};
 ghost use Rattle.cluster_spec.specs.ReportLine.{report_line_of};
 ghost use Rattle.cluster_spec.specs.ReportLine.ReportLine.{HasFailed, HasStepped};
-ghost use Rattle.bus_world.specs.OnDisk.{HasFailedOn, IsCutOn, IsUpOn};
+ghost use Rattle.bus_world.specs.OnDisk.{HasFailedOn, IsClosedOn, IsUpOn};
 
 use alloc_server::{Event, Outcome, Server, View};
 use can_frame::Kind;
@@ -39,7 +39,7 @@ pub(crate) fn advance<F: Fn(Kind, u16) -> Option<u64> + Copy>(
         let step_result = step_of t number (event_of event) in
         let puts = stored_puts step_result.step_state.puts key_disk.store in are_put puts key_disk.calls ≡ false →
         (report_line_of result ≡ line_of_failure n (puts_on puts key_disk)) ×
-        IsCutOn server.new (puts_on puts key_disk) }
+        IsClosedOn server.new (puts_on puts key_disk) }
     ensures again { (key_disk : KeyDisk Stored) → HasFailedOn server.old key_disk →
         (report_line_of result ≡ HasFailed n) × (server.new ≡ server.old) }
     ensures accepts { accepts server.new ≡ accepts server.old }

@@ -29,8 +29,8 @@ returns-in-Ok-clause-cut g c = λ t key_disk up cut.
 
 pub returns-in-Ok-clause-again : goal.returns-in-Ok-clause-again
 returns-in-Ok-clause-again g c = λ key_disk failed.
-    let same = again_by (λ (why : Fault). (outcome_of (Ok c.in-Ok.outcome) ≡ Err why) × (c.step.new.self ≡ c.args.server.now)) (fault_of c.args.server.now) failed.cut.why failed.cut.closed c.in-Ok.ensures.again in
-    let no_fault : outcome_of (Ok c.in-Ok.outcome) ≡ Err failed.cut.why = same.0 in
+    let same = again_by (λ (why : Fault). (outcome_of (Ok c.in-Ok.outcome) ≡ Err why) × (c.step.new.self ≡ c.args.server.now)) (fault_of c.args.server.now) failed.closed.closed c.in-Ok.ensures.again in
+    let no_fault : outcome_of (Ok c.in-Ok.outcome) ≡ Err same.0 = same.1.0 in
     absurd (cc (no_fault))
 
 pub returns-then-stopped-clause-finished : goal.returns-then-stopped-clause-finished
@@ -49,8 +49,8 @@ returns-then-stopped-clause-cut g c = λ t key_disk up cut.
 
 pub returns-then-stopped-clause-again : goal.returns-then-stopped-clause-again
 returns-then-stopped-clause-again g c = λ key_disk failed.
-    let same = again_by (λ (why : Fault). (outcome_of (Err c.in-Err.field-0) ≡ Err why) × (c.step.new.self ≡ c.args.server.now)) (fault_of c.args.server.now) failed.cut.why failed.cut.closed c.in-Err.ensures.again in
-    let runs : c.stopped.result ≡ false = c.stopped.ensures ∙ (same_stopped c.step.new.self c.args.server.now same.1 ∙ (ap (λ (calls : Calls). calls.stopped) failed.cut.on.on.calls ∙ failed.runs)) in
+    let same = again_by (λ (why : Fault). (outcome_of (Err c.in-Err.field-0) ≡ Err why) × (c.step.new.self ≡ c.args.server.now)) (fault_of c.args.server.now) failed.closed.closed c.in-Err.ensures.again in
+    let runs : c.stopped.result ≡ false = c.stopped.ensures ∙ (same_stopped c.step.new.self c.args.server.now same.1.1 ∙ (ap (λ (calls : Calls). calls.stopped) failed.closed.on.on.calls ∙ failed.runs)) in
     let stopped : c.stopped.result ≡ true = c.if-stopped.true in
     absurd (cc (runs, stopped))
 
@@ -70,5 +70,5 @@ returns-else-stopped-clause-cut g c = λ t key_disk up cut.
 
 pub returns-else-stopped-clause-again : goal.returns-else-stopped-clause-again
 returns-else-stopped-clause-again g c = λ key_disk failed.
-    let same = again_by (λ (why : Fault). (outcome_of (Err c.in-Err.field-0) ≡ Err why) × (c.step.new.self ≡ c.args.server.now)) (fault_of c.args.server.now) failed.cut.why failed.cut.closed c.in-Err.ensures.again in
-    (refl, same.1)
+    let same = again_by (λ (why : Fault). (outcome_of (Err c.in-Err.field-0) ≡ Err why) × (c.step.new.self ≡ c.args.server.now)) (fault_of c.args.server.now) failed.closed.closed c.in-Err.ensures.again in
+    (refl, same.1.1)

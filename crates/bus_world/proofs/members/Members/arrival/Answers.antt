@@ -6,9 +6,7 @@ use Rattle.cluster_spec.specs.Lawful.{cause_of_judgement}
 use Rattle.transfer_tx.specs.declared.marked.Marked.{Marked}
 use Rattle.bus_world.specs.Stands.{StandsFor}
 use Rattle.bus_world.specs.declared.member.Member.{Member}
-use Rattle.bus_world.specs.Places.{Accepts}
-use Rattle.bus_world.proofs.Alike.{serves_by}
-use Rattle.bus_world.proofs.Finding.{judged_row, stands_there}
+use Rattle.bus_world.proofs.Finding.{alike_there, judged_row, stands_there}
 use Rattle.bus_world.proofs.members.Members.arrival.Goals as goal
 
 pub returns-in-Torn-clause-refused : goal.returns-in-Torn-clause-refused
@@ -43,14 +41,12 @@ returns-clause-lawful g c = λ w stands.
 
 pub judge-requires-clause-callable : goal.judge-requires-clause-callable
 judge-requires-clause-callable g c =
-    serves_by _ c.index.result.now.place c.args.self.now.accept
-    (subst (λ (m : Member g.row.F.Denot). Accepts m.place c.args.self.now.accept) (sym c.index.ensures)
-    (c.args.self.now.alike c.in-Ok.place c.index.result.now c.in-Ok.ensures.inside))
-    c.requires.callable
+    let xs = c.args.self.now.members.items in let accept = c.args.self.now.accept in let m = c.index.result.now in
+    let same = sym (alike_there xs c.args.n c.in-Ok.place m accept c.args.self.now.alike c.in-Ok.ensures.place c.index.ensures) in
+    rw same at c.requires.callable
 
 pub judge-requires-clause-answers : goal.judge-requires-clause-answers
 judge-requires-clause-answers g c =
-    serves_by _ c.index.result.now.place c.args.self.now.accept
-    (subst (λ (m : Member g.row.F.Denot). Accepts m.place c.args.self.now.accept) (sym c.index.ensures)
-    (c.args.self.now.alike c.in-Ok.place c.index.result.now c.in-Ok.ensures.inside))
-    c.requires.answers
+    let xs = c.args.self.now.members.items in let accept = c.args.self.now.accept in let m = c.index.result.now in
+    let same = sym (alike_there xs c.args.n c.in-Ok.place m accept c.args.self.now.alike c.in-Ok.ensures.place c.index.ensures) in
+    rw same at c.requires.answers

@@ -9,9 +9,7 @@ use Rattle.bus_world.specs.Stands.{StandsFor}
 use Rattle.cluster_spec.specs.ReportLine.{report_line_of}
 use Rattle.cluster_spec.specs.ReportLine.ReportLine.{HasStopped, IsArmed}
 use Rattle.bus_world.specs.declared.member.Member.{Member}
-use Rattle.bus_world.specs.Places.{Accepts}
-use Rattle.bus_world.proofs.Alike.{alike_set}
-use Rattle.bus_world.proofs.Finding.{is_not_zero, is_zero, its_id, runs_from, set_holds, stands_there}
+use Rattle.bus_world.proofs.Finding.{alike_there, set_alike, is_not_zero, is_zero, its_id, runs_from, set_holds, stands_there}
 use Rattle.bus_world.proofs.members.Members.crash.Goals as goal
 
 pub returns-in-Ok-clause-told : goal.returns-in-Ok-clause-told
@@ -53,27 +51,25 @@ returns-in-Ok-member-clause-leaves g c = λ w stands.
     (with_stop_armed c.args.calls c.args.pattern.now (w.member n)) (c.stop_at.ensures.id ∙ id) (c.stop_at.ensures.stands (w.member n) here))
 
 pub invariant_of-self : goal.invariant_of-self
-invariant_of-self g c = record {
-  below = c.args.self.now.below;
-  fits = c.args.self.now.fits;
-  kept = c.args.self.now.kept;
-  some = search rules;
-  five = search rules;
-  by_rows = c.args.self.now.by_rows;
-  alike = alike_set c.args.self.now.members.items c.in-Ok.place c.stop.new.self c.args.self.now.accept c.args.self.now.alike
-      (c.stop.ensures.accepts c.args.self.now.accept (subst (λ (m : Member g.row.F.Denot). Accepts m.place c.args.self.now.accept) (sym c.index_mut.ensures.value)
-      (c.args.self.now.alike c.in-Ok.place c.index_mut.result.now c.in-Ok.ensures.inside)));
-}
+invariant_of-self g c =
+    let xs = c.args.self.now.members.items in let accept = c.args.self.now.accept in
+    let own = alike_there xs c.args.n c.in-Ok.place c.index_mut.result.now accept c.args.self.now.alike c.in-Ok.ensures.place c.index_mut.ensures.value in record {
+      below = c.args.self.now.below;
+      fits = c.args.self.now.fits;
+      kept = c.args.self.now.kept;
+      some = search rules;
+      five = search rules;
+      alike = set_alike xs c.in-Ok.place c.stop.new.self accept c.args.self.now.alike (c.stop.ensures.accepts ∙ own);
+    }
 
 pub invariant_of-self-in-Ok-member : goal.invariant_of-self-in-Ok-member
-invariant_of-self-in-Ok-member g c = record {
-  below = c.args.self.now.below;
-  fits = c.args.self.now.fits;
-  kept = c.args.self.now.kept;
-  some = search rules;
-  five = search rules;
-  by_rows = c.args.self.now.by_rows;
-  alike = alike_set c.args.self.now.members.items c.in-Ok-member.place c.stop_at.new.self c.args.self.now.accept c.args.self.now.alike
-      (c.stop_at.ensures.accepts c.args.self.now.accept (subst (λ (m : Member g.row.F.Denot). Accepts m.place c.args.self.now.accept) (sym c.index_mut-in-Ok-member.ensures.value)
-      (c.args.self.now.alike c.in-Ok-member.place c.index_mut-in-Ok-member.result.now c.in-Ok-member.ensures.inside)));
-}
+invariant_of-self-in-Ok-member g c =
+    let xs = c.args.self.now.members.items in let accept = c.args.self.now.accept in
+    let own = alike_there xs c.args.n c.in-Ok-member.place c.index_mut-in-Ok-member.result.now accept c.args.self.now.alike c.in-Ok-member.ensures.place c.index_mut-in-Ok-member.ensures.value in record {
+      below = c.args.self.now.below;
+      fits = c.args.self.now.fits;
+      kept = c.args.self.now.kept;
+      some = search rules;
+      five = search rules;
+      alike = set_alike xs c.in-Ok-member.place c.stop_at.new.self accept c.args.self.now.alike (c.stop_at.ensures.accepts ∙ own);
+    }

@@ -3,7 +3,7 @@ use Rattle.bus_world.specs.Stands.{StandsFor}
 use Rattle.bus_world.specs.declared.member.Member.{Member}
 use Rattle.cluster_spec.specs.Members.{with_failure_armed}
 use Rattle.cluster_spec.specs.ReportLine.ReportLine.{IsArmed}
-use Rattle.bus_world.proofs.Finding.{set_few, alike_there, set_alike, its_id, set_holds, stands_there}
+use Rattle.bus_world.proofs.Finding.{set_few, set_some, alike_there, set_alike, its_id, set_holds, stands_there}
 use Rattle.bus_world.proofs.members.Members.fault.Goals as goal
 
 pub returns-in-Ok-clause-told : goal.returns-in-Ok-clause-told
@@ -27,7 +27,10 @@ pub invariant_of-self-clause-alike : goal.invariant_of-self-clause-alike
 invariant_of-self-clause-alike g c =
     let xs = c.args.self.now.members.items in let accept = c.args.self.now.accept in
     let own = alike_there xs c.args.n c.in-Ok.place c.index_mut.result.now accept c.args.self.now.alike c.in-Ok.ensures.place c.index_mut.ensures.value in
-    set_alike xs c.in-Ok.place c.fail_at.new.self accept c.args.self.now.alike (c.fail_at.ensures.accepts accept own)
+    set_alike xs c.in-Ok.place c.fail_at.new.self accept c.args.self.now.alike (c.fail_at.ensures.accepts ∙ own)
 
 pub invariant_of-self-clause-five : goal.invariant_of-self-clause-five
 invariant_of-self-clause-five g c = set_few c.args.self.now.members.items c.in-Ok.place c.fail_at.new.self c.args.self.now.five
+
+pub invariant_of-self-clause-some : goal.invariant_of-self-clause-some
+invariant_of-self-clause-some g c = set_some c.args.self.now.members.items c.in-Ok.place c.fail_at.new.self c.args.self.now.some

@@ -6,7 +6,7 @@ use Rattle.bus_world.specs.declared.member.Member.{Member}
 use Rattle.cluster_spec.specs.Cluster.{is_member}
 use Rattle.cluster_spec.specs.Members.{is_running, after_opening}
 use Rattle.cluster_spec.specs.Report.{line_of_opening}
-use Rattle.bus_world.proofs.Finding.{alike_there, set_alike, set_few, its_id, set_holds, stands_there, stopped_from}
+use Rattle.bus_world.proofs.Finding.{alike_there, set_alike, set_few, set_some, its_id, set_holds, stands_there, stopped_from}
 use Rattle.bus_world.proofs.members.Members.open.Goals as goal
 
 pub returns-in-Ok-clause-told : goal.returns-in-Ok-clause-told
@@ -38,7 +38,10 @@ pub invariant_of-self-clause-alike : goal.invariant_of-self-clause-alike
 invariant_of-self-clause-alike g c =
     let xs = c.args.self.now.members.items in let accept = c.args.self.now.accept in
     let own = alike_there xs c.args.n c.in-Ok.place c.index_mut.result.now accept c.args.self.now.alike c.in-Ok.ensures.place c.index_mut.ensures.value in
-    set_alike xs c.in-Ok.place c.open.new.self accept c.args.self.now.alike (c.open.ensures.accepts own)
+    set_alike xs c.in-Ok.place c.open.new.self accept c.args.self.now.alike (c.open.ensures.accepts ∙ own)
 
 pub invariant_of-self-clause-five : goal.invariant_of-self-clause-five
 invariant_of-self-clause-five g c = set_few c.args.self.now.members.items c.in-Ok.place c.open.new.self c.args.self.now.five
+
+pub invariant_of-self-clause-some : goal.invariant_of-self-clause-some
+invariant_of-self-clause-some g c = set_some c.args.self.now.members.items c.in-Ok.place c.open.new.self c.args.self.now.some

@@ -12,7 +12,7 @@ use Rattle.cluster_spec.specs.Report.{line_of_sending}
 use Rattle.bus_world.specs.Stands.{StandsFor}
 use Rattle.cluster_spec.specs.ReportLine.ReportLine.{HasSent}
 use Rattle.bus_world.specs.declared.member.Member.{Member}
-use Rattle.bus_world.proofs.Finding.{its_id, past_two, set_holds, stands_there}
+use Rattle.bus_world.proofs.Finding.{alike_there, its_id, past_two, set_alike, set_few, set_holds, set_some, stands_there}
 use Rattle.bus_world.proofs.members.Members.send.Goals as goal
 
 pub returns-in_default-clause-refused : goal.returns-in_default-clause-refused
@@ -55,3 +55,15 @@ returns-clause-leaves g c = λ w stands.
       members = set.members;
       lawful = set.lawful;
     }
+
+pub invariant_of-self-2-clause-alike : goal.invariant_of-self-2-clause-alike
+invariant_of-self-2-clause-alike g c =
+    let xs = c.args.self.now.members.items in let accept = c.args.self.now.accept in
+    let own = alike_there xs c.args.n c.in-Ok.place c.index_mut.result.now accept c.args.self.now.alike c.in-Ok.ensures.place c.index_mut.ensures.value in
+    set_alike xs c.in-Ok.place c.pop.new.self accept c.args.self.now.alike (c.pop.ensures.accepts ∙ own)
+
+pub invariant_of-self-2-clause-five : goal.invariant_of-self-2-clause-five
+invariant_of-self-2-clause-five g c = set_few c.args.self.now.members.items c.in-Ok.place c.pop.new.self c.args.self.now.five
+
+pub invariant_of-self-2-clause-some : goal.invariant_of-self-2-clause-some
+invariant_of-self-2-clause-some g c = set_some c.args.self.now.members.items c.in-Ok.place c.pop.new.self c.args.self.now.some

@@ -6,7 +6,7 @@ use Rattle.cluster_spec.specs.Report.{line_of_step}
 use Rattle.bus_world.specs.Stands.{StandsFor}
 use Rattle.cluster_spec.specs.ReportLine.{report_line_of}
 use Rattle.bus_world.specs.declared.member.Member.{Member}
-use Rattle.bus_world.proofs.Finding.{set_few, alike_there, serves, set_alike, its_id, runs_from, set_holds, stands_there}
+use Rattle.bus_world.proofs.Finding.{set_few, set_some, alike_there, set_alike, its_id, runs_from, set_holds, stands_there}
 use Rattle.bus_world.proofs.members.Members.tick.Goals as goal
 
 pub returns-in-Ok-clause-told : goal.returns-in-Ok-clause-told
@@ -35,16 +35,26 @@ returns-in-Ok-clause-leaves g c = λ w stands.
     (subst (λ (r : ℕ). StandsFor c.step.new.self (member_after_step (r + 1) event (w.member n).status (w.member n))) stands.rows
     (c.step.ensures.stands (w.member n) here (runs_from (is_member w.ids n) (is_running (w.member n).status) (c.in-Ok.ensures.lawful w stands))))
 
+pub step-requires-clause-callable : goal.step-requires-clause-callable
+step-requires-clause-callable g c =
+    let xs = c.args.self.now.members.items in let accept = c.args.self.now.accept in let m = c.index_mut.result.now in
+    let same = sym (alike_there xs c.args.n c.in-Ok.place m accept c.args.self.now.alike c.in-Ok.ensures.place c.index_mut.ensures.value) in
+    rw same at c.requires.callable
+
 pub step-requires-clause-answers : goal.step-requires-clause-answers
 step-requires-clause-answers g c =
     let xs = c.args.self.now.members.items in let accept = c.args.self.now.accept in let m = c.index_mut.result.now in
-    serves _ m.place accept (alike_there xs c.args.n c.in-Ok.place m accept c.args.self.now.alike c.in-Ok.ensures.place c.index_mut.ensures.value) c.requires.answers
+    let same = sym (alike_there xs c.args.n c.in-Ok.place m accept c.args.self.now.alike c.in-Ok.ensures.place c.index_mut.ensures.value) in
+    rw same at c.requires.answers
 
 pub invariant_of-self-clause-alike : goal.invariant_of-self-clause-alike
 invariant_of-self-clause-alike g c =
     let xs = c.args.self.now.members.items in let accept = c.args.self.now.accept in
     let own = alike_there xs c.args.n c.in-Ok.place c.index_mut.result.now accept c.args.self.now.alike c.in-Ok.ensures.place c.index_mut.ensures.value in
-    set_alike xs c.in-Ok.place c.step.new.self accept c.args.self.now.alike (c.step.ensures.accepts accept own)
+    set_alike xs c.in-Ok.place c.step.new.self accept c.args.self.now.alike (c.step.ensures.accepts ∙ own)
 
 pub invariant_of-self-clause-five : goal.invariant_of-self-clause-five
 invariant_of-self-clause-five g c = set_few c.args.self.now.members.items c.in-Ok.place c.step.new.self c.args.self.now.five
+
+pub invariant_of-self-clause-some : goal.invariant_of-self-clause-some
+invariant_of-self-clause-some g c = set_some c.args.self.now.members.items c.in-Ok.place c.step.new.self c.args.self.now.some

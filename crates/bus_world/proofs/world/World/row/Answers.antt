@@ -1,7 +1,17 @@
-use Rattle.std.proofs.Common.{subst}
+use Rattle.std.proofs.Common.{ℕ, ◌+◌, ◌∙◌, ap, subst}
 use Rattle.cluster_spec.specs.Cluster.{AreMembers, effect_of, cluster, world_of}
 use Rattle.bus_world.proofs.Giving.{formed_at, offers_own}
 use Rattle.bus_world.proofs.world.World.row.Goals as goal
+
+pub returns-in-Ok-clause-accepted : goal.returns-in-Ok-clause-accepted
+returns-in-Ok-clause-accepted g c = λ w stands.
+    let then_ = c.in-Ok.ensures.leaves w stands in record {
+      members = record {
+        holds = record { ids = then_.0.ids; frames = then_.0.frames; members = then_.0.members; lawful = then_.0.lawful };
+        rows = ap (λ (n : ℕ). n + 1) (c.change.ensures.keeps.members.taken ∙ stands.members.rows);
+      };
+      allocatees = then_.1;
+    }
 
 pub returns-in-Ok-clause-kept : goal.returns-in-Ok-clause-kept
 returns-in-Ok-clause-kept g c = λ w stands.
