@@ -11,7 +11,8 @@ use Rattle.replay_text.specs.Schedule.{IsPattern, IsRow}
 use Rattle.bus_world.specs.declared.world.World.{World}
 use Rattle.bus_world.specs.World.{StandsFor}
 use Rattle.cluster_spec.specs.Cluster.{Cluster}
-use Rattle.allocator_app.specs.Input.{FindsRow}
+use Rattle.allocator_app.specs.Input.{Finds, FindsRow}
+use Rattle.allocator_app.specs.declared.input.Next.{Next}
 use Rattle.allocator_app.specs.Reaching.{Reaches}
 use Rattle.allocator_app.specs.Report.{ReadsKeepingPromise}
 use Rattle.allocator_app.specs.Rows.{StopsAt, TakesRows}
@@ -56,3 +57,7 @@ preferred_in row a uid pref ms word is fields = (subst IsRow is fields).2
 pub read_below : (row : Row) (before behind : List ℕ) → FindsRow row before behind → (a : ℕ) (uid : List ℕ) (pref ms word : ℕ)
     → row ≡ AOpen a uid pref ms word → pref < 128
 read_below row before behind found a uid pref ms word is = preferred_in row a uid pref ms word is (found.begins []).reads.fields
+
+-- what stands at the front, by the form that it has
+pub found-as : (found form : Next) (before now : List ℕ) → found ≡ form → Finds found before now → Finds form before now
+found-as found form before now is finds = subst (λ next. Finds next before now) is finds

@@ -21,7 +21,7 @@ use bus_world::laws::logs_give_once;
 use can_frame::Kind;
 use cmd_base::{Input, Output, Status};
 use outside::{Failed, Sink, Source};
-use replay_text::write_told;
+use replay_text::{Line, tell};
 use std::alloc::Global;
 
 /// Runs a cluster of these members over the schedule of the source, of at most `limit` rows.
@@ -191,6 +191,7 @@ fn take_rows<
     ensures kept { OnOk result (K.faults sink.new ≡ K.faults sink.old) }
 {
     logs_give_once::<F, G>();
+    let mut line = Line::new();
     'rows: loop {
         if input.is_empty() {
             return Ok(Rows::Taken);
@@ -198,15 +199,17 @@ fn take_rows<
         if taken(world) == limit {
             return Ok(Rows::Full);
         }
-        let row = match next_row(input) {
+        let next = next_row(input);
+        let row = match &next {
             Next::Row(row) => row,
             Next::NoRow => return Ok(Rows::NoRow),
             Next::Incomplete => return Ok(Rows::Taken),
         };
-        let told = match world.row(&row) {
+        let told = match world.row(row) {
             Ok(told) => told,
             Err(why) => return Ok(Rows::Refused(why)),
         };
-        output.line(sink, &write_told(taken(world), &told))?;
+        tell(&mut line, taken(world), &told);
+        output.line(sink, line.as_bytes())?;
     }
 }

@@ -4,15 +4,15 @@ use Rattle.std.proofs.lemmas.Bool.{true≢false}
 use Rattle.std.proofs.lemmas.Bool.Decides.{nat_tests}
 use Rattle.cluster_spec.specs.Cluster.{after_row}
 use Rattle.allocator_app.proofs.Coming.{bad-row, beyond, goes-more, goes-nil, refused-row}
-use Rattle.allocator_app.proofs.Rest.{read_below, read_usable, rows_taken}
+use Rattle.allocator_app.proofs.Rest.{found-as, read_below, read_usable, rows_taken}
 use Rattle.cmd_base.proofs.Written.{front-on, grows-refl, grows-trans, on_err}
 use Rattle.allocator_app.proofs.replay.take_rows.Goals as goal
 
 pub row-requires-clause-filled : goal.row-requires-clause-filled
-row-requires-clause-filled g c = read_usable c.in-Row.row c.rows.input c.next_row.new.input c.in-Row.ensures.found
+row-requires-clause-filled g c = read_usable c.in-Row.row c.rows.input c.next_row-next.new.input (found-as _ _ _ _ c.in-Row.is c.next_row-next.ensures.found)
 
 pub row-requires-clause-preferred : goal.row-requires-clause-preferred
-row-requires-clause-preferred g c = read_below c.in-Row.row c.rows.input c.next_row.new.input c.in-Row.ensures.found
+row-requires-clause-preferred g c = read_below c.in-Row.row c.rows.input c.next_row-next.new.input (found-as _ _ _ _ c.in-Row.is c.next_row-next.ensures.found)
 
 pub rows-init : goal.rows-init
 rows-init g c = record {
@@ -49,18 +49,18 @@ returns-in-NoRow-clause-rows g c =
     (λ w is more. bad-row c.args.limit w _
     (let rows = is.members.rows in let count = c.taken.ensures in let low = c.if-taken-limit.false in let within = c.rows.invariant.room.within in
     grind (arith, nat_tests, rows, count, low, within))
-    (c.in-NoRow.ensures.found.1 more))
+    ((found-as _ _ _ _ c.in-NoRow.is c.next_row-next.ensures.found).1 more))
 
 pub returns-in-Incomplete-clause-rows : goal.returns-in-Incomplete-clause-rows
 returns-in-Incomplete-clause-rows g c =
     rows_taken c.args.limit c.args.world.now c.rows.world c.rows.world c.args.input.now c.rows.input _ _ _ _ _ _ refl c.rows.invariant.shorter c.rows.invariant.came
-    (λ w is. sym c.in-Incomplete.ensures.found.0)
+    (λ w is. sym (found-as _ _ _ _ c.in-Incomplete.is c.next_row-next.ensures.found).0)
 
 pub returns-in-Err-clause-rows : goal.returns-in-Err-clause-rows
 returns-in-Err-clause-rows g c =
     rows_taken c.args.limit c.args.world.now c.rows.world c.row.new.self c.args.input.now c.rows.input _ _ _ _ _ _ (c.in-Err.ensures.unchanged refl)
     c.rows.invariant.shorter c.rows.invariant.came
-    (λ w is more. refused-row c.args.limit w c.in-Row.row c.in-Err.why c.rows.input _ more c.in-Row.ensures.found
+    (λ w is more. refused-row c.args.limit w c.in-Row.row c.in-Err.why c.rows.input _ more (found-as _ _ _ _ c.in-Row.is c.next_row-next.ensures.found)
     (let rows = is.members.rows in let count = c.taken.ensures in let low = c.if-taken-limit.false in let within = c.rows.invariant.room.within in
     grind (arith, nat_tests, rows, count, low, within))
     (c.in-Err.ensures.refused w is))
@@ -74,7 +74,7 @@ rows-preserved g c =
     let left = c.in-Ok.ensures.left in
     let count = c.taken.ensures in
     let low = c.if-taken-limit.false in
-    let line = c.deref.ensures.0 ∙ c.write_told.ensures.line in
+    let line = c.as_bytes.ensures.bytes ∙ c.tell.ensures.line in
     record {
       room = record { within = grind (arith, nat_tests, room, taken, count, low); frames = omega (arith, frames, taken, left) };
       accepts = record {
@@ -83,7 +83,7 @@ rows-preserved g c =
       };
       kept = c.in_ok-line.ensures.kept ∙ so_far.kept;
       grows = omega (arith, so_far.grows, taken);
-      shorter = omega (arith, so_far.shorter, c.in-Row.ensures.found.shorter);
+      shorter = omega (arith, so_far.shorter, (found-as _ _ _ _ c.in-Row.is c.next_row-next.ensures.found).shorter);
       some = inl (omega (arith, so_far.grows, taken));
       grew = grows-trans _ _ _ so_far.grew c.in_ok-line.ensures.told.grew;
       came = λ first is.
@@ -94,10 +94,10 @@ rows-preserved g c =
             after_row far.0 c.in-Row.row,
             now,
             (
-              far.2.0 ++ c.deref.result.now,
-              goes-more first far.0 c.in-Row.row c.in-Ok.told c.args.input.now c.rows.input _ far.2.0 c.deref.result.now _
-                  far.2.1 c.in-Row.ensures.found told.0 told.1 (c.logs_give_once.ensures c.rows.world far.0 far.1) (c.in-Ok.ensures.kept far.0 far.1) (c.logs_give_once.ensures c.row.new.self (after_row far.0 c.in-Row.row) now) (c.taken-in-rows.ensures ∙ taken ∙ ap (λ n. n + 1) rows) line,
-              Appends-trans _ _ _ far.2.0 c.deref.result.now far.2.2 c.in_ok-line.ensures.told.ok,
+              far.2.0 ++ c.as_bytes.result.now,
+              goes-more first far.0 c.in-Row.row c.in-Ok.told c.args.input.now c.rows.input _ far.2.0 c.as_bytes.result.now _
+                  far.2.1 (found-as _ _ _ _ c.in-Row.is c.next_row-next.ensures.found) told.0 told.1 (c.logs_give_once.ensures c.rows.world far.0 far.1) (c.in-Ok.ensures.kept far.0 far.1) (c.logs_give_once.ensures c.row.new.self (after_row far.0 c.in-Row.row) now) (c.taken-in-rows.ensures ∙ taken ∙ ap (λ n. n + 1) rows) line,
+              Appends-trans _ _ _ far.2.0 c.as_bytes.result.now far.2.2 c.in_ok-line.ensures.told.ok,
             ),
           );
     }
@@ -110,7 +110,7 @@ returns-in_err-line-clause-grew g c = grows-trans _ _ _ c.rows.invariant.grew c.
 pub returns-in_err-line-clause-cut : goal.returns-in_err-line-clause-cut
 returns-in_err-line-clause-cut g c =
     let so_far = c.rows.invariant in
-    let line = c.deref.ensures.0 ∙ c.write_told.ensures.line in
+    let line = c.as_bytes.ensures.bytes ∙ c.tell.ensures.line in
     let written = g.K.Sink.written in
     on_err c.from_residual.result (λ first is.
     let far = so_far.came first is in
@@ -120,12 +120,12 @@ returns-in_err-line-clause-cut g c =
       after_row far.0 c.in-Row.row,
       now,
       record {
-        lines = far.2.0 ++ c.deref.result.now;
-        rest = c.next_row.new.input;
-        goes = goes-more first far.0 c.in-Row.row c.in-Ok.told c.args.input.now c.rows.input c.next_row.new.input far.2.0 c.deref.result.now _
-            far.2.1 c.in-Row.ensures.found told.0 told.1 (c.logs_give_once.ensures c.rows.world far.0 far.1) (c.in-Ok.ensures.kept far.0 far.1) (c.logs_give_once.ensures c.row.new.self (after_row far.0 c.in-Row.row) now) (c.taken-in-rows.ensures ∙ c.in-Ok.ensures.taken ∙ ap (λ n. n + 1) rows) line;
-        shorter = omega (arith, so_far.shorter, c.in-Row.ensures.found.shorter);
-        written = front-on (written c.args.sink.now) (written c.rows.sink) (written c.line.new.sink) c.args.output.now c.rows.output far.2.0 c.deref.result.now
+        lines = far.2.0 ++ c.as_bytes.result.now;
+        rest = c.next_row-next.new.input;
+        goes = goes-more first far.0 c.in-Row.row c.in-Ok.told c.args.input.now c.rows.input c.next_row-next.new.input far.2.0 c.as_bytes.result.now _
+            far.2.1 (found-as _ _ _ _ c.in-Row.is c.next_row-next.ensures.found) told.0 told.1 (c.logs_give_once.ensures c.rows.world far.0 far.1) (c.in-Ok.ensures.kept far.0 far.1) (c.logs_give_once.ensures c.row.new.self (after_row far.0 c.in-Row.row) now) (c.taken-in-rows.ensures ∙ c.in-Ok.ensures.taken ∙ ap (λ n. n + 1) rows) line;
+        shorter = omega (arith, so_far.shorter, (found-as _ _ _ _ c.in-Row.is c.next_row-next.ensures.found).shorter);
+        written = front-on (written c.args.sink.now) (written c.rows.sink) (written c.line.new.sink) c.args.output.now c.rows.output far.2.0 c.as_bytes.result.now
             so_far.grew far.2.2 c.in_err-line.ensures.told.err;
       },
     ))
