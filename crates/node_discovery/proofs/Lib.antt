@@ -1,2 +1,3 @@
 pub mod Devices
+pub mod Heard
 pub mod Silence

@@ -1,3 +1,4 @@
+pub mod Heard
 pub mod History
 pub mod Stands
 pub mod Watch

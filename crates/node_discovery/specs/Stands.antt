@@ -2,6 +2,7 @@
 use Rattle.std.specs.Prelude.{ℕ, ◌≡◌, ◌<◌, ◌≤◌, List, [], min, slice_index_or}
 use Rattle.node_discovery.specs.declared.node.Node.{Node}
 use Rattle.node_discovery.specs.declared.watch.Watch.{Watch}
+use Rattle.node_discovery.specs.Heard.{heard}
 use Rattle.node_discovery.specs.History.{Event, last_query, last_status, query_count, spell, unanswered, unique_id}
 use Rattle.node_discovery.specs.Watch.{HearsDevicesAlone, Watched, history}
 
@@ -13,9 +14,10 @@ pub record Tells (node : Node) (events : List Event) : Type 0 where
   pub asked : node.asked ≡ last_query events
   pub queries : node.queries ≡ min (query_count (spell events)) 255
 
--- each node by its place in the table; a number that has no place has no event,
--- and no status was taken but from 1 to 125
+-- each node by its place in the table, and the nodes that were heard on the list; a number that has no place has no
+-- event, and no status was taken but from 1 to 125
 pub record StandsFor (watch : Watch) (events : List Watched) : Type 0 where
   pub nodes : (node : ℕ) (d : Node) → node < 128 → Tells (slice_index_or watch.nodes node d) (history node events)
   pub others : (node : ℕ) → 128 ≤ node → history node events ≡ []
   pub strangers : HearsDevicesAlone events
+  pub heard : watch.heard.items ≡ heard events

@@ -1,4 +1,4 @@
-ghost use Rattle.std.specs.Prelude.{◌≡◌, ◌∷◌, [], List};
+ghost use Rattle.std.specs.Prelude.{◌≡◌, ◌∷◌, [], List, false, true};
 ghost use Rattle.node_discovery.specs.History.{is_within, has_passed};
 
 use crate::query::{Query, is_answered_by};
@@ -25,12 +25,14 @@ pub struct Node {
 }
 
 impl Node {
+    ghost use Rattle.node_discovery.specs.Heard.{was_heard};
     ghost use Rattle.node_discovery.specs.History.{Event, Status, Asked, Taken, identity, is_nameless, is_online, is_silent, may_be_asked, takes};
     ghost use Rattle.node_discovery.specs.Stands.{Tells};
 
     /// A node of which nothing is known.
     pub fn new() -> Node
-        ensures { Tells result [] }
+        ensures nothing { Tells result [] }
+        ensures unheard { was_heard result ≡ false }
     {
         Node {
             heard: None,
@@ -43,8 +45,9 @@ impl Node {
 
     /// A status was heard; where the node was not online, a spell begins.
     pub fn status(&mut self, now: u64)
-        ensures { (events : List Event) → Tells self.old events →
+        ensures follows { (events : List Event) → Tells self.old events →
             Tells self.new (Status now ∷ events) }
+        ensures heard { was_heard self.new ≡ true }
     {
         if !self.is_online(now) {
             self.uid = None;
@@ -56,8 +59,9 @@ impl Node {
 
     /// The node was asked for its unique ID.
     pub fn ask(&mut self, transfer_id: u8, now: u64)
-        ensures { (events : List Event) → Tells self.old events →
+        ensures follows { (events : List Event) → Tells self.old events →
             Tells self.new (Asked transfer_id now ∷ events) }
+        ensures heard { was_heard self.new ≡ was_heard self.old }
     {
         self.pending = Some(Query {
             transfer_id,
@@ -77,11 +81,19 @@ impl Node {
 
     /// The answer was taken.
     pub fn take(&mut self, uid: &Uid, now: u64)
-        ensures { (events : List Event) → Tells self.old events →
+        ensures follows { (events : List Event) → Tells self.old events →
             Tells self.new (Taken uid.now now ∷ events) }
+        ensures heard { was_heard self.new ≡ was_heard self.old }
     {
         self.uid = Some(*uid);
         self.pending = None;
+    }
+
+    /// Whether a status of it was ever heard.
+    pub fn was_heard(&self) -> bool
+        ensures { result ≡ was_heard self.now }
+    {
+        self.heard.is_some()
     }
 
     /// Whether the last status is at most 3,000 ms old.

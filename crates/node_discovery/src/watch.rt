@@ -1,7 +1,10 @@
-ghost use Rattle.std.specs.Prelude.{◌≡◌, ◌↔◌, ◌∷◌, ◌<◌, [], ℕ, IsTrue, List, true, false, slice_index_or};
+ghost use Rattle.std.specs.Prelude.{◌≡◌, ◌↔◌, ◌∷◌, ◌<◌, ◌≤◌, [], ℕ, Contains, IsTrue, List, true, false, length, slice_index_or};
+ghost use Rattle.arrayvec.specs.ArrayVec.{array_vec_len};
+ghost use Rattle.node_discovery.specs.Heard.{heard_count};
 
 use crate::laws::silence_is_computed;
 use crate::node::Node;
+use arrayvec::ArrayVec;
 use can_frame::{NodeId, Uid};
 
 /// The nodes of the bus: who is online, who is to be asked for its unique ID, and who told which.
@@ -10,9 +13,16 @@ use can_frame::{NodeId, Uid};
 pub struct Watch {
     /// By node ID.
     nodes: [Node; 128],
+
+    /// The nodes that a status was heard of, in the order of their first one.
+    heard: ArrayVec<u8, 128>,
+
+    ghost each_once: { array_vec_len heard ≡ heard_count nodes },
+    ghost devices: { (i : ℕ) → i < length heard.items → slice_index_or heard.items i 0 ≤ 125 },
 }
 
 impl Watch {
+    ghost use Rattle.node_discovery.specs.Heard.{heard};
     ghost use Rattle.node_discovery.specs.History.{Asked, IsSilent, identity, is_online, is_silent, takes};
     ghost use Rattle.node_discovery.specs.Watch.{IsNextQuery, IsSomeUnknown, NoneIsUnknown, Watched, after_info, after_status, history, is_due, is_unknown, next_query, of_node, some_unknown};
     ghost use Rattle.node_discovery.specs.Stands.{StandsFor};
@@ -23,6 +33,7 @@ impl Watch {
     {
         Watch {
             nodes: [Node::new(); 128],
+            heard: ArrayVec::new(),
         }
     }
 
@@ -33,6 +44,9 @@ impl Watch {
     {
         if from == 0 || from > 125 {
             return;
+        }
+        if !self.nodes[from as usize].was_heard() {
+            self.heard.push(from);
         }
         self.nodes[from as usize].status(now);
     }
@@ -59,6 +73,17 @@ impl Watch {
         }
         self.nodes[from as usize].take(uid, now);
         true
+    }
+
+    /// The nodes that a status was heard of, in the order of their first one. Each node that is online is
+    /// one of them, whatever the moment.
+    pub fn heard(&self) -> &[u8]
+        ensures heard { (events : List Watched) → StandsFor self.now events → result.now ≡ heard events }
+        ensures online { (events : List Watched) → StandsFor self.now events → (node now : ℕ) →
+            is_online (history node events) now ≡ true → Contains result.now node }
+        ensures devices { (i : ℕ) → i < length result.now → slice_index_or result.now i 0 ≤ 125 }
+    {
+        &self.heard
     }
 
     /// Whether the last status of the node is at most 3,000 ms old.
