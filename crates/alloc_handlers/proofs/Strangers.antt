@@ -1,8 +1,9 @@
 -- Where every device that is online is known, a leader neither records one nor asks one.
-use Rattle.std.proofs.Common.{◌≡◌, ℕ, zero, suc, ◌+◌, ◌<◌, ◌≤◌, Bool, true, false, cond, not, ◌&&◌, ◌||◌, List, Option, Some, None, find, length, refl, ap, ◌∙◌, arith, if◌then◌else◌, is_none, is_some, nat_lt}
-use Rattle.alloc_handlers.proofs.Words.{AllocatorState, StepState, asks, candidate, history, is_candidate, is_due, is_known, is_leader, is_nameless, is_stranger, known, may_be_asked, may_propose, query_phase, range_with_len, record_phase, records_node, unique_id}
+use Rattle.std.proofs.Common.{◌≡◌, ℕ, zero, suc, ◌+◌, ◌<◌, ◌≤◌, Bool, true, false, cond, not, ◌&&◌, ◌||◌, List, Option, Some, None, find, length, Contains, get_or, refl, ap, subst, ◌∙◌, arith, if◌then◌else◌, is_none, is_some, nat_lt}
+use Rattle.alloc_handlers.proofs.Words.{AllocatorState, StepState, asks, candidate, history, is_candidate, is_due, is_known, is_leader, is_nameless, is_online, is_stranger, known, may_be_asked, may_propose, query_phase, range_with_len, record_phase, records_node, unique_id}
 use Rattle.node_discovery.specs.Watch.{next_query}
 use Rattle.alloc_handlers.proofs.Candidates.{known_at}
+use Rattle.std.proofs.lemmas.List.{get_or_default}
 
 no_candidate : (online known silent : Bool) (uid : Option (List ℕ)) → (online && not known) ≡ false → (not known && (is_some (if online then uid else None) || ((online && is_none uid) && silent))) ≡ false
 no_candidate false true silent uid is = refl
@@ -15,6 +16,17 @@ not_due false known nameless late is = refl
 not_due true true true late is = refl
 not_due true true false late is = refl
 not_due true false nameless late is = absurd (cc)
+
+-- who is online was heard, so nobody is a stranger where none of those heard is
+pub none_of_heard : (t : AllocatorState) (heard : List ℕ) (node : ℕ) → (is_online (history node t.watch) t.now ≡ true → Contains heard node)
+    → ((i : ℕ) → i < length heard → is_stranger t (get_or heard i 0) ≡ false) → is_stranger t node ≡ false
+none_of_heard t heard node on_list none = either (is_online (history node t.watch) t.now) refl
+  where
+    either : (online : Bool) → is_online (history node t.watch) t.now ≡ online → is_stranger t node ≡ false
+    either false is = ap (λ (online : Bool). online && not (is_known t node)) is
+    either true is =
+        let at = on_list is in
+        subst (λ (n : ℕ). is_stranger t n ≡ false) (get_or_default heard at.0 0 node at.1 ∙ at.2) (none at.0 at.1)
 
 none_found : (p : ℕ → Bool) (from count : ℕ) → ((node : ℕ) → from ≤ node → node < from + count → p node ≡ false) → find p (range_with_len from count) ≡ None
 none_found p from zero all = refl

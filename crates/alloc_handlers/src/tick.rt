@@ -126,8 +126,8 @@ impl<D: Disk> Member<D> {
             (node : ℕ) → 1 ≤ node → node < 126 → is_stranger t node ≡ false }
     {
         let known = self.known();
-        for node in 1..126 {
-            if self.is_stranger(&known, node) {
+        for node in self.watch.heard() {
+            if self.is_stranger(&known, *node) {
                 return true;
             }
         }
