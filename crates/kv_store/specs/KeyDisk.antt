@@ -105,7 +105,8 @@ pub record IsOn (disk : MemoryDisk) (key_disk : KeyDisk (ℕ → List ℕ)) : Ty
   pub seen : Shows (memory_contents disk).seen key_disk.store key_disk.copies
   pub nothing_unsynced : key_disk.unsynced ≡ None → (image : List ℕ) → MayLeave (memory_contents disk) image →
       Shows image key_disk.store key_disk.copies
-  pub unsynced : IfSome key_disk.unsynced (λ unsynced. IsUnsynced (memory_contents disk) key_disk.store key_disk.copies unsynced)
+  pub unsynced : IfSome key_disk.unsynced
+      (λ unsynced. IsUnsynced (memory_contents disk) key_disk.store key_disk.copies unsynced)
 
 -- and nothing waits for a sync
 pub record IsReady (disk : MemoryDisk) (key_disk : KeyDisk (ℕ → List ℕ)) : Type 0 where

@@ -40,7 +40,8 @@ seen_word (Dropped why) = codes "drop:" ++ decimal (cause_number why)
 -- a transfer's mark behind a space: whether it fitted, its name, and its destination
 abbrev pub sent_mark : Sent → List ℕ
 sent_mark sent =
-    codes " " ++ (if sent.fitted then codes "+" else codes "-") ++ (type_of sent.what).name ++ codes ":" ++ decimal sent.to
+    codes " " ++ (if sent.fitted then codes "+" else codes "-") ++ (type_of sent.what).name
+    ++ codes ":" ++ decimal sent.to
 
 -- the number of the row and that of its node, with which most lines begin
 abbrev pub line_head : ℕ → ℕ → List ℕ
