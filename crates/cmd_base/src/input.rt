@@ -103,8 +103,7 @@ pub fn front_line(bytes: &[u8], end: u8, longest: usize) -> Front
     }
 }
 
-/// Where the first byte stands that ends a line. It is not inlined: in a large caller its loop over the
-/// bytes takes twice the instructions.
+/// Where the first byte stands that ends a line. It is not inlined: the code of the search is long.
 #[inline(never)]
 fn line_end(bytes: &[u8], end: u8) -> Option<usize>
     ensures found { IfSome result (IsLineEnd end bytes.now) }

@@ -1,5 +1,5 @@
 -- The bytes of words are above 32, so no space and no line feed is among them.
-use Rattle.std.proofs.Common.{◌≡◌, ◌<◌, ◌≤◌, ◌+◌, ◌^◌, ◌==◌, ℕ, List, [], ◌∷◌, true, false, Ok, leb, refl, ap, sym, ◌∙◌, arith}
+use Rattle.std.proofs.Common.{◌≡◌, ◌<◌, ◌≤◌, ◌+◌, ◌^◌, ◌==◌, ℕ, List, [], ◌∷◌, true, false, Ok, leb, refl, ap, ◌∙◌, arith}
 use Rattle.std.specs.List.{All, join_with_byte, list_all}
 use Rattle.std.specs.Fmt.{decimal}
 use Rattle.std.proofs.lemmas.Bool.{leb-true, ne_eqb}
@@ -67,6 +67,3 @@ join-words line = join_with_byte-slice_split 32 line
 pub number-alone : (n : ℕ) (text : List ℕ) → n < 2 ^ 64 → text ≡ decimal n → words text ≡ decimal n ∷ []
 number-alone n text small spelt = rw spelt
     (words-joined (decimal n) [] (All-cons IsVisible (decimal n) [] (visible-decimal n small) (All-nil IsVisible)))
-
-pub number-whole : (n : ℕ) (text : List ℕ) → words text ≡ decimal n ∷ [] → text ≡ decimal n
-number-whole n text is = sym (join-words text) ∙ ap (join_with_byte 32) is

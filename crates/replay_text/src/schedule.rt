@@ -40,6 +40,7 @@ pub fn read_row(line: &[u8]) -> Option<Row>
 {
     a_line_has_one_row();
     let (name, fields) = split_word(line)?;
+    // The names of rows of allocatees begin with an a, and no other name does.
     if name.first() == Some(&b'a') {
         read_allocatee_row(name, fields)
     } else {

@@ -59,8 +59,8 @@ fn value_of_digits(word: &[u8]) -> Option<u64>
     Some(n)
 }
 
-/// The number of a first word that spells one, where it is at most `most`, and what stands behind the
-/// space after it; `None` where there is no space.
+/// The number that the first word of a text spells, where it is at most `most`, and what stands behind
+/// the space after it; `None` also where no space follows the word.
 pub fn front_number(text: &[u8], most: u64) -> Option<(u64, &[u8])>
     requires { most ≤ last_moment }
     ensures found { IfSome result (λ parts. (parts.0 ≤ most)
