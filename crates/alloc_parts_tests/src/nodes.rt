@@ -131,3 +131,12 @@ fn takes_no_status_of_a_tool(rt: HostRuntime) {
         assert_eq!(rt; watch.seen(0), [false; 128], "from {from}");
     }
 }
+
+#[test]
+fn keeps_who_was_heard(rt: HostRuntime) {
+    let mut watch = Watch::new();
+    for (from, now) in [(50, 0), (7, 1), (126, 2), (50, 9000)] {
+        watch.status(from, now);
+    }
+    assert_eq!(rt; watch.heard(), [50, 7].as_slice());
+}
