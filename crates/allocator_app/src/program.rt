@@ -82,7 +82,7 @@ use store_audit::audit_stores;
 ///
 /// The promise (`KeepsPromise`) holds along the rows of a report that no fault ended, of a soak and of such a
 /// trace. After each row what each allocator has committed is a prefix of one list, which only grows and never
-/// gives one node ID to two devices, nor two to one; every Allocation with a node ID that waits for the bus, or
+/// gives one node ID to two unique IDs, nor two to one; every Allocation with a node ID that waits for the bus, or
 /// was on it, is a pair of the list by then; and the log of every later leader whose term is at least a member's
 /// stored one begins with what that member has committed. What an allocatee holds is a pair of that list, so no
 /// two with different unique IDs ever hold one node ID. Along the rows of a report each allocator by itself keeps

@@ -4,17 +4,20 @@
 --
 -- At the beginning all members are stopped, on disks of zeros, and nothing is on the bus. A row may deliver any frame
 -- that was on the bus, at any later time and any number of times, or never; any frame that is not forged may come from
--- outside; up to 8 devices at a time may ask; clocks may run back; allocators may stop anywhere inside store writes,
--- and writes may fail. A row is lawful where no cause of `Lawful` refuses it: it makes sense by then (its member runs,
--- its frame exists ..), a frame from outside is not forged, and one that is delivered is not torn or stale for its
--- receiver.
+-- outside, and so any number of devices may ask, of which up to 8 at a time are rows of their own; clocks may read
+-- anything; allocators may stop between rows and at any disk call, and any disk call may fail. A disk keeps what was
+-- synced. A row is lawful where no cause of `Lawful` refuses it: it makes sense when it comes (its member runs, its
+-- frame exists ..), a frame from outside is not forged, and one that is delivered is not torn or stale for its
+-- receiver. A frame with a source is forged where the source is a member, and where it is an Allocation, a Discovery, a
+-- RequestVote or an AppendEntries, whatever its source.
 --
 -- Then each allocator's committed log is always a prefix of one growing list of entries, in which no node ID and no
--- unique ID is given twice; every Allocation offered to the bus with a node ID other than 0 is a pair of it by then;
--- and the log of every later leader whose term is at least a member's stored term begins with what that member has
--- committed. Of devices `HasAllocatees` says that the ID that one holds is the one that the list has for its unique ID,
--- from then on, and that two with different unique IDs never hold one ID. Nothing is said of progress: all of this
--- would hold of members that never answer. What each step owes is said by `AreDutiful` (`specs/Duty.antt`).
+-- unique ID is given twice; at each cut, every Allocation with a node ID other than 0 that waits whole in a queue, or
+-- of which a frame ever was on the bus, is a pair of it; and the log of every later leader whose term is at least a
+-- member's stored term begins with what that member has committed. Of devices `HasAllocatees` says that the ID that one
+-- holds is the one that the list has for its unique ID, from then on, and that two with different unique IDs never hold
+-- one ID. Nothing is said of progress: all of this would hold of members that never answer. What each step owes is said
+-- by `AreDutiful` (`specs/Duty.antt`). Nor is it said that the device of a pair ever asked.
 --
 -- A schedule is cut at any two places: the rows `first` are taken, then `more`, then `rest`. So "now" is after any row,
 -- or before all of them, and "later" is now or after any row from then on. A member that runs and has not failed is

@@ -1,9 +1,0 @@
-use Rattle.std.proofs.Common.{refl}
-use Rattle.std.specs.Prelude.{codes}
-use Rattle.dsdl_codec_laws.specs.Fields.{verdict_fields}
-use Rattle.dsdl_codec_laws.proofs.Votes.{append_answers}
-use Rattle.dsdl_codec_laws.proofs.Profile.{of_profile}
-use Rattle.dsdl_codec_laws.proofs.laws.append_answers.Goals as goal
-
-pub returns : goal.returns
-returns c = of_profile (codes "AppendEntries") 2 verdict_fields _ _ refl append_answers
