@@ -21,7 +21,7 @@ use Rattle.alloc_spec.specs.StepState.{StepState}
 use Rattle.alloc_spec.specs.Step.{Event, step}
 use Rattle.alloc_spec.specs.Step.Event.{Rx as Comes}
 use Rattle.alloc_spec.specs.AllocatorState.{AllocatorState}
-use Rattle.alloc_ghost_laws.specs.Unmarked.{unmarked_event, unmarked_server}
+use Rattle.alloc_ghost_erasure.specs.Unmarked.{unmarked_event, unmarked_server}
 use Rattle.cluster_spec.specs.declared.unlawful.Unlawful.TheVariants.{NoNode}
 use Rattle.cluster_spec.specs.Cluster.{Cluster, after_rows, arrival_at, frame_at, from_outside, is_member, after_row, receipt_of, tick_of}
 use Rattle.cluster_spec.specs.Lawful.{Lawful, because, cause, arrival_refusal, no_such_frame, not_running, or_else}

@@ -20,7 +20,7 @@ use Rattle.alloc_spec.specs.Delivered.{StepResult}
 use Rattle.alloc_spec.specs.Step.{Event, after_pop, step}
 use Rattle.alloc_spec.specs.Step.Event.{Rx as Comes}
 use Rattle.alloc_spec.specs.AllocatorState.{AllocatorState}
-use Rattle.alloc_ghost_laws.specs.Unmarked.{unmarked_event, unmarked_frame, unmarked_server, unmarked_step_result}
+use Rattle.alloc_ghost_erasure.specs.Unmarked.{unmarked_event, unmarked_frame, unmarked_server, unmarked_step_result}
 use Rattle.cluster_spec.specs.Cluster.{Cluster, after_rows, arrival_at, frame_at, from_outside, in_list, after_row, receipt_of, tick_of}
 use Rattle.cluster_spec.specs.Members.{next_frame}
 use Rattle.cmd_node.specs.Frames.{event_in, is_frame, raw_of, receipt}

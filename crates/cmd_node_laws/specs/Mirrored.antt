@@ -8,7 +8,7 @@ use Rattle.replay_text.specs.declared.row.Row.{Row}
 use Rattle.replay_text.specs.declared.row.Row.TheVariants.{Send}
 use Rattle.alloc_spec.specs.AllocatorState.{AllocatorState}
 use Rattle.transfer_tx.specs.Queue.{Queued}
-use Rattle.alloc_ghost_laws.specs.Unmarked.{unmarked_server}
+use Rattle.alloc_ghost_erasure.specs.Unmarked.{unmarked_server}
 use Rattle.cluster_spec.specs.Cluster.{Cluster, frame_at, in_list, after_row}
 use Rattle.cluster_spec.specs.Members.{MemberStatus, Member, next_frame}
 use Rattle.cluster_spec.specs.Members.MemberStatus.{Down, Failed, Up}

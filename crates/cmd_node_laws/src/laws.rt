@@ -24,7 +24,7 @@ ghost use Rattle.cmd_node_laws.specs.Processes.{GoesOn, Point, StandAt, Turning,
 ghost use Rattle.cmd_node_laws.specs.Stands.{IsCutAsTold, IsFollowed, IsFoundKilled, IsRunIn};
 ghost use Rattle.cmd_node_laws.specs.Stands.{LeavesAsTold, MayBeKilled, world_after};
 
-use alloc_ghost_laws::laws::marks_change_marks_alone;
+use alloc_ghost_erasure::laws::marks_change_marks_alone;
 use cluster_agreement::allocatees::the_allocatees;
 use cluster_agreement::headline::{rows_are_safe, the_headline};
 use disk_model::Disk;

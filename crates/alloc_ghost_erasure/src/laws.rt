@@ -2,7 +2,7 @@
 
 ghost use Rattle.std.specs.Prelude.{◌≡◌, ℕ, option_map};
 ghost use Rattle.transfer_tx.specs.Queue.{next_out};
-ghost use Rattle.alloc_ghost_laws.specs.Unmarked.{unmarked_event, unmarked_frame, unmarked_server, unmarked_step_result};
+ghost use Rattle.alloc_ghost_erasure.specs.Unmarked.{unmarked_event, unmarked_frame, unmarked_server, unmarked_step_result};
 ghost use Rattle.alloc_spec.specs.Step.{Event, after_pop, step};
 ghost use Rattle.alloc_spec.specs.AllocatorState.{AllocatorState};
 

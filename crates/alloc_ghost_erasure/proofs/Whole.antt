@@ -14,11 +14,11 @@ use Rattle.alloc_spec.specs.StepState.{StepState}
 use Rattle.alloc_spec.specs.Step.{Event, at_sessions, at_step, begin_phase, with_end_phase, event_phase, moment_of, receive_phase, step, with_answer, with_sessions}
 use Rattle.alloc_spec.specs.Step.Event.{Rx, Tick}
 use Rattle.alloc_spec.specs.AllocatorState.{AllocatorState}
-use Rattle.alloc_ghost_laws.specs.Unmarked.{unmarked_event, unmarked_frame, unmarked_step_state, unmarked_server, unmarked_step_result}
-use Rattle.alloc_ghost_laws.proofs.Delivered.{SameSight, delivers_same, unmarked_delivery}
-use Rattle.alloc_ghost_laws.proofs.Phases.{begins_same, ends_same, ticks_same}
-use Rattle.alloc_ghost_laws.proofs.Steps.{Same, itself}
-use Rattle.alloc_ghost_laws.proofs.Twice.{twice, twice_server, twice_sessions}
+use Rattle.alloc_ghost_erasure.specs.Unmarked.{unmarked_event, unmarked_frame, unmarked_step_state, unmarked_server, unmarked_step_result}
+use Rattle.alloc_ghost_erasure.proofs.Delivered.{SameSight, delivers_same, unmarked_delivery}
+use Rattle.alloc_ghost_erasure.proofs.Phases.{begins_same, ends_same, ticks_same}
+use Rattle.alloc_ghost_erasure.proofs.Steps.{Same, itself}
+use Rattle.alloc_ghost_erasure.proofs.Twice.{twice, twice_server, twice_sessions}
 
 ended_same : (s r : ℕ) (x y : StepResult) → SameSight x y → SameSight (with_end_phase s x) (with_end_phase r y)
 ended_same s r x y e = λ i. record { seen = (e i).seen; step_state = ends_same s r x.step_state y.step_state (λ j. (e j).step_state) i }

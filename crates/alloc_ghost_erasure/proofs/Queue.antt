@@ -7,7 +7,7 @@ use Rattle.std.proofs.lemmas.List.Folds.{list_all-map}
 use Rattle.transfer_tx.specs.Queue.{Queued, is_least, left_behind, next_out}
 use Rattle.alloc_spec.specs.Step.{after_pop}
 use Rattle.alloc_spec.specs.AllocatorState.{AllocatorState}
-use Rattle.alloc_ghost_laws.specs.Unmarked.{unmarked_frame, unmarked_server}
+use Rattle.alloc_ghost_erasure.specs.Unmarked.{unmarked_frame, unmarked_server}
 
 find_map : {A B : Type 0} (p : B → Bool) (q : A → Bool) (f : A → B) → ((x : A) → p (f x) ≡ q x) → (xs : List A) → find p (map f xs) ≡ option_map f (find q xs)
 find_map p q f h [] = refl

@@ -9,7 +9,7 @@ use Rattle.transfer_tx.specs.Queue.{Queued}
 use Rattle.alloc_spec.specs.StepState.{StepState}
 use Rattle.alloc_spec.specs.AllocatorState.{AllocatorState}
 use Rattle.alloc_spec.specs.Transfers.{Offer}
-use Rattle.alloc_ghost_laws.specs.Unmarked.{unmarked_frame, unmarked_step_state, unmarked_memory, unmarked_offer, unmarked_raft_server, unmarked_server, unnumbered_call}
+use Rattle.alloc_ghost_erasure.specs.Unmarked.{unmarked_frame, unmarked_step_state, unmarked_memory, unmarked_offer, unmarked_raft_server, unmarked_server, unnumbered_call}
 
 pub map_twice : {A : Type 0} (f : A → A) → ((x : A) → f (f x) ≡ f x) → (xs : List A) → map f (map f xs) ≡ map f xs
 map_twice f h [] = refl

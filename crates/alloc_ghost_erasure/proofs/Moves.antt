@@ -15,8 +15,8 @@ use Rattle.raft_model.specs.Moves.Leading.{append_request, vote_request}
 use Rattle.raft_model.specs.Moves.Move.{AnswerAgain, CallForVote, CallToAppend, CommitTo, GiveUp, ProposeEntry, TakeAppendAnswer, TakeAppendRequest, TakeVoteAnswer, TakeVoteRequest, TellNothing, TellPair, TimeOut}
 use Rattle.raft_model.specs.Server.{Memory, RaftServer, Put, Store, put_all}
 use Rattle.raft_model.specs.Server.Role.{Follower}
-use Rattle.alloc_ghost_laws.specs.Unmarked.{unmarked_memory, unmarked_raft_server, unnumbered, unnumbered_call}
-use Rattle.alloc_ghost_laws.proofs.Twice.{twice_call, twice_memory, twice_raft_server}
+use Rattle.alloc_ghost_erasure.specs.Unmarked.{unmarked_memory, unmarked_raft_server, unnumbered, unnumbered_call}
+use Rattle.alloc_ghost_erasure.proofs.Twice.{twice_call, twice_memory, twice_raft_server}
 
 abbrev pub unnumbered_answer : Answer → Answer
 unnumbered_answer answer = record answer { step = 0; request = unnumbered answer.request }

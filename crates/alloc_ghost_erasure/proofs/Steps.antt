@@ -16,9 +16,9 @@ use Rattle.alloc_spec.specs.StepState.{StepState, with_response, with_transfer, 
 use Rattle.alloc_spec.specs.Outbox.{counted_if, queued_if}
 use Rattle.alloc_spec.specs.AllocatorState.{AllocatorState, members_of}
 use Rattle.alloc_spec.specs.Transfers.{Ids, Offer, has_room, id_of, outgoing}
-use Rattle.alloc_ghost_laws.specs.Unmarked.{unmarked_frame, unmarked_step_state, unmarked_offer, unmarked_raft_server, unmarked_server}
-use Rattle.alloc_ghost_laws.proofs.Twice.{joined_same, map_twice, twice, twice_frames, twice_offers, twice_raft_server, twice_sessions}
-use Rattle.alloc_ghost_laws.proofs.Moves.{all_puts_same, all_times_same, plains_same, twice_move, unnumbered_move}
+use Rattle.alloc_ghost_erasure.specs.Unmarked.{unmarked_frame, unmarked_step_state, unmarked_offer, unmarked_raft_server, unmarked_server}
+use Rattle.alloc_ghost_erasure.proofs.Twice.{joined_same, map_twice, twice, twice_frames, twice_offers, twice_raft_server, twice_sessions}
+use Rattle.alloc_ghost_erasure.proofs.Moves.{all_puts_same, all_times_same, plains_same, twice_move, unnumbered_move}
 
 -- the two steps differ in marks and numbers alone
 abbrev pub Same : StepState → StepState → Type 0

@@ -32,10 +32,10 @@ use Rattle.alloc_spec.specs.Step.{all_nodes, at_moment, begin_phase, expiry_phas
 use Rattle.alloc_spec.specs.Tick.{asks, candidate, discovery_of, discovery_phase, election_moves, election_phase, new_uid, proposes, query_phase, record_phase, records_as, records_node, status_phase, tells_members, tells_status, clock_phase, with_discovery, with_query, with_status}
 use Rattle.alloc_spec.specs.AllocatorState.{AllocatorState, is_zero, known, knows_all, may_propose, members_of, start_of, status_of}
 use Rattle.alloc_spec.specs.Transfers.{has_room, id_of}
-use Rattle.alloc_ghost_laws.specs.Unmarked.{unmarked_step_state, unmarked_raft_server, unmarked_server, unnumbered_call}
-use Rattle.alloc_ghost_laws.proofs.Moves.{unnumbered_move}
-use Rattle.alloc_ghost_laws.proofs.Steps.{Same, SameMoves, cond_same, itself, lift, room_same, sends_same, takes_same}
-use Rattle.alloc_ghost_laws.proofs.Twice.{twice, twice_server}
+use Rattle.alloc_ghost_erasure.specs.Unmarked.{unmarked_step_state, unmarked_raft_server, unmarked_server, unnumbered_call}
+use Rattle.alloc_ghost_erasure.proofs.Moves.{unnumbered_move}
+use Rattle.alloc_ghost_erasure.proofs.Steps.{Same, SameMoves, cond_same, itself, lift, room_same, sends_same, takes_same}
+use Rattle.alloc_ghost_erasure.proofs.Twice.{twice, twice_server}
 
 -- ---- the beginning: calls are given up
 

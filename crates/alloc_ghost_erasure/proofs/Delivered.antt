@@ -42,10 +42,10 @@ use Rattle.alloc_spec.specs.Exchange.{allocation_payload, answers_again, answers
 use Rattle.alloc_spec.specs.StepState.{StepState, with_transfer, with_moves}
 use Rattle.alloc_spec.specs.Services.{answers_append_request, answers_call, answers_vote_request, append_answered, ends_append_call, ends_vote_call, hears_info, info_of, is_listed, takes_append_answer, takes_append_request, takes_vote_answer, takes_vote_request, tells_info, vote_answered}
 use Rattle.alloc_spec.specs.AllocatorState.{is_zero, known, may_propose, recorded_at, taken}
-use Rattle.alloc_ghost_laws.specs.Unmarked.{unmarked_step_state, unmarked_raft_server, unmarked_step_result, unnumbered, unnumbered_call}
-use Rattle.alloc_ghost_laws.proofs.Moves.{unnumbered_move}
-use Rattle.alloc_ghost_laws.proofs.Phases.{gives_same, proposes_same}
-use Rattle.alloc_ghost_laws.proofs.Steps.{Same, SameMoves, answers_same, cond_same, itself, sends_same, takes_same}
+use Rattle.alloc_ghost_erasure.specs.Unmarked.{unmarked_step_state, unmarked_raft_server, unmarked_step_result, unnumbered, unnumbered_call}
+use Rattle.alloc_ghost_erasure.proofs.Moves.{unnumbered_move}
+use Rattle.alloc_ghost_erasure.proofs.Phases.{gives_same, proposes_same}
+use Rattle.alloc_ghost_erasure.proofs.Steps.{Same, SameMoves, answers_same, cond_same, itself, sends_same, takes_same}
 
 abbrev pub SameSight : StepResult → StepResult → Type 0
 SameSight x y = unmarked_step_result x ≡ unmarked_step_result y
