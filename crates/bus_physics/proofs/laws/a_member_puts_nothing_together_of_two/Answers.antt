@@ -1,0 +1,35 @@
+use Rattle.std.proofs.Common.{ℕ, List, refl, sym, subst}
+use Rattle.std.specs.Prelude.{[], ◌∷◌, ◌++◌}
+use Rattle.raft_model.specs.Runs.{initial_world, run}
+use Rattle.cluster_spec.specs.Cluster.{AreMembers, cluster, world_of}
+use Rattle.cluster_spec.specs.Refinement.{events, transfers_of_rows}
+use Rattle.cluster_agreement.proofs.Concatenations.{ids_stay}
+use Rattle.bus_physics.specs.Physics.{heard_by, rows_in}
+use Rattle.bus_physics.proofs.Following.{follow}
+use Rattle.bus_physics.proofs.Members.{MemberLaws, along}
+use Rattle.bus_physics.proofs.Now.{now_of_a_step}
+use Rattle.bus_physics.proofs.Single.{IsSingle, single}
+use Rattle.bus_physics.proofs.Torn.{of_its_key}
+use Rattle.bus_physics.proofs.UntornMembers.{only_gaps}
+use Rattle.bus_physics.proofs.laws.a_member_puts_nothing_together_of_two.Goals as goal
+
+pub returns : goal.returns
+returns c = λ limits ids before now n k ms members sane row lawful comes clock order behind apart e.
+    let rows = rows_in before in
+    let steps = c.what_is_said_of_a_step.ensures in
+    let laws : MemberLaws = record { heard = steps.heard; ticked = steps.ticked; me = steps.me; called = steps.called; now = now_of_a_step } in
+    let chosen = c.a_choice_fits.ensures ids rows members lawful in
+    let stands = along limits (before ++ now ∷ []) laws of_its_key sane n now before [] (cluster ids) [] refl refl
+    (λ t up. absurd (cc (up))) clock comes lawful in
+    only_gaps c.what_is_said_of_frames.ensures chosen.0 (transfers_of_rows (cluster ids) rows []) (world_of ids rows)
+    (run (initial_world ids) (events chosen.0 (cluster ids) rows)) (subst AreMembers (sym (ids_stay (cluster ids) rows)) members)
+    (c.rows_are_shown.ensures chosen.0 ids rows members lawful chosen.1).shows limits (before ++ now ∷ []) sane now n k ms row stands
+    (heard_by n (cluster ids) rows) apart behind (follow n laws rows (cluster ids) [] (λ t up. absurd (cc (up))) order)
+    (subst (λ (l : List ℕ). IsSingle l (world_of ids rows)) (sym (ids_stay (cluster ids) rows)) (single c.what_is_said_of_frames.ensures ids members
+    (λ rows lawful.
+    let chosen = c.a_choice_fits.ensures ids rows members lawful in
+    record {
+      choice = chosen.0;
+      run = run (initial_world ids) (events chosen.0 (cluster ids) rows);
+      shows = (c.rows_are_shown.ensures chosen.0 ids rows members lawful chosen.1).shows;
+    }) rows lawful)) e

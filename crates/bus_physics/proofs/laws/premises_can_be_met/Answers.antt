@@ -1,0 +1,163 @@
+use Rattle.std.proofs.Common.{◌≡◌, ℕ, ◌+◌, ◌≤◌, List, [], ◌∷◌, ◌++◌, refl, ap, sym, ◌∙◌, arith, inl, inr}
+use Rattle.std.specs.Prelude.{◌-◌, min}
+use Rattle.can_frame.specs.Cutting.{frames_of, payload_of}
+use Rattle.can_frame.specs.Identifier.{identifier_of}
+use Rattle.can_frame.specs.declared.step.What.TheVariants.{Alloc}
+use Rattle.raft_model.specs.Lists.{In}
+use Rattle.transfer_rx.specs.Acceptance.{wanted}
+use Rattle.transfer_rx.specs.Outcome.{fits_no_payload, outcome}
+use Rattle.transfer_rx.specs.Reassembly.{session_step, step as frame_step}
+use Rattle.transfer_rx.specs.Sessions.{session_for}
+use Rattle.transfer_tx.specs.Queue.{left_behind, next_out, queued_frames}
+use Rattle.allocatee.specs.Judging.{arrival_judgement as device_judgement}
+use Rattle.allocatee.specs.Accepted.{rows as device_rows}
+use Rattle.alloc_spec.specs.Accepted.{rows}
+use Rattle.alloc_spec.specs.Delivered.{delivery_phase}
+use Rattle.alloc_spec.specs.Judging.{arrival_judgement}
+use Rattle.alloc_spec.specs.Step.{all_nodes, step}
+use Rattle.alloc_spec.specs.Transfers.{SentTransfer}
+use Rattle.replay_text.specs.declared.row.Row.{Row}
+use Rattle.cluster_spec.specs.Cluster.{Cluster, after_row, cluster}
+use Rattle.cluster_spec.specs.Lawful.{Lawful}
+use Rattle.cluster_spec.specs.Refinement.{transfers_of_rows}
+use Rattle.bus_physics.specs.Example.{at_allocatee, at_member, before, everything, limits, two}
+use Rattle.bus_physics.specs.Physics.{GoesOn, Reading, rows_in}
+use Rattle.bus_physics.specs.Schedule.{DeviceHears, LawfulButForBus}
+use Rattle.bus_physics.proofs.laws.premises_can_be_met.Goals as goal
+
+pub returns-clause-lawful : goal.returns-clause-lawful
+unfolding step frame_step outcome fits_no_payload all_nodes delivery_phase arrival_judgement session_for session_step wanted queued_frames next_out left_behind frames_of identifier_of rows
+returns-clause-lawful c = (refl, (refl, (refl, (refl, (refl, tt)))))
+
+-- a clock that goes on
+passes : (at now then moment : ℕ) → at ≤ then → now + min (then - at) 60000 ≤ moment + 5 → GoesOn limits (record { at = at; now = now } ∷ []) then moment
+passes at now then moment late more p (inl e) = (
+  omega (arith, late, ap (λ (r : Reading). r.at) e),
+  omega (arith, more, ap (λ (r : Reading). r.at) e, ap (λ (r : Reading). r.now) e),
+)
+passes at now then moment late more p (inr i) = absurd i
+
+pub returns-clause-clock : goal.returns-clause-clock
+unfolding step all_nodes queued_frames next_out left_behind frames_of
+returns-clause-clock c = (tt, (tt, (tt, (tt, (tt, (passes 8 500 1050 1541 (omega arith) (omega arith), tt))))))
+
+-- what member 1 made
+made_in : (x : SentTransfer) → In x (transfers_of_rows (cluster two) (rows_in before) []) → (x.step ≡ 4) × (x.by ≡ 1)
+unfolding step all_nodes queued_frames frames_of
+made_in x (inl e) = (ap (λ (y : SentTransfer). y.step) e, ap (λ (y : SentTransfer). y.by) e)
+made_in x (inr (inl e)) = (ap (λ (y : SentTransfer). y.step) e, ap (λ (y : SentTransfer). y.by) e)
+made_in x (inr (inr i)) = absurd i
+
+pub returns-clause-apart : goal.returns-clause-apart
+returns-clause-apart c = λ x y i j by what to id less meant. absurd (omega (arith, (made_in x i).0, (made_in y j).0, less))
+
+pub returns-clause-frames : goal.returns-clause-frames
+unfolding step all_nodes queued_frames next_out left_behind frames_of
+returns-clause-frames c = (tt, (tt, (tt, (tt, (tt, ((λ other key i first second. absurd i), tt))))))
+
+pub returns-clause-waits : goal.returns-clause-waits
+returns-clause-waits c = λ x y i j mine own what to id earlier call. absurd (omega (arith, (made_in x i).1, mine))
+
+pub returns-clause-order : goal.returns-clause-order
+returns-clause-order c = λ other number source dest i first second. absurd i
+
+pub returns-clause-comes : goal.returns-clause-comes
+unfolding step all_nodes queued_frames next_out left_behind frames_of
+returns-clause-comes c = (tt, (tt, (tt, (tt, (tt, (record { after = λ some. omega arith; soon = λ some. omega arith }, tt))))))
+
+pub returns-clause-physical : goal.returns-clause-physical
+unfolding step all_nodes queued_frames next_out left_behind frames_of
+returns-clause-physical c = (
+  tt,
+  (
+    tt,
+    (
+      tt,
+      (
+        tt,
+        (
+          tt,
+          (
+            (
+              passes 9 40 1050 1080 (omega arith) (omega arith),
+              record { after = λ some. omega arith; soon = λ some. omega arith },
+            ),
+            tt,
+          ),
+        ),
+      ),
+    ),
+  ),
+)
+
+pub returns-clause-member : goal.returns-clause-member
+unfolding step frame_step outcome fits_no_payload all_nodes delivery_phase arrival_judgement session_for session_step wanted queued_frames next_out left_behind frames_of identifier_of payload_of rows
+returns-clause-member c = refl
+
+pub returns-clause-allocatee : goal.returns-clause-allocatee
+unfolding step frame_step outcome fits_no_payload all_nodes delivery_phase device_judgement session_for session_step wanted queued_frames next_out left_behind frames_of identifier_of device_rows
+returns-clause-allocatee c = refl
+
+-- lawful rows are so in any case
+but : (w : Cluster) (rows : List Row) → Lawful w rows → LawfulButForBus w rows
+but w [] lawful = tt
+but w (row ∷ rows) lawful = ((λ why e. absurd (cc (sym lawful.0 ∙ e))), but (after_row w row) rows lawful.1)
+
+all_lawful : Lawful (cluster two) (rows_in everything)
+unfolding step frame_step outcome fits_no_payload all_nodes delivery_phase arrival_judgement device_judgement session_for session_step wanted queued_frames next_out left_behind frames_of identifier_of payload_of rows device_rows
+all_lawful = (refl, (refl, (refl, (refl, (refl, (refl, (refl, tt)))))))
+
+pub returns-clause-otherwise : goal.returns-clause-otherwise
+returns-clause-otherwise c = but (cluster two) (rows_in everything) all_lawful
+
+made_then : (x : SentTransfer) → In x (transfers_of_rows (cluster two) (rows_in (before ++ at_member ∷ [])) []) → x.step ≡ 4
+unfolding step frame_step outcome fits_no_payload all_nodes delivery_phase session_for session_step wanted queued_frames next_out left_behind frames_of identifier_of payload_of rows
+made_then x (inl e) = ap (λ (y : SentTransfer). y.step) e
+made_then x (inr (inl e)) = ap (λ (y : SentTransfer). y.step) e
+made_then x (inr (inr i)) = absurd i
+
+no_allocation : (x : SentTransfer) → In x (transfers_of_rows (cluster two) (rows_in (before ++ at_member ∷ [])) []) → x.offer.what ≡ Alloc → ⊥
+unfolding step frame_step outcome fits_no_payload all_nodes delivery_phase session_for session_step wanted queued_frames next_out left_behind frames_of identifier_of payload_of rows
+no_allocation x (inl e) what = absurd (cc (sym (ap (λ (y : SentTransfer). y.offer.what) e) ∙ what))
+no_allocation x (inr (inl e)) what = absurd (cc (sym (ap (λ (y : SentTransfer). y.offer.what) e) ∙ what))
+no_allocation x (inr (inr i)) what = absurd i
+
+device_hears : DeviceHears limits two (before ++ at_member ∷ []) at_allocatee 1 1
+unfolding step frame_step outcome fits_no_payload all_nodes delivery_phase session_for session_step wanted queued_frames next_out left_behind frames_of identifier_of payload_of rows
+device_hears = record {
+  comes = (tt, (tt, (tt, (tt, (tt, (tt, ((passes 9 40 1050 1080 (omega arith) (omega arith), record { after = λ some. omega arith; soon = λ some. omega arith }), tt)))))));
+  slow = record {
+    apart = λ x y i j what other by id less. absurd (omega (arith, made_then x i, made_then y j, less));
+    short = λ x i what. absurd (no_allocation x i what);
+  };
+}
+
+pub returns-clause-bus : goal.returns-clause-bus
+unfolding step all_nodes queued_frames next_out left_behind frames_of
+returns-clause-bus c = (
+  tt,
+  (
+    tt,
+    (
+      tt,
+      (
+        tt,
+        (
+          tt,
+          (
+            record {
+              comes = returns-clause-comes c;
+              clock = returns-clause-clock c;
+              order = returns-clause-order c;
+              waits = returns-clause-waits c;
+              earlier = (tt, (tt, (tt, (tt, (tt, tt)))));
+              behind = λ other key i first second. absurd i;
+              apart = returns-clause-apart c;
+            },
+            (device_hears, tt),
+          ),
+        ),
+      ),
+    ),
+  ),
+)

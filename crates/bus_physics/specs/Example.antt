@@ -1,0 +1,30 @@
+-- Timed rows that meet the premises: a member sends, and another one hears it, as does an allocatee.
+use Rattle.std.specs.Prelude.{ℕ, List, [], ◌∷◌, ◌++◌}
+use Rattle.replay_text.specs.declared.row.Row.TheVariants.{AOpen, ARx, Open, Rx, Send, Tick}
+use Rattle.bus_physics.specs.Physics.{Limits, Timed}
+
+abbrev pub two : List ℕ
+two = 1 ∷ 2 ∷ []
+
+-- frames are held for 100 ms at the most, and clocks go wrong by 5 ms
+abbrev pub limits : Limits
+limits = record { hold = 100; drift = 5 }
+
+-- frame 1 is the first one that member 1 sends
+abbrev pub before : List Timed
+before = record { at = 7; row = Open 1 0 0 }
+    ∷ record { at = 8; row = Open 2 500 0 }
+    ∷ record { at = 9; row = AOpen 1 [] 0 40 0 }
+    ∷ record { at = 1007; row = Tick 1 1000 0 }
+    ∷ record { at = 1008; row = Send 1 }
+    ∷ []
+
+-- it comes to member 2, and to allocatee 1
+abbrev pub at_member : Timed
+at_member = record { at = 1050; row = Rx 2 1 1541 }
+
+abbrev pub at_allocatee : Timed
+at_allocatee = record { at = 1050; row = ARx 1 1 1080 0 }
+
+abbrev pub everything : List Timed
+everything = before ++ (at_member ∷ (at_allocatee ∷ []))

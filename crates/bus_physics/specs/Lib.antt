@@ -1,0 +1,5 @@
+pub mod Physics
+pub mod Reuse
+pub mod Example
+pub mod Schedule
+pub mod Processes

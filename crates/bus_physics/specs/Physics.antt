@@ -1,0 +1,254 @@
+-- What a physical bus does with the frames that an allocatee hears: its clock goes on with the time, and a frame comes
+-- after it was made, and not much later. That it may be lost, come twice or overtake another one is not excluded.
+use Rattle.std.specs.Prelude.{⊤, ◌≡◌, ◌⊎◌, ℕ, ◌+◌, ◌-◌, ◌*◌, ◌<◌, ◌≤◌, ◌==◌, Bool, true, false, List, [], ◌∷◌, ◌++◌, length, max, min, slice_index_or, nat_eq, Option, None, Some, if◌then◌else◌}
+use Rattle.can_frame.specs.declared.identifier.Ident.{Ident}
+use Rattle.can_frame.specs.declared.identifier.Kind.TheVariants.{Response}
+use Rattle.can_frame.specs.declared.step.What.TheVariants.{Alloc, AppQ, VoteQ}
+use Rattle.can_frame.specs.Cutting.{frame_count, piece_from}
+use Rattle.can_frame.specs.Identifier.{identifier_number, identifier_of}
+use Rattle.raft_model.specs.Lists.{In}
+use Rattle.replay_text.specs.declared.row.Row.{Row}
+use Rattle.replay_text.specs.declared.row.Row.TheVariants.{AOpen, ATick, ARx, Open, Rx, Send, Tick}
+use Rattle.transfer_rx.specs.declared.key.Key.{Key}
+use Rattle.transfer_rx.specs.Run.{is_of}
+use Rattle.transfer_rx.specs.Sessions.{next_id}
+use Rattle.transfer_tx.specs.Queue.{Queued}
+use Rattle.allocatee.specs.Accepted as device
+use Rattle.allocatee.specs.Allocatee.{Device}
+use Rattle.alloc_spec.specs.Accepted.{setting_for}
+use Rattle.alloc_spec.specs.Transfers.{SentTransfer, ident_of, number_of}
+use Rattle.cluster_spec.specs.Cluster.{Cluster, after_row, arrival_at, frame_at}
+use Rattle.cluster_spec.specs.Members.{MemberStatus}
+use Rattle.cluster_spec.specs.Members.MemberStatus.{Down, Failed, Up}
+
+-- a row, and the moment at which it happened, on a clock that nobody reads
+pub record Timed : Type 0 where
+  pub at : ℕ
+  pub row : Row
+
+abbrev pub rows_in : List Timed → List Row
+rows_in [] = []
+rows_in (timed ∷ rest) = timed.row ∷ rows_in rest
+
+-- when the row with this number happened; the first one has the number 1
+abbrev pub time_of : List Timed → ℕ → ℕ
+time_of all number = (slice_index_or all (number - 1) (record { at = 0; row = Send 0 })).at
+
+-- in milliseconds: how long after its making a frame may come, and how far a clock may go wrong within a minute
+pub record Limits : Type 0 where
+  pub hold : ℕ
+  pub drift : ℕ
+
+-- ---- the clock of an allocatee
+
+-- when it took an event, and the greatest moment that it had been given by then
+pub record Reading : Type 0 where
+  pub at : ℕ
+  pub now : ℕ
+
+abbrev pub now_of : Option Device → ℕ → ℕ
+now_of None ms = ms
+now_of (Some x) ms = max x.asking.moment ms
+
+-- the readings of allocatee a since it came, the latest first
+abbrev pub readings_after : ℕ → List Reading → Cluster → ℕ → Row → List Reading
+readings_after a past w at (AOpen b uid pref ms word) = if a == b then record { at = at; now = ms } ∷ [] else past
+readings_after a past w at (ATick b ms word) =
+    if a == b then record { at = at; now = now_of (w.allocatee b) ms } ∷ past else past
+readings_after a past w at (ARx b k ms word) =
+    if a == b then record { at = at; now = now_of (w.allocatee b) ms } ∷ past else past
+readings_after a past w at row = past
+
+-- since each earlier reading the time went on, and the clock did, as much but for the drift; of more than a minute it is
+-- asked that the clock went on by nearly that
+abbrev pub GoesOn : Limits → List Reading → ℕ → ℕ → Type 0
+GoesOn limits past at now = (p : Reading) → In p past → (p.at ≤ at) × (p.now + min (at - p.at) 60000 ≤ now + limits.drift)
+
+-- ---- a frame
+
+-- a frame that a step made comes after that step, and not much later
+pub record ComesInTime (limits : Limits) (all : List Timed) (at : ℕ) (frame : Queued) : Type 0 where
+  pub after : 1 ≤ frame.mark.step → time_of all frame.mark.step ≤ at
+  pub soon : 1 ≤ frame.mark.step → at ≤ time_of all frame.mark.step + limits.hold
+
+-- ---- rows
+
+abbrev pub OfIt : Bool → Type 0 → Type 0
+OfIt true A = A
+OfIt false A = ⊤
+
+abbrev pub RowIsPhysical : Limits → List Timed → ℕ → List Reading → Cluster → ℕ → Row → Type 0
+RowIsPhysical limits all a past w at (ARx b k ms word) =
+    OfIt (a == b) (GoesOn limits past at (now_of (w.allocatee b) ms) × ComesInTime limits all at (frame_at w.frames k))
+RowIsPhysical limits all a past w at row = ⊤
+
+-- for allocatee a each row is
+abbrev pub ArePhysical : Limits → List Timed → ℕ → List Reading → Cluster → List Timed → Type 0
+ArePhysical limits all a past w [] = ⊤
+ArePhysical limits all a past w (timed ∷ rest) = RowIsPhysical limits all a past w timed.at timed.row
+    × ArePhysical limits all a (readings_after a past w timed.at timed.row) (after_row w timed.row) rest
+
+-- ---- the members
+
+-- so far apart, one way or the other
+abbrev pub AreApart : ℕ → ℕ → ℕ → Type 0
+AreApart width m n = (m + width < n) ⊎ (n + width < m)
+
+-- ---- a member that receives
+
+-- each frame that a member receives comes in time
+abbrev pub FrameComesInTime : Limits → List Timed → Cluster → ℕ → Row → Type 0
+FrameComesInTime limits all w at (Rx n k ms) = ComesInTime limits all at (frame_at w.frames k)
+FrameComesInTime limits all w at row = ⊤
+
+abbrev pub FramesComeInTime : Limits → List Timed → Cluster → List Timed → Type 0
+FramesComeInTime limits all w [] = ⊤
+FramesComeInTime limits all w (timed ∷ rest) =
+    FrameComesInTime limits all w timed.at timed.row × FramesComeInTime limits all (after_row w timed.row) rest
+
+abbrev pub now_in : MemberStatus → ℕ → ℕ
+now_in Down ms = ms
+now_in (Up server) ms = max server.now ms
+now_in (Failed failure) ms = ms
+
+-- the readings of member n since it opened, the latest first
+abbrev pub member_readings : ℕ → List Reading → Cluster → ℕ → Row → List Reading
+member_readings n past w at (Open m ms word) = if n == m then record { at = at; now = ms } ∷ [] else past
+member_readings n past w at (Tick m ms word) =
+    if n == m then record { at = at; now = now_in (w.member m).status ms } ∷ past else past
+member_readings n past w at (Rx m k ms) =
+    if n == m then record { at = at; now = now_in (w.member m).status ms } ∷ past else past
+member_readings n past w at row = past
+
+abbrev pub ClockGoesOnAt : Limits → ℕ → List Reading → Cluster → ℕ → Row → Type 0
+ClockGoesOnAt limits n past w at (Tick m ms word) = OfIt (n == m) (GoesOn limits past at (now_in (w.member m).status ms))
+ClockGoesOnAt limits n past w at (Rx m k ms) = OfIt (n == m) (GoesOn limits past at (now_in (w.member m).status ms))
+ClockGoesOnAt limits n past w at row = ⊤
+
+-- the clock of member n goes on
+abbrev pub ClockGoesOn : Limits → ℕ → List Reading → Cluster → List Timed → Type 0
+ClockGoesOn limits n past w [] = ⊤
+ClockGoesOn limits n past w (timed ∷ rest) = ClockGoesOnAt limits n past w timed.at timed.row
+    × ClockGoesOn limits n (member_readings n past w timed.at timed.row) (after_row w timed.row) rest
+
+-- ---- calls and answers
+
+-- the frames that member n received
+abbrev pub heard_in : ℕ → Cluster → Row → List Queued
+heard_in n w (Rx m k ms) = if n == m then frame_at w.frames k ∷ [] else []
+heard_in n w row = []
+
+abbrev pub heard_by : ℕ → Cluster → List Row → List Queued
+heard_by n w [] = []
+heard_by n w (row ∷ rows) = heard_in n w row ++ heard_by n (after_row w row) rows
+
+-- the frame is a response of this service from a node to another one
+pub record IsResponseOf (number source dest : ℕ) (frame : Queued) : Type 0 where
+  pub ident : Ident
+  pub read : identifier_of frame.id ≡ Some ident
+  pub kind : ident.kind ≡ Response
+  pub service : ident.number ≡ number
+  pub from : ident.source ≡ source
+  pub to : ident.dest ≡ dest
+
+-- the answers of a node to another one come in the order of the calls, each once: one that was heard answers an earlier
+-- call
+abbrev pub AnswersInOrder : List Queued → Queued → Type 0
+AnswersInOrder heard frame = (other : Queued) (number source dest : ℕ) → In other heard → IsResponseOf number source dest other
+    → IsResponseOf number source dest frame → other.mark.re < frame.mark.re
+
+-- a call of these was answered: the first one, or one that the member made later to the same node, of the same service
+pub record IsAnswered (made : List SentTransfer) (heard : List Queued) (first : SentTransfer) : Type 0 where
+  pub later : SentTransfer
+  pub was_made : In later made
+  pub after : first.step ≤ later.step
+  pub answer : Queued
+  pub came : In answer heard
+  pub is : IsResponseOf (number_of first.offer.what) first.offer.to first.by answer
+  pub answers : answer.mark.re ≡ later.step
+
+-- Member n makes one call to a node at a time: so where a transfer ID of a service comes round, more time has passed than a
+-- call and its answer may take, or one of the calls since the first one was answered.
+abbrev pub WaitsForAnswers : Limits → List Timed → List SentTransfer → List Queued → ℕ → Type 0
+WaitsForAnswers limits all made heard n = (x y : SentTransfer) → In x made → In y made → x.by ≡ n → y.by ≡ n
+    → x.offer.what ≡ y.offer.what → x.offer.to ≡ y.offer.to → x.offer.id ≡ y.offer.id → x.step < y.step
+    → (x.offer.what ≡ AppQ) ⊎ (x.offer.what ≡ VoteQ)
+    → (time_of all x.step + 2 * limits.hold < time_of all y.step) ⊎ IsAnswered made heard x
+
+-- ---- frames in order
+
+-- a frame comes to the session of this key at member n
+abbrev pub HasKeyAt : ℕ → Key → Queued → Type 0
+HasKeyAt n key frame = is_of (setting_for n) key (arrival_at frame 0) ≡ true
+
+-- frames of one kind, number and source come in the order of the steps that made them; one may come again
+abbrev pub ComesInOrder : ℕ → List Queued → Queued → Type 0
+ComesInOrder n heard frame = (other : Queued) (key : Key) → In other heard → HasKeyAt n key other → HasKeyAt n key frame
+    → other.mark.step ≤ frame.mark.step
+
+abbrev pub IsInOrder : ℕ → List Queued → Cluster → Row → Type 0
+IsInOrder n heard w (Rx m k ms) = OfIt (n == m) (ComesInOrder n heard (frame_at w.frames k))
+IsInOrder n heard w row = ⊤
+
+-- to member n, which heard these before
+abbrev pub ComeInOrder : ℕ → List Queued → Cluster → List Row → Type 0
+ComeInOrder n heard w [] = ⊤
+ComeInOrder n heard w (row ∷ rows) = IsInOrder n heard w row × ComeInOrder n (heard ++ heard_in n w row) (after_row w row) rows
+
+-- a frame was heard that was made between these two, under the same identifier: a first one, and with a transfer ID that is
+-- neither theirs nor the one before
+pub record IsParted (heard : List Queued) (x y : SentTransfer) : Type 0 where
+  pub frame : Queued
+  pub came : In frame heard
+  pub ident : frame.id ≡ identifier_number (ident_of x.by x.offer.what x.offer.to)
+  pub first : (piece_from frame.bytes).tail.start ≡ true
+  pub other : nat_eq (piece_from frame.bytes).tail.id x.offer.id ≡ false
+  pub not_before : nat_eq (next_id (piece_from frame.bytes).tail.id) x.offer.id ≡ false
+  pub later : x.step < frame.mark.step
+  pub sooner : frame.mark.step < y.step
+
+-- No member uses a transfer ID for one kind, and for all or for member n, again so soon, or member n heard a transfer that it
+-- made between the two.
+abbrev pub UsesIdsApart : Limits → List Timed → List SentTransfer → List Queued → ℕ → Type 0
+UsesIdsApart limits all made heard n = (x y : SentTransfer) → In x made → In y made → x.by ≡ y.by
+    → x.offer.what ≡ y.offer.what → x.offer.to ≡ y.offer.to → x.offer.id ≡ y.offer.id → x.step < y.step
+    → (x.offer.to ≡ 0) ⊎ (x.offer.to ≡ n)
+    → AreApart (limits.hold + 2000 + limits.drift) (time_of all x.step) (time_of all y.step) ⊎ IsParted heard x y
+
+-- ---- Allocations
+
+-- a frame comes to the session of this key at an allocatee
+abbrev pub HasKey : Key → Queued → Type 0
+HasKey key frame = is_of device.setting key (arrival_at frame 0) ≡ true
+
+-- the frames that allocatee a received
+abbrev pub device_heard_in : ℕ → Cluster → Row → List Queued
+device_heard_in a w (ARx b k ms word) = if a == b then frame_at w.frames k ∷ [] else []
+device_heard_in a w row = []
+
+abbrev pub device_heard_by : ℕ → Cluster → List Row → List Queued
+device_heard_by a w [] = []
+device_heard_by a w (row ∷ rows) = device_heard_in a w row ++ device_heard_by a (after_row w row) rows
+
+abbrev pub ComesInOrderToDevice : List Queued → Queued → Type 0
+ComesInOrderToDevice heard frame = (other : Queued) (key : Key) → In other heard → HasKey key other → HasKey key frame
+    → other.mark.step ≤ frame.mark.step
+
+abbrev pub IsInOrderToDevice : ℕ → List Queued → Cluster → Row → Type 0
+IsInOrderToDevice a heard w (ARx b k ms word) = OfIt (a == b) (ComesInOrderToDevice heard (frame_at w.frames k))
+IsInOrderToDevice a heard w row = ⊤
+
+-- to allocatee a, which heard these before
+abbrev pub ComeInOrderToDevice : ℕ → List Queued → Cluster → List Row → Type 0
+ComeInOrderToDevice a heard w [] = ⊤
+ComeInOrderToDevice a heard w (row ∷ rows) = IsInOrderToDevice a heard w row
+    × ComeInOrderToDevice a (heard ++ device_heard_in a w row) (after_row w row) rows
+
+-- No member uses a transfer ID of its Allocations again within the longest hold and two seconds, also where it was
+-- started again in between; or frames come in order, and the allocatee heard an Allocation that the member made between the
+-- two. Each Allocation has three frames at the most.
+pub record AllocatesApart (limits : Limits) (all : List Timed) (made : List SentTransfer) (heard : List Queued) (Ordered : Type 0) : Type 0 where
+  pub apart : (x y : SentTransfer) → In x made → In y made → x.offer.what ≡ Alloc → y.offer.what ≡ Alloc → x.by ≡ y.by
+      → x.offer.id ≡ y.offer.id → x.step < y.step
+      → AreApart (limits.hold + 2000 + limits.drift) (time_of all x.step) (time_of all y.step) ⊎ (Ordered × IsParted heard x y)
+  pub short : (x : SentTransfer) → In x made → x.offer.what ≡ Alloc → frame_count (length x.offer.payload) ≤ 3

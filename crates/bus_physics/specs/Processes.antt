@@ -1,0 +1,30 @@
+-- What may happen in a trace of processes, where it is left to the bus that nothing is torn and nothing is stale.
+use Rattle.std.specs.Prelude.{⊤, ◌≡◌, ◌+◌, ◌*◌, true, false, List, [], ◌∷◌, Some, None}
+use Rattle.can_frame.specs.Identifier.{identifier_of}
+use Rattle.outside.specs.declared.pattern.Pattern.TheVariants.{Old}
+use Rattle.replay_text.specs.declared.row.Row.TheVariants.{Crash, Tick}
+use Rattle.cluster_spec.specs.declared.unlawful.Unlawful.{Unlawful}
+use Rattle.cluster_spec.specs.Cluster.{Cluster, after_row, after_rows, is_member}
+use Rattle.cluster_spec.specs.Lawful.{cause, is_forged, no_such_frame}
+use Rattle.cluster_spec.specs.Members.{is_running}
+use Rattle.cmd_node_laws.specs.Traces.{Came, Event, IsForeign, IsKilled, MayTurn, OfAllocatee, Opens, Silence, Stops, Turns, WasSent, is_of_allocatee, rows_of}
+use Rattle.bus_physics.specs.Schedule.{is_of_bus}
+
+-- of a frame of the bus: that it was sent, and no more
+abbrev pub MayCome : Came → Cluster → Type 0
+MayCome Silence w = ⊤
+MayCome (WasSent k) w = no_such_frame w k ≡ None
+MayCome (IsForeign frame) w = is_forged w.ids (identifier_of frame.id) ≡ false
+
+abbrev pub MayDo : Event → Cluster → Type 0
+MayDo (Opens n moment word) w = (is_member w.ids n ≡ true) × (is_running (w.member n).status ≡ false)
+MayDo (Turns n moment word came) w = MayTurn n w × MayCome came (after_row w (Tick n moment word))
+MayDo (Stops n) w = MayTurn n w
+MayDo (IsKilled n moment word came puts) w =
+    let ticked : Cluster = after_rows w (Crash n (4 * puts + 1) Old ∷ Tick n moment word ∷ []) in
+    MayTurn n w × (is_running (ticked.member n).status ≡ true → MayCome came ticked)
+MayDo (OfAllocatee row) w = (is_of_allocatee row ≡ true) × ((why : Unlawful) → cause w row ≡ Some why → is_of_bus why ≡ true)
+
+abbrev pub MayAllDo : List Event → Cluster → Type 0
+MayAllDo [] w = ⊤
+MayAllDo (first ∷ rest) w = MayDo first w × MayAllDo rest (after_rows w (rows_of first w))

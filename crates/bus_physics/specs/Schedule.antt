@@ -1,0 +1,72 @@
+-- A schedule whose rows happen at times: on a physical bus each of its rows is lawful, but where frames are lost.
+use Rattle.std.specs.Prelude.{⊤, ◌≡◌, ℕ, Bool, true, false, List, [], ◌∷◌, ◌++◌, Some}
+use Rattle.replay_text.specs.declared.row.Row.{Row}
+use Rattle.replay_text.specs.declared.row.Row.TheVariants.{ARx, Rx}
+use Rattle.cluster_spec.specs.declared.unlawful.Unlawful.{Unlawful}
+use Rattle.cluster_spec.specs.declared.unlawful.Unlawful.TheVariants.{Stale, Torn}
+use Rattle.cluster_spec.specs.Cluster.{Cluster, after_row, arrival_at, cluster, frame_at, world_of}
+use Rattle.cluster_spec.specs.Lawful.{Lawful, cause}
+use Rattle.cluster_spec.specs.Refinement.{transfers_of_rows}
+use Rattle.bus_physics.specs.Physics.{AllocatesApart, AnswersInOrder, ArePhysical, ClockGoesOn, ComeInOrder, ComeInOrderToDevice, ComesInOrder, ComesInOrderToDevice, FramesComeInTime, device_heard_by, Limits, Timed, UsesIdsApart, WaitsForAnswers, heard_by, rows_in}
+use Rattle.bus_physics.specs.Reuse.{LacksFrames}
+
+-- ---- the premises
+
+-- a member receives frame k
+pub record MemberHears (limits : Limits) (ids : List ℕ) (before : List Timed) (now : Timed) (n k : ℕ) : Type 0 where
+  pub comes : FramesComeInTime limits (before ++ now ∷ []) (cluster ids) (before ++ now ∷ [])
+  pub clock : ClockGoesOn limits n [] (cluster ids) (before ++ now ∷ [])
+  pub order : AnswersInOrder (heard_by n (cluster ids) (rows_in before)) (frame_at (world_of ids (rows_in before)).frames k)
+  pub waits : WaitsForAnswers limits (before ++ now ∷ []) (transfers_of_rows (cluster ids) (rows_in before) [])
+      (heard_by n (cluster ids) (rows_in before)) n
+  pub earlier : ComeInOrder n [] (cluster ids) (rows_in before)
+  pub behind : ComesInOrder n (heard_by n (cluster ids) (rows_in before)) (frame_at (world_of ids (rows_in before)).frames k)
+  pub apart : UsesIdsApart limits (before ++ now ∷ []) (transfers_of_rows (cluster ids) (rows_in before) [])
+      (heard_by n (cluster ids) (rows_in before)) n
+
+-- an allocatee does
+pub record DeviceHears (limits : Limits) (ids : List ℕ) (before : List Timed) (now : Timed) (a k : ℕ) : Type 0 where
+  pub comes : ArePhysical limits (before ++ now ∷ []) a [] (cluster ids) (before ++ now ∷ [])
+  pub slow : AllocatesApart limits (before ++ now ∷ []) (transfers_of_rows (cluster ids) (rows_in before) [])
+      (device_heard_by a (cluster ids) (rows_in before)) (ComeInOrderToDevice a [] (cluster ids) (rows_in before)
+      × ComesInOrderToDevice (device_heard_by a (cluster ids) (rows_in before)) (frame_at (world_of ids (rows_in before)).frames k))
+
+abbrev pub HappensOnBus : Limits → List ℕ → List Timed → Timed → Row → Type 0
+HappensOnBus limits ids before now (Rx n k ms) = MemberHears limits ids before now n k
+HappensOnBus limits ids before now (ARx a k ms word) = DeviceHears limits ids before now a k
+HappensOnBus limits ids before now row = ⊤
+
+-- each row does, after those before it
+abbrev pub HappenOnBus : Limits → List ℕ → List Timed → List Timed → Type 0
+HappenOnBus limits ids before [] = ⊤
+HappenOnBus limits ids before (now ∷ rest) =
+    HappensOnBus limits ids before now now.row × HappenOnBus limits ids (before ++ now ∷ []) rest
+
+-- the two causes of which a bus has to see that none comes
+abbrev pub is_of_bus : Unlawful → Bool
+is_of_bus Torn = true
+is_of_bus Stale = true
+is_of_bus other = false
+
+-- no row is refused for another one
+abbrev pub LawfulButForBus : Cluster → List Row → Type 0
+LawfulButForBus w [] = ⊤
+LawfulButForBus w (row ∷ rows) =
+    ((why : Unlawful) → cause w row ≡ Some why → is_of_bus why ≡ true) × LawfulButForBus (after_row w row) rows
+
+-- ---- what may still be refused
+
+-- after lawful rows a member hears a frame of a transfer of four frames or more, of which it lacks some
+pub record LosesFrames (ids : List ℕ) (all : List Timed) : Type 0 where
+  pub before : List Timed
+  pub now : Timed
+  pub rest : List Timed
+  pub split : all ≡ before ++ (now ∷ rest)
+  pub lawful : Lawful (cluster ids) (rows_in before)
+  pub n : ℕ
+  pub k : ℕ
+  pub ms : ℕ
+  pub row : now.row ≡ Rx n k ms
+  pub moment : ℕ
+  pub lacks : LacksFrames (transfers_of_rows (cluster ids) (rows_in before) [])
+      (arrival_at (frame_at (world_of ids (rows_in before)).frames k) moment)

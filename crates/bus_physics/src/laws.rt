@@ -1,0 +1,154 @@
+//! Laws of the definitions, each the contract of a function that does nothing.
+
+ghost use Rattle.std.specs.Prelude.{None, ◌≡◌, ◌⊎◌, ◌<◌, ◌∷◌, ◌++◌, ℕ, List, Some, []};
+ghost use Rattle.replay_text.specs.declared.row.Row.{Row};
+ghost use Rattle.replay_text.specs.declared.row.Row.TheVariants.{ARx, Rx};
+ghost use Rattle.cluster_spec.specs.declared.unlawful.Unlawful.TheVariants.{Stale, Torn};
+ghost use Rattle.cluster_spec.specs.Cluster.{AreMembers, arrival_at, cluster, frame_at, world_of};
+ghost use Rattle.cluster_spec.specs.Lawful.{Lawful, cause};
+ghost use Rattle.cluster_spec.specs.Refinement.{transfers_of_rows};
+ghost use Rattle.bus_physics.specs.Physics.{AllocatesApart, AnswersInOrder, ArePhysical, ClockGoesOn, ComeInOrder};
+ghost use Rattle.bus_physics.specs.Physics.{ComeInOrderToDevice, ComesInOrderToDevice, device_heard_by};
+ghost use Rattle.bus_physics.specs.Physics.{ComesInOrder, FramesComeInTime};
+ghost use Rattle.bus_physics.specs.Physics.{Limits, Timed, UsesIdsApart, WaitsForAnswers, heard_by, rows_in};
+ghost use Rattle.bus_physics.specs.Example.{at_allocatee, at_member, before as first_rows, everything, limits as some_limits, two};
+ghost use Rattle.bus_physics.specs.Reuse.{IsStaleAt, IsTornAt, IsTornAtDevice, LacksFrames};
+ghost use Rattle.cluster_agreement.specs.Headline.{HasHeadline};
+ghost use Rattle.cmd_node_laws.specs.Traces.{Event, MayAllHappen, all_rows};
+ghost use Rattle.bus_physics.specs.Processes.{MayAllDo};
+ghost use Rattle.bus_physics.specs.Schedule.{HappenOnBus, LawfulButForBus, LosesFrames};
+
+use allocatee::laws::sessions_of_a_step;
+use cluster_agreement::below::{what_is_said_of_a_step, what_is_said_of_frames};
+use cluster_agreement::headline::{a_choice_fits, rows_are_shown};
+use cmd_node_laws::laws::traces_are_lawful;
+
+/// What stands behind a row that is refused as torn or as stale, after lawful rows. What a member sent is torn only of
+/// frames of two transfers that it made under one transfer ID, or of frames of one transfer that are not all of it;
+/// and an answer is stale only where its call was made under the transfer ID of the call that waits.
+pub fn what_is_refused()
+    ensures torn { (ids : List ℕ) (rows : List Row) (n k ms : ℕ) → AreMembers ids → Lawful (cluster ids) rows →
+        cause (world_of ids rows) (Rx n k ms) ≡ Some Torn →
+        IsTornAt (transfers_of_rows (cluster ids) rows []) (world_of ids rows) n k ms }
+    ensures torn_at_a_device { (ids : List ℕ) (rows : List Row) (a k ms word : ℕ) → AreMembers ids →
+        Lawful (cluster ids) rows → cause (world_of ids rows) (ARx a k ms word) ≡ Some Torn →
+        IsTornAtDevice (transfers_of_rows (cluster ids) rows []) (world_of ids rows) a k ms }
+    ensures stale { (ids : List ℕ) (rows : List Row) (n k ms : ℕ) → AreMembers ids → Lawful (cluster ids) rows →
+        cause (world_of ids rows) (Rx n k ms) ≡ Some Stale →
+        IsStaleAt (transfers_of_rows (cluster ids) rows []) (world_of ids rows) n k ms }
+{
+    a_choice_fits();
+    rows_are_shown();
+    what_is_said_of_frames();
+}
+
+/// An allocatee on a physical bus, whatever frames are lost, come twice or overtake each other, takes nothing
+/// torn: where each frame comes after it was made and within the longest hold, where the allocatee's clock goes
+/// on with the time, and where no member uses a transfer ID of its Allocations again too soon; or where frames come in
+/// order, and the allocatee heard another Allocation between the two.
+pub fn a_device_puts_nothing_together_of_two()
+    ensures { (limits : Limits) (ids : List ℕ) (before : List Timed) (now : Timed) (a k ms word : ℕ) →
+        AreMembers ids → limits.drift < 58000 → now.row ≡ ARx a k ms word → Lawful (cluster ids) (rows_in before) →
+        ArePhysical limits (before ++ now ∷ []) a [] (cluster ids) (before ++ now ∷ []) →
+        AllocatesApart limits (before ++ now ∷ []) (transfers_of_rows (cluster ids) (rows_in before) [])
+        (device_heard_by a (cluster ids) (rows_in before)) (ComeInOrderToDevice a [] (cluster ids) (rows_in before) ×
+        ComesInOrderToDevice (device_heard_by a (cluster ids) (rows_in before)) (frame_at (world_of ids (rows_in before)).frames k)) →
+        cause (world_of ids (rows_in before)) (ARx a k ms word) ≡ Some Torn → ⊥ }
+{
+    a_choice_fits();
+    rows_are_shown();
+    sessions_of_a_step();
+    what_is_said_of_frames();
+}
+
+/// A member on a physical bus, whatever frames are lost, takes no response to an earlier call: where each frame comes
+/// after it was made and within the longest hold, where the member's clock goes on with the time, where answers come in
+/// the order of the calls, and where a member waits for the answer to one call before it makes the next one.
+pub fn no_response_outlives_its_transfer_id()
+    ensures { (limits : Limits) (ids : List ℕ) (before : List Timed) (now : Timed) (n k ms : ℕ) →
+        AreMembers ids → limits.drift < 58000 → now.row ≡ Rx n k ms → Lawful (cluster ids) (rows_in before) →
+        FramesComeInTime limits (before ++ now ∷ []) (cluster ids) (before ++ now ∷ []) →
+        ClockGoesOn limits n [] (cluster ids) (before ++ now ∷ []) →
+        AnswersInOrder (heard_by n (cluster ids) (rows_in before))
+        (frame_at (world_of ids (rows_in before)).frames k) →
+        WaitsForAnswers limits (before ++ now ∷ []) (transfers_of_rows (cluster ids) (rows_in before) [])
+        (heard_by n (cluster ids) (rows_in before)) n →
+        cause (world_of ids (rows_in before)) (Rx n k ms) ≡ Some Stale → ⊥ }
+{
+    what_is_refused();
+    what_is_said_of_a_step();
+    what_is_said_of_frames();
+    a_choice_fits();
+    rows_are_shown();
+}
+
+/// A member on such a bus, to which frames of one kind and source come in the order in which they were made, puts nothing
+/// together of two transfers, where a transfer ID comes round only so late, or behind a transfer that it heard: a row is
+/// refused as torn only where one transfer of four frames or more lacks frames, and its CRC fits all the same.
+pub fn a_member_puts_nothing_together_of_two()
+    ensures { (limits : Limits) (ids : List ℕ) (before : List Timed) (now : Timed) (n k ms : ℕ) →
+        AreMembers ids → limits.drift < 58000 → now.row ≡ Rx n k ms → Lawful (cluster ids) (rows_in before) →
+        FramesComeInTime limits (before ++ now ∷ []) (cluster ids) (before ++ now ∷ []) →
+        ClockGoesOn limits n [] (cluster ids) (before ++ now ∷ []) →
+        ComeInOrder n [] (cluster ids) (rows_in before) →
+        ComesInOrder n (heard_by n (cluster ids) (rows_in before)) (frame_at (world_of ids (rows_in before)).frames k) →
+        UsesIdsApart limits (before ++ now ∷ []) (transfers_of_rows (cluster ids) (rows_in before) [])
+        (heard_by n (cluster ids) (rows_in before)) n →
+        cause (world_of ids (rows_in before)) (Rx n k ms) ≡ Some Torn →
+        (moment : ℕ) × LacksFrames (transfers_of_rows (cluster ids) (rows_in before) [])
+        (arrival_at (frame_at (world_of ids (rows_in before)).frames k) moment) }
+{
+    what_is_said_of_a_step();
+    what_is_said_of_frames();
+    a_choice_fits();
+    rows_are_shown();
+}
+
+/// The premises can be met: in this cluster a member hears a frame of another one, and so does an allocatee.
+pub fn premises_can_be_met()
+    ensures lawful { Lawful (cluster two) (rows_in first_rows) }
+    ensures clock { ClockGoesOn some_limits 2 [] (cluster two) (first_rows ++ at_member ∷ []) }
+    ensures comes { FramesComeInTime some_limits (first_rows ++ at_member ∷ []) (cluster two) (first_rows ++ at_member ∷ []) }
+    ensures physical { ArePhysical some_limits (first_rows ++ at_allocatee ∷ []) 1 [] (cluster two)
+        (first_rows ++ at_allocatee ∷ []) }
+    ensures apart { UsesIdsApart some_limits (first_rows ++ at_member ∷ []) (transfers_of_rows (cluster two) (rows_in first_rows) [])
+        (heard_by 2 (cluster two) (rows_in first_rows)) 2 }
+    ensures frames { ComeInOrder 2 [] (cluster two) (rows_in (first_rows ++ at_member ∷ [])) }
+    ensures waits { WaitsForAnswers some_limits (first_rows ++ at_member ∷ []) (transfers_of_rows (cluster two) (rows_in first_rows) [])
+        (heard_by 2 (cluster two) (rows_in first_rows)) 2 }
+    ensures order { AnswersInOrder (heard_by 2 (cluster two) (rows_in first_rows))
+        (frame_at (world_of two (rows_in first_rows)).frames 1) }
+    ensures member { cause (world_of two (rows_in first_rows)) at_member.row ≡ None }
+    ensures allocatee { cause (world_of two (rows_in first_rows)) at_allocatee.row ≡ None }
+    ensures bus { HappenOnBus some_limits two [] everything }
+    ensures otherwise { LawfulButForBus (cluster two) (rows_in everything) }
+{}
+
+/// On a physical bus a schedule whose rows are otherwise lawful is lawful, whatever frames are lost: but for a row at which
+/// one transfer of four frames or more lacks frames, and its CRC fits all the same. So the two premises on what is torn and
+/// stale follow from when frames come, how clocks go on, the order of answers, and when transfer IDs are used again.
+pub fn schedules_on_a_bus_are_lawful()
+    ensures { (limits : Limits) (ids : List ℕ) (all : List Timed) → AreMembers ids → limits.drift < 58000 →
+        HappenOnBus limits ids [] all → LawfulButForBus (cluster ids) (rows_in all) →
+        Lawful (cluster ids) (rows_in all) ⊎ LosesFrames ids all }
+{
+    a_device_puts_nothing_together_of_two();
+    a_member_puts_nothing_together_of_two();
+    no_response_outlives_its_transfer_id();
+}
+
+/// The same of processes of `node`: in a trace whose rows happen on a physical bus, what comes from the bus may come, but
+/// where frames are lost. So the headline needs no premise on what is torn or stale.
+pub fn traces_on_a_bus_may_happen()
+    ensures may { (limits : Limits) (ids : List ℕ) (trace : List Event) (all : List Timed) → AreMembers ids →
+        limits.drift < 58000 → rows_in all ≡ all_rows trace (cluster ids) → HappenOnBus limits ids [] all →
+        MayAllDo trace (cluster ids) → MayAllHappen trace (cluster ids) ⊎ LosesFrames ids all }
+    ensures headline { (limits : Limits) (ids : List ℕ) (trace : List Event) (all : List Timed) → AreMembers ids →
+        limits.drift < 58000 → rows_in all ≡ all_rows trace (cluster ids) → HappenOnBus limits ids [] all →
+        MayAllDo trace (cluster ids) → HasHeadline ids (all_rows trace (cluster ids)) ⊎ LosesFrames ids all }
+{
+    a_device_puts_nothing_together_of_two();
+    a_member_puts_nothing_together_of_two();
+    no_response_outlives_its_transfer_id();
+    traces_are_lawful();
+}
