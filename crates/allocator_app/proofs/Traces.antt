@@ -1,18 +1,19 @@
 -- A run of nodes in the traces in which it stands.
-use Rattle.std.proofs.Common.{ℕ, ◌<◌, List, ◌++◌, length, Option, subst, inl, inr}
+use Rattle.std.proofs.Common.{ℕ, ◌<◌, ◌⊎◌, List, ◌++◌, length, Option, subst, inl, inr}
 use Rattle.disk_model.specs.declared.disk.Disk.{Ghosts}
 use Rattle.outside.specs.declared.received.RawFrame.{RawFrame}
 use Rattle.outside.specs.declared.received.Received.{Received}
 use Rattle.cmd_base.specs.declared.status.Status.{Status}
 use Rattle.cluster_spec.specs.Cluster.{AreMembers, cluster}
-use Rattle.cmd_node.specs.CutRun.{IsCutAtTurn}
-use Rattle.cmd_node.specs.Nodes.{IsCutInTurn, LeavesWith, RunsNodes}
+use Rattle.cmd_base.specs.declared.status.Status.TheVariants.{Done, Usage, BadRow, Unlawful, ReadFault, WriteFault, Memory, Limit, LinkFault, DiskFault, Damaged, Differ, NoPart, NoValue}
+use Rattle.cmd_node.specs.CutRun.{IsCutAtOpening, IsCutAtTurn, KeepsImages, KeepsOrOpens}
+use Rattle.cmd_node.specs.Nodes.{IsCutInTurn, IsDone, IsEnd, LeavesWith, RunsNodes}
 use Rattle.cmd_node.specs.Opening.{Given}
 use Rattle.cmd_node.specs.WholeRun.{LeavesAll, Tell, after_turns}
 use Rattle.cmd_node_laws.specs.Processes.{Turning, together_at}
 use Rattle.cmd_node_laws.specs.Stands.{IsCutAsTold, IsRunIn, LeavesAsTold, world_after}
 use Rattle.cmd_node_laws.specs.Traces.{Event, MayAllHappen, all_rows}
-use Rattle.allocator_app.specs.Nodes.{IsCutInTraces, RunsInTraces}
+use Rattle.allocator_app.specs.Nodes.{IsCutInTraces, IsDoneInTraces, RunsInTraces}
 use Rattle.allocator_app.specs.Promise.{KeepsPromise}
 
 module _ {L D : Type 0} (coming : L → Option (List Received)) (sent : L → Option (List RawFrame)) (link_faults : L → ℕ) (disk : Ghosts D)
@@ -42,6 +43,50 @@ module _ {L D : Type 0} (coming : L → Option (List Received)) (sent : L → Op
           promise = λ ids first rest stands. promise ids (first ++ rest) stands.members stands.may;
         }
 
+    abbrev AtOpening : ℕ → Type 0
+    AtOpening id = IsCutAtOpening disk mine links_old links disks_old disks readings_old readings (KeepsOrOpens disk) id
+
+    widened : (id : ℕ) → IsCutAtOpening disk mine links_old links disks_old disks readings_old readings (KeepsImages disk) id → AtOpening id
+    widened id o = record {
+      place = o.place;
+      within = o.within;
+      id_is = o.id_is;
+      untouched = o.untouched;
+      readings_are = o.readings_are;
+      stored_is = o.stored_is;
+      own_is = λ first last was is tells. let has = o.own_is first last was is tells in (has.0, inl has.1);
+      others = o.others;
+    }
+
+    done_in_traces : (given : Given) → Tell coming sent disk links_old disks_old readings_old given → IsDone coming sent link_faults disk size turns mine links_old links disks_old disks readings_old readings → IsDoneInTraces coming sent disk links disks size mine given turns
+    done_in_traces given tell is = record {
+      told = λ ids first rest stands. done ids mine first rest size turns given links disks readings stands (is.left given tell);
+      promise = λ ids first rest stands. promise ids (first ++ rest) stands.members stands.may;
+    }
+
+    by_end : (given : Given) → Tell coming sent disk links_old disks_old readings_old given → (ended : Status) → IsEnd coming sent link_faults disk size turns mine links_old links disks_old disks readings_old readings ended →
+        IsDoneInTraces coming sent disk links disks size mine given turns ⊎ ((id : ℕ) × (AtOpening id ⊎ IsCutInTraces coming sent disk links disks size mine given id))
+    by_end given tell Done end = inl (done_in_traces given tell end)
+    by_end given tell (LinkFault id) end = inr (id, inr (cut_in_traces given id tell end.1))
+    by_end given tell (DiskFault id) end = inr (
+      id,
+      elim end.1 [
+        | inl opening ↦ inl opening
+        | inr turn ↦ inr (cut_in_traces given id tell turn)
+      ],
+    )
+    by_end given tell (Damaged id key) end = inr (id, inl (widened id end.1))
+    by_end given tell Usage end = absurd end
+    by_end given tell (BadRow row) end = absurd end
+    by_end given tell (Unlawful row number) end = absurd end
+    by_end given tell ReadFault end = absurd end
+    by_end given tell WriteFault end = absurd end
+    by_end given tell Memory end = absurd end
+    by_end given tell (Limit row) end = absurd end
+    by_end given tell (Differ index a b) end = absurd end
+    by_end given tell NoPart end = absurd end
+    by_end given tell NoValue end = absurd end
+
     pub in_traces : RunsNodes coming sent link_faults disk size turns mine links_old links disks_old disks readings_old readings faults_old faults before now status →
         RunsInTraces coming sent link_faults disk size turns mine links_old links disks_old disks readings_old readings faults_old faults before now status
     in_traces runs = record {
@@ -53,9 +98,10 @@ module _ {L D : Type 0} (coming : L → Option (List Received)) (sent : L → Op
       cut = λ given id tell ends. elim ends [
         | inl of_link ↦ let left = subst Ended of_link runs.leaves in inr (cut_in_traces given id tell left.end.1)
         | inr (inl of_disk) ↦ let left = subst Ended of_disk runs.leaves in elim left.end.1 [
-          | inl opening ↦ inl opening.untouched
+          | inl opening ↦ inl opening
           | inr turn ↦ inr (cut_in_traces given id tell turn)
         ]
-        | inr (inr damaged) ↦ let left = subst Ended damaged.1 runs.leaves in inl left.end.1.untouched
+        | inr (inr damaged) ↦ let left = subst Ended damaged.1 runs.leaves in inl (widened id left.end.1)
       ];
+      broken = λ given tell is. let left = subst Ended is runs.leaves in by_end given tell left.0 left.1.end;
     }

@@ -4,8 +4,8 @@ use Rattle.disk_model.specs.declared.disk.Disk.{Ghosts}
 use Rattle.outside.specs.declared.received.RawFrame.{RawFrame}
 use Rattle.outside.specs.declared.received.Received.{Received}
 use Rattle.cmd_base.specs.declared.status.Status.{Status}
-use Rattle.cmd_base.specs.declared.status.Status.TheVariants.{Done}
-use Rattle.cmd_node.specs.CutRun.{EndsAt}
+use Rattle.cmd_base.specs.declared.status.Status.TheVariants.{Done, WriteFault}
+use Rattle.cmd_node.specs.CutRun.{EndsAt, IsCutAtOpening, KeepsOrOpens}
 use Rattle.cmd_node.specs.Nodes.{RunsNodes}
 use Rattle.cmd_node.specs.Opening.{Given}
 use Rattle.cmd_node.specs.WholeRun.{Tell}
@@ -56,4 +56,9 @@ pub record RunsInTraces {L D : Type 0} (coming : L → Option (List Received)) (
       IsDoneInTraces coming sent disk links disks size ids given turns
   pub cut : (given : Given) (id : ℕ) → Tell coming sent disk links_old disks_old readings_old given →
       EndsAt id status →
-      (links ≡ links_old) ⊎ IsCutInTraces coming sent disk links disks size ids given id
+      IsCutAtOpening disk ids links_old links disks_old disks readings_old readings (KeepsOrOpens disk) id
+      ⊎ IsCutInTraces coming sent disk links disks size ids given id
+  pub broken : (given : Given) → Tell coming sent disk links_old disks_old readings_old given → status ≡ WriteFault →
+      IsDoneInTraces coming sent disk links disks size ids given turns
+      ⊎ ((id : ℕ) × (IsCutAtOpening disk ids links_old links disks_old disks readings_old readings (KeepsOrOpens disk) id
+      ⊎ IsCutInTraces coming sent disk links disks size ids given id))

@@ -43,6 +43,7 @@ is_of_allocatee (ATick a moment word) = true
 is_of_allocatee (ARx a k moment word) = true
 is_of_allocatee (ASend a) = true
 is_of_allocatee (AEnd a) = true
+is_of_allocatee (Ext frame) = true
 is_of_allocatee row = false
 
 -- ---- the rows of an event
