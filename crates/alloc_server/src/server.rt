@@ -115,92 +115,6 @@ impl<D: Disk, F: Fn(Kind, u16) -> Option<u64> + Copy> Server<D, F> {
         }
     }
 
-    /// A server of the node `me`, in a cluster of `size` members, that is not open: its disk was not read
-    /// yet, its queue is empty, and its steps answer a fault until it is opened. It is not inlined: no caller
-    /// is to pay for the place of its parts on the stack.
-    #[inline(never)]
-    pub fn closed(
-        me: u8,
-        size: u8,
-        disk: D,
-        rows: ArrayVec<AcceptRow, 16>,
-        accept: F,
-    ) -> Server<D, F>
-        requires least { 1 ≤ me }
-        requires most { me ≤ 125 }
-        requires some { 1 ≤ size }
-        requires five { size ≤ 5 }
-        requires rows { rows.items ≡ accepted.rows }
-        requires memory { ReceiverFitsInMemory F.row 160 128 }
-        requires callable { F.IsAlwaysCallable accept }
-        requires answers { AnswersByRows (F.post accept) rows.items }
-        ensures disk { disk_of result ≡ disk }
-        ensures state { durable_state (durable_of result) ≡ first_state }
-        ensures copies { (key : ℕ) → durable_copies (durable_of result) key ≡ 0 }
-        ensures closed { IsSome (fault_of result) }
-        ensures count { IfSome (fault_of result) (λ fault. fault.count ≡ D.faults disk) }
-        ensures queued { queued result ≡ [] }
-        ensures accepts { accepts result ≡ accept }
-    {
-        let durable = Durable::closed(disk);
-        let fault = durable.fault();
-        Server {
-            member: Member::open(me, size, durable, 0, 0),
-            receiver: Receiver::new(me, rows, accept),
-            fault,
-        }
-    }
-
-    /// Opens again where it is, as `open` does, whatever was known of its disk before. After a refusal it is
-    /// closed: its queue is empty, and its steps answer a fault until it is opened. It is not inlined: no
-    /// caller is to pay for the place of the image that it reads.
-    #[inline(never)]
-    pub fn reopen(&mut self, me: u8, size: u8, now: u64, word: u32) -> Result<(), OpenFault>
-        requires least { 1 ≤ me }
-        requires most { me ≤ 125 }
-        requires some { 1 ≤ size }
-        requires five { size ≤ 5 }
-        requires memory { ReceiverFitsInMemory F.row 160 128 }
-        ensures stands { OnOk result (StandsFor self.new (opening me size (store_of
-            (durable_state (durable_of self.new))) now word)) }
-        ensures accepts { accepts self.new ≡ accepts self.old }
-
-        // The state is the one that was read, after the puts of the opening; any later stop leaves that state.
-        ensures opens { OnOk result (OpensTo (disk_of self.old) (durable_of self.new)) }
-        ensures durable { OnOk result (D.tells (disk_of self.old) ≡ true →
-            AlwaysStandsForState (D.contents (disk_of self.new)) (durable_state (durable_of self.new))) }
-        ensures version { OnOk result ((durable_state (durable_of self.new)).version ≡ 2) }
-
-        // It refuses a disk of which a key is damaged, and puts nothing there; and one that fails.
-        ensures damaged { IfErr result (λ why. (key : ℕ) → why ≡ Damaged key →
-            D.tells (disk_of self.old) ≡ true → IsDamagedAt (D.contents (disk_of self.old)).seen key) }
-        ensures damaged_made { IfErr result (λ why. (key : ℕ) → why ≡ Damaged key →
-            Makes D.does open_calls true (disk_of self.old) (disk_of self.new)) }
-        ensures damaged_images { IfErr result (λ why. (key : ℕ) → why ≡ Damaged key →
-            D.tells (disk_of self.old) ≡ true →
-            AddsNoImage (D.contents (disk_of self.old)) (D.contents (disk_of self.new))) }
-        ensures fault { IfErr result (λ why. (fault : Fault) → why ≡ DiskFault fault →
-            (fault.count ≡ D.faults (disk_of self.new))
-            × Rose (D.faults (disk_of self.old)) (D.faults (disk_of self.new))) }
-        ensures failed { IfErr result (λ why. (fault : Fault) → why ≡ DiskFault fault →
-            FailsToOpen D.Disk (disk_of self.old) (disk_of self.new)) }
-
-        ensures closed { IsErr result → IsSome (fault_of self.new) }
-        ensures lost { OnErr result (queued self.new ≡ []) }
-        ensures tells { D.tells (disk_of self.new) ≡ D.tells (disk_of self.old) }
-        ensures later { D.faults (disk_of self.old) ≤ D.faults (disk_of self.new) }
-    {
-        if let Err(why) = self.member.durable.reopen() {
-            self.fault = self.member.durable.fault();
-            self.member.outbox.clear();
-            return Err(why);
-        }
-        self.member.reopen(me, size, now, word);
-        self.receiver.reset(me);
-        self.fault = None;
-        Ok(())
-    }
-
     /// Runs the step with this number on an event. Where the disk fails, the step ends, what waited
     /// for the bus is lost, and the server answers the same fault from then on.
     pub fn step(&mut self, event: Event, step: u64) -> Result<Outcome, Fault>
@@ -223,11 +137,135 @@ impl<D: Disk, F: Fn(Kind, u16) -> Option<u64> + Copy> Server<D, F> {
         ensures later { D.faults (disk_of self.old) ≤ D.faults (disk_of self.new) }
         ensures told { D.tells (disk_of self.new) ≡ D.tells (disk_of self.old) }
     {
+        let accept = self.receiver.accept();
+        self.step_by(accept, event, step)
+    }
+}
+
+impl<D: Disk, F: Copy> Server<D, F> {
+    ghost use Rattle.alloc_server.specs.Server.{StandsFor as IsAt, StepsTo as MakesStep, accepts as closure_in, disk_of as disk_at, durable_of as durable_at, event_of as event_at, fault_of as fault_at, queued as waiting};
+
+    /// A server of the node `me`, in a cluster of `size` members, that is not open: its disk was not read
+    /// yet, its queue is empty, and its steps answer a fault until it is opened. It is not inlined: no caller
+    /// is to pay for the place of its parts on the stack.
+    #[inline(never)]
+    pub fn closed(
+        me: u8,
+        size: u8,
+        disk: D,
+        rows: ArrayVec<AcceptRow, 16>,
+        accept: F,
+    ) -> Server<D, F>
+        requires least { 1 ≤ me }
+        requires most { me ≤ 125 }
+        requires some { 1 ≤ size }
+        requires five { size ≤ 5 }
+        requires rows { rows.items ≡ accepted.rows }
+        requires memory { ReceiverFitsInMemory F.row 160 128 }
+        ensures disk { disk_at result ≡ disk }
+        ensures state { durable_state (durable_at result) ≡ first_state }
+        ensures copies { (key : ℕ) → durable_copies (durable_at result) key ≡ 0 }
+        ensures closed { IsSome (fault_at result) }
+        ensures count { IfSome (fault_at result) (λ fault. fault.count ≡ D.faults disk) }
+        ensures queued { waiting result ≡ [] }
+        ensures accepts { closure_in result ≡ accept }
+    {
+        let durable = Durable::closed(disk);
+        let fault = durable.fault();
+        Server {
+            member: Member::open(me, size, durable, 0, 0),
+            receiver: Receiver::new(me, rows, accept),
+            fault,
+        }
+    }
+
+    /// Opens again where it is, as `open` does, whatever was known of its disk before. After a refusal it is
+    /// closed: its queue is empty, and its steps answer a fault until it is opened. It is not inlined: no
+    /// caller is to pay for the place of the image that it reads.
+    #[inline(never)]
+    pub fn reopen(&mut self, me: u8, size: u8, now: u64, word: u32) -> Result<(), OpenFault>
+        requires least { 1 ≤ me }
+        requires most { me ≤ 125 }
+        requires some { 1 ≤ size }
+        requires five { size ≤ 5 }
+        requires memory { ReceiverFitsInMemory F.row 160 128 }
+        ensures stands { OnOk result (IsAt self.new (opening me size (store_of
+            (durable_state (durable_at self.new))) now word)) }
+        ensures accepts { closure_in self.new ≡ closure_in self.old }
+
+        // The state is the one that was read, after the puts of the opening; any later stop leaves that state.
+        ensures opens { OnOk result (OpensTo (disk_at self.old) (durable_at self.new)) }
+        ensures durable { OnOk result (D.tells (disk_at self.old) ≡ true →
+            AlwaysStandsForState (D.contents (disk_at self.new)) (durable_state (durable_at self.new))) }
+        ensures version { OnOk result ((durable_state (durable_at self.new)).version ≡ 2) }
+
+        // It refuses a disk of which a key is damaged, and puts nothing there; and one that fails.
+        ensures damaged { IfErr result (λ why. (key : ℕ) → why ≡ Damaged key →
+            D.tells (disk_at self.old) ≡ true → IsDamagedAt (D.contents (disk_at self.old)).seen key) }
+        ensures damaged_made { IfErr result (λ why. (key : ℕ) → why ≡ Damaged key →
+            Makes D.does open_calls true (disk_at self.old) (disk_at self.new)) }
+        ensures damaged_images { IfErr result (λ why. (key : ℕ) → why ≡ Damaged key →
+            D.tells (disk_at self.old) ≡ true →
+            AddsNoImage (D.contents (disk_at self.old)) (D.contents (disk_at self.new))) }
+        ensures fault { IfErr result (λ why. (fault : Fault) → why ≡ DiskFault fault →
+            (fault.count ≡ D.faults (disk_at self.new))
+            × Rose (D.faults (disk_at self.old)) (D.faults (disk_at self.new))) }
+        ensures failed { IfErr result (λ why. (fault : Fault) → why ≡ DiskFault fault →
+            FailsToOpen D.Disk (disk_at self.old) (disk_at self.new)) }
+
+        ensures closed { IsErr result → IsSome (fault_at self.new) }
+        ensures lost { OnErr result (waiting self.new ≡ []) }
+        ensures tells { D.tells (disk_at self.new) ≡ D.tells (disk_at self.old) }
+        ensures later { D.faults (disk_at self.old) ≤ D.faults (disk_at self.new) }
+    {
+        if let Err(why) = self.member.durable.reopen() {
+            self.fault = self.member.durable.fault();
+            self.member.outbox.clear();
+            return Err(why);
+        }
+        self.member.reopen(me, size, now, word);
+        self.receiver.reset(me);
+        self.fault = None;
+        Ok(())
+    }
+
+    /// What `step` does, with a closure that is handed in.
+    pub fn step_by<G: Fn(Kind, u16) -> Option<u64> + Copy>(
+        &mut self,
+        accept: G,
+        event: Event,
+        step: u64,
+    ) -> Result<Outcome, Fault>
+        requires memory { ReceiverFitsInMemory F.row 160 128 }
+        requires callable { G.IsAlwaysCallable accept }
+        requires answers { AnswersByRows (G.post accept) accepted.rows }
+
+        ensures steps { (t : AllocatorState) → IsAt self.old t →
+            MakesStep self.old self.new (steps.step t step (event_at event)) result }
+        ensures accepts { closure_in self.new ≡ closure_in self.old }
+
+        // A fault is one of the disk in this step. It is kept, and every later step gives it again.
+        ensures cause { IsNone (fault_at self.old) → IfErr result (λ fault.
+            (fault.count ≡ D.faults (disk_at self.new)) ×
+            Rose (D.faults (disk_at self.old)) (D.faults (disk_at self.new))) }
+        ensures failed { fault_at self.new ≡ result_err result }
+        ensures lost { IfErr result (λ _. waiting self.new ≡ []) }
+        ensures again { IfSome (fault_at self.old) (λ fault. (result ≡ Err fault) ×
+            (self.new ≡ self.old)) }
+        ensures later { D.faults (disk_at self.old) ≤ D.faults (disk_at self.new) }
+        ensures told { D.tells (disk_at self.new) ≡ D.tells (disk_at self.old) }
+    {
         if let Some(fault) = self.fault {
             return Err(fault);
         }
         let mut offered = Offered::new(step);
-        match take(&mut self.member, &mut self.receiver, event, &mut offered) {
+        match take(
+            &mut self.member,
+            &mut self.receiver,
+            accept,
+            event,
+            &mut offered,
+        ) {
             Ok(seen) => Ok(Outcome {
                 seen,
                 sent: offered.sent,
@@ -243,14 +281,14 @@ impl<D: Disk, F: Fn(Kind, u16) -> Option<u64> + Copy> Server<D, F> {
 
     /// Removes and returns the next frame for the bus.
     pub fn pop(&mut self) -> Option<Marked>
-        ensures next { option_map queued_of result ≡ next_out (queued self.old) }
-        ensures rest { (t : AllocatorState) → StandsFor self.old t → StandsFor self.new (after_pop t) }
-        ensures none { IsNone result ↔ (queued self.old ≡ []) }
+        ensures next { option_map queued_of result ≡ next_out (waiting self.old) }
+        ensures rest { (t : AllocatorState) → IsAt self.old t → IsAt self.new (after_pop t) }
+        ensures none { IsNone result ↔ (waiting self.old ≡ []) }
         ensures unchanged { IsNone result → self.new ≡ self.old }
-        ensures closed { IsSome (fault_of self.old) → IsNone result }
-        ensures durable { durable_of self.new ≡ durable_of self.old }
-        ensures fault { fault_of self.new ≡ fault_of self.old }
-        ensures accepts { accepts self.new ≡ accepts self.old }
+        ensures closed { IsSome (fault_at self.old) → IsNone result }
+        ensures durable { durable_at self.new ≡ durable_at self.old }
+        ensures fault { fault_at self.new ≡ fault_at self.old }
+        ensures accepts { closure_in self.new ≡ closure_in self.old }
     {
         self.member.outbox.pop()
     }
@@ -258,13 +296,13 @@ impl<D: Disk, F: Fn(Kind, u16) -> Option<u64> + Copy> Server<D, F> {
     /// The role, the numbers of the stored state and the length of the queue. After a fault they are those
     /// of the moment of the fault.
     pub fn view(&self) -> View
-        ensures stands { (t : AllocatorState) → StandsFor self.now t → result ≡ view_of t }
+        ensures stands { (t : AllocatorState) → IsAt self.now t → result ≡ view_of t }
         ensures role { result.role ≡ raft_role self.now.member.raft }
-        ensures term { result.term ≡ (durable_state (durable_of self.now)).term }
-        ensures vote { result.vote ≡ (durable_state (durable_of self.now)).vote }
-        ensures last { result.last ≡ length (durable_state (durable_of self.now)).log }
-        ensures commit { result.commit ≡ (durable_state (durable_of self.now)).commit }
-        ensures queued { result.queued ≡ length (queued self.now) }
+        ensures term { result.term ≡ (durable_state (durable_at self.now)).term }
+        ensures vote { result.vote ≡ (durable_state (durable_at self.now)).vote }
+        ensures last { result.last ≡ length (durable_state (durable_at self.now)).log }
+        ensures commit { result.commit ≡ (durable_state (durable_at self.now)).commit }
+        ensures queued { result.queued ≡ length (waiting self.now) }
     {
         let durable = &self.member.durable;
         View {
@@ -279,23 +317,23 @@ impl<D: Disk, F: Fn(Kind, u16) -> Option<u64> + Copy> Server<D, F> {
 
     /// The entry at a place of 0 to last. At place 0 stands the blank of term 0.
     pub fn entry(&self, place: u8) -> Entry
-        requires { place ≤ length (durable_state (durable_of self.now)).log }
-        ensures entry { result ≡ entry_at (durable_state (durable_of self.now)).log place }
-        ensures stands { (t : AllocatorState) → StandsFor self.now t → result ≡ entry_of t place }
+        requires { place ≤ length (durable_state (durable_at self.now)).log }
+        ensures entry { result ≡ entry_at (durable_state (durable_at self.now)).log place }
+        ensures stands { (t : AllocatorState) → IsAt self.now t → result ≡ entry_of t place }
     {
         self.member.durable.entry(place)
     }
 
     /// Whether a step has failed, or the server is closed.
     pub fn failed(&self) -> bool
-        ensures { IsTrue result ↔ IsSome (fault_of self.now) }
+        ensures { IsTrue result ↔ IsSome (fault_at self.now) }
     {
         self.fault.is_some()
     }
 
     /// Lets the server go and returns its disk, unchanged.
     pub fn stop(self) -> D
-        ensures { result ≡ disk_of self }
+        ensures { result ≡ disk_at self }
     {
         self.member.into_disk()
     }

@@ -21,15 +21,16 @@ use kv_store::Fault;
 use transfer_rx::Receiver;
 
 /// Its clock goes to the member; a frame goes to the receiver, and what it led to to the member.
-pub fn take<D: Disk, F: Fn(Kind, u16) -> Option<u64> + Copy>(
+pub fn take<D: Disk, F: Copy, G: Fn(Kind, u16) -> Option<u64> + Copy>(
     member: &mut Member<D>,
     receiver: &mut Receiver<F, 160, 128>,
+    accept: G,
     event: Event,
     offered: &mut Offered,
 ) -> Result<Seen, Fault>
     requires memory { ReceiverFitsInMemory F.row 160 128 }
-    requires callable { F.IsAlwaysCallable (accept_of receiver.old) }
-    requires answers { AnswersByRows (F.post (accept_of receiver.old)) accepted.rows }
+    requires callable { G.IsAlwaysCallable accept }
+    requires answers { AnswersByRows (G.post accept) accepted.rows }
     requires rows { (setting_of receiver.old).rows ≡ accepted.rows }
     requires ready { IsReady member.old }
     requires fresh { IsFresh offered.old }
@@ -47,7 +48,7 @@ pub fn take<D: Disk, F: Fn(Kind, u16) -> Option<u64> + Copy>(
         Event::Tick { now, word } => member.take_tick(now, word, offered),
         Event::Rx { frame, mark, now } => {
             member.begin(now);
-            let heard = receiver.hear(&frame, mark, member.latest);
+            let heard = receiver.hear_by(accept, &frame, mark, member.latest);
             member.take_heard(heard, receiver.delivered(), offered)
         }
     }

@@ -37,41 +37,6 @@ pub struct Receiver<F, const S: usize, const N: usize> {
 impl<F: Fn(Kind, u16) -> Option<u64> + Copy, const S: usize, const N: usize> Receiver<F, S, N> {
     ghost use Rattle.transfer_rx.specs.Views.{HasChains, HasSessions, accept_of, chain_of, chains_in, delivered_by, setting_of};
 
-    /// A receiver without sessions. `me` is its own node ID, 1 to 127: it takes services for this node
-    /// and no frame from it. With 0 it takes services for every node, and frames from every one.
-    /// `accept` gives the signature of the first row with a kind and number, where there is one.
-    pub fn new(me: u8, rows: ArrayVec<AcceptRow, 16>, accept: F) -> Receiver<F, S, N>
-        requires callable { F.IsAlwaysCallable accept }
-        requires answers { AnswersByRows (F.post accept) rows.items }
-        requires most { S ≤ 1024 }
-        requires blocks { N ≤ 1024 }
-        ensures sessions { HasSessions result [] }
-        ensures blank { (delivered_by result).payload.items ≡ [] }
-        ensures setting { setting_of result ≡
-            record { rows = rows.items; me = me; sessions = S; blocks = N } }
-        ensures accept { accept_of result ≡ accept }
-    {
-        Receiver {
-            me,
-            rows,
-            accept,
-            sessions: Sessions::new(),
-            delivered: Transfer::blank(),
-        }
-    }
-
-    /// Forgets all sessions, and takes frames for the node `me` from now on, as a new receiver does. It
-    /// stays where it is: the time goes by the sessions that there were, and not by its size.
-    pub fn reset(&mut self, me: u8)
-        ensures sessions { HasSessions self.new [] }
-        ensures delivered { delivered_by self.new ≡ delivered_by self.old }
-        ensures setting { setting_of self.new ≡ record (setting_of self.old) { me = me } }
-        ensures accept { accept_of self.new ≡ accept_of self.old }
-    {
-        self.sessions.clear();
-        self.me = me;
-    }
-
     /// What `hear` tells of a frame, with a copy of the transfer that it delivers.
     pub fn take(&mut self, frame: &Frame, mark: Mark, now: u64) -> Took
         requires callable { F.IsAlwaysCallable (accept_of self.old) }
@@ -111,27 +76,8 @@ impl<F: Fn(Kind, u16) -> Option<u64> + Copy, const S: usize, const N: usize> Rec
         ensures setting { setting_of self.new ≡ setting_of self.old }
         ensures accept { accept_of self.new ≡ accept_of self.old }
     {
-        let wanted = match self.wanted(frame) {
-            Ok(wanted) => wanted,
-            Err(why) => return Heard::Dropped(why),
-        };
-        if is_anonymous(wanted.ident.kind) {
-            return self
-                .sessions
-                .hear_alone(wanted.ident, frame, mark, &mut self.delivered);
-        }
-        self.sessions.forget(now);
-        let free = self.sessions.free_blocks();
-        let turn = self.sessions.turn(&wanted, frame, now, free);
-        self.sessions
-            .settle(turn, &wanted, frame, mark, now, &mut self.delivered)
-    }
-
-    /// The transfer that was delivered last. Before the first one it is a blank, without bytes.
-    pub fn delivered(&self) -> &Transfer
-        ensures { result.now ≡ delivered_by self.now }
-    {
-        &self.delivered
+        let accept = self.accept;
+        self.hear_by(accept, frame, mark, now)
     }
 
     /// The transfer that `take` would deliver, if any. Nothing changes.
@@ -180,7 +126,7 @@ impl<F: Fn(Kind, u16) -> Option<u64> + Copy, const S: usize, const N: usize> Rec
         if !frame.tail().end {
             return None;
         }
-        let wanted = match self.wanted(frame) {
+        let wanted = match self.wanted(self.accept, frame) {
             Ok(wanted) => wanted,
             Err(_) => return None,
         };
@@ -220,11 +166,103 @@ impl<F: Fn(Kind, u16) -> Option<u64> + Copy, const S: usize, const N: usize> Rec
             source,
         })
     }
+}
+
+impl<F: Copy, const S: usize, const N: usize> Receiver<F, S, N> {
+    ghost use Rattle.transfer_rx.specs.Views.{HasSessions, accept_of, delivered_by, setting_of};
+
+    /// A receiver without sessions. `me` is its own node ID, 1 to 127: it takes services for this node
+    /// and no frame from it. With 0 it takes services for every node, and frames from every one.
+    /// `accept` gives the signature of the first row with a kind and number, where there is one.
+    pub fn new(me: u8, rows: ArrayVec<AcceptRow, 16>, accept: F) -> Receiver<F, S, N>
+        requires most { S ≤ 1024 }
+        requires blocks { N ≤ 1024 }
+        ensures sessions { HasSessions result [] }
+        ensures blank { (delivered_by result).payload.items ≡ [] }
+        ensures setting { setting_of result ≡
+            record { rows = rows.items; me = me; sessions = S; blocks = N } }
+        ensures accept { accept_of result ≡ accept }
+    {
+        Receiver {
+            me,
+            rows,
+            accept,
+            sessions: Sessions::new(),
+            delivered: Transfer::blank(),
+        }
+    }
+
+    /// Forgets all sessions, and takes frames for the node `me` from now on, as a new receiver does. It
+    /// stays where it is: the time goes by the sessions that there were, and not by its size.
+    pub fn reset(&mut self, me: u8)
+        ensures sessions { HasSessions self.new [] }
+        ensures delivered { delivered_by self.new ≡ delivered_by self.old }
+        ensures setting { setting_of self.new ≡ record (setting_of self.old) { me = me } }
+        ensures accept { accept_of self.new ≡ accept_of self.old }
+    {
+        self.sessions.clear();
+        self.me = me;
+    }
+
+    /// What `hear` does, with a closure that is handed in.
+    pub fn hear_by<G: Fn(Kind, u16) -> Option<u64> + Copy>(
+        &mut self,
+        accept: G,
+        frame: &Frame,
+        mark: Mark,
+        now: u64,
+    ) -> Heard
+        requires callable { G.IsAlwaysCallable accept }
+        requires answers { AnswersByRows (G.post accept) (setting_of self.old).rows }
+        ensures answer { (sessions : List Session) → HasSessions self.old sessions →
+            told_with (delivered_by self.new) result ≡
+            answer (setting_of self.old) sessions (arrival_of frame.now mark now) }
+        ensures ranges { IfDelivers result (IsInRange (delivered_by self.new)) }
+        ensures kept { UnlessDelivers result (delivered_by self.new ≡ delivered_by self.old) }
+        ensures sessions { (sessions : List Session) → HasSessions self.old sessions →
+            HasSessions self.new (next (setting_of self.old) sessions
+            (arrival_of frame.now mark now)) }
+        ensures setting { setting_of self.new ≡ setting_of self.old }
+        ensures accept { accept_of self.new ≡ accept_of self.old }
+    {
+        let wanted = match self.wanted(accept, frame) {
+            Ok(wanted) => wanted,
+            Err(why) => return Heard::Dropped(why),
+        };
+        if is_anonymous(wanted.ident.kind) {
+            return self
+                .sessions
+                .hear_alone(wanted.ident, frame, mark, &mut self.delivered);
+        }
+        self.sessions.forget(now);
+        let free = self.sessions.free_blocks();
+        let turn = self.sessions.turn(&wanted, frame, now, free);
+        self.sessions
+            .settle(turn, &wanted, frame, mark, now, &mut self.delivered)
+    }
+
+    /// The transfer that was delivered last. Before the first one it is a blank, without bytes.
+    pub fn delivered(&self) -> &Transfer
+        ensures { result.now ≡ delivered_by self.now }
+    {
+        &self.delivered
+    }
+
+    /// The closure that was given to it.
+    pub fn accept(&self) -> F
+        ensures { result ≡ accept_of self.now }
+    {
+        self.accept
+    }
 
     /// The fields and the signature of a frame that is wanted, or why it is not.
-    fn wanted(&self, frame: &Frame) -> Result<Wanted, Why>
-        requires callable { F.IsAlwaysCallable self.now.accept }
-        requires answers { AnswersByRows (F.post self.now.accept) self.now.rows.items }
+    fn wanted<G: Fn(Kind, u16) -> Option<u64> + Copy>(
+        &self,
+        accept: G,
+        frame: &Frame,
+    ) -> Result<Wanted, Why>
+        requires callable { G.IsAlwaysCallable accept }
+        requires answers { AnswersByRows (G.post accept) self.now.rows.items }
         ensures wanted { result ≡ wanted self.now.rows.items self.now.me frame.now.id }
         ensures ident { IfOk result (λ w. IsIdentifier w.ident) }
         ensures signature { IfOk result (λ w. signature_in self.now.rows.items (key_of w.ident) ≡
@@ -236,7 +274,7 @@ impl<F: Fn(Kind, u16) -> Option<u64> + Copy, const S: usize, const N: usize> Rec
         if !self.is_for_me(&ident) {
             return Err(Why::NotWanted);
         }
-        match (self.accept)(ident.kind, ident.number) {
+        match accept(ident.kind, ident.number) {
             Some(signature) => Ok(Wanted { ident, signature }),
             None => Err(Why::NotWanted),
         }

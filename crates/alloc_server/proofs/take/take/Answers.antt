@@ -15,8 +15,8 @@ use Rattle.alloc_handlers.specs.Stands.{SeesTo}
 use Rattle.alloc_server.specs.Server.{ComesTo, event_of}
 use Rattle.alloc_server.proofs.take.take.Goals as goal
 
-pub hear-heard-requires : goal.hear-heard-requires
-hear-heard-requires g c = (
+pub hear_by-heard-requires : goal.hear_by-heard-requires
+hear_by-heard-requires g c = (
   c.requires.memory,
   (
     c.requires.callable,
@@ -47,15 +47,15 @@ returns-in-Rx-clause-comes g c t h sess set =
     let found : Answer = answer (setting_for t.me) t.sessions arrival in
     let g2 : StepState = (with_answer s found g1).step_state in
     let h1 = c.begin.ensures.step_state t h c.args.offered.now c.requires.fresh s sessions in
-    let said = ap (λ (transfer : Transfer). told_with transfer c.hear-heard.result) c.delivered.ensures ∙ c.hear-heard.ensures.answer t.sessions sess
+    let said = ap (λ (transfer : Transfer). told_with transfer c.hear_by-heard.result) c.delivered.ensures ∙ c.hear_by-heard.ensures.answer t.sessions sess
     ∙ ap (λ (setting : Setting). answer setting t.sessions (arrival_of c.in-Rx.frame c.in-Rx.mark c.begin.new.self.latest)) set
     ∙ ap (λ (now : ℕ). answer (setting_for t.me) t.sessions (arrival_of c.in-Rx.frame c.in-Rx.mark now)) h1.stands.now in
-    let kept = subst (λ (now : ℕ). receiver.HasSessions c.hear-heard.new.self (next (setting_for t.me) t.sessions (arrival_of c.in-Rx.frame c.in-Rx.mark now))) h1.stands.now
-    (subst (λ (setting : Setting). receiver.HasSessions c.hear-heard.new.self (next setting t.sessions (arrival_of c.in-Rx.frame c.in-Rx.mark c.begin.new.self.latest))) set
-    (c.hear-heard.ensures.sessions t.sessions sess)) in
-    subst (λ (e : Event). ComesTo c.args.member.now.durable t c.take_heard.new.self c.hear-heard.new.self c.take_heard.new.offered (step t s (event_of e)) c.take_heard.result) (sym c.in-Rx.is) (record {
+    let kept = subst (λ (now : ℕ). receiver.HasSessions c.hear_by-heard.new.self (next (setting_for t.me) t.sessions (arrival_of c.in-Rx.frame c.in-Rx.mark now))) h1.stands.now
+    (subst (λ (setting : Setting). receiver.HasSessions c.hear_by-heard.new.self (next setting t.sessions (arrival_of c.in-Rx.frame c.in-Rx.mark c.begin.new.self.latest))) set
+    (c.hear_by-heard.ensures.sessions t.sessions sess)) in
+    subst (λ (e : Event). ComesTo c.args.member.now.durable t c.take_heard.new.self c.hear_by-heard.new.self c.take_heard.new.offered (step t s (event_of e)) c.take_heard.result) (sym c.in-Rx.is) (record {
       sees = subst (λ (a : Answer). SeesTo c.args.member.now.durable c.take_heard.new.self c.take_heard.new.offered (takes_answer s a g1) c.take_heard.result) said
           (c.take_heard.ensures.sees c.args.member.now.durable g1 h1);
-      sessions = subst (λ (list : List Session). receiver.HasSessions c.hear-heard.new.self list) (sym ((c.phases_add_puts.ensures.ends s g2).sessions ∙ (c.phases_add_puts.ensures.answers s found g1).sessions)) kept;
+      sessions = subst (λ (list : List Session). receiver.HasSessions c.hear_by-heard.new.self list) (sym ((c.phases_add_puts.ensures.ends s g2).sessions ∙ (c.phases_add_puts.ensures.answers s found g1).sessions)) kept;
       me = (c.phases_add_puts.ensures.ends s g2).me ∙ (c.phases_add_puts.ensures.answers s found g1).me;
     })

@@ -9,7 +9,7 @@ use Rattle.alloc_spec.specs.Accepted.{setting_for}
 use Rattle.alloc_spec.specs.Delivered.{StepResult}
 use Rattle.alloc_spec.specs.Step as steps
 use Rattle.alloc_server.specs.Server.{ComesTo, event_of}
-use Rattle.alloc_server.proofs.server.Server.step.Goals as goal
+use Rattle.alloc_server.proofs.server.Server.step_by.Goals as goal
 
 pub returns-in-Some-clause-steps : goal.returns-in-Some-clause-steps
 returns-in-Some-clause-steps g c t h = let sound = h.sound in cc

@@ -11,7 +11,7 @@ use Rattle.transfer_rx.proofs.Arrangement.{forget}
 use Rattle.transfer_rx.proofs.Crcs.{of_key}
 use Rattle.transfer_rx.proofs.Places.{left_twice}
 use Rattle.transfer_rx.proofs.Steps.{anonymous, of_session, unwanted}
-use Rattle.transfer_rx.proofs.receiver.Receiver.hear.Goals as goal
+use Rattle.transfer_rx.proofs.receiver.Receiver.hear_by.Goals as goal
 
 pub returns-in-Err-clause-answer : goal.returns-in-Err-clause-answer
 returns-in-Err-clause-answer g c = λ sessions s.
