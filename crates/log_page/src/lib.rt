@@ -1,0 +1,125 @@
+//! The modes of the program that read logs and payloads, over bytes in memory: exports for a web page, or for C.
+//!
+//! Each takes its input as a slice, writes its report to a slice, and puts its exit code and the length of the
+//! report into an [`Answer`]. The report is exactly the defined one. Where the slice is too short for it, the slice
+//! stays as it was, and the length tells how much room is needed. No memory is taken.
+#![tactic(auto)]
+
+ghost use Rattle.std.specs.Prelude.{◌≡◌, ◌≤◌, ◌<◌, [], Some, length, take};
+ghost use Rattle.cmd_base.specs.Codes.{status_code};
+ghost use Rattle.cmd_bus_logs.specs.Converted.{Converts};
+ghost use Rattle.cmd_bus_logs.specs.Watched.{Watches};
+ghost use Rattle.cmd_decode.specs.Ends.{Decodes};
+ghost use Rattle.log_page.specs.Came.{Came};
+
+use cmd_base::Status;
+use cmd_bus_logs::{convert, watch};
+use cmd_decode::decode;
+use outside::MemorySource;
+use page_sink::ArraySink;
+
+/// How a run ended: the exit code of the program, and how many bytes the report has.
+#[repr(C)]
+#[derive(Drop)]
+pub struct Answer {
+    pub status: u32,
+    pub len: usize,
+}
+
+/// `watch <format> <lines> <id>..` over a log.
+#[unsafe(no_mangle)]
+pub extern "C" fn log_page_watch(
+    candump: bool,
+    lines: u64,
+    ids: &[u8],
+    log: &[u8],
+    report: &mut [u8],
+    answer: &mut Answer,
+)
+    ensures watches { lines ≤ 1000000 → length ids.now ≤ 5 → Came (λ left read wrote whole status.
+        Watches candump lines ids.now (Some log.now) left 0 read 0 wrote
+        (Some []) (Some whole) status) report.new answer.new.status answer.new.len }
+{
+    if lines > 1000000 || ids.len() > 5 {
+        *answer = refused();
+        return;
+    }
+    let mut source = MemorySource::new(log, None);
+    let mut sink = ArraySink::new();
+    let status = watch(candump, lines, ids, &mut source, &mut sink);
+    *answer = told(status, sink.written(), report);
+}
+
+/// `convert <format> <format> <lines>` over a log.
+#[unsafe(no_mangle)]
+pub extern "C" fn log_page_convert(
+    from_candump: bool,
+    to_candump: bool,
+    lines: u64,
+    log: &[u8],
+    report: &mut [u8],
+    answer: &mut Answer,
+)
+    ensures converts { lines ≤ 1000000 → Came (λ left read wrote whole status.
+        Converts from_candump to_candump lines (Some log.now) left 0 read 0 wrote
+        (Some []) (Some whole) status) report.new answer.new.status answer.new.len }
+{
+    if lines > 1000000 {
+        *answer = refused();
+        return;
+    }
+    let mut source = MemorySource::new(log, None);
+    let mut sink = ArraySink::new();
+    let status = convert(from_candump, to_candump, lines, &mut source, &mut sink);
+    *answer = told(status, sink.written(), report);
+}
+
+/// `decode <name> <part> <hex>` over a text; the payload comes as its bytes.
+#[unsafe(no_mangle)]
+pub extern "C" fn log_page_decode(
+    name: &[u8],
+    part: u8,
+    payload: &[u8],
+    text: &[u8],
+    report: &mut [u8],
+    answer: &mut Answer,
+)
+    ensures decodes { length payload.now ≤ 376 → Came (λ left read wrote whole status.
+        Decodes name.now part payload.now (Some text.now) left 0 read 0 wrote
+        (Some []) (Some whole) status) report.new answer.new.status answer.new.len }
+{
+    if payload.len() > 376 {
+        *answer = refused();
+        return;
+    }
+    let mut source = MemorySource::new(text, None);
+    let mut sink = ArraySink::new();
+    let status = decode(name, part, payload, &mut source, &mut sink);
+    *answer = told(status, sink.written(), report);
+}
+
+/// Puts a report into the room for it, where it fits.
+fn told(status: Status, whole: &[u8], room: &mut [u8]) -> Answer
+    ensures code { result.status ≡ status_code status }
+    ensures len { result.len ≡ length whole.now }
+    ensures shown { length whole.now ≤ length room.new → take result.len room.new ≡ whole.now }
+{
+    let len = whole.len();
+    if len <= room.len() {
+        room[..len].copy_from_slice(whole);
+    }
+    Answer {
+        status: u32::from(status.code()),
+        len,
+    }
+}
+
+/// The answer to words that the program does not read.
+fn refused() -> Answer
+    ensures { result.status ≡ 2 }
+{
+    Answer {
+        status: u32::from(Status::Usage.code()),
+        len: 0,
+    }
+}
