@@ -9,14 +9,14 @@ import calls
 
 ROOT = pathlib.Path(__file__).resolve().parent.parent
 LONGEST_ROW = 500
-GENERATED = {"docs/HEADLINE.md"}
+GENERATED = {"docs/HEADLINE.md", "docs/CLAIMS.md"}
 WORD = re.compile(r"[A-Za-z_][A-Za-z0-9_']*")
 SPAN = re.compile(r"`([^`\n]+)`")
 LINK = re.compile(r"\[[^\]\n]*\]\(([^)\s]+)\)")
 
 # Words in back-ticks that stand in no source here: of the toolchain, of the standard, and those that stand for any.
 ELSEWHERE = set("""
-    rattle kit logic uavcan protocol dynamic_node_id GetNodeInfo NAME caldrouz_VERSION_amd64 Name uintB voidB _9 ttyACM0
+    rattle kit logic uavcan protocol dynamic_node_id GetNodeInfo NAME caldrouz_VERSION_amd64 caldrouz_VERSION_ARCH Name uintB voidB _9 ttyACM0
 """.split())
 # Commands of the system and of the toolchain: what follows one is not looked at.
 COMMANDS = set("rt apt-cache apt-get canbusload candump ip journalctl sha256sum ss systemctl".split())
