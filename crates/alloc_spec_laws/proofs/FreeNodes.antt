@@ -11,9 +11,10 @@ use Rattle.can_frame.specs.declared.entry.Entry.{Entry}
 use Rattle.can_frame.specs.declared.identifier.Kind.{Kind}
 use Rattle.can_frame.specs.declared.identifier.Kind.TheVariants.{Anonymous, Message as Broadcast, Request as RequestKind, Response}
 use Rattle.can_frame.specs.declared.step.What.{What}
-use Rattle.can_frame.specs.declared.step.What.TheVariants.{Alloc}
+use Rattle.can_frame.specs.declared.step.What.TheVariants.{Alloc, AppQ, VoteQ}
 use Rattle.can_frame.specs.Log.{HasNodeId, blank}
 use Rattle.cluster_discovery.specs.Members.{is_on_list}
+use Rattle.dsdl_codec.specs.declared.allocation.Allocation.{Allocation}
 use Rattle.dsdl_codec.specs.declared.append_request.AppendRequest.{AppendRequest}
 use Rattle.dsdl_codec.specs.declared.vote_request.VoteRequest.{VoteRequest}
 use Rattle.dsdl_codec.specs.Allocation.{allocation_of}
@@ -58,7 +59,7 @@ use Rattle.alloc_spec.specs.StepState.{StepState, initial_state, with_moves, wit
 use Rattle.alloc_spec.specs.Transfers.{has_room, id_of}
 use Rattle.alloc_spec_laws.specs.FreeNodes.{AllAreIdentified, GivesFreeNode, IsIdentified, WasHeardAt}
 use Rattle.alloc_spec_laws.proofs.CalledPeers.{IsQuiet, commit_quiet, expire_quiet, quiet_proposals}
-use Rattle.alloc_spec_laws.proofs.Choices.{and_right, either, eq_true, not_true, tell}
+use Rattle.alloc_spec_laws.proofs.Choices.{and_right, either, eq_false, eq_true, not_true, tell}
 use Rattle.alloc_spec_laws.proofs.Lists.{in_append, none_passes}
 use Rattle.alloc_spec_laws.proofs.PhaseMoves.{expire_log}
 use Rattle.alloc_spec_laws.proofs.Proposals.{chosen_new, chosen_offline}
@@ -95,14 +96,8 @@ in_devices : (from count node : ℕ) → from ≤ node → node < from + count �
 in_devices from zero node low high = absurd (omega (arith, low, high))
 in_devices from (suc count) node low high = elim (tell (nat_eq node from)) [
   | inl same ↦ inl (eq_true node from same)
-  | inr apart ↦ inr (in_devices (from + 1) count node (omega (arith, low, differs apart)) (omega (arith, high)))
+  | inr apart ↦ inr (in_devices (from + 1) count node (omega (arith, low, eq_false node from apart)) (omega (arith, high)))
 ]
-  where
-    differs : nat_eq node from ≡ false → node ≢ from
-    differs apart is = absurd (cc (apart, ap (λ (n : ℕ). nat_eq n from) is, same_number from))
-
-    same_number : (n : ℕ) → nat_eq n n ≡ true
-    same_number n = elim (tell (nat_eq n n)) [ inl e ↦ e | inr e ↦ absurd (omega (arith)) ]
 
 -- where no online node is unknown, each that was heard of late is identified
 all_identified : (t : AllocatorState) → some_unknown t.watch (known t) t.now ≡ false → AllAreIdentified t t.now
@@ -110,7 +105,7 @@ unfolding some_unknown
 all_identified t none node moment least most heard recent = by_uid (unique_id (history node t.watch)) refl
   where
     online : is_online (history node t.watch) t.now ≡ true
-    online = rw heard (le-leb (t.now - moment) 3000 recent)
+    online = let last : last_status (history node t.watch) ≡ Some moment = heard in rw last (le-leb (t.now - moment) 3000 recent)
 
     unknown : (is_online (history node t.watch) t.now && is_none (unique_id (history node t.watch)) && not (slice_index_or (known t) node true)) ≡ false
     unknown = none_passes (λ n. is_unknown t.watch (known t) n t.now) devices none node (in_devices 1 125 node least (omega (arith, most)))
@@ -193,7 +188,8 @@ module _ (number : ℕ) where
 
   commits : (g : StepState) → RecordsNone g (commit_phase number g)
   commits g = moved (given_at g.allocator.now) (duty.commit_phase (members_of g.allocator) g.allocator.me g.allocator.raft_server) g
-      (quiet_proposals _ (commit_quiet (members_of g.allocator) g.allocator.me g.allocator.raft_server))
+      (quiet_proposals (duty.commit_phase (members_of g.allocator) g.allocator.me g.allocator.raft_server)
+      (commit_quiet (members_of g.allocator) g.allocator.me g.allocator.raft_server))
 
   tells : (g : StepState) → RecordsNone g (tell_phase number g)
   tells g =
@@ -217,10 +213,10 @@ module _ (number : ℕ) where
   owed_call None g = none g
   owed_call (Some (CallForVote node)) g =
       let request : Request = vote_request g.allocator.me number g.allocator.raft_server.store node in
-      by_call _ node (CallForVote node) request (vote_call_bytes request) g (λ entry e. cc (e))
+      by_call VoteQ node (CallForVote node) request (vote_call_bytes request) g (λ entry e. cc (e))
   owed_call (Some (CallToAppend node previous with_entry)) g =
       let request : Request = append_request g.allocator.me number g.allocator.raft_server.store node previous with_entry in
-      by_call _ node (CallToAppend node previous with_entry) request (append_call_bytes request) g (λ entry e. cc (e))
+      by_call AppQ node (CallToAppend node previous with_entry) request (append_call_bytes request) g (λ entry e. cc (e))
   owed_call (Some move) g = none g
 
   calls : (peers : List ℕ) (g : StepState) → RecordsNone g (calls_all number peers g)
@@ -331,10 +327,13 @@ module _ (number : ℕ) where
 
   by_kinds : (d : Delivery) (kind : Kind) (g : StepState) → RecordsChosen g (by_kind number d kind g).step_state
   by_kinds d Anonymous g = by_message (allocation_of d.payload) where
-    by_message : (value : Option _) → RecordsChosen g (reads (hears_allocation number) value g).step_state
+    by_message : (value : Option Allocation) → RecordsChosen g (reads (hears_allocation number) value g).step_state
     by_message None = only (none g)
     by_message (Some message) = record {
-      before = (hears (answer g.allocator.accepted message g.allocator.now (may_follow g.allocator)) (with_request message g)).before;
+      before = λ entry i. elim ((hears (answer g.allocator.accepted message g.allocator.now (may_follow g.allocator)) (with_request message g)).before entry i) [
+        | inl j ↦ inl j
+        | inr h ↦ inr (record { preference = h.preference; is = h.is; none = h.none })
+      ];
     }
   by_kinds d Broadcast g = only (messages d g)
   by_kinds d RequestKind g = only (requests d g)
@@ -352,7 +351,8 @@ module _ (number : ℕ) where
   -- ---- the step
 
   begins : (now : ℕ) (t : AllocatorState) (entry : Entry) → In (ProposeEntry entry) (begin_phase number now t).moves → ⊥
-  begins now t entry i = quiet_proposals _ (expire_quiet _) entry i
+  begins now t entry i =
+      let nodes : List ℕ = overdue t.times (max t.now now) all_nodes in quiet_proposals (handled.moves_of_expire nodes) (expire_quiet nodes) entry i
 
 -- the state after the calls of 1,000 ms are given up has the log, the lists and the moment of the step
 begun : (t : AllocatorState) (number now : ℕ) (entry : Entry) → GivesFreeNode (begin_phase number now t).allocator (max t.now now) entry → GivesFreeNode t (max t.now now) entry

@@ -42,7 +42,8 @@ pub record DoesItsDuty (members : List ℕ) (t : AllocatorState) (number : ℕ) 
   -- what it records when it takes a frame has a node ID that is none of a member, stands in no entry of its log, and of
   -- which no NodeStatus was heard within 3,000 ms; and no node is online then that is neither known nor identified
   pub give : (arrival : Arrival) (entry : Entry) → event ≡ Rx arrival
-      → In (ProposeEntry entry) (step t number event).step_state.moves → GivesFreeNode t (max t.now arrival.moment) entry
+      → In (ProposeEntry entry) (step t number event).step_state.moves
+      → GivesFreeNode t (max t.now arrival.moment) entry
 
 -- a stopped member takes no step, nor does one that failed
 abbrev pub DoDutyIn : List ℕ → ℕ → Event → MemberStatus → Type 0

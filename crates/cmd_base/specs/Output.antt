@@ -35,4 +35,5 @@ WaitsBehind sink_before waited sink_now waits piece =
 abbrev pub StillWaits : Option (List ℕ) → List ℕ → Option (List ℕ) → List ℕ → List ℕ → Type 0
 StillWaits sink_before waited sink_now waits piece =
     (waits ≡ waited)
-    ⊎ ((sink_mid : Option (List ℕ)) × WaitsBehind sink_before waited sink_mid waits piece × WritesFront sink_mid sink_now waits)
+    ⊎ ((sink_mid : Option (List ℕ))
+      × WaitsBehind sink_before waited sink_mid waits piece × WritesFront sink_mid sink_now waits)
