@@ -131,6 +131,10 @@ read_counted_to_last most read last (count ∷ [], bits) =
     if nat_le count most then read_both (λ rest. Some (count ∷ [], rest)) (read_to_last count read last) bits else None
 read_counted_to_last most read last (_, bits) = None
 
+-- their count, and they
+abbrev pub read_array_to_last : ℕ → (read last : List Bool → Reading) → List Bool → Reading
+read_array_to_last most read last bits = read_number (count_width most) bits >>= read_counted_to_last most read last
+
 -- what stands at the end
 abbrev pub read_last : Layout → List Bool → Reading
 read_last (pair front nothing) bits = read_last front bits
@@ -138,7 +142,7 @@ read_last (pair front back) bits = read_both (reads front) (read_last back) bits
 read_last (exactly count element) bits = read_to_last count (reads element) (read_last element) bits
 read_last (up_to most element) bits =
     if nat_le 8 (least_bits element) then told_tail (read_tail most (reads element) bits)
-    else read_number (count_width most) bits >>= read_counted_to_last most (reads element) (read_last element)
+    else read_array_to_last most (reads element) (read_last element) bits
 read_last layout bits = reads layout bits
 
 -- the fields of the part

@@ -1,7 +1,7 @@
 ghost use Rattle.std.specs.Prelude.{◌≡◌, ◌≤◌, ◌∷◌, [], Some, None, IfSome, MatchOption};
 ghost use Rattle.dsdl_text.specs.Layout.{exactly, joined, up_to};
 ghost use Rattle.dsdl_text.specs.Numbers as numbers_in;
-ghost use Rattle.dsdl_text.specs.Numbers.{◌>>=◌, Gives, GivesTail, reads};
+ghost use Rattle.dsdl_text.specs.Numbers.{Gives, GivesTail, reads};
 ghost use Rattle.dsdl_text.specs.Sections.{field_layout, kind_layout, part_layout, types_of};
 ghost use Rattle.dsdl_text.specs.Sizes.{sizes_in};
 
@@ -47,7 +47,7 @@ fn read_last<'a>(
         (numbers_in.read_last (field_layout (types_of earlier.now) field) bits.now) }
 {
     match field {
-        Field::Void(width) => skip(usize::from(width), bits, numbers),
+        Field::Void(_) => read_field(earlier, sizes, field, bits, numbers),
         Field::Data { kind, shape } => match shape {
             Shape::One => read_last_kind(earlier, sizes, kind, bits, numbers),
             Shape::Exactly(count) => read_to_last(earlier, sizes, kind, count, bits, numbers),
@@ -127,8 +127,7 @@ fn read_counted_to_last<'a>(
     requires { sizes.now ≡ sizes_in (types_of earlier.now) }
     ensures { let element = kind_layout (types_of earlier.now) kind in
         Gives result numbers.old.items numbers.new.items
-        (numbers_in.read_number (numbers_in.count_width most) bits.now
-        >>= numbers_in.read_counted_to_last most (reads element) (numbers_in.read_last element)) }
+        (numbers_in.read_array_to_last most (reads element) (numbers_in.read_last element) bits.now) }
 {
     let (count, rest) = split_number(count_width(most), bits)?;
     if count > u64::from(most) {
