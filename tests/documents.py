@@ -16,15 +16,15 @@ LINK = re.compile(r"\[[^\]\n]*\]\(([^)\s]+)\)")
 
 # Words in back-ticks that stand in no source here: of the toolchain, of the standard, and those that stand for any.
 ELSEWHERE = set("""
-    rattle kit logic uavcan protocol dynamic_node_id GetNodeInfo NAME caldrouz_VERSION_amd64 Name uintB voidB _9
+    rattle kit logic uavcan protocol dynamic_node_id GetNodeInfo NAME caldrouz_VERSION_amd64 Name uintB voidB _9 ttyACM0
 """.split())
 # Commands of the system and of the toolchain: what follows one is not looked at.
-COMMANDS = set("rt apt-get candump ip journalctl sha256sum ss systemctl".split())
+COMMANDS = set("rt apt-cache apt-get canbusload candump ip journalctl sha256sum ss systemctl".split())
 IMAGES = (".png", ".jpg", ".svg")
 
 
 def documents():
-    found = [ROOT / "README.md", ROOT / "CONTRIBUTING.md"]
+    found = [ROOT / f"{name}.md" for name in ("README", "CONTRIBUTING", "SECURITY", "CHANGELOG")]
     for folder in ("docs", "examples", "bench", "tools"):
         found += sorted((ROOT / folder).rglob("*.md"))
     return [path for path in found if path.is_file()]
