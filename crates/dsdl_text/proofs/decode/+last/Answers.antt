@@ -1,5 +1,6 @@
 use Rattle.std.proofs.Common.{◌≡◌, ◌<◌, ◌≤◌, ◌-◌, Some, List, [], ◌∷◌, Bool, take, length, length-take, arith, sym, ◌∙◌, ap, refl}
 use Rattle.std.proofs.lemmas.Grind.{common_steps}
+use Rattle.dsdl_text.specs.Layout.{joined}
 use Rattle.dsdl_text.specs.Numbers.{◌>>=◌, Reading, behind, count_width, read_counted_to_last, read_last, read_number, read_part, read_times, read_to_last, reads}
 use Rattle.dsdl_text.specs.Sections.{field_layout, kind_layout, part_layout, types_of}
 use Rattle.dsdl_text.proofs.Readings.{after_none, after_some, counted_to_last, gives_after, gives_is, one_more, part_joined, part_more, to_last_more, to_last_none}
@@ -76,9 +77,9 @@ read_last_kind-returns-else-place-earlier t c =
     (read_part (part_layout behind_types c.deref.result.now) c.args.bits.now)
     (ap (λ layout. read_last layout c.args.bits.now)
     (ap (kind_layout (types_of c.args.earlier.now)) c.in-Section.is
-    ∙ layout_at c.args.earlier.now c.in-Section.place c.index-earlier-place.result c.if-place-earlier.false)
-    ∙ ap (λ read. read c.args.bits.now) (part_joined (part_layout behind_types c.index-earlier-place.result.first.items))
-    ∙ ap (λ fields. read_part (part_layout behind_types fields) c.args.bits.now) (sym c.deref.ensures.0))
+    ∙ layout_at c.args.earlier.now c.in-Section.place c.index-earlier-place.result c.if-place-earlier.false
+    ∙ ap (λ fields. joined (part_layout behind_types fields)) (sym c.deref.ensures.0))
+    ∙ ap (λ read. read c.args.bits.now) (part_joined (part_layout behind_types c.deref.result.now)))
     c.read_part.ensures
 
 -- the sizes of the types in front
