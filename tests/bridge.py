@@ -20,8 +20,9 @@ from collections import deque
 from contextlib import redirect_stderr
 from typing import Any, Callable
 
-ROOT = os.path.dirname(os.path.dirname(os.path.abspath(__file__)))
-BRIDGE = os.path.join(ROOT, "tools", "can_bridge")
+import support
+
+BRIDGE = str(support.ROOT / "tools" / "can_bridge")
 MEMBERS = [1, 2]
 NODE_STATUS_OF_7 = 0x10015507
 NODE_STATUS_OF_1 = 0x10015501
@@ -429,17 +430,10 @@ class Words(unittest.TestCase):
         self.assertEqual(done.returncode, 0, done.stdout)
 
 
-def main() -> None:
-    names = [f"__main__.{name}" for name in sys.argv[1:]]
-    loader = unittest.defaultTestLoader
-    tests = loader.loadTestsFromNames(names) if names else loader.loadTestsFromModule(sys.modules["__main__"])
-    result = unittest.TextTestRunner(stream=sys.stderr, verbosity=0).run(tests)
-    failed, skipped = len(result.failures) + len(result.errors), len(result.skipped)
-    for test, why in result.skipped:
-        print(f"tests/bridge: passed over {test}: {why}", file=sys.stderr)
-    print(f"{result.testsRun - failed - skipped} passed, {failed} failed" + (f", {skipped} skipped" if skipped else ""))
-    sys.exit(1 if failed else 0)
+def main() -> int:
+    words = support.parser("tests/bridge", "The tests of the bridge.")
+    return support.run("tests/bridge", ["__main__"], words.parse_args().patterns)
 
 
 if __name__ == "__main__":
-    main()
+    sys.exit(main())
