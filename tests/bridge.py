@@ -173,6 +173,13 @@ class FromMembers(Case):
         self.assertEqual(self.raw.sent, [])
         self.assertEqual(self.counts("stranger"), [4])
 
+    def test_a_flood_of_one_side_leaves_the_other_its_turn(self) -> None:
+        for _ in range(100):
+            self.says(3, datagram(NODE_STATUS_OF_1))
+        self.raw.gives(can_frame(NODE_STATUS_OF_7))
+        self.turn()
+        self.assertEqual(self.counts("stranger", "to_members"), [64, 1])
+
     def test_what_is_no_frame_is_junk(self) -> None:
         whole = datagram(NODE_STATUS_OF_1)
         for data in (b"", whole[:5], whole[:-1], whole + b"x", b"\xff" + whole[1:]):
