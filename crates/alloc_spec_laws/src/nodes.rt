@@ -1,9 +1,10 @@
-//! Which node IDs a step gives away.
+//! Which node IDs a step gives away, and who is answered.
 
 ghost use Rattle.std.specs.Prelude.{ℕ, max};
+ghost use Rattle.alloc_spec_laws.specs.Answering.{AnswersRequests};
 ghost use Rattle.alloc_spec_laws.specs.FreeNodes.{GivesFreeNode};
 ghost use Rattle.alloc_spec.specs.AllocatorState.{AllocatorState};
-ghost use Rattle.alloc_spec.specs.Step.{step};
+ghost use Rattle.alloc_spec.specs.Step.{Event, step};
 ghost use Rattle.alloc_spec.specs.Step.Event.{Rx};
 ghost use Rattle.can_frame.specs.declared.entry.Entry.{Entry};
 ghost use Rattle.raft_model.specs.Lists.{In};
@@ -23,3 +24,9 @@ pub fn a_node_that_is_heard_keeps_its_id()
 {
     chosen_is_the_choice();
 }
+
+/// Who is asked answers: a step that is delivered a request of GetNodeInfo, or one of RequestVote or
+/// AppendEntries from a node on the list of members, offers a response to its source, under its transfer ID.
+pub fn who_is_asked_answers()
+    ensures { (t : AllocatorState) (number : ℕ) (event : Event) → AnswersRequests t number event }
+{}

@@ -29,4 +29,5 @@ returns c =
       win = duty.win t (w.rows + 1) event w.ids run.bag steps wins;
       give = λ arrival entry e i. c.a_node_that_is_heard_keeps_its_id.ensures t (w.rows + 1) arrival entry
           (subst (λ (x : Event). In (ProposeEntry entry) (step t (w.rows + 1) x).step_state.moves) e i);
+      answer = c.who_is_asked_answers.ensures t (w.rows + 1) event;
     }
