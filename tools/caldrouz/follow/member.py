@@ -24,6 +24,7 @@ DUE_AGAIN = {
     "infoq": (QUERY_INTERVAL,),
     "disc": (DISCOVERY_INTERVAL,),
 }
+CALLER = {"appq": report.LEADER, "infoq": report.LEADER, "voteq": report.CANDIDATE}  # who makes such a call again
 NEVER = 10**9  # milliseconds: later than anything of a log
 
 
@@ -94,8 +95,9 @@ class Member:
         """When calls may be due again, as (moment, identifier), where the clock has not passed it."""
         found = []
         for identifier, made in self.made.items():
-            if identifier & wire.SERVICE:
-                for step in DUE_AGAIN.get(wire.read_heading(identifier).kind, ()):
+            kind = wire.read_heading(identifier).kind
+            if CALLER.get(kind) == self.role:
+                for step in DUE_AGAIN[kind]:
                     if made + step > self.clock:
                         found.append((made + step, identifier))
         return found

@@ -2,7 +2,7 @@
 from __future__ import annotations
 
 import subprocess
-from typing import IO, List, Optional, Tuple
+from typing import IO, List, Optional, Sequence, Tuple
 
 from .. import report
 
@@ -79,12 +79,13 @@ class Process:
 
 
 class Partner:
-    """The rows that were taken, with their lines. They can be taken back: the program then begins anew."""
+    """The rows that were taken, with their lines. They can be taken back: the program then begins anew. Those that it
+    begins with were taken by another one."""
 
-    def __init__(self, words: List[str]) -> None:
+    def __init__(self, words: List[str], rows: Sequence[str] = (), lines: Sequence[str] = ()) -> None:
         self.words = words
-        self.rows: List[str] = []
-        self.lines: List[str] = []
+        self.rows: List[str] = list(rows)
+        self.lines: List[str] = list(lines)
         self.process: Optional[Process] = None
         self.beginnings = 0
 

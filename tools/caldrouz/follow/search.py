@@ -7,12 +7,13 @@ more is received before, or an earlier choice of this member is taken back. Only
 from __future__ import annotations
 
 from dataclasses import dataclass
-from typing import Dict, List, NamedTuple, Optional, Sequence, Tuple, Union
+from typing import Callable, Dict, List, NamedTuple, Optional, Sequence, Tuple, Union
 
 from .. import wire
 from . import plans
 from .cluster import Cluster, Conflict, Foreign, Kept, Unlogged
 from .partner import Partner, Refused
+from .prelude import NOTHING, Before
 from .recording import Logged, Recording
 
 AFTER_THE_LAST = 500  # milliseconds after its last frame at which a member that opens again has stopped, it is taken
@@ -23,6 +24,7 @@ BEGINNINGS = 40  # how often the run is begun anew for one line of the log
 
 STOP, OPEN = 0, 1
 Key = Tuple[str, int]  # a place of the search: "frame" or "happening", and which
+Progress = Callable[[int, int], None]  # is told which frame is looked for, of how many
 AnyPlan = Union[plans.Plan, plans.Opening, plans.Stop]
 
 
@@ -56,13 +58,15 @@ class Failure:
 
 @dataclass
 class Found:
-    """What a search found: the rows with their lines, the end of the report, and what is not explained, if anything."""
+    """What a search found: the rows with their lines, the end of the report, and what is not explained, if anything. So
+    many rows come before the log."""
 
     rows: List[str]
     lines: List[str]
     rest: List[str]
     unlogged: List[Unlogged]
     heard: bool
+    before: int
     failure: Optional[Failure] = None
 
 
@@ -73,8 +77,9 @@ class NotExplained(Exception):
 class Search:
     """One search, with one delay of receipts, and one answer to what was heard before the log began."""
 
-    def __init__(self, recording: Recording, partner: Partner, early: int, heard: bool) -> None:
-        self.recording, self.partner = recording, partner
+    def __init__(self, recording: Recording, partner: Partner, early: int, heard: bool, progress: Progress) -> None:
+        self.recording, self.partner, self.progress = recording, partner, progress
+        self.before = len(partner.rows)
         self.cluster = Cluster(recording, partner, early, heard)
         self.happened, self.happenings = 0, _happenings(recording)
         self.choices: List[Choice] = []
@@ -100,7 +105,7 @@ class Search:
 
     def _note(self, failure: Optional[Failure], rest: Sequence[str] = ()) -> Found:
         rows, lines, unlogged = list(self.partner.rows), list(self.partner.lines), list(self.cluster.unlogged)
-        self.found = Found(rows, lines, list(rest), unlogged, self.cluster.heard, failure)
+        self.found = Found(rows, lines, list(rest), unlogged, self.cluster.heard, self.before, failure)
         return self.found
 
     def _fail(self, frame: Logged, reason: str) -> NotExplained:
@@ -110,6 +115,7 @@ class Search:
     def _go_on(self) -> bool:
         """Passes the next frame or happening, or goes back. False at the end of the log."""
         cluster, frames = self.cluster, self.recording.frames
+        self.progress(cluster.index, len(frames))
         frame = frames[cluster.index] if cluster.index < len(frames) else None
         happening = self.happenings[self.happened] if self.happened < len(self.happenings) else None
         if happening and (frame is None or happening.stamp <= frame.stamp):
@@ -248,12 +254,16 @@ def _happenings(recording: Recording) -> List[Happening]:
     return sorted(found)
 
 
-def search(recording: Recording, words: List[str]) -> Found:
+def search(
+    recording: Recording, words: List[str], before: Before = NOTHING, progress: Progress = lambda *_: None
+) -> Found:
     """The run that goes furthest, of those by different delays; the first that explains the whole log."""
+    recording.begin -= before.moment
     best: Optional[Found] = None
     for heard in (False, True) if recording.begins_late else (False,):
         for early in DELAYS:
-            found = Search(recording, Partner(words), early, heard).follow()
+            partner = Partner(words, before.rows, before.lines)
+            found = Search(recording, partner, early, heard, progress).follow()
             if found.failure is None:
                 return found
             if best is None or best.failure is None or found.failure.frame.index > best.failure.frame.index:

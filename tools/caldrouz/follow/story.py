@@ -47,9 +47,12 @@ def tell(log: Log, recording: Recording, found: Found) -> Iterator[str]:
 
 def tell_members(recording: Recording, found: Found) -> Iterator[str]:
     """When each member opened, stopped and led, by the run's own report."""
-    run = runs.read([row + "\n" for row in found.rows], [line + "\n" for line in found.lines + found.rest])
+    window = runs.Window(found.before + 1, max(found.before + 1, len(found.rows)))
+    run = runs.read([row + "\n" for row in found.rows], [line + "\n" for line in found.lines + found.rest], window)
+    if found.before:
+        yield f"The stores of the members come to what the files have by the rows up to {found.before:,}."
     for node, lane in run.member_lanes.items():
-        parts = list(spans_in_words(run, lane))
+        parts = list(spans_in_words(run, lane, found.before))
         heard_late = [spell for spell in recording.spells[node] if spell.late_start]
         if heard_late and not found.heard:
             parts.append(f"comes to the bus late, {(heard_late[0].first.stamp - recording.begin) / 1000:.1f} s")
@@ -57,7 +60,7 @@ def tell_members(recording: Recording, found: Found) -> Iterator[str]:
     told = [
         f"node ID {mark.text} by {mark.lane.name} (row {mark.row})"
         for mark in run.marks
-        if mark.what == "told" and mark.lane.kind == "member"
+        if mark.what == "told" and mark.lane.kind == "member" and mark.row > found.before
     ]
     if told:
         yield f"Told: {', '.join(told)}."
@@ -65,10 +68,10 @@ def tell_members(recording: Recording, found: Found) -> Iterator[str]:
         yield f"Place {place}: {wire.entry_words(node, unique_id)}, committed by {', '.join(map(str, members))}."
 
 
-def spans_in_words(run: runs.Run, lane: runs.Lane) -> Iterator[str]:
+def spans_in_words(run: runs.Run, lane: runs.Lane, rows_before: int) -> Iterator[str]:
     before = "never"
     for row, what, term in lane.spans.kept:
-        moment = f"{run.moments[row - 1] / 1000:.1f} s"
+        moment = f"{(run.moments[row - rows_before - 1] - run.moments[0]) / 1000:.1f} s"
         if what == report.LEADER:
             yield f"leads in term {term} from {moment} on"
         elif what == report.FOLLOWER and before == report.LEADER:
