@@ -20,8 +20,9 @@ from collections import deque
 from contextlib import redirect_stderr
 from typing import Any, Callable
 
-ROOT = os.path.dirname(os.path.dirname(os.path.abspath(__file__)))
-BRIDGE = os.path.join(ROOT, "tools", "can_bridge")
+import support
+
+BRIDGE = str(support.ROOT / "tools" / "can_bridge")
 MEMBERS = [1, 2]
 NODE_STATUS_OF_7 = 0x10015507
 NODE_STATUS_OF_1 = 0x10015501
@@ -171,6 +172,13 @@ class FromMembers(Case):
         self.turn()
         self.assertEqual(self.raw.sent, [])
         self.assertEqual(self.counts("stranger"), [4])
+
+    def test_a_flood_of_one_side_leaves_the_other_its_turn(self) -> None:
+        for _ in range(100):
+            self.says(3, datagram(NODE_STATUS_OF_1))
+        self.raw.gives(can_frame(NODE_STATUS_OF_7))
+        self.turn()
+        self.assertEqual(self.counts("stranger", "to_members"), [64, 1])
 
     def test_what_is_no_frame_is_junk(self) -> None:
         whole = datagram(NODE_STATUS_OF_1)
@@ -429,17 +437,10 @@ class Words(unittest.TestCase):
         self.assertEqual(done.returncode, 0, done.stdout)
 
 
-def main() -> None:
-    names = [f"__main__.{name}" for name in sys.argv[1:]]
-    loader = unittest.defaultTestLoader
-    tests = loader.loadTestsFromNames(names) if names else loader.loadTestsFromModule(sys.modules["__main__"])
-    result = unittest.TextTestRunner(stream=sys.stderr, verbosity=0).run(tests)
-    failed, skipped = len(result.failures) + len(result.errors), len(result.skipped)
-    for test, why in result.skipped:
-        print(f"tests/bridge: passed over {test}: {why}", file=sys.stderr)
-    print(f"{result.testsRun - failed - skipped} passed, {failed} failed" + (f", {skipped} skipped" if skipped else ""))
-    sys.exit(1 if failed else 0)
+def main() -> int:
+    words = support.parser("tests/bridge", "The tests of the bridge.")
+    return support.run("tests/bridge", ["__main__"], words.parse_args().patterns)
 
 
 if __name__ == "__main__":
-    main()
+    sys.exit(main())

@@ -16,7 +16,7 @@ from support import ROOT, Ended
 from caldrouz import table
 
 LONGEST_ROW = 500
-GENERATED = {"docs/HEADLINE.md"}
+GENERATED = {"docs/HEADLINE.md", "docs/CLAIMS.md"}
 WORD = re.compile(r"[A-Za-z_][A-Za-z0-9_']*")
 SPAN = re.compile(r"`([^`\n]+)`")
 LINK = re.compile(r"\[[^\]\n]*\]\(([^)\s]+)\)")
@@ -25,7 +25,8 @@ ITEM = re.compile(r"\s*([-*]|\d+\.) ")
 # Words in back-ticks that stand in no source here: of the toolchain, of the standard, and those that stand for any.
 ELSEWHERE = set(
     """
-    rattle kit logic uavcan protocol dynamic_node_id GetNodeInfo NAME caldrouz_VERSION_amd64 Name uintB voidB _9 ttyACM0
+    rattle kit logic uavcan protocol dynamic_node_id GetNodeInfo NAME caldrouz_VERSION_amd64 caldrouz_VERSION_ARCH
+    Name uintB voidB _9 ttyACM0
 """.split()
 )
 # Commands of the system and of the toolchain: what follows one is not looked at.
@@ -64,7 +65,7 @@ def files(folder: str) -> Iterator[pathlib.Path]:
 def source_words() -> Set[str]:
     """The words of all sources, and the names of their folders and files. What is said in comments does not count."""
     words = set(ELSEWHERE)
-    for folder in ("crates", "examples", "bench", "tools", "packaging", "tests", "docs", ".ci"):
+    for folder in ("crates", "include", "examples", "bench", "tools", "packaging", "tests", "docs", ".ci"):
         for path in files(folder):
             words.update(word for part in path.relative_to(ROOT).parts for word in WORD.findall(part))
             if folder not in ("tests", "docs") and path.suffix not in (".md", *IMAGES):

@@ -10,7 +10,7 @@ import tempfile
 import threading
 import time
 import unittest
-from typing import List
+from typing import Dict, List
 
 from support import EXAMPLES, ROOT, Ended, run_tool
 
@@ -31,8 +31,12 @@ class StoreCase(unittest.TestCase):
 
     def keep(self, node: int, key: int = 0, value: bytes = b"", whole: bool = True) -> None:
         """A store of the example, in which a key has this value."""
+        self.keep_all(node, {key: value} if whole else {})
+
+    def keep_all(self, node: int, values: Dict[int, bytes]) -> None:
+        """A store of the example, in which these keys have these values."""
         image = bytearray((WHOLE / "alloc-1.store").read_bytes())
-        if whole:
+        for key, value in values.items():
             at = table.KEY_SIZE * key
             at += 1 + table.COPY_SIZE * (image[at] % 2)
             image[at : at + 1 + len(value)] = bytes([len(value)]) + value
@@ -73,6 +77,20 @@ class Stores(StoreCase):
                 first, second, *_ = told.written.splitlines()
                 self.assertTrue(first.endswith(f"alloc-1.store: damaged at key {key}"), first)
                 self.assertIn("alloc-2.store: term 2, ", second)
+
+    def test_a_log_of_blanks_is_warned_of(self) -> None:
+        """A leader that is elected while an entry is not committed adds a blank; 127 entries are a full log."""
+        blank = bytes([2, 0, 0, 0]) + bytes(17) + bytes([4])
+        many = "blanks: calls with entries do not get through; mend the bus before the log is full"
+        stuck = "full, and not committed: no later leader can commit anything, and no new device is served any more"
+        for last, commit, warning in [(15, 0, ""), (16, 0, f"16 {many}"), (127, 126, stuck), (127, 127, f"127 {many}")]:
+            with self.subTest(last=last, commit=commit):
+                values = {table.KEY_LAST: bytes([last]), table.KEY_COMMIT: bytes([commit])}
+                self.keep_all(1, {**values, **{table.KEY_FIRST_ENTRY + place: blank for place in range(last)}})
+                told = status_of(self.folder)
+                self.assertEqual((told.status, told.errors), (0, ""))
+                self.assertEqual([line for line in told.written.splitlines()[1:] if "blank, " not in line],
+                                 [f"  {warning}"] if warning else [])
 
     def test_a_damaged_store_is_named_as_audit_names_it(self) -> None:
         folder = EXAMPLES / "audit/a_damaged_store"

@@ -45,6 +45,16 @@ class Store(NamedTuple):
     def committed(self) -> List[Entry]:
         return self.entries[: self.commit]
 
+    @property
+    def blanks(self) -> int:
+        """How many entries are blanks: each was added at an election while an entry was not committed."""
+        return sum(entry.node == 0 for entry in self.entries)
+
+    @property
+    def is_stuck(self) -> bool:
+        """Whether the log is full and not committed to its end, so that no later leader can commit anything."""
+        return len(self.entries) == table.PLACES and self.commit < table.PLACES
+
 
 def read(path: str) -> Store:
     """The store in a file. While its member writes, the file is read again until it is twice the same, for some times."""

@@ -36,4 +36,4 @@ abbrev pub StillWaits : Option (List ℕ) → List ℕ → Option (List ℕ) →
 StillWaits sink_before waited sink_now waits piece =
     (waits ≡ waited)
     ⊎ ((sink_mid : Option (List ℕ))
-      × WaitsBehind sink_before waited sink_mid waits piece × WritesFront sink_mid sink_now waits)
+    × WaitsBehind sink_before waited sink_mid waits piece × WritesFront sink_mid sink_now waits)
