@@ -12,14 +12,13 @@ from typing import Dict, Iterable, Iterator, List, NamedTuple, Sequence, Set, Tu
 
 from . import table, wire
 from .scene import Lead, Listing, Scene
-from .stores import Store
+from .stores import MANY_BLANKS, Store
 
 RECENT = 10.0  # seconds before the end in which what is told as going on has to be heard
 SEARCHES = 2.5  # seconds after which a member that still searched would have told so again
 COMES_OFTEN = 60.0  # seconds in which a node that came twice comes and goes
 ELECTED_BY = 5.0  # seconds within which members that have each other elect somebody
 UNANSWERED_CALLS = 3  # so many calls in a row without an answer are told
-MANY_BLANKS = 16
 FEW_PLACES = 8
 
 
@@ -179,11 +178,10 @@ def _room(scene: Scene, stores: Sequence[NamedStore]) -> Iterator[Cause]:
             f"No node ID is left: {len(given)} stand in the log, and the others are those of members",
             "export the pairs, drop those of devices that are gone, and begin anew with the same IDs",
         )
-    blanks = sum(entry.node == 0 for entry in longest.entries)
-    if blanks >= MANY_BLANKS:
+    if longest.blanks >= MANY_BLANKS:
         yield Cause(
             "many-blanks",
-            f"{blanks} of {len(longest.entries)} entries are blanks, each of an election while an entry was not "
+            f"{longest.blanks} of {len(longest.entries)} entries are blanks, each of an election while an entry was not "
             "committed: the bus loses much, or members come and go",
             "look at the counts of the bridges and at the interfaces; a log has 127 places and gets none back",
             stops=False,
