@@ -1,0 +1,110 @@
+-- The words of lists, cut at their commas.
+use Rattle.std.proofs.Common.{◌≡◌, ◌≤◌, ◌<◌, ◌+◌, ℕ, suc, List, [], ◌∷◌, ◌++◌, length, take, drop, map, decimal, refl, sym, ap, ◌∙◌, arith, inl, inr}
+use Rattle.std.specs.Prelude.{◌==◌}
+use Rattle.std.specs.List.{position_or_len}
+use Rattle.std.proofs.lemmas.Fmt.{decimal_nonempty}
+use Rattle.std.proofs.lemmas.List.{length-map}
+use Rattle.std.proofs.lemmas.List.Splits.{join_with_byte-slice_split, length-slice_split, slice_split_first, slice_split_none}
+use Rattle.std.proofs.lemmas.List.Sums.{fails_before_first}
+use Rattle.std.specs.List.{join_with_byte}
+use Rattle.raft_model.specs.Lists.{In}
+use Rattle.allocator_app.specs.Told.{commas, list_parts}
+
+-- a word with a comma: the part before it, and the parts behind it
+pub commas-at_comma : (word : List ℕ) (end : ℕ) → end ≡ position_or_len (λ byte. byte == 44) word → end < length word
+    → commas word ≡ take end word ∷ commas (drop (end + 1) word)
+commas-at_comma word end is within = rw is (slice_split_first (λ byte. byte == 44) word 0 (rw (← is) within))
+
+-- a word without a comma is one part
+pub commas-no_comma : (word : List ℕ) → position_or_len (λ byte. byte == 44) word ≡ length word → commas word ≡ word ∷ []
+commas-no_comma word is = slice_split_none (λ byte. byte == 44) word
+    (λ k d within. fails_before_first (λ byte. byte == 44) word k d (rw is within))
+
+-- a word has one part at least
+pub some_part : (word : List ℕ) → 1 ≤ length (commas word)
+some_part word = omega (arith, length-slice_split (λ byte. byte == 44) word)
+
+-- the word of a single empty part is empty
+pub empty_part : (word : List ℕ) → commas word ≡ [] ∷ [] → word ≡ []
+empty_part word is = sym (join_with_byte-slice_split 44 word) ∙ ap (join_with_byte 44) is
+
+-- a number has a digit
+pub some_digit : (n : ℕ) → n ≤ 255 → decimal n ≡ [] → ⊥
+some_digit n most e = let some = decimal_nonempty n (omega (arith, most)) in let count = ap length e in omega (arith, some, count)
+
+-- ---- a number of members, and a list of them
+
+-- a number has one part
+one_part : (size : ℕ) → 1 ≤ size → size ≤ 5 → length (commas (decimal size)) ≡ 1
+one_part 0 least most = absurd (omega (arith, least))
+one_part 1 least most = refl
+one_part 2 least most = refl
+one_part 3 least most = refl
+one_part 4 least most = refl
+one_part 5 least most = refl
+one_part (suc (suc (suc (suc (suc (suc size)))))) least most = absurd (omega (arith, most))
+
+-- and a list has none alone
+no_one_part : (ids : List ℕ) → length (list_parts ids) ≡ 1 → ⊥
+no_one_part [] e = omega (arith, e)
+no_one_part (id ∷ []) e = omega (arith, e)
+no_one_part (id ∷ other ∷ ids) e = omega (arith, e)
+
+pub size_or_list : (size : ℕ) (ids word : List ℕ) → 1 ≤ size → size ≤ 5 → word ≡ decimal size → commas word ≡ list_parts ids → ⊥
+size_or_list size ids word least most is parts =
+    no_one_part ids (sym (ap length parts) ∙ ap (λ w. length (commas w)) is ∙ one_part size least most)
+
+-- a list of two at least has its numbers for its parts
+pub parts_of_two : (ids : List ℕ) → 2 ≤ length ids → map decimal ids ≡ list_parts ids
+parts_of_two [] long = absurd (omega (arith, long))
+parts_of_two (id ∷ []) long = absurd (omega (arith, long))
+parts_of_two (id ∷ other ∷ ids) long = refl
+
+-- what is read of a word that is no list
+module _ (word : List ℕ) where
+  abbrev Bytes : List ℕ → Type 0
+  Bytes ids = (n : ℕ) → In n ids → n ≤ 255
+
+  -- a comma at the end, behind no number
+  pub no_single : (one : List ℕ) → commas word ≡ one ∷ [] ∷ [] → ((n : ℕ) → n ≤ 255 → one ≡ decimal n → ⊥)
+      → (ids : List ℕ) → Bytes ids → commas word ≡ list_parts ids → ⊥
+  no_single one parts none [] bytes e = cc
+  no_single one parts none (id ∷ []) bytes e = none id (bytes id (inl refl)) cc
+  no_single one parts none (id ∷ other ∷ ids) bytes e = some_digit other (bytes other (inr (inl refl))) cc
+
+  -- no comma at the end, and parts that are no numbers
+  pub no_more : ((one : List ℕ) → commas word ≡ one ∷ [] ∷ [] → ⊥) → ((ids : List ℕ) → length ids ≤ 5 → Bytes ids → commas word ≡ map decimal ids → ⊥)
+      → (ids : List ℕ) → length ids ≤ 5 → Bytes ids → commas word ≡ list_parts ids → ⊥
+  no_more single none [] few bytes e = let some = some_part word in let count = ap length e in omega (arith, some, count)
+  no_more single none (id ∷ []) few bytes e = single (decimal id) e
+  no_more single none (id ∷ other ∷ ids) few bytes e = none (id ∷ other ∷ ids) few bytes e
+
+  -- one part, or none
+  pub too_few : (own : List ℕ) → length own < 2 → commas word ≡ map decimal own → ((one : List ℕ) → commas word ≡ one ∷ [] ∷ [] → ⊥)
+      → (ids : List ℕ) → commas word ≡ list_parts ids → ⊥
+  too_few own few parts single [] e = let some = some_part word in let count = ap length e in omega (arith, some, count)
+  too_few own few parts single (id ∷ []) e = single (decimal id) e
+  too_few own few parts single (id ∷ other ∷ ids) e =
+      let count = ap length (sym parts ∙ e) in let same = length-map decimal own in omega (arith, few, count, same)
+
+-- ---- the parts of a word, one by one
+
+-- a part that is no number
+pub no_number : (own ids : List ℕ) (part : List ℕ) (parts : List (List ℕ)) → ((n : ℕ) → n ≤ 255 → part ≡ decimal n → ⊥)
+    → ((n : ℕ) → In n ids → n ≤ 255) → map decimal own ++ part ∷ parts ≡ map decimal ids → ⊥
+no_number [] [] part parts none bytes e = cc
+no_number [] (id ∷ ids) part parts none bytes e = none id (bytes id (inl refl)) cc
+no_number (n ∷ own) [] part parts none bytes e = cc
+no_number (n ∷ own) (id ∷ ids) part parts none bytes e = no_number own ids part parts none (λ n here. bytes n (inr here)) cc
+
+-- and one too many
+pub no_room : (own ids : List ℕ) (part : List ℕ) (parts : List (List ℕ)) → 5 ≤ length own → length ids ≤ 5 → map decimal own ++ part ∷ parts ≡ map decimal ids → ⊥
+no_room [] ids part parts full few e = omega (arith, full)
+no_room (n ∷ own) [] part parts full few e = cc
+no_room (n ∷ own) (id ∷ ids) part parts full few e = fits own ids part parts (omega (arith, full, few)) cc
+  where
+    fits : (own ids : List ℕ) (part : List ℕ) (parts : List (List ℕ)) → length ids ≤ length own → map decimal own ++ part ∷ parts ≡ map decimal ids → ⊥
+    fits [] [] part parts few e = cc
+    fits [] (id ∷ ids) part parts few e = omega (arith, few)
+    fits (n ∷ own) [] part parts few e = cc
+    fits (n ∷ own) (id ∷ ids) part parts few e = fits own ids part parts (omega (arith, few)) cc
