@@ -1,14 +1,18 @@
 -- The words of lists, cut at their commas.
-use Rattle.std.proofs.Common.{◌≡◌, ◌≤◌, ◌<◌, ◌+◌, ℕ, suc, List, [], ◌∷◌, ◌++◌, length, take, drop, map, decimal, refl, sym, ap, ◌∙◌, arith, inl, inr}
-use Rattle.std.specs.Prelude.{◌==◌}
+use Rattle.std.proofs.Common.{◌≡◌, ◌≤◌, ◌<◌, ◌+◌, ℕ, zero, suc, List, [], ◌∷◌, ◌++◌, length, take, drop, map, decimal, refl, sym, ap, subst, ◌∙◌, arith, inl, inr}
+use Rattle.std.specs.Prelude.{◌==◌, slice_index}
 use Rattle.std.specs.List.{position_or_len}
-use Rattle.std.proofs.lemmas.Fmt.{decimal_nonempty}
+use Rattle.std.proofs.lemmas.Fmt.{decimal_digit, decimal_injective, decimal_nonempty}
 use Rattle.std.proofs.lemmas.List.{length-map}
 use Rattle.std.proofs.lemmas.List.Splits.{join_with_byte-slice_split, length-slice_split, slice_split_first, slice_split_none}
 use Rattle.std.proofs.lemmas.List.Sums.{fails_before_first}
 use Rattle.std.specs.List.{join_with_byte}
 use Rattle.raft_model.specs.Lists.{In}
-use Rattle.allocator_app.specs.Told.{commas, list_parts}
+use Rattle.arrayvec.specs.ArrayVec.{ArrayVec}
+use Rattle.cluster_spec.specs.Cluster.{AreMembers}
+use Rattle.allocator_app.specs.declared.told.Told.{Told}
+use Rattle.allocator_app.specs.declared.told.Told.TheVariants.{Members, Size}
+use Rattle.allocator_app.specs.Told.{IsCluster, Spells, commas, list_parts}
 
 -- a word with a comma: the part before it, and the parts behind it
 pub commas-at_comma : (word : List ℕ) (end : ℕ) → end ≡ position_or_len (λ byte. byte == 44) word → end < length word
@@ -28,20 +32,43 @@ some_part word = omega (arith, length-slice_split (λ byte. byte == 44) word)
 pub empty_part : (word : List ℕ) → commas word ≡ [] ∷ [] → word ≡ []
 empty_part word is = sym (join_with_byte-slice_split 44 word) ∙ ap (join_with_byte 44) is
 
+-- a comma with more behind it does not end a word
+pub no_last : (word one rest other : List ℕ) → commas word ≡ one ∷ commas rest → 1 ≤ length rest → commas word ≡ other ∷ [] ∷ [] → ⊥
+no_last word one rest other parts more e =
+    let same : commas rest ≡ [] ∷ [] = cc in let count = ap length (empty_part rest same) in omega (arith, more, count)
+
 -- a number has a digit
 pub some_digit : (n : ℕ) → n ≤ 255 → decimal n ≡ [] → ⊥
 some_digit n most e = let some = decimal_nonempty n (omega (arith, most)) in let count = ap length e in omega (arith, some, count)
+
+-- numbers are spelled in one way
+pub same_numbers : (xs ys : List ℕ) → ((n : ℕ) → In n xs → n ≤ 255) → ((n : ℕ) → In n ys → n ≤ 255) → map decimal xs ≡ map decimal ys → xs ≡ ys
+same_numbers [] [] p q e = refl
+same_numbers [] (y ∷ ys) p q e = cc
+same_numbers (x ∷ xs) [] p q e = cc
+same_numbers (x ∷ xs) (y ∷ ys) p q e =
+    let x_most = p x (inl refl) in
+    let y_most = q y (inl refl) in
+    let first : x ≡ y = decimal_injective x y (omega (arith, x_most)) (omega (arith, y_most)) cc in
+    let rest : xs ≡ ys = same_numbers xs ys (λ n in_xs. p n (inr in_xs)) (λ n in_ys. q n (inr in_ys)) cc in
+    ap (λ a. a ∷ xs) first ∙ ap (λ l. y ∷ l) rest
+
+-- what holds of the number at each place
+pub bytes_within : (xs : List ℕ) → ((i : ℕ) → i < length xs → slice_index xs i < 256) → (n : ℕ) → In n xs → n ≤ 255
+bytes_within [] low n here = absurd here
+bytes_within (x ∷ xs) low n (inl e) = let first = low 0 (omega arith) in omega (arith, e, first)
+bytes_within (x ∷ xs) low n (inr here) = bytes_within xs (λ i below. low (suc i) (omega (arith, below))) n here
 
 -- ---- a number of members, and a list of them
 
 -- a number has one part
 one_part : (size : ℕ) → 1 ≤ size → size ≤ 5 → length (commas (decimal size)) ≡ 1
-one_part 0 least most = absurd (omega (arith, least))
-one_part 1 least most = refl
-one_part 2 least most = refl
-one_part 3 least most = refl
-one_part 4 least most = refl
-one_part 5 least most = refl
+one_part zero least most = absurd (omega (arith, least))
+one_part (suc zero) least most = ap (λ w. length (commas w)) (decimal_digit 1 (omega arith))
+one_part (suc (suc zero)) least most = ap (λ w. length (commas w)) (decimal_digit 2 (omega arith))
+one_part (suc (suc (suc zero))) least most = ap (λ w. length (commas w)) (decimal_digit 3 (omega arith))
+one_part (suc (suc (suc (suc zero)))) least most = ap (λ w. length (commas w)) (decimal_digit 4 (omega arith))
+one_part (suc (suc (suc (suc (suc zero))))) least most = ap (λ w. length (commas w)) (decimal_digit 5 (omega arith))
 one_part (suc (suc (suc (suc (suc (suc size)))))) least most = absurd (omega (arith, most))
 
 -- and a list has none alone
@@ -59,6 +86,47 @@ pub parts_of_two : (ids : List ℕ) → 2 ≤ length ids → map decimal ids ≡
 parts_of_two [] long = absurd (omega (arith, long))
 parts_of_two (id ∷ []) long = absurd (omega (arith, long))
 parts_of_two (id ∷ other ∷ ids) long = refl
+
+-- lists are spelled in one way
+pub same_parts : (xs ys : List ℕ) → ((n : ℕ) → In n xs → n ≤ 255) → ((n : ℕ) → In n ys → n ≤ 255) → list_parts xs ≡ list_parts ys → xs ≡ ys
+same_parts [] [] p q e = refl
+same_parts [] (y ∷ []) p q e = cc
+same_parts [] (y ∷ z ∷ ys) p q e = cc
+same_parts (x ∷ []) [] p q e = cc
+same_parts (x ∷ z ∷ xs) [] p q e = cc
+same_parts (x ∷ []) (y ∷ []) p q e = same_numbers (x ∷ []) (y ∷ []) p q cc
+same_parts (x ∷ []) (y ∷ w ∷ ys) p q e = absurd (some_digit w (q w (inr (inl refl))) cc)
+same_parts (x ∷ z ∷ xs) (y ∷ []) p q e = absurd (some_digit z (p z (inr (inl refl))) cc)
+same_parts (x ∷ z ∷ xs) (y ∷ w ∷ ys) p q e = same_numbers (x ∷ z ∷ xs) (y ∷ w ∷ ys) p q e
+
+bytes_of_members : (ids : List ℕ) → AreMembers ids → (n : ℕ) → In n ids → n ≤ 255
+bytes_of_members ids members n here = let node = (members.nodes n here).1 in omega (arith, node)
+
+-- a word tells one thing
+pub same_told : (a b : Told) (word : List ℕ) → IsCluster a → IsCluster b → Spells a word → Spells b word → a ≡ b
+same_told (Size a) (Size b) word p q x y =
+    let a_most = p.1 in let b_most = q.1 in ap Size (decimal_injective a b (omega (arith, a_most)) (omega (arith, b_most)) (sym x ∙ y))
+same_told (Size a) (Members b) word p q x y = absurd (size_or_list a b.items word p.0 p.1 x y)
+same_told (Members a) (Size b) word p q x y = absurd (size_or_list b a.items word q.0 q.1 y x)
+same_told (Members a) (Members b) word p q x y =
+    ap (λ l. Members (kept l)) (same_parts a.items b.items (bytes_of_members a.items p) (bytes_of_members b.items q) (sym x ∙ y))
+  where
+    abbrev kept : List ℕ → ArrayVec ℕ
+    kept list = record { items = list }
+
+-- a word that is no number of members, and no list
+pub no_told : (word : List ℕ) → ((n : ℕ) → 1 ≤ n → n ≤ 5 → word ≡ decimal n → ⊥)
+    → ((ids : List ℕ) → length ids ≤ 5 → ((n : ℕ) → In n ids → n ≤ 255) → commas word ≡ list_parts ids → ⊥)
+    → (told : Told) → IsCluster told → Spells told word → ⊥
+no_told word no_size no_list (Size size) cluster spells = no_size size cluster.0 cluster.1 spells
+no_told word no_size no_list (Members members) cluster spells = no_list members.items cluster.five (bytes_of_members members.items cluster) spells
+
+-- a list that is none of members
+pub not_members : (word own : List ℕ) → commas word ≡ list_parts own → ((i : ℕ) → i < length own → slice_index own i < 256) → (AreMembers own → ⊥)
+    → ((n : ℕ) → 1 ≤ n → n ≤ 5 → word ≡ decimal n → ⊥) → (told : Told) → IsCluster told → Spells told word → ⊥
+not_members word own parts low none no_size (Size size) cluster spells = no_size size cluster.0 cluster.1 spells
+not_members word own parts low none no_size (Members members) cluster spells =
+    none (subst AreMembers (sym (same_parts own members.items (bytes_within own low) (bytes_of_members members.items cluster) (sym parts ∙ spells))) cluster)
 
 -- what is read of a word that is no list
 module _ (word : List ℕ) where
@@ -85,7 +153,7 @@ module _ (word : List ℕ) where
   too_few own few parts single [] e = let some = some_part word in let count = ap length e in omega (arith, some, count)
   too_few own few parts single (id ∷ []) e = single (decimal id) e
   too_few own few parts single (id ∷ other ∷ ids) e =
-      let count = ap length (sym parts ∙ e) in let same = length-map decimal own in omega (arith, few, count, same)
+      let count = ap length (sym parts ∙ e) in let same = length-map own decimal in omega (arith, few, count, same)
 
 -- ---- the parts of a word, one by one
 

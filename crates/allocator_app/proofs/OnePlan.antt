@@ -1,5 +1,5 @@
 -- The plan of some words: there is one.
-use Rattle.std.proofs.Common.{◌≡◌, ◌≤◌, ◌<◌, ◌^◌, ℕ, Bool, true, false, codes, inl, inr, List, [], ◌∷◌, refl, sym, ◌∙◌, ap, subst, arith, decimal, map}
+use Rattle.std.proofs.Common.{◌≡◌, ◌≤◌, ◌<◌, ◌^◌, ℕ, Bool, true, false, codes, inl, inr, List, [], ◌∷◌, refl, sym, ◌∙◌, ap, subst, arith, decimal, length, map}
 use Rattle.std.specs.Prelude.{◌==◌, if◌then◌else◌}
 use Rattle.std.proofs.lemmas.Fmt.{decimal_injective}
 use Rattle.arrayvec.specs.ArrayVec.{ArrayVec}
@@ -8,10 +8,10 @@ use Rattle.replay_text.specs.Words.{IsHex}
 use Rattle.cluster_spec.specs.Cluster.{AreMembers}
 use Rattle.allocator_app.specs.declared.told.Told.{Told}
 use Rattle.allocator_app.specs.declared.told.Told.TheVariants.{Members, Size}
-use Rattle.allocator_app.specs.Told.{IsCluster, Spells, list_parts, size_of}
+use Rattle.allocator_app.specs.Told.{IsCluster, Spells, size_of}
 use Rattle.allocator_app.specs.Words.{AreFew, IsAudit, IsConvert, IsDecode, IsNew, IsNode, IsPlan, IsReplay, IsSoak, IsSound, IsWatch, SpellsPayload, form_word}
 use Rattle.allocator_app.specs.declared.plans.Plan.{Plan}
-use Rattle.allocator_app.proofs.Listing.{size_or_list, some_digit}
+use Rattle.allocator_app.proofs.Listing.{same_numbers, same_told}
 use Rattle.allocator_app.specs.declared.plans.Plan.TheVariants.{Replay, Node, Soak, New, Audit, Watch, Convert, Decode}
 
 -- a cluster has 1 to 5 members
@@ -127,47 +127,17 @@ same_number a b low high e = decimal_injective a b low high e
 one_number : (a b : ℕ) → a ≤ 1000000000 → b ≤ 1000000000 → decimal a ≡ decimal b → a ≡ b
 one_number a b a_most b_most e = decimal_injective a b (omega arith) (omega arith) e
 
-one_list : (xs ys : List ℕ) → ((n : ℕ) → In n xs → n ≤ 125) → ((n : ℕ) → In n ys → n ≤ 125) → map decimal xs ≡ map decimal ys → xs ≡ ys
-one_list [] [] p q e = refl
-one_list [] (y ∷ ys) p q e = cc
-one_list (x ∷ xs) [] p q e = cc
-one_list (x ∷ xs) (y ∷ ys) p q e =
-    let x_most = p x (inl refl) in
-    let y_most = q y (inl refl) in
-    let first : x ≡ y = one_number x y (omega (arith, x_most)) (omega (arith, y_most)) cc in
-    let rest : xs ≡ ys = one_list xs ys (λ n in_xs. p n (inr in_xs)) (λ n in_ys. q n (inr in_ys)) cc in
-    ap (λ a. a ∷ xs) first ∙ ap (λ l. y ∷ l) rest
-
-same_members : (xs ys : List ℕ) → AreMembers xs → AreMembers ys → map decimal xs ≡ map decimal ys → xs ≡ ys
-same_members xs ys p q e = one_list xs ys (λ n here. (p.nodes n here).1) (λ n here. (q.nodes n here).1) e
-
-nodes_of_few : (ids : List ℕ) → AreFew ids → (n : ℕ) → In n ids → n ≤ 125
+nodes_of_few : (ids : List ℕ) → AreFew ids → (n : ℕ) → In n ids → n ≤ 255
 nodes_of_few ids few n here = elim few [
   | inl none ↦ absurd (subst (In n) none here)
-  | inr members ↦ (members.nodes n here).1
+  | inr members ↦ let node = (members.nodes n here).1 in omega (arith, node)
 ]
 
 same_few : (xs ys : List ℕ) → AreFew xs → AreFew ys → map decimal xs ≡ map decimal ys → xs ≡ ys
-same_few xs ys p q e = one_list xs ys (nodes_of_few xs p) (nodes_of_few ys q) e
+same_few xs ys p q e = same_numbers xs ys (nodes_of_few xs p) (nodes_of_few ys q) e
 
-same_parts : (xs ys : List ℕ) → AreMembers xs → AreMembers ys → list_parts xs ≡ list_parts ys → xs ≡ ys
-same_parts [] [] p q e = refl
-same_parts [] (y ∷ []) p q e = cc
-same_parts [] (y ∷ z ∷ ys) p q e = cc
-same_parts (x ∷ []) [] p q e = cc
-same_parts (x ∷ z ∷ xs) [] p q e = cc
-same_parts (x ∷ []) (y ∷ []) p q e = same_members (x ∷ []) (y ∷ []) p q cc
-same_parts (x ∷ []) (y ∷ w ∷ ys) p q e = let w_most = (q.nodes w (inr (inl refl))).1 in absurd (some_digit w (omega (arith, w_most)) cc)
-same_parts (x ∷ z ∷ xs) (y ∷ []) p q e = let z_most = (p.nodes z (inr (inl refl))).1 in absurd (some_digit z (omega (arith, z_most)) cc)
-same_parts (x ∷ z ∷ xs) (y ∷ w ∷ ys) p q e = same_members (x ∷ z ∷ xs) (y ∷ w ∷ ys) p q e
-
--- a word tells one thing
-pub same_told : (a b : Told) (word : List ℕ) → IsCluster a → IsCluster b → Spells a word → Spells b word → a ≡ b
-same_told (Size a) (Size b) word p q x y =
-    let a_most = p.1 in let b_most = q.1 in ap Size (one_number a b (omega (arith, a_most)) (omega (arith, b_most)) (sym x ∙ y))
-same_told (Size a) (Members b) word p q x y = absurd (size_or_list a b.items word p.0 p.1 x y)
-same_told (Members a) (Size b) word p q x y = absurd (size_or_list b a.items word q.0 q.1 y x)
-same_told (Members a) (Members b) word p q x y = ap (λ l. Members (kept l)) (same_parts a.items b.items p q (sym x ∙ y))
+same_members : (xs ys : List ℕ) → AreMembers xs → AreMembers ys → map decimal xs ≡ map decimal ys → xs ≡ ys
+same_members xs ys p q e = same_few xs ys (inr p) (inr q) e
 
 same_form : (a b : Bool) → form_word a ≡ form_word b → a ≡ b
 same_form true true e = refl

@@ -208,7 +208,8 @@ fn has_objects<L: Link, D: Disk>(plan: &Plan, links: &[L], disks: &[Option<D>]) 
 {
     match plan {
         Plan::Node { ids, .. } => are_given(ids, links, disks),
-        Plan::New { ids } | Plan::Audit { ids } => are_stored(ids, links, disks),
+        Plan::New { ids } => are_stored(ids, links, disks),
+        Plan::Audit { ids } => are_stored(ids, links, disks),
         Plan::Replay { .. }
         | Plan::Soak { .. }
         | Plan::Watch { .. }

@@ -1,6 +1,5 @@
-ghost use Rattle.std.specs.Prelude.{◌≡◌, ◌≤◌, ◌<◌, ◌∷◌, [], ℕ, List, decimal, length, map, slice_index, EachIndex, IfSome, IsNone, IsTrue};
-ghost use Rattle.std.specs.List.{position_or_len};
-ghost use Rattle.std.specs.Prelude.{◌==◌};
+ghost use Rattle.std.specs.Prelude.{◌≡◌, ◌≤◌, ◌<◌, ◌↔◌, ◌∷◌, [], ℕ, List, decimal, length, map, slice_index, EachIndex, IfSome, IsNone, IsTrue, ◌==◌};
+ghost use Rattle.std.specs.List.{Contains, position_or_len};
 ghost use Rattle.raft_model.specs.Lists.{In};
 ghost use Rattle.allocator_app.specs.declared.told.Told.{Told};
 ghost use Rattle.allocator_app.specs.Told.{AreAmong, IsCluster, Spells, commas, list_parts, size_of};
@@ -38,9 +37,21 @@ impl Told {
     {
         match self {
             Told::Size(size) => ids.len() <= usize::from(*size),
-            Told::Members(members) => ids.iter().all(|id| members.contains(id)),
+            Told::Members(members) => are_in(members, ids),
         }
     }
+}
+
+/// Whether all of these node IDs are members.
+fn are_in(members: &[u8], ids: &[u8]) -> bool
+    ensures { IsTrue result ↔ EachIndex ids.now (λ i. Contains members.now (slice_index ids.now i)) }
+{
+    for id in ids {
+        if !members.contains(id) {
+            return false;
+        }
+    }
+    true
 }
 
 /// What this word tells the members of a cluster: their number, or a list of them.
@@ -83,9 +94,12 @@ fn before_last_comma(word: &[u8]) -> Option<&[u8]>
     ensures some { IfSome result (λ one. commas word.now ≡ one.now ∷ [] ∷ []) }
     ensures none { IsNone result → (one : List ℕ) → commas word.now ≡ one ∷ [] ∷ [] → ⊥ }
 {
-    match split_comma(word) {
-        Some((one, rest)) if rest.is_empty() => Some(one),
-        _ => None,
+    let Some((one, rest)) = split_comma(word) else {
+        return None;
+    };
+    match rest {
+        [] => Some(one),
+        [_, ..] => None,
     }
 }
 

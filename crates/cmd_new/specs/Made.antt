@@ -57,7 +57,7 @@ module _ {D : Type 0} (ghosts : Ghosts D) where
 
     -- how it ends while nothing of the sink fails
     abbrev pub Comes : List ℕ → Status → Type 0
-    Comes ids Done = (k : ℕ) → IsMadeAt k
+    Comes ids Done = (k : ℕ) → k < length old → IsMadeAt k
     Comes ids (DiskFault id) = (place : ℕ) × FailsAt place × (id ≡ slice_index ids place)
     Comes ids _ = ⊥
 

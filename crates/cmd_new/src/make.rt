@@ -65,7 +65,7 @@ fn end_line(outcome: Status, ids: &[u8]) -> Line
 fn make_all<D: Disk>(disks: &mut [Option<D>]) -> Result<(), usize>
     requires present { (i : ℕ) → i < length disks.old → IsSome (slice_index_or disks.old i None) }
     ensures count { length disks.new ≡ length disks.old }
-    ensures made { OnOk result ((k : ℕ) → IsMadeAt D.Disk disks.old disks.new k) }
+    ensures made { OnOk result ((k : ℕ) → k < length disks.old → IsMadeAt D.Disk disks.old disks.new k) }
     ensures failed { IfErr result (λ place. FailsAt D.Disk disks.old disks.new place) }
 {
     for place in 0..disks.len() {
