@@ -17,12 +17,11 @@ use node_clock_and_links::{PacedClock, TimelyLink};
 use outside::{StdClock, StdSink, StdSource};
 use std::alloc::{AllocError, Global};
 use std::cell::Cell;
-use std::env;
-use std::fs;
 use std::fs::File;
 use std::io::ErrorKind;
 use std::process::ExitCode;
 use std::rt::Files;
+use std::{env, fs};
 use udp_link::UdpLink;
 
 /// The exit code where a link or a disk was not opened.
@@ -65,9 +64,14 @@ fn main(rt: HostRuntime) -> ExitCode {
         }
     }
     match &asked {
-        Some(Plan::Node {
-            told, base, ids, ..
-        }) => {
+        Some(
+            Plan::Node {
+                told,
+                base,
+                ids,
+                ..
+            },
+        ) => {
             for id in ids.as_slice() {
                 let opened = match told {
                     Told::Size(_) => UdpLink::open(&rt, *base, *id),

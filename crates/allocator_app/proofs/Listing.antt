@@ -111,7 +111,7 @@ same_told (Members a) (Size b) word p q x y = absurd (size_or_list b a.items wor
 same_told (Members a) (Members b) word p q x y =
     ap (λ l. Members (kept l)) (same_parts a.items b.items (bytes_of_members a.items p) (bytes_of_members b.items q) (sym x ∙ y))
   where
-    abbrev kept : List ℕ → ArrayVec ℕ
+    kept : List ℕ → ArrayVec ℕ
     kept list = record { items = list }
 
 -- a word that is no number of members, and no list
