@@ -116,13 +116,13 @@ def broken_log(draw: random.Random, folder: str) -> str:
 
 def write_log(draw: random.Random, folder: str) -> List[str]:
     store = ["--store", "1=" + keep(folder, "store", broken_store(draw))] if draw.random() < 0.1 else []
-    members = draw.choice([["1", "2", "3"], ["1"], ["3", "4"]])
+    members = draw.choice(["1 2 3", "1", "3 4"]).split()
     return [broken_log(draw, folder), *members, *store, "--program", "true"]
 
 
 def write_why(draw: random.Random, folder: str) -> List[str]:
     store = ["--store", keep(folder, "alloc-1.store", broken_store(draw))] if draw.random() < 0.3 else []
-    members = draw.choice([[], ["--members", "1,2,3"], ["--members", "1,x"], ["--size", "3"], ["--seconds", "5"]])
+    members = draw.choice(["", "--members 1,2,3", "--members 1,x", "--size 3", "--seconds 5"]).split()
     return [broken_log(draw, folder), *members, *store]
 
 
@@ -130,7 +130,7 @@ def write_vehicle(draw: random.Random, folder: str) -> List[str]:
     keep(folder, "alloc-1.store", broken_store(draw))
     settings = b"MEMBERS=%s\nCLUSTER=%s\nBASE=5000\n" % (random_bytes(draw, 3), draw.choice([b'"1 2 3"', b"x", b""]))
     given = ["--stores", folder, "--settings", keep(folder, "settings", settings)]
-    return ["--log", broken_log(draw, folder), *given, *draw.choice([[], ["--members", "1,2,3"], ["--hold", "x"]])]
+    return ["--log", broken_log(draw, folder), *given, *draw.choice(["", "--members 1,2,3", "--hold x"]).split()]
 
 
 def write_table(draw: random.Random, folder: str) -> List[str]:
@@ -330,9 +330,8 @@ def run_bridge(count: int, seed: int) -> bool:
 
 def run(count: int, seed: int) -> bool:
     """Whether every tool took every input."""
-    partner.Process = StandIn  # type: ignore[misc]
-    partner.prepare = lambda program: None
-    machine.subprocess = NoCommands()  # type: ignore[assignment]
+    vars(partner).update(Process=StandIn, prepare=lambda program: None)
+    vars(machine)["subprocess"] = NoCommands()
     signal.signal(signal.SIGALRM, ends_too_late)
     good = all([run_tool(tool, count, seed) for tool in RUN_ONCE])
     signal.signal(signal.SIGPIPE, signal.SIG_IGN)
