@@ -13,6 +13,7 @@ from . import table, wire
 
 ORIGINS = "from a leader", "by the exchange", "by GetNodeInfo", "a reservation", "the blank of its win"
 TRIES = 10
+MANY_BLANKS = 16  # more are no accident: a bus that is bad for minutes adds a few
 _NAME = re.compile(r"alloc-([1-9][0-9]{0,2})\.store")
 
 
