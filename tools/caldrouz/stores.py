@@ -58,7 +58,7 @@ class Store(NamedTuple):
 
 
 def read(path: str) -> Store:
-    """The store in a file. While its member writes, the file is read again until it is twice the same, for some times."""
+    """The store in a file. While its member writes, the file is read again until it is twice the same, some times."""
     with open(path, "rb", buffering=0) as file:
         image = file.read(table.IMAGE + 1)
         for _ in range(TRIES):
