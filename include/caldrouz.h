@@ -11,7 +11,8 @@
  *         if (the driver has room && caldrouz_take(&node, &frame)) send(&frame);
  *     }
  *
- * Memory. A node is one object of type `caldrouz`, which the caller keeps: static, on a heap, or on a stack. The library
+ * Memory. A node is one object of type `caldrouz`, which the caller keeps: static, on a heap, or on a stack. The
+ * library
  *   allocates nothing and has no variables of its own. From caldrouz_init() on a node must not be moved, copied or
  *   written by anybody else. There is nothing to free: a node whose caller stops calling is gone.
  * Threads. One call on a node at a time. Different nodes share nothing, and may be called from different threads. The
@@ -102,8 +103,8 @@ uint64_t caldrouz_call(caldrouz *node, uint32_t op, uint64_t now, uint64_t a, ui
 
 /* ---- Calls of a caller ---- */
 
-/* Makes a node of the node ID `id`, of a cluster of `size` members that are the same for ever, with its store behind the
- * descriptor `fd`. Nothing is read or written yet. Each other call on the node comes after this one.
+/* Makes a node of the node ID `id`, of a cluster of `size` members that are the same for ever, with its store behind
+ * the descriptor `fd`. Nothing is read or written yet. Each other call on the node comes after this one.
  * Answers CALDROUZ_DONE or CALDROUZ_OTHER_LIBRARY. An impossible ID or size is told by each later call. */
 static inline uint32_t caldrouz_init(caldrouz *node, uint32_t id, uint32_t size, int fd) {
     if (caldrouz_size() != sizeof *node) {
@@ -113,10 +114,10 @@ static inline uint32_t caldrouz_init(caldrouz *node, uint32_t id, uint32_t size,
     return CALDROUZ_DONE;
 }
 
-/* Opens a node with what its store has, at the start and after a fault. `word` is random: it sets how long the node waits
- * before it stands for election, and has to differ between members.
- * Answers CALDROUZ_DONE, CALDROUZ_NOT_MADE, CALDROUZ_FAULT, or CALDROUZ_DAMAGED and more. After a failed write or sync a
- * store is not to be opened again before the cause is known: what it reads may never have reached it. */
+/* Opens a node with what its store has, at the start and after a fault. `word` is random: it sets how long the node
+ * waits before it stands for election, and has to differ between members. Answers CALDROUZ_DONE, CALDROUZ_NOT_MADE,
+ * CALDROUZ_FAULT, or CALDROUZ_DAMAGED and more. After a failed write or sync a store is not to be opened again
+ * before the cause is known: what it reads may never have reached it. */
 static inline uint32_t caldrouz_open(caldrouz *node, uint64_t now, uint32_t word) {
     return (uint32_t)caldrouz_call(node, 1, now, word, 0);
 }
@@ -128,8 +129,8 @@ static inline uint32_t caldrouz_tick(caldrouz *node, uint64_t now, uint32_t word
     return (uint32_t)caldrouz_call(node, 2, now, word, 0);
 }
 
-/* A frame came, and this is now. Every extended data frame of the bus may be given, in the order in which they came, and
- * each once. Frames that this node has sent are not to be given, nor any that is older than CALDROUZ_LONGEST_WAIT.
+/* A frame came, and this is now. Every extended data frame of the bus may be given, in the order in which they came,
+ * and each once. Frames that this node has sent are not to be given, nor any that is older than CALDROUZ_LONGEST_WAIT.
  * Answers CALDROUZ_DONE, CALDROUZ_NO_FRAME, CALDROUZ_NOT_MADE, CALDROUZ_CLOSED or CALDROUZ_FAULT. */
 static inline uint32_t caldrouz_hear(caldrouz *node, uint64_t now, const caldrouz_frame *frame) {
     uint64_t bytes = 0;
@@ -190,8 +191,8 @@ static inline caldrouz_entry caldrouz_entry_at(caldrouz *node, uint8_t place) {
 
 /* ---- Ages of frames ----
  *
- * How long a frame waited in a driver's queue only the caller can know. Where the driver stamps frames, compare the stamp.
- * Where it does not, keep when its queue was last seen empty: what is in it came later.
+ * How long a frame waited in a driver's queue only the caller can know. Where the driver stamps frames, compare the
+ * stamp. Where it does not, keep when its queue was last seen empty: what is in it came later.
  *
  *     const uint64_t now = now_ms();        // read before the queue is
  *     if (!receive(&frame)) caldrouz_ages_empty(&ages, now);

@@ -151,10 +151,11 @@ def test_what_is_installed_is_found():
 
 
 def rows_for_nodes(folder):
-    """The rows of a schedule for its members. The frame that an allocatee sends comes from outside here, as its line has
-    it; the other rows of allocatees are left out."""
+    """The rows of a schedule for its members. The frame that an allocatee sends comes from outside here, as its line
+    has it; the other rows of allocatees are left out."""
     with open(os.path.join(folder, "report")) as file:
-        lines = {int(line.split()[0]): line.split() for line in file if " " in line and not line.startswith(("log", "end"))}
+        told = [line.split() for line in file]
+    lines = {int(words[0]): words for words in told if words[0].isdigit() and words[2:3] == ["send"]}
     with open(os.path.join(folder, "schedule")) as file:
         for number, row in enumerate(file, 1):
             word = row.split()[0]
@@ -165,7 +166,7 @@ def rows_for_nodes(folder):
 
 
 def lines_of_nodes(folder):
-    """What the report says of members: openings, steps (role, numbers and queue), frames sent, stops, failures, logs."""
+    """What the report says of members: openings, steps (role, numbers, queue), frames sent, stops, failures, logs."""
     lines, is_log = [], False
     with open(os.path.join(folder, "report")) as file:
         for line in file.read().splitlines():
@@ -181,8 +182,8 @@ def lines_of_nodes(folder):
 
 
 def test_members_do_what_replay_says():
-    """Of each worked schedule without a refused row, the nodes of the library have the roles and numbers, send the frames
-    and keep the logs of the report; and no frame is taken while its store waits for a sync."""
+    """Of each worked schedule without a refused row, the nodes of the library have the roles and numbers, send the
+    frames and keep the logs of the report; and no frame is taken while its store waits for a sync."""
     tried = set()
     for compiler, flags in zip(compilers("gcc", "clang"), (SANITIZED, ["-O2"])):
         program = Place.built(compiler, os.path.join(HERE, "c", "replay.c"), flags=flags)
@@ -213,7 +214,7 @@ def served(bus, number, seconds):
 
 
 def test_three_members_serve_through_kills():
-    """Six devices are given six node IDs, one of them before and after a kill the same one; the members' lists agree."""
+    """Six devices are given six node IDs, one of them the same before and after kills; the members' lists agree."""
     source = c_example("socketcan_node.c")
     programs = [Place.built(compiler, source, flags=SANITIZED) for compiler in compilers("clang", "gcc")]
     folder = tempfile.mkdtemp(dir=Place.folder)

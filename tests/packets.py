@@ -1,5 +1,5 @@
-"""A bus of packet sockets, for members that take CAN frames from a socket: each packet is a `struct can_frame`, and comes
-to every member, to its sender as an echo. With a device that asks for a node ID."""
+"""A bus of packet sockets, for members that take CAN frames from a socket: each packet is a `struct can_frame`, and
+comes to every member, to its sender as an echo. With a device that asks for a node ID."""
 import os
 import select
 import signal
@@ -75,8 +75,8 @@ class Device:
 
 
 class Bus:
-    """Members as processes. `command(member, descriptor)` is what a member is started with, and `at_input` tells that its
-    socket is its standard input."""
+    """Members as processes. `command(member, descriptor)` is what a member is started with, and `at_input` tells that
+    its socket is its standard input."""
 
     def __init__(self, folder, command, at_input=False, log=None):
         self.folder, self.command, self.at_input, self.log = folder, command, at_input, log

@@ -1,6 +1,6 @@
-/* fuzz CALLS SEED: calls with random numbers, on nodes that were made with random words over stores that are new, short,
- * damaged or none. Each call has to return, and one that is refused to change no byte of the node. Prints how often each
- * status came. */
+/* fuzz CALLS SEED: calls with random numbers, on nodes that were made with random words over stores that are new,
+ * short, damaged or none. Each call has to return, and one that is refused to change no byte of the node. Prints how
+ * often each status came. */
 #define _GNU_SOURCE
 #include "caldrouz.h"
 #include <stdio.h>

@@ -1,8 +1,8 @@
 /* A store in an array: for a trial, and for a lone allocator that may begin anew with each start. It keeps nothing when
  * the program ends, so no member of a cluster may have it.
  *
- * The library calls these three functions on the descriptor that caldrouz_init() was given; here every descriptor is the
- * one array. They answer as POSIX says: how many bytes, all of them, or -1; and 0 or -1.
+ * The library calls these three functions on the descriptor that caldrouz_init() was given; here every descriptor
+ * is the one array. They answer as POSIX says: how many bytes, all of them, or -1; and 0 or -1.
  */
 #include "caldrouz.h"
 #include <string.h>

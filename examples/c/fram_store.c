@@ -1,9 +1,10 @@
-/* A store in a serial FRAM of 32 KiB or more (as MB85RS256B or FM25V02A), for firmware: pread(), pwrite() and fdatasync()
- * of one's own. An FRAM has no cache and no pages, so what the last clock of a write has brought there stays.
+/* A store in a serial FRAM of 32 KiB or more (as MB85RS256B or FM25V02A), for firmware: pread(), pwrite() and
+ * fdatasync() of one's own. An FRAM has no cache and no pages, so what the last clock of a write has brought there
+ * stays.
  *
- * The descriptor is the address of the store in the chip, divided by 64: two nodes of one chip have the descriptors 0 and
- * 139. Each write is read back, since a bus that is not driven answers nothing: a fault is then told at the call, and the
- * node answers CALDROUZ_FAULT.
+ * The descriptor is the address of the store in the chip, divided by 64: two nodes of one chip have the descriptors
+ * 0 and 139. Each write is read back, since a bus that is not driven answers nothing: a fault is then told at the
+ * call, and the node answers CALDROUZ_FAULT.
  *
  * spi_transfer() is the board's: it selects the chip, shifts `count` bytes out and as many in, and answers 0, or -1.
  * Build with -DSIMULATED_FRAM to have a chip in an array.

@@ -2,9 +2,9 @@
  *
  *     socketcan_node INTERFACE ID SIZE STORE
  *
- * STORE is a file of 8,844 bytes, as that of `allocator node`; a missing one is made. SIGTERM or SIGINT ends the program,
- * which then writes its list to standard error. Its status is 0; 1 for wrong words; 12 where the socket or the store
- * cannot be opened; 13 where the socket failed; 14 where the store failed or is damaged.
+ * STORE is a file of 8,844 bytes, as that of `allocator node`; a missing one is made. SIGTERM or SIGINT ends the
+ * program, which then writes its list to standard error. Its status is 0; 1 for wrong words; 12 where the socket or
+ * the store cannot be opened; 13 where the socket failed; 14 where the store failed or is damaged.
  *
  * INTERFACE may be fd:N, a socket of packets that is open already and gives each packet back to its sender, for tests.
  */
@@ -29,12 +29,12 @@
 
 enum { WRONG_WORDS = 1, NOT_OPENED = 12, BUS_FAILED = 13, STORE_FAILED = 14 };
 
-/* Milliseconds. A frame that was not on the bus by then may never come there: nobody acknowledges, or the controller was
- * started again. What waits behind it is let go. */
+/* Milliseconds. A frame that was not on the bus by then may never come there: nobody acknowledges, or the controller
+ * was started again. What waits behind it is let go. */
 enum { LONGEST_ON_ITS_WAY = 500 };
 
-/* The bus. One frame is on its way at a time: the socket gives it back once it was on the bus. So no controller can change
- * the order of frames, and where nobody acknowledges one frame waits there, and no more. */
+/* The bus. One frame is on its way at a time: the socket gives it back once it was on the bus. So no controller can
+ * change the order of frames, and where nobody acknowledges one frame waits there, and no more. */
 struct bus {
     int fd;
     int is_on_its_way;
@@ -112,7 +112,8 @@ static int open_store(const char *path) {
     if (fd < 0 && errno == ENOENT) {
         fd = make_store(path);
     }
-    if (fd < 0 || fstat(fd, &found) != 0 || found.st_size != CALDROUZ_STORE_BYTES || flock(fd, LOCK_EX | LOCK_NB) != 0) {
+    if (fd < 0 || fstat(fd, &found) != 0 || found.st_size != CALDROUZ_STORE_BYTES ||
+        flock(fd, LOCK_EX | LOCK_NB) != 0) {
         return -1;
     }
     return fd;

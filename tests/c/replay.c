@@ -1,9 +1,9 @@
 /* Drives nodes of the library by the rows of a schedule at standard input (docs/FORMATS.md, "Schedule"), as
- * `allocator replay` drives its members, and prints what the report says of them: openings, steps (role, numbers, queue),
- * frames that are sent, stops and failures, and at the end the logs. Rows of allocatees are none.
+ * `allocator replay` drives its members, and prints what the report says of them: openings, steps (role, numbers,
+ * queue), frames that are sent, stops and failures, and at the end the logs. Rows of allocatees are none.
  *
- * The stores are arrays, of which a call can be set to stop the store or to fail. A frame that is taken while bytes wait
- * for a sync ends the program with 2, and a row that it does not know with 3.
+ * The stores are arrays, of which a call can be set to stop the store or to fail. A frame that is taken while bytes
+ * wait for a sync ends the program with 2, and a row that it does not know with 3.
  */
 #include "caldrouz.h"
 #include <stdio.h>
@@ -150,7 +150,8 @@ static void stepped(unsigned n, uint32_t status) {
     static const char roles[] = "FCL";
     if (goes_on(n, status)) {
         const caldrouz_view view = caldrouz_look(&nodes[n]);
-        printf("%u %c %lu %u %u %u\n", n, roles[view.role], (unsigned long)view.term, view.last, view.commit, view.queued);
+        printf("%u %c %lu %u %u %u\n", n, roles[view.role], (unsigned long)view.term, view.last, view.commit,
+               view.queued);
     }
 }
 

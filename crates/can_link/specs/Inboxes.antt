@@ -11,4 +11,5 @@ most_waiting = 64
 
 -- the frame is behind those that wait, or there is no room for it
 abbrev pub Comes : RawFrame → List RawFrame → List RawFrame → Type 0
-Comes frame old new = ((length old < most_waiting) × (new ≡ old ++ frame ∷ [])) ⊎ ((most_waiting ≤ length old) × (new ≡ old))
+Comes frame old new = ((length old < most_waiting) × (new ≡ old ++ frame ∷ []))
+    ⊎ ((most_waiting ≤ length old) × (new ≡ old))

@@ -1,5 +1,6 @@
 -- Frames, views and entries as the numbers of a call.
-use Rattle.std.specs.Prelude.{◌≡◌, ℕ, ◌+◌, ◌-◌, ◌*◌, ◌/◌, ◌%◌, ◌<◌, ◌≤◌, ◌++◌, List, length, take, drop, replicate, Option, None, Some}
+use Rattle.std.specs.Prelude.{◌≡◌, ℕ, ◌+◌, ◌-◌, ◌*◌, ◌/◌, ◌%◌, ◌<◌, ◌≤◌, ◌++◌, List, length, take, drop, replicate}
+use Rattle.std.specs.Prelude.{Option, None, Some}
 use Rattle.std.specs.Int.{from_le_bytes, to_le_bytes, w64}
 use Rattle.can_frame.specs.declared.entry.Entry.{Entry}
 use Rattle.alloc_spec.specs.Step.{Event, Rx}
