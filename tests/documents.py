@@ -54,7 +54,7 @@ def files(folder):
 def source_words():
     """The words of all sources, and the names of their folders and files. What is said in comments does not count."""
     words = set(ELSEWHERE)
-    for folder in ("crates", "examples", "bench", "tools", "packaging", "tests", "docs", ".ci"):
+    for folder in ("crates", "include", "examples", "bench", "tools", "packaging", "tests", "docs", ".ci"):
         for path in files(folder):
             words.update(word for part in path.relative_to(ROOT).parts for word in WORD.findall(part))
             if folder not in ("tests", "docs") and path.suffix not in (".md", *IMAGES):

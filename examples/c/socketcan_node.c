@@ -1,0 +1,253 @@
+/* One allocator on a SocketCAN interface:
+ *
+ *     socketcan_node INTERFACE ID SIZE STORE
+ *
+ * STORE is a file of 8,844 bytes, as that of `allocator node`; a missing one is made. SIGTERM or SIGINT ends the
+ * program, which then writes its list to standard error. Its status is 0; 1 for wrong words; 12 where the socket or
+ * the store cannot be opened; 13 where the socket failed; 14 where the store failed or is damaged.
+ *
+ * INTERFACE may be fd:N, a socket of packets that is open already and gives each packet back to its sender, for tests.
+ */
+#define _GNU_SOURCE
+#include "caldrouz.h"
+#include <errno.h>
+#include <fcntl.h>
+#include <linux/can.h>
+#include <linux/can/raw.h>
+#include <net/if.h>
+#include <poll.h>
+#include <signal.h>
+#include <stdio.h>
+#include <stdlib.h>
+#include <string.h>
+#include <sys/file.h>
+#include <sys/random.h>
+#include <sys/socket.h>
+#include <sys/stat.h>
+#include <time.h>
+#include <unistd.h>
+
+enum { WRONG_WORDS = 1, NOT_OPENED = 12, BUS_FAILED = 13, STORE_FAILED = 14 };
+
+/* Milliseconds. A frame that was not on the bus by then may never come there: nobody acknowledges, or the controller
+ * was started again. What waits behind it is let go. */
+enum { LONGEST_ON_ITS_WAY = 500 };
+
+/* The bus. One frame is on its way at a time: the socket gives it back once it was on the bus. So no controller can
+ * change the order of frames, and where nobody acknowledges one frame waits there, and no more. */
+struct bus {
+    int fd;
+    int is_on_its_way;
+    int is_silent; /* it was said that nobody acknowledges */
+    uint64_t since;
+    struct can_frame last;
+    caldrouz_ages ages;
+};
+
+static volatile sig_atomic_t is_ended;
+
+static void on_signal(int number) {
+    (void)number;
+    is_ended = 1;
+}
+
+/* a clock that goes on while the machine is suspended, and that nobody can set */
+static uint64_t now_ms(void) {
+    struct timespec t;
+    clock_gettime(CLOCK_BOOTTIME, &t);
+    return (uint64_t)t.tv_sec * 1000 + (uint64_t)t.tv_nsec / 1000000;
+}
+
+static uint32_t random_word(void) {
+    uint32_t word = 0;
+    if (getrandom(&word, sizeof word, GRND_NONBLOCK) != (ssize_t)sizeof word) {
+        word = (uint32_t)now_ms() * 2654435761u + (uint32_t)getpid();
+    }
+    return word;
+}
+
+static int open_bus(const char *name) {
+    /* extended data frames alone; no remote frames, no error frames */
+    const struct can_filter filter = {.can_id = CAN_EFF_FLAG, .can_mask = CAN_EFF_FLAG | CAN_RTR_FLAG};
+    const int on = 1;
+    struct sockaddr_can address = {.can_family = AF_CAN};
+    int fd;
+    if (strncmp(name, "fd:", 3) == 0) {
+        fd = atoi(name + 3);
+        return fcntl(fd, F_SETFL, fcntl(fd, F_GETFL) | O_NONBLOCK) == 0 ? fd : -1;
+    }
+    fd = socket(PF_CAN, SOCK_RAW | SOCK_NONBLOCK | SOCK_CLOEXEC, CAN_RAW);
+    address.can_ifindex = (int)if_nametoindex(name);
+    if (fd < 0 || address.can_ifindex == 0 ||
+        setsockopt(fd, SOL_CAN_RAW, CAN_RAW_FILTER, &filter, sizeof filter) != 0 ||
+        setsockopt(fd, SOL_CAN_RAW, CAN_RAW_RECV_OWN_MSGS, &on, sizeof on) != 0 ||
+        bind(fd, (const struct sockaddr *)&address, sizeof address) != 0) {
+        return -1;
+    }
+    return fd;
+}
+
+/* a new store: all zeros, synced, and its name in the folder too */
+static int make_store(const char *path) {
+    static const char zeros[CALDROUZ_STORE_BYTES];
+    int folder;
+    int fd = open(path, O_RDWR | O_CREAT | O_EXCL | O_CLOEXEC, 0644);
+    if (fd < 0) {
+        return -1;
+    }
+    folder = open(".", O_RDONLY | O_DIRECTORY | O_CLOEXEC);
+    if (pwrite(fd, zeros, sizeof zeros, 0) != (ssize_t)sizeof zeros || fsync(fd) != 0 || folder < 0 ||
+        fsync(folder) != 0) {
+        unlink(path);
+        return -1;
+    }
+    close(folder);
+    return fd;
+}
+
+/* the lock keeps a second process from the same store */
+static int open_store(const char *path) {
+    struct stat found;
+    int fd = open(path, O_RDWR | O_CLOEXEC);
+    if (fd < 0 && errno == ENOENT) {
+        fd = make_store(path);
+    }
+    if (fd < 0 || fstat(fd, &found) != 0 || found.st_size != CALDROUZ_STORE_BYTES ||
+        flock(fd, LOCK_EX | LOCK_NB) != 0) {
+        return -1;
+    }
+    return fd;
+}
+
+static int is_same(const struct can_frame *one, const struct can_frame *other) {
+    return one->can_id == other->can_id && one->can_dlc == other->can_dlc && one->can_dlc <= 8 &&
+           memcmp(one->data, other->data, one->can_dlc) == 0;
+}
+
+/* Hears the next frame that has come. Answers 1, 0 where none has, or -1 where the socket failed. */
+static int hear_one(struct bus *bus, caldrouz *node, uint32_t *status) {
+    const uint64_t now = now_ms();
+    caldrouz_frame frame = {0};
+    struct can_frame in;
+    const ssize_t got = read(bus->fd, &in, sizeof in);
+    if (got < 0 && (errno == EAGAIN || errno == EINTR)) {
+        caldrouz_ages_empty(&bus->ages, now);
+        return 0;
+    }
+    if (got <= 0) {
+        return -1;
+    }
+    if (got != (ssize_t)sizeof in || !(in.can_id & CAN_EFF_FLAG) || (in.can_id & (CAN_RTR_FLAG | CAN_ERR_FLAG)) != 0 ||
+        in.can_dlc > 8) {
+        return 1;
+    }
+    if (bus->is_on_its_way && is_same(&in, &bus->last)) {
+        bus->is_on_its_way = 0;
+        bus->is_silent = 0;
+        return 1;
+    }
+    if (!caldrouz_ages_is_fresh(&bus->ages, now)) {
+        return 1;
+    }
+    frame.id = in.can_id & CAN_EFF_MASK;
+    frame.len = in.can_dlc;
+    memcpy(frame.data, in.data, in.can_dlc);
+    *status = caldrouz_hear(node, now, &frame);
+    if (*status == CALDROUZ_NO_FRAME) {
+        *status = CALDROUZ_DONE;
+    }
+    return 1;
+}
+
+/* Sends the next frame, if none is on its way. Answers 1, 0 where none was sent, or -1 where the socket failed. */
+static int send_one(struct bus *bus, caldrouz *node) {
+    const uint64_t now = now_ms();
+    caldrouz_frame frame;
+    if (bus->is_on_its_way && now - bus->since > LONGEST_ON_ITS_WAY) {
+        if (!bus->is_silent) {
+            fprintf(stderr, "nobody acknowledges\n");
+        }
+        bus->is_silent = 1;
+        bus->is_on_its_way = 0;
+        while (caldrouz_take(node, &frame)) {
+        }
+    }
+    if (bus->is_on_its_way || !caldrouz_take(node, &frame)) {
+        return 0;
+    }
+    memset(&bus->last, 0, sizeof bus->last);
+    bus->last.can_id = frame.id | CAN_EFF_FLAG;
+    bus->last.can_dlc = frame.len;
+    memcpy(bus->last.data, frame.data, frame.len);
+    bus->since = now;
+    if (write(bus->fd, &bus->last, sizeof bus->last) == (ssize_t)sizeof bus->last) {
+        bus->is_on_its_way = 1;
+        return 1;
+    }
+    /* no room, or the interface is down: the frame is lost, as one that nobody heard */
+    return errno == EAGAIN || errno == ENOBUFS || errno == EINTR || errno == ENETDOWN ? 0 : -1;
+}
+
+static void tell(caldrouz *node) {
+    const caldrouz_view view = caldrouz_look(node);
+    unsigned place;
+    fprintf(stderr, "role %d term %u last %u commit %u\n", (int)view.role, (unsigned)view.term, view.last, view.commit);
+    for (place = 1; place <= view.commit; place++) {
+        const caldrouz_entry entry = caldrouz_entry_at(node, (uint8_t)place);
+        unsigned i;
+        fprintf(stderr, "%u %u ", place, entry.node);
+        for (i = 0; i < 16; i++) {
+            fprintf(stderr, "%02x", entry.unique_id[i]);
+        }
+        fprintf(stderr, "\n");
+    }
+}
+
+int main(int count, char **words) {
+    static caldrouz node;
+    struct sigaction action = {.sa_handler = on_signal};
+    struct bus bus = {0};
+    uint32_t status;
+    int store;
+    if (count != 5) {
+        fprintf(stderr, "socketcan_node INTERFACE ID SIZE STORE\n");
+        return WRONG_WORDS;
+    }
+    sigaction(SIGTERM, &action, NULL);
+    sigaction(SIGINT, &action, NULL);
+    bus.fd = open_bus(words[1]);
+    store = open_store(words[4]);
+    if (bus.fd < 0 || store < 0) {
+        fprintf(stderr, "%s cannot be opened\n", bus.fd < 0 ? words[1] : words[4]);
+        return NOT_OPENED;
+    }
+    caldrouz_ages_empty(&bus.ages, now_ms());
+    status = caldrouz_init(&node, (uint32_t)atoi(words[2]), (uint32_t)atoi(words[3]), store);
+    if (status == CALDROUZ_DONE) {
+        status = caldrouz_open(&node, now_ms(), random_word());
+    }
+    /* a turn is that of `allocator node`: the clock, one frame that came, one frame to send */
+    while (status == CALDROUZ_DONE && !is_ended) {
+        int heard, sent;
+        status = caldrouz_tick(&node, now_ms(), random_word());
+        if (status != CALDROUZ_DONE) {
+            break;
+        }
+        heard = hear_one(&bus, &node, &status);
+        sent = status == CALDROUZ_DONE && heard >= 0 ? send_one(&bus, &node) : 0;
+        if (heard < 0 || sent < 0) {
+            perror(words[1]);
+            return BUS_FAILED;
+        }
+        if (heard == 0 && sent == 0) {
+            struct pollfd wait = {.fd = bus.fd, .events = POLLIN};
+            poll(&wait, 1, 1);
+        }
+    }
+    if (status != CALDROUZ_DONE) {
+        fprintf(stderr, "%s: status %u\n", words[4], (unsigned)status);
+        return status == CALDROUZ_NOT_MADE ? WRONG_WORDS : STORE_FAILED;
+    }
+    tell(&node);
+    return 0;
+}
