@@ -1,4 +1,15 @@
-"""What the tools share: frames and transfers, schedules and reports, logs of a bus, and `replay` as a partner.
+"""What the tools share. Python 3.9 or later with its standard library; nothing else is needed, and nothing here is proved:
+where it matters, the program is the judge.
 
-Python 3 with its standard library. Nothing here is proved: where it matters, the program is the judge.
+    table     data types, timers and sizes of the program, made from its sources by tools/make_table
+    wire      frames, identifiers, tails, transfers, and what transfers say
+    logs      recorded logs: logs.read(path).frames, each a Record with line, stamp, interface and frame
+    stores    stores of members: stores.read(path), a Store; Damaged where no member opens it
+    report    rows of schedules and lines of reports: read_row, read_line, and a type for each kind of line
+    runs      what a run did: runs.read(schedule, report, window), with lanes, arrows and marks
+    page      the page of a run, which tools/view writes
+    follow    from a log to the run that it shows: recording, partner, member, cluster, plans, search, story
+
+Each module says at its head how it is called. A tool that stands alone is made of its script and of this package by
+tools/make_standalone.
 """

@@ -1,446 +1,493 @@
-"""Schedules and reports, row by row, by docs/FORMATS.md: what a run did, as facts to draw. Not proved."""
-from . import bus
+"""What a run did, as facts to draw, from its schedule and its report. Not proved."""
+from __future__ import annotations
 
-CAUSES = {
-    1: "its node is no member of the cluster",
-    2: "its node does not run",
-    3: "its node runs already",
-    4: "no frame on the bus has this number yet",
-    5: "its node has nothing to send",
-    6: "a frame from outside may not come from a member, nor be of a type that members send each other",
-    7: "its node would put together frames of different transfers",
-    8: "its node would take the response to an earlier call for that to a later one",
-    9: "a device has a number of 1 to 8",
-    10: "this device is not open",
-    11: "this device is open already",
-}
-DROPS = {
-    "drop:1": "it is not for it",
-    "drop:2": "its start bit does not fit",
-    "drop:3": "its toggle is not the next one",
-    "drop:4": "its transfer ID is not the expected one",
-    "drop:5": "the CRC of its transfer is another",
-    "drop:6": "its length is none of a cutting",
-    "drop:7": "no block is free for it",
-    "drop:8": "no session is free for it",
-    "drop:9": "its identifier has no reading",
-}
-ROLES = {"F": "follower", "C": "candidate", "L": "leader"}
-ROW_LENGTHS = {
-    "open": 4,
-    "tick": 4,
-    "send": 2,
-    "rx": 4,
-    "ext": 3,
-    "crash": 4,
-    "fault": 3,
-    "aopen": 6,
-    "atick": 4,
-    "arx": 5,
-    "asend": 2,
-    "aend": 2,
-}
-MOMENTS = {"open": 2, "tick": 2, "rx": 3, "aopen": 4, "atick": 2, "arx": 3}
+from dataclasses import dataclass, field
+from typing import Any, Dict, Iterable, Iterator, List, NamedTuple, Optional, Set, Tuple
+
+from . import report, wire
+from .report import Row
 
 
 class Mismatch(Exception):
     """A schedule and a report that are not of one run, or cannot be read."""
 
 
-class Report:
-    """The lines of the rows, and what stands behind them."""
+class Window(NamedTuple):
+    """The rows of which all is kept, from the first to the last."""
 
-    def __init__(self, text):
-        whole, _, rest = text.rpartition("\n")
-        self.unfinished = rest  # a last line without its line feed: the report was cut in it
-        self.lines, self.tail = [], []
-        for line in whole.split("\n") if whole else []:
-            words = line.split(" ")
-            if not self.tail and words[0] == str(len(self.lines) + 1) and len(words) > 2:
-                self.lines.append(words)
-            else:
-                self.tail.append(words)
+    first: int
+    last: int
 
-    def end(self, rows):
-        """How the report ends: a key, and a sentence. `rows` are those of the schedule."""
-        count = len(self.lines)
-        last = self.tail[-1] if self.tail else [""]
+    def has(self, row: int) -> bool:
+        return self.first <= row <= self.last
 
-        def row(number):
-            return f"row {number}" + (f", `{rows[number - 1]}`," if 0 < number <= len(rows) else "")
 
-        if last[0] == "end" and last[1:] == [str(count)]:
-            return "whole", f"All {count:,} rows were taken."
-        if last[0] == "unlawful" and len(last) == 3:
-            cause = CAUSES.get(int(last[2]), f"cause {last[2]}")
-            return "refused", f"The run ends here: {row(int(last[1]))} is refused, since {cause} (cause {last[2]})."
-        if last[:2] == ["bad", "row"]:
-            return "refused", (
-                f"The run ends here: {row(int(last[2]))} cannot be read: "
-                "it is no row, has more than 120 bytes, or has no line feed."
-            )
-        if last[0] == "limit":
-            return "refused", f"The run ends here: row {last[1]} is one more than the words of `replay` allow."
-        where = f"after row {count}" + (f", inside the line '{self.unfinished}'" if self.unfinished else "")
-        return "cut", (
-            f"The report stops {where} and has no last line: its reading or writing failed "
-            "(exit code 5 or 6), or it was cut afterwards."
-        )
+EVERYTHING = Window(1, 1 << 62)
 
-    def logs(self):
-        """The committed logs at the end: member -> [(node ID, unique ID)], by place."""
-        found, member = {}, None
-        for words in self.tail:
-            if words[0] == "log" and len(words) == 3:
-                member = int(words[1])
-                found[member] = []
-            elif member is not None and len(words) == 3 and words[0].isdigit():
-                found[member].append((int(words[1]), words[2]))
-        return found
+
+class Changes:
+    """What a lane had, from which row on: [(row, *values)]. What held before the window is told as of its first row."""
+
+    def __init__(self, window: Window) -> None:
+        self.window = window
+        self.kept: List[Tuple[Any, ...]] = []
+        self.now: Optional[Tuple[Any, ...]] = None
+
+    def note(self, row: int, *values: Any) -> bool:
+        """Whether this is another than before."""
+        if values == self.now:
+            return False
+        self.now = values
+        if row <= self.window.first:
+            self.kept = [(self.window.first, *values)]
+        elif row <= self.window.last:
+            self.kept.append((row, *values))
+        return True
 
 
 class Lane:
-    """What is drawn of one member or one device."""
+    """What is drawn of one member, of one device, or of the outside."""
 
-    def __init__(self, kind, key, name):
+    def __init__(self, kind: str, key: str, name: str, window: Window) -> None:
         self.kind, self.key, self.name = kind, key, name
-        self.mode = "never"  # never, run, stopped, failed; of devices also wait and hold
-        self.role, self.term = "F", 0
+        self.mode = "never"  # never, run, stopped, failed; of devices also wait, hold, gone
+        self.role, self.term = report.FOLLOWER, 0
         self.last = self.commit = self.queued = 0
-        self.moment, self.known, self.holds = 0, [], 0
-        self.spans = []  # (row, what, term): from this row on
-        self.logs = []  # (row, last, commit): from this row on
-        self.changes = []  # (row, what, term, last, commit, queued, moment, known): the state from here on
+        self.moment, self.holds = 0, 0
+        self.known: List[int] = []
+        self.wins = 0  # how often it began to lead
+        self.spans = Changes(window)  # what, term
+        self.logs = Changes(window)  # last, commit
+        self.states = Changes(window)  # what, term, last, commit, queued, moment, known
 
-    def what(self):
+    @property
+    def node(self) -> int:
+        """The node ID of a member."""
+        return int(self.key)
+
+    def what(self) -> str:
         return self.role if self.mode == "run" else self.mode
 
-    def note(self, row):
+    def note(self, row: int) -> None:
         """Keeps what the row changed."""
-        span = (self.what(), self.term)
-        if not self.spans or self.spans[-1][1:] != span:
-            self.spans.append((row, *span))
-        if not self.logs or self.logs[-1][1:] != (self.last, self.commit):
-            self.logs.append((row, self.last, self.commit))
-        state = (
-            self.what(),
-            self.term,
-            self.last,
-            self.commit,
-            self.queued,
-            self.moment,
-            " ".join(map(str, self.known)),
-        )
-        if not self.changes or self.changes[-1][1:] != state:
-            self.changes.append((row, *state))
+        what = self.what()
+        if self.spans.note(row, what, self.term):
+            self.wins += what == report.LEADER
+        self.logs.note(row, self.last, self.commit)
+        known = " ".join(map(str, self.known))
+        self.states.note(row, what, self.term, self.last, self.commit, self.queued, self.moment, known)
 
 
-class Frame:
-    """A frame on the bus."""
+class BusFrame:
+    """A frame on the bus of a run."""
 
-    __slots__ = ("number", "row", "lane", "heading", "payload", "words", "ends", "had")
+    __slots__ = ("number", "row", "lane", "heading", "payload", "had")
 
-    def __init__(self, number, row, lane, heading):
+    def __init__(self, number: int, row: int, lane: Lane, heading: wire.Heading, payload: Optional[bytes]) -> None:
         self.number, self.row, self.lane, self.heading = number, row, lane, heading
-        self.payload, self.words, self.ends = None, "", False
-        self.had = set()  # the lanes that were given this frame
+        self.payload = payload  # of the transfer that is whole with this frame
+        self.had: Set[Lane] = set()  # the lanes that were given this frame
 
 
+class Arrow(NamedTuple):
+    """A receipt of a frame. `how` is changed, took, part, bad, dropped or unwanted."""
+
+    frame: BusFrame
+    row: int
+    to: Lane
+    how: str
+
+
+class Lost(NamedTuple):
+    """A frame that was never given to a member that it was for."""
+
+    frame: BusFrame
+    to: Lane
+
+
+class Mark(NamedTuple):
+    """What happened at a row. `what` is open, stop, fault, armed, full, told, commit or hold."""
+
+    row: int
+    lane: Lane
+    what: str
+    text: str
+
+
+@dataclass
+class Counts:
+    """Of the whole run."""
+
+    rows: int = 0
+    stops: int = 0  # of members
+    faults: int = 0
+    first_moment: Optional[int] = None
+    last_moment: int = 0
+
+
+@dataclass
 class Run:
-    """A run, read from its schedule and its report.
+    """A run, as far as it goes, and all of the rows of a window.
 
-    rows      the rows of the schedule that have a line, as they are
-    lines     their lines, as words
-    said      a sentence for each row ("" where the row changed nothing to speak of); of an `rx` what it led to
-    moments   the moment of each row: its own, else the latest of its member, else that of the row before
-    lanes     members by rising node ID, devices by unique ID in the order of their coming, and the outside (lane 0)
-    arrows    (row of the frame, row of the receipt, from, to, kind, how, frame); how: changed, took, part, bad, dropped
-    lost      (row, from, to, kind, frame): frames that were never given to a member that they were for
-    marks     (row, lane, what, text): open, stop, fault, armed, full, told, commit, hold
-    events    the rows at which something happened that a reader looks for
-    frames    what each frame says, by its number
+    rows      the rows of the window as they are
+    lines     their lines, without their numbers
+    said      a sentence for each ("" where it changed nothing to speak of, and of frames that come on the bus)
+    moments   the moment of each: its own, else the latest of its member, else that of the row before
+    marks, events, arrows, lost    of these rows
+    frames    all frames of the run by number
+    end       how the report ends: whole, refused or cut; and a sentence of it
     """
 
-    def __init__(self, schedule, report):
-        self.all_rows = schedule.split("\n")
-        if self.all_rows[-1] == "":
-            self.all_rows.pop()
-        self.report = Report(report)
-        self.lines = self.report.lines
-        total = len(self.lines)
-        if total > len(self.all_rows):
-            raise Mismatch(f"the report has {total} lines of rows, and the schedule {len(self.all_rows)} rows")
-        self.rows = self.all_rows[:total]
-        self.end, self.end_words = self.report.end(self.all_rows)
-        words = [row.split(" ") for row in self.rows]
-        for at, row in enumerate(words):
-            if len(row) != ROW_LENGTHS.get(row[0]):
-                raise Mismatch(
-                    f"row {at + 1} of the schedule, '{self.rows[at]}', is no row, and the report has a line for it"
-                )
-        self.members = sorted(
-            {int(row[1]) for row in words if row[0] in ("open", "tick", "send", "rx", "crash", "fault")}
+    window: Window
+    rows: List[str] = field(default_factory=list)
+    lines: List[str] = field(default_factory=list)
+    said: List[str] = field(default_factory=list)
+    moments: List[int] = field(default_factory=list)
+    arrows: List[Arrow] = field(default_factory=list)
+    lost: List[Lost] = field(default_factory=list)
+    marks: List[Mark] = field(default_factory=list)
+    events: Set[int] = field(default_factory=set)
+    frames: Dict[int, BusFrame] = field(default_factory=dict)
+    member_lanes: Dict[int, Lane] = field(default_factory=dict)
+    device_lanes: List[Lane] = field(default_factory=list)
+    counts: Counts = field(default_factory=Counts)
+    end: str = ""
+    end_words: str = ""
+    tail: report.End = field(default_factory=report.End)
+
+    def __post_init__(self) -> None:
+        self.outside = Lane("outside", "", "outside", self.window)
+
+    @property
+    def lanes(self) -> List[Lane]:
+        """The outside, devices by unique ID in the order of their coming, and members by rising node ID."""
+        return [self.outside, *self.device_lanes, *self.member_lanes.values()]
+
+    def words(self, frame: BusFrame) -> str:
+        """What a frame says."""
+        teller = wire.Teller(self.member_lanes)
+        if frame.payload is not None:
+            return teller.says(frame.heading, frame.payload)
+        unnamed = not frame.heading.source and frame.lane.kind in ("member", "device")
+        sender = f"of {frame.lane.name}" if unnamed else f"from {teller.name(frame.heading.source)}"
+        return f"a frame of {frame.heading.kind} {sender}"
+
+
+def read(rows: Iterable[str], lines: Iterable[str], window: Window = EVERYTHING) -> Run:
+    """The run of a schedule and a report, both line by line with their line feeds."""
+    run = Run(window)
+    reader, unfinished = _Reader(run), ""
+    schedule = (row[:-1] if row.endswith("\n") else row for row in rows)
+    in_tail = False
+    for line in lines:
+        if not line.endswith("\n"):
+            unfinished = line
+            break
+        text = line[:-1]
+        first, _, rest = text.partition(" ")
+        if in_tail or first != str(run.counts.rows + 1) or " " not in rest:
+            in_tail = True
+            run.tail.take(text)
+            continue
+        row = next(schedule, None)
+        if row is None:
+            raise Mismatch(f"the report has a line for row {first}, and the schedule has {run.counts.rows} rows")
+        run.counts.rows += 1
+        reader.take(run.counts.rows, row, text)
+    run.end, run.end_words = _read_end(run, unfinished, next(schedule, None))
+    run.member_lanes = dict(sorted(run.member_lanes.items()))
+    _give_devices_their_lanes(run)
+    run.lost = list(_find_lost(run))
+    return run
+
+
+def _read_end(run: Run, unfinished: str, following: Optional[str]) -> Tuple[str, str]:
+    """How the report ends: a key, and a sentence. `following` is the row behind those that have a line."""
+    count, last = run.counts.rows, run.tail.last
+
+    def row(word: str) -> str:
+        return f"row {word}" + (f", `{following}`," if following and word == str(count + 1) else "")
+
+    if last == ["end", str(count)]:
+        return "whole", f"All {count:,} rows were taken."
+    if last[:1] == ["unlawful"] and len(last) == 3 and last[2].isdigit():
+        cause = report.CAUSES.get(int(last[2][:9]), f"cause {last[2]}")
+        return "refused", f"The run ends here: {row(last[1])} is refused, since {cause} (cause {last[2]})."
+    if last[:2] == ["bad", "row"] and len(last) == 3:
+        return "refused", (
+            f"The run ends here: {row(last[2])} cannot be read: "
+            "it is no row, has more than 120 bytes, or has no line feed."
         )
-        self.teller = bus.Teller(self.members)
-        self.outside = Lane("outside", 0, "outside")
-        self.member_lanes = {m: Lane("member", m, f"member {m}") for m in self.members}
-        self.device_lanes, self.slots = [], {}
-        self.frames, self.arrows, self.lost, self.marks, self.events = {}, [], [], [], []
-        self.said, self.moments = [], []
-        self.transfers = bus.Transfers()
+    if last[:1] == ["limit"] and len(last) == 2:
+        return "refused", f"The run ends here: row {last[1]} is one more than the words of `replay` allow."
+    where = f"after row {count}" + (f", inside the line '{unfinished}'" if unfinished else "")
+    return "cut", (
+        f"The report stops {where} and has no last line: its reading or writing failed "
+        "(exit code 5 or 6), or it was cut afterwards."
+    )
+
+
+class _Reader:
+    """Goes through the rows and their lines."""
+
+    def __init__(self, run: Run) -> None:
+        self.run, self.window = run, run.window
+        self.slots: Dict[str, Lane] = {}  # the devices that are there, by their subject
+        self.transfers = wire.Transfers()
         self.now = 0
-        for lane in self.member_lanes.values():
-            lane.note(1)
-        for at, row in enumerate(words):
-            self._take(at + 1, row, self.lines[at])
-        self._find_lost()
-        self._give_devices_their_lanes()
-        self.lanes = [self.outside, *self.device_lanes, *self.member_lanes.values()]
 
-    # --- one row
-
-    def _take(self, number, row, line):
-        name = row[0]
-        if name in MOMENTS:
-            self.now = int(row[MOMENTS[name]])
-        expected = "ext" if name == "ext" else ("a" if name[0] == "a" else "") + row[1]
-        if line[1] != expected:
+    def take(self, number: int, text: str, line_text: str) -> None:
+        try:
+            row = report.read_row(text)
+        except report.NotARow:
             raise Mismatch(
-                f"line {number} of the report, '{' '.join(line)}', is not that of row {number} of the schedule, "
-                f"'{' '.join(row)}'"
+                f"row {number} of the schedule, '{text}', is no row, and the report has a line for it"
+            ) from None
+        if row.moment is not None:
+            self.now = row.moment
+        words = line_text.split(" ", 2)
+        if words[1] != row.subject:
+            raise Mismatch(
+                f"line {number} of the report, '{line_text}', is not that of row {number} of the schedule, '{text}'"
             )
         try:
-            if name == "ext":
-                said = self._put(number, self.outside, int(line[2]), row[1], row[2])
-            elif name[0] == "a":
-                said = self._device(number, row, line)
-            else:
-                said = self._member(number, row, line, self.member_lanes[int(row[1])])
-        except (IndexError, ValueError, KeyError):
-            raise Mismatch(
-                f"line {number} of the report, '{' '.join(line)}', is none of row '{' '.join(row)}'"
-            ) from None
-        self.said.append(said)
-        self.moments.append(self.now)
+            said = self._change(number, row, report.read_line(line_text).event)
+        except (LookupError, ValueError):
+            raise Mismatch(f"line {number} of the report, '{line_text}', is none of row '{text}'") from None
+        counts = self.run.counts
+        counts.first_moment = self.now if counts.first_moment is None else min(counts.first_moment, self.now)
+        counts.last_moment = max(counts.last_moment, self.now)
+        if self.window.has(number):
+            self.run.rows.append(text)
+            self.run.lines.append(line_text.partition(" ")[2])
+            self.run.said.append(said)
+            self.run.moments.append(self.now)
 
-    def _mark(self, number, lane, what, text=""):
-        self.marks.append((number, lane, what, text))
-        self.events.append(number)
-
-    def _put(self, number, lane, frame_number, identifier, data):
-        """A frame that comes on the bus."""
-        heading = bus.Heading(int(identifier, 16))
-        data = bytes.fromhex(data)
-        frame = Frame(frame_number, number, lane, heading)
-        frame.payload = self.transfers.take(id(lane), heading.identifier, data)
-        frame.ends = bool(data[-1] & bus.END)
-        if frame.payload is not None:
-            frame.words = self.teller.says(heading, frame.payload)
-            pair = bus.told(heading, frame.payload)
-            if pair and lane.kind == "member":
-                self._mark(number, lane, "told", str(pair[0]))
-        else:
-            of = (
-                f"from {self.teller.name(heading.source)}"
-                if heading.source or lane.kind == "outside"
-                else f"of {lane.name}"
-            )
-            frame.words = f"a frame of {heading.kind} {of}"
-        self.frames[frame_number] = frame
-        return frame.words
-
-    def _member(self, number, row, line, lane):
-        what, said = line[2], ""
-        if row[0] == "rx" and what in ("stop", "fault"):
-            seen = "unwanted" if lane.mode == "failed" else "changed"  # it ended in this step, or had failed before
-            self._draw(number, self.frames[int(row[2])], lane, seen)
-        if row[0] in MOMENTS and what != "fault":
-            lane.moment = self.now if row[0] == "open" else max(lane.moment, self.now)
-        if row[0] == "send":
+    def _change(self, number: int, row: Row, event: report.Event) -> str:
+        """What a row did, in words."""
+        if isinstance(event, report.Outside):
+            self._put(number, self.run.outside, event.number, report.frame(row.words[1], row.words[2]))
+            return ""
+        lane = self._device_lane(row) if row.name[0] == "a" else self._member_lane(row)
+        if isinstance(event, report.Sent):
             self.now = lane.moment
             lane.queued = max(0, lane.queued - 1)
-            said = self._put(number, lane, int(line[3]), line[4], line[5])
-        elif what == "open":
-            lane.mode, lane.role, lane.queued, lane.known = "run", "F", 0, [lane.key]
-            lane.term, lane.last, lane.commit = int(line[3]), int(line[5]), int(line[6])
-            vote = f", its vote is for {line[4]}" if line[4] != "0" else ""
-            said = f"{lane.name} opens: term {lane.term}{vote}, {lane.last} entries, {lane.commit} committed"
-            self._mark(number, lane, "open")
-        elif what == "stop":
-            lane.mode, lane.queued, lane.known = "stopped", 0, []
-            said = f"{lane.name} stops" + ("" if row[0] == "crash" else f" inside its {row[0]}")
-            self._mark(number, lane, "stop")
-        elif what == "fault":
-            if row[0] != "open" and lane.mode != "failed":
-                lane.mode, lane.queued = "failed", 0
-                self._mark(number, lane, "fault")
-            elif row[0] == "open":
-                self._mark(number, lane, "fault")
-            said = f"{lane.name}: its disk failed"
-        elif what == "armed":
-            said = f"{lane.name}: a {'stop' if row[0] == 'crash' else 'failure'} is armed for device call {row[2]}"
-            self._mark(number, lane, "armed", row[2])
-        elif what in ROLES:
-            said = self._step(number, row, line, lane)
+            self._put(number, lane, event.number, event.frame)
+            said = ""
+        elif lane.kind == "device":
+            said = self._device(number, row, event, lane)
         else:
-            raise ValueError
+            said = self._member(number, row, event, lane)
         lane.note(number)
         return said
 
-    def _step(self, number, row, line, lane):
-        before = (lane.role, lane.term, lane.last, lane.commit, tuple(lane.known))
-        lane.mode, lane.role, lane.term = "run", line[2], int(line[3])
-        lane.last, lane.commit, lane.queued = int(line[4]), int(line[5]), int(line[6])
-        seen, marks, said = line[7], line[8:], []
-        if (lane.role, lane.term) != before[:2]:
+    def _mark(self, number: int, lane: Lane, what: str, text: str = "") -> None:
+        if lane.kind == "member":
+            self.run.counts.stops += what == "stop"
+            self.run.counts.faults += what == "fault"
+        if self.window.has(number):
+            self.run.marks.append(Mark(number, lane, what, text))
+        self._event(number)
+
+    def _event(self, number: int) -> None:
+        if self.window.has(number):
+            self.run.events.add(number)
+
+    def _put(self, number: int, lane: Lane, frame_number: int, frame: wire.Frame) -> None:
+        """A frame comes on the bus."""
+        heading, payload = frame.heading, self.transfers.take(lane, frame)
+        if payload is not None and lane.kind == "member":
+            pair = wire.told(heading, payload)
+            if pair:
+                self._mark(number, lane, "told", str(pair[0]))
+        self.run.frames[frame_number] = BusFrame(frame_number, number, lane, heading, payload)
+
+    def _draw(self, number: int, frame: BusFrame, lane: Lane, how: str) -> None:
+        if self.window.has(frame.row):
+            frame.had.add(lane)
+        if self.window.has(number):
+            self.run.arrows.append(Arrow(frame, number, lane, how))
+
+    # --- members
+
+    def _member_lane(self, row: Row) -> Lane:
+        node = int(row.subject)
+        if node not in self.run.member_lanes:
+            self.run.member_lanes[node] = lane = Lane("member", row.subject, f"member {node}", self.window)
+            lane.note(1)
+        return self.run.member_lanes[node]
+
+    def _member(self, number: int, row: Row, event: report.Event, lane: Lane) -> str:
+        what = event.word if isinstance(event, report.Plain) else ""
+        if row.name == "rx" and what in ("stop", "fault"):
+            seen = "unwanted" if lane.mode == "failed" else "changed"  # it ended in this step, or had failed before
+            self._draw(number, self.run.frames[row.frame], lane, seen)
+        if row.moment is not None and what != "fault":
+            lane.moment = self.now if row.name == "open" else max(lane.moment, self.now)
+        if isinstance(event, report.Step):
+            return self._step(number, row, event, lane)
+        if isinstance(event, report.Opening):
+            lane.mode, lane.role, lane.queued, lane.known = "run", report.FOLLOWER, 0, [lane.node]
+            lane.term, lane.last, lane.commit = event.term, event.last, event.commit
+            vote = f", its vote is for {event.vote}" if event.vote else ""
+            self._mark(number, lane, "open")
+            return f"{lane.name} opens: term {lane.term}{vote}, {lane.last} entries, {lane.commit} committed"
+        if what == "stop":
+            lane.mode, lane.queued, lane.known = "stopped", 0, []
+            self._mark(number, lane, "stop")
+            return f"{lane.name} stops" + ("" if row.name == "crash" else f" inside its {row.name}")
+        if what == "fault":
+            if row.name == "open" or lane.mode != "failed":
+                self._mark(number, lane, "fault")
+            if row.name != "open":
+                lane.mode, lane.queued = "failed", 0
+            return f"{lane.name}: its disk failed"
+        if what == "armed":
+            self._mark(number, lane, "armed", row.words[2])
+            return f"{lane.name}: a {'stop' if row.name == 'crash' else 'failure'} is armed for device call {row.words[2]}"
+        raise ValueError
+
+    def _step(self, number: int, row: Row, step: report.Step, lane: Lane) -> str:
+        role, term, last, commit, known = lane.role, lane.term, lane.last, lane.commit, lane.known
+        lane.mode, lane.role, lane.term = "run", step.role, step.term
+        lane.last, lane.commit, lane.queued = step.last, step.commit, step.queued
+        said = []
+        if (role, term) != (step.role, step.term):
             what = {"F": "follows", "C": "asks to lead", "L": "leads"}[lane.role]
             said.append(f"{lane.name} {what} in term {lane.term}")
-            self.events.append(number)
-        if lane.last != before[2]:
+            self._event(number)
+        if last != step.last:
             said.append(f"{lane.name} has {lane.last} entries")
-        if lane.commit > before[3]:
+        if step.commit > commit:
             said.append(f"{lane.name} commits up to place {lane.commit}")
             self._mark(number, lane, "commit", str(lane.commit))
-        if any(mark[0] == "-" for mark in marks):
+        if not all(mark.fitted for mark in step.marks):
             said.append("a transfer does not fit into its queue")
             self._mark(number, lane, "full")
-        if row[0] == "rx":
-            frame = self.frames[int(row[2])]
-            if seen == "took" and frame.heading.kind == "disc":
-                self._hear(lane, frame)
-            answers = [mark for mark in marks if not mark.startswith(("+stat", "+disc", "+app:", "+infoq"))]
-            changed = bool(answers) or before != (lane.role, lane.term, lane.last, lane.commit, tuple(lane.known))
-            self._arrow(
-                number, frame, lane, seen, changed or frame.heading.kind in ("vote", "voteq", "info", "infoq")
-            )
-            if len(lane.known) != len(before[4]):
+        if row.name == "rx":
+            frame = self.run.frames[row.frame]
+            if step.seen == "took" and frame.heading.kind == "disc":
+                _hear(lane, frame)
+            changed = (role, term, last, commit) != (step.role, step.term, step.last, step.commit)
+            changed = changed or len(known) != len(lane.known)
+            answers = any(not mark.fitted or mark.name not in ("stat", "disc", "app", "infoq") for mark in step.marks)
+            asks = frame.heading.kind in ("vote", "voteq", "info", "infoq")
+            self._receive(number, frame, lane, step.seen, changed or answers or asks)
+            if len(known) != len(lane.known):
                 said.append(f"{lane.name} knows {', '.join(map(str, lane.known))}")
         return "; ".join(said)
 
-    def _hear(self, lane, frame):
-        """A list that a member heard is joined to its own, as far as the cluster's size goes."""
-        size = frame.payload[0]
-        if frame.heading.source != lane.key:
-            for node in [frame.heading.source, *frame.payload[1:]]:
-                if node not in lane.known and 1 <= node <= 125 and len(lane.known) < size:
-                    lane.known = lane.known + [node]
-
-    def _arrow(self, number, frame, lane, seen, changed):
+    def _receive(self, number: int, frame: BusFrame, lane: Lane, seen: str, changed: bool) -> None:
         how = seen if seen in ("part", "bad") else "unwanted" if seen == "drop:1" else "dropped"
         if seen == "took":
             how = "changed" if changed else "took"
         self._draw(number, frame, lane, how)
 
-    def _draw(self, number, frame, lane, how):
-        frame.had.add(lane)
-        self.arrows.append((frame.row, number, frame.lane, lane, frame.heading.kind, how, frame.number))
+    # --- devices
 
-    def _device(self, number, row, line):
-        slot, name = row[1], row[0]
-        if name == "aopen":
-            lane = self._device_lane(row[2].lower())
-            self.slots[slot] = lane
+    def _device_lane(self, row: Row) -> Lane:
+        """The lane of a device: of one that comes, the one that its unique ID had, unless a device that is there has
+        that still."""
+        if row.name != "aopen":
+            return self.slots[row.subject]
+        unique_id = row.words[2].lower()
+        for lane in self.run.device_lanes:
+            if lane.key == unique_id and lane not in self.slots.values():
+                break
+        else:
+            lane = Lane("device", unique_id, unique_id, self.window)
+            lane.note(1)
+            self.run.device_lanes.append(lane)
+        self.slots[row.subject] = lane
+        return lane
+
+    def _device(self, number: int, row: Row, event: report.Event, lane: Lane) -> str:
+        if isinstance(event, report.DeviceStep):
+            return self._device_step(number, row, event, lane)
+        if row.name == "aopen":
             lane.mode, lane.holds, lane.queued, lane.moment = "wait", 0, 0, self.now
             self._mark(number, lane, "open")
-            wish = f", and would like node ID {row[3]}" if row[3] != "0" else ""
-            said = f"the device {lane.key} is there (a{slot}){wish}"
-        else:
-            lane = self.slots[slot]
-            if name == "aend":
-                lane.mode, lane.queued, said = "gone", 0, f"the device a{slot} goes"
-                self._mark(number, lane, "stop")
-                del self.slots[slot]
-            elif name == "asend":
-                self.now = lane.moment
-                lane.queued = max(0, lane.queued - 1)
-                said = self._put(number, lane, int(line[3]), line[4], line[5])
-            else:
-                said = self._device_step(number, row, line, lane)
-        lane.note(number)
-        return said
+            wish = f", and would like node ID {row.words[3]}" if row.words[3] != "0" else ""
+            return f"the device {lane.key} is there ({row.subject}){wish}"
+        if row.name == "aend":
+            lane.mode, lane.queued = "gone", 0
+            self._mark(number, lane, "stop")
+            del self.slots[row.subject]
+            return f"the device {row.subject} goes"
+        raise ValueError
 
-    def _device_step(self, number, row, line, lane):
+    def _device_step(self, number: int, row: Row, step: report.DeviceStep, lane: Lane) -> str:
         lane.moment = max(lane.moment, self.now)
         before, said = (lane.mode, lane.holds), []
-        lane.mode, lane.queued = line[2].split(":")[0], int(line[3])
-        lane.holds = int(line[2].split(":")[1]) if ":" in line[2] else 0
-        if lane.mode not in ("wait", "hold"):
-            raise ValueError
-        lane.term = lane.holds
+        lane.mode, lane.queued = "hold" if step.holds else "wait", step.queued
+        lane.holds = lane.term = step.holds
         if (lane.mode, lane.holds) != before:
             said.append(f"the device {lane.key} holds node ID {lane.holds}")
             self._mark(number, lane, "hold", str(lane.holds))
-        if any(mark[0] == "-" for mark in line[5:]):
+        if not all(mark.fitted for mark in step.marks):
             said.append("a request does not fit into its queue")
             self._mark(number, lane, "full")
-        if row[0] == "arx":
-            frame = self.frames[int(row[2])]
+        if row.name == "arx":
+            frame = self.run.frames[row.frame]
             payload = frame.payload or b""
-            mine = frame.heading.source and len(payload) > 1 and lane.key.startswith(payload[1:].hex())
-            self._arrow(number, frame, lane, line[4], bool(mine) and before[0] == "wait")
+            mine = bool(frame.heading.source) and len(payload) > 1 and lane.key.startswith(payload[1:].hex())
+            self._receive(number, frame, lane, step.seen, mine and before[0] == "wait")
         return "; ".join(said)
 
-    def _device_lane(self, unique_id):
-        """The lane of a unique ID: the one that it had, unless a device that is there still has it."""
-        for lane in self.device_lanes:
-            if lane.key == unique_id and lane not in self.slots.values():
-                return lane
-        lane = Lane("device", unique_id, unique_id)
-        lane.note(1)
-        self.device_lanes.append(lane)
-        return lane
 
-    # --- the whole run
+def _hear(lane: Lane, frame: BusFrame) -> None:
+    """A list that a member heard is joined to its own, as far as the cluster's size goes."""
+    if not frame.payload:
+        raise ValueError
+    size = frame.payload[0]
+    if frame.heading.source != lane.node:
+        for node in [frame.heading.source, *frame.payload[1:]]:
+            if node not in lane.known and 1 <= node <= 125 and len(lane.known) < size:
+                lane.known = lane.known + [node]
 
-    def _find_lost(self):
-        for frame in self.frames.values():
-            kind, to = frame.heading.kind, frame.heading.destination
-            if kind == "other" or kind == "alloc" and frame.heading.source:
-                continue  # no member takes these
-            for member in [to] if to else self.members:
-                lane = self.member_lanes.get(member)
-                if lane and lane not in frame.had and lane is not frame.lane:
-                    self.lost.append((frame.row, frame.lane, lane, kind, frame.number))
 
-    def _give_devices_their_lanes(self):
-        """Requests from outside go to the lanes of the unique IDs that they are of, as far as these are known."""
-        known = {lane.key: lane for lane in self.device_lanes}
-        whole = [f for f in self.frames.values() if f.payload is not None]
-        pairs = [(f, *bus.told(f.heading, f.payload)) for f in whole if bus.told(f.heading, f.payload)]
-        unique_ids = dict.fromkeys(unique_id for _, _, unique_id in pairs)
-        unique_ids.update(
-            dict.fromkeys(u for log in self.report.logs().values() for n, u in log if n and u != bus.NO_UNIQUE_ID)
-        )
-        moved, later = {}, None
-        for frame in reversed(whole):
-            part = bus.asked_part(frame.heading, frame.payload) if frame.lane is self.outside else None
-            if part is None:
-                continue
-            at, digits = part
-            fit = [u for u in {**known, **unique_ids} if u[2 * at : 2 * at + len(digits)] == digits]
-            if len(fit) != 1 and later not in fit:
-                continue
-            later = later if later in fit else fit[0]  # several fit: it is of the device whose next stage follows
-            if later not in known:
-                known[later] = lane = Lane("heard", later, later)
-                self.device_lanes.append(lane)
-            frame.lane = moved[frame.number] = known[later]
-        self.device_lanes.sort(
-            key=lambda lane: min((f.row for f in whole if f.lane is lane), default=0) if lane.kind == "heard" else 0
-        )
-        self.arrows = [
-            (a, b, moved.get(k, source), to, kind, how, k) for a, b, source, to, kind, how, k in self.arrows
-        ]
-        self.lost = [(a, moved.get(k, source), to, kind, k) for a, source, to, kind, k in self.lost]
-        for frame, node, unique_id in pairs:
-            lane = known.get(unique_id)
-            if lane is not None and lane.kind == "heard" and frame.lane.kind == "member":
-                self.marks.append((frame.row, lane, "told", str(node)))
+# --- the whole run
 
-    def places(self):
-        """The places of the committed logs at the end: [(place, node ID, unique ID, the members that have it)]."""
-        found = {}
-        for member, log in self.report.logs().items():
-            for place, (node, unique_id) in enumerate(log, 1):
-                found.setdefault((place, node, unique_id), []).append(member)
-        return [(*key, found[key]) for key in sorted(found)]
+
+def _find_lost(run: Run) -> Iterator[Lost]:
+    for frame in run.frames.values():
+        kind, to = frame.heading.kind, frame.heading.destination
+        if not run.window.has(frame.row) or kind == wire.OTHER or kind == "alloc" and frame.heading.source:
+            continue  # (no member takes these)
+        for member in [to] if to else run.member_lanes:
+            lane = run.member_lanes.get(member)
+            if lane and lane not in frame.had and lane is not frame.lane:
+                yield Lost(frame, lane)
+
+
+def _give_devices_their_lanes(run: Run) -> None:
+    """Requests from outside go to the lanes of the unique IDs that they are of, as far as these are known."""
+    lanes = {lane.key: lane for lane in run.device_lanes}
+    whole = [(frame, frame.payload) for frame in run.frames.values() if frame.payload is not None]
+    told = [(frame, wire.told(frame.heading, payload)) for frame, payload in whole]
+    pairs = [(frame, *pair) for frame, pair in told if pair]
+    unique_ids = dict.fromkeys([*lanes, *(unique_id for _, _, unique_id in pairs)])
+    for log in run.tail.logs.values():
+        unique_ids.update(dict.fromkeys(u for node, u in log if node and u != wire.NO_UNIQUE_ID))
+    later: Optional[str] = None
+    first_rows: Dict[Lane, int] = {}
+    for frame, payload in reversed(whole):
+        part = wire.asked_part(frame.heading, payload) if frame.lane is run.outside else None
+        if part is None:
+            continue
+        at, digits = part
+        fit = [u for u in unique_ids if u[2 * at : 2 * at + len(digits)] == digits]
+        if len(fit) != 1 and later not in fit:
+            continue
+        if later is None or later not in fit:  # (several fit: it is of the device whose next stage follows)
+            later = fit[0]
+        if later not in lanes:
+            lanes[later] = Lane("heard", later, later, run.window)
+            run.device_lanes.append(lanes[later])
+        frame.lane = lanes[later]
+        first_rows[frame.lane] = frame.row
+    run.device_lanes.sort(key=lambda lane: first_rows[lane] if lane.kind == "heard" else 0)
+    for frame, node, unique_id in pairs:
+        lane = lanes.get(unique_id)
+        if lane and lane.kind == "heard" and frame.lane.kind == "member" and run.window.has(frame.row):
+            run.marks.append(Mark(frame.row, lane, "told", str(node)))

@@ -214,6 +214,12 @@ impl<D: Disk, F: Copy> Server<D, F> {
             FailsToOpen D.Disk (disk_at self.old) (disk_at self.new)) }
 
         ensures closed { IsErr result → IsSome (fault_at self.new) }
+
+        // What it keeps after a refusal is the fault that it answers, and it has the count of the disk.
+        ensures kept { IfErr result (λ why. (fault : Fault) → why ≡ DiskFault fault →
+            fault_at self.new ≡ Some fault) }
+        ensures count { OnErr result (IfSome (fault_at self.new) (λ fault.
+            fault.count ≡ D.faults (disk_at self.new))) }
         ensures lost { OnErr result (waiting self.new ≡ []) }
         ensures tells { D.tells (disk_at self.new) ≡ D.tells (disk_at self.old) }
         ensures later { D.faults (disk_at self.old) ≤ D.faults (disk_at self.new) }

@@ -32,3 +32,4 @@ pub mod StepDuties
 pub mod Commits
 pub mod MemberLists
 pub mod StepMessages
+pub mod FreeNodes

@@ -45,7 +45,7 @@ module _ {L D : Type 0} (coming : L → Option (List Received)) (sent : L → Op
     pub promise : KeepsInTraces (Turning taken place)
 
 -- what it leaves and writes; and, where links, disks and the clock tell what they have, what it is in the traces of a
--- cluster. A run that was cut off at an opening touched no link
+-- cluster. A run that was cut off at an opening touched no link; one whose output failed is one of the three
 pub record RunsInTraces {L D : Type 0} (coming : L → Option (List Received)) (sent : L → Option (List RawFrame))
     (link_faults : L → ℕ) (disk : Ghosts D) (size turns : ℕ) (ids : List ℕ) (links_old links : List L)
     (disks_old disks : List (Option D)) (readings_old readings : Option (List ℕ)) (faults_old faults : ℕ)

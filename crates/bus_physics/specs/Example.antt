@@ -19,7 +19,7 @@ before = record { at = 7; row = Open 1 0 0 }
     ∷ record { at = 1008; row = Send 1 }
     ∷ []
 
--- it comes to member 2, and to allocatee 1
+-- frame 1 comes to member 2, and to allocatee 1
 abbrev pub at_member : Timed
 at_member = record { at = 1050; row = Rx 2 1 1541 }
 

@@ -59,10 +59,11 @@ readings_after a past w at (ARx b k ms word) =
     if a == b then record { at = at; now = now_of (w.allocatee b) ms } ∷ past else past
 readings_after a past w at row = past
 
--- since each earlier reading the time went on, and the clock did, as much but for the drift; of more than a minute it is
--- asked that the clock went on by nearly that
+-- Since each earlier reading the time went on, and the clock did, as much but for the drift. Where more than a minute
+-- went by, the clock went on by a minute but for the drift, or more.
 abbrev pub GoesOn : Limits → List Reading → ℕ → ℕ → Type 0
-GoesOn limits past at now = (p : Reading) → In p past → (p.at ≤ at) × (p.now + min (at - p.at) 60000 ≤ now + limits.drift)
+GoesOn limits past at now = (p : Reading) → In p past →
+    (p.at ≤ at) × (p.now + min (at - p.at) 60000 ≤ now + limits.drift)
 
 -- ---- a frame
 
@@ -121,7 +122,8 @@ member_readings n past w at (Rx m k ms) =
 member_readings n past w at row = past
 
 abbrev pub ClockGoesOnAt : Limits → ℕ → List Reading → Cluster → ℕ → Row → Type 0
-ClockGoesOnAt limits n past w at (Tick m ms word) = OfIt (n == m) (GoesOn limits past at (now_in (w.member m).status ms))
+ClockGoesOnAt limits n past w at (Tick m ms word) =
+    OfIt (n == m) (GoesOn limits past at (now_in (w.member m).status ms))
 ClockGoesOnAt limits n past w at (Rx m k ms) = OfIt (n == m) (GoesOn limits past at (now_in (w.member m).status ms))
 ClockGoesOnAt limits n past w at row = ⊤
 
@@ -154,8 +156,8 @@ pub record IsResponseOf (number source dest : ℕ) (frame : Queued) : Type 0 whe
 -- the answers of a node to another one come in the order of the calls, each once: one that was heard answers an earlier
 -- call
 abbrev pub AnswersInOrder : List Queued → Queued → Type 0
-AnswersInOrder heard frame = (other : Queued) (number source dest : ℕ) → In other heard → IsResponseOf number source dest other
-    → IsResponseOf number source dest frame → other.mark.re < frame.mark.re
+AnswersInOrder heard frame = (other : Queued) (number source dest : ℕ) → In other heard
+    → IsResponseOf number source dest other → IsResponseOf number source dest frame → other.mark.re < frame.mark.re
 
 -- a call of these was answered: the first one, or one that the member made later to the same node, of the same service
 pub record IsAnswered (made : List SentTransfer) (heard : List Queued) (first : SentTransfer) : Type 0 where
@@ -167,8 +169,8 @@ pub record IsAnswered (made : List SentTransfer) (heard : List Queued) (first : 
   pub is : IsResponseOf (number_of first.offer.what) first.offer.to first.by answer
   pub answers : answer.mark.re ≡ later.step
 
--- Member n makes one call to a node at a time: so where a transfer ID of a service comes round, more time has passed than a
--- call and its answer may take, or one of the calls since the first one was answered.
+-- Member n makes one call to a node at a time: so where a transfer ID of a service comes round, more time has passed
+-- than a call and its answer may take, or one of the calls since the first one was answered.
 abbrev pub WaitsForAnswers : Limits → List Timed → List SentTransfer → List Queued → ℕ → Type 0
 WaitsForAnswers limits all made heard n = (x y : SentTransfer) → In x made → In y made → x.by ≡ n → y.by ≡ n
     → x.offer.what ≡ y.offer.what → x.offer.to ≡ y.offer.to → x.offer.id ≡ y.offer.id → x.step < y.step
@@ -193,10 +195,11 @@ IsInOrder n heard w row = ⊤
 -- to member n, which heard these before
 abbrev pub ComeInOrder : ℕ → List Queued → Cluster → List Row → Type 0
 ComeInOrder n heard w [] = ⊤
-ComeInOrder n heard w (row ∷ rows) = IsInOrder n heard w row × ComeInOrder n (heard ++ heard_in n w row) (after_row w row) rows
+ComeInOrder n heard w (row ∷ rows) =
+    IsInOrder n heard w row × ComeInOrder n (heard ++ heard_in n w row) (after_row w row) rows
 
--- a frame was heard that was made between these two, under the same identifier: a first one, and with a transfer ID that is
--- neither theirs nor the one before
+-- a frame was heard that was made between these two, under the same identifier: a first one, and with a transfer ID
+-- that is neither theirs nor the one before
 pub record IsParted (heard : List Queued) (x y : SentTransfer) : Type 0 where
   pub frame : Queued
   pub came : In frame heard
@@ -207,8 +210,8 @@ pub record IsParted (heard : List Queued) (x y : SentTransfer) : Type 0 where
   pub later : x.step < frame.mark.step
   pub sooner : frame.mark.step < y.step
 
--- No member uses a transfer ID for one kind, and for all or for member n, again so soon, or member n heard a transfer that it
--- made between the two.
+-- No member uses a transfer ID for one kind, and for all or for member n, again so soon, or member n heard a transfer
+-- that it made between the two.
 abbrev pub UsesIdsApart : Limits → List Timed → List SentTransfer → List Queued → ℕ → Type 0
 UsesIdsApart limits all made heard n = (x y : SentTransfer) → In x made → In y made → x.by ≡ y.by
     → x.offer.what ≡ y.offer.what → x.offer.to ≡ y.offer.to → x.offer.id ≡ y.offer.id → x.step < y.step
@@ -245,10 +248,12 @@ ComeInOrderToDevice a heard w (row ∷ rows) = IsInOrderToDevice a heard w row
     × ComeInOrderToDevice a (heard ++ device_heard_in a w row) (after_row w row) rows
 
 -- No member uses a transfer ID of its Allocations again within the longest hold and two seconds, also where it was
--- started again in between; or frames come in order, and the allocatee heard an Allocation that the member made between the
--- two. Each Allocation has three frames at the most.
-pub record AllocatesApart (limits : Limits) (all : List Timed) (made : List SentTransfer) (heard : List Queued) (Ordered : Type 0) : Type 0 where
+-- started again in between; or frames come in order, and the allocatee heard an Allocation that the member made between
+-- the two. Each Allocation has three frames at the most.
+pub record AllocatesApart (limits : Limits) (all : List Timed) (made : List SentTransfer) (heard : List Queued)
+    (Ordered : Type 0) : Type 0 where
   pub apart : (x y : SentTransfer) → In x made → In y made → x.offer.what ≡ Alloc → y.offer.what ≡ Alloc → x.by ≡ y.by
       → x.offer.id ≡ y.offer.id → x.step < y.step
-      → AreApart (limits.hold + 2000 + limits.drift) (time_of all x.step) (time_of all y.step) ⊎ (Ordered × IsParted heard x y)
+      → AreApart (limits.hold + 2000 + limits.drift) (time_of all x.step) (time_of all y.step)
+      ⊎ (Ordered × IsParted heard x y)
   pub short : (x : SentTransfer) → In x made → x.offer.what ≡ Alloc → frame_count (length x.offer.payload) ≤ 3

@@ -23,7 +23,8 @@ MayDo (Stops n) w = MayTurn n w
 MayDo (IsKilled n moment word came puts) w =
     let ticked : Cluster = after_rows w (Crash n (4 * puts + 1) Old ∷ Tick n moment word ∷ []) in
     MayTurn n w × (is_running (ticked.member n).status ≡ true → MayCome came ticked)
-MayDo (OfAllocatee row) w = (is_of_allocatee row ≡ true) × ((why : Unlawful) → cause w row ≡ Some why → is_of_bus why ≡ true)
+MayDo (OfAllocatee row) w =
+    (is_of_allocatee row ≡ true) × ((why : Unlawful) → cause w row ≡ Some why → is_of_bus why ≡ true)
 
 abbrev pub MayAllDo : List Event → Cluster → Type 0
 MayAllDo [] w = ⊤

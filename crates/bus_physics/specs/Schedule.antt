@@ -16,11 +16,13 @@ use Rattle.bus_physics.specs.Reuse.{LacksFrames}
 pub record MemberHears (limits : Limits) (ids : List ℕ) (before : List Timed) (now : Timed) (n k : ℕ) : Type 0 where
   pub comes : FramesComeInTime limits (before ++ now ∷ []) (cluster ids) (before ++ now ∷ [])
   pub clock : ClockGoesOn limits n [] (cluster ids) (before ++ now ∷ [])
-  pub order : AnswersInOrder (heard_by n (cluster ids) (rows_in before)) (frame_at (world_of ids (rows_in before)).frames k)
+  pub order : AnswersInOrder (heard_by n (cluster ids) (rows_in before))
+      (frame_at (world_of ids (rows_in before)).frames k)
   pub waits : WaitsForAnswers limits (before ++ now ∷ []) (transfers_of_rows (cluster ids) (rows_in before) [])
       (heard_by n (cluster ids) (rows_in before)) n
   pub earlier : ComeInOrder n [] (cluster ids) (rows_in before)
-  pub behind : ComesInOrder n (heard_by n (cluster ids) (rows_in before)) (frame_at (world_of ids (rows_in before)).frames k)
+  pub behind : ComesInOrder n (heard_by n (cluster ids) (rows_in before))
+      (frame_at (world_of ids (rows_in before)).frames k)
   pub apart : UsesIdsApart limits (before ++ now ∷ []) (transfers_of_rows (cluster ids) (rows_in before) [])
       (heard_by n (cluster ids) (rows_in before)) n
 
@@ -29,7 +31,8 @@ pub record DeviceHears (limits : Limits) (ids : List ℕ) (before : List Timed) 
   pub comes : ArePhysical limits (before ++ now ∷ []) a [] (cluster ids) (before ++ now ∷ [])
   pub slow : AllocatesApart limits (before ++ now ∷ []) (transfers_of_rows (cluster ids) (rows_in before) [])
       (device_heard_by a (cluster ids) (rows_in before)) (ComeInOrderToDevice a [] (cluster ids) (rows_in before)
-      × ComesInOrderToDevice (device_heard_by a (cluster ids) (rows_in before)) (frame_at (world_of ids (rows_in before)).frames k))
+      × ComesInOrderToDevice (device_heard_by a (cluster ids) (rows_in before))
+      (frame_at (world_of ids (rows_in before)).frames k))
 
 abbrev pub HappensOnBus : Limits → List ℕ → List Timed → Timed → Row → Type 0
 HappensOnBus limits ids before now (Rx n k ms) = MemberHears limits ids before now n k

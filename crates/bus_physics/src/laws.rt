@@ -24,8 +24,8 @@ use cluster_agreement::headline::{a_choice_fits, rows_are_shown};
 use cmd_node_laws::laws::traces_are_lawful;
 
 /// What stands behind a row that is refused as torn or as stale, after lawful rows. What a member sent is torn only of
-/// frames of two transfers that it made under one transfer ID, or of frames of one transfer that are not all of it;
-/// and an answer is stale only where its call was made under the transfer ID of the call that waits.
+/// frames of two transfers that it made under one transfer ID, or of frames of one transfer that are not all of it, and
+/// an answer is stale only where its call was made under the transfer ID of the call that waits.
 pub fn what_is_refused()
     ensures torn { (ids : List ℕ) (rows : List Row) (n k ms : ℕ) → AreMembers ids → Lawful (cluster ids) rows →
         cause (world_of ids rows) (Rx n k ms) ≡ Some Torn →
@@ -52,7 +52,8 @@ pub fn a_device_puts_nothing_together_of_two()
         ArePhysical limits (before ++ now ∷ []) a [] (cluster ids) (before ++ now ∷ []) →
         AllocatesApart limits (before ++ now ∷ []) (transfers_of_rows (cluster ids) (rows_in before) [])
         (device_heard_by a (cluster ids) (rows_in before)) (ComeInOrderToDevice a [] (cluster ids) (rows_in before) ×
-        ComesInOrderToDevice (device_heard_by a (cluster ids) (rows_in before)) (frame_at (world_of ids (rows_in before)).frames k)) →
+        ComesInOrderToDevice (device_heard_by a (cluster ids) (rows_in before))
+        (frame_at (world_of ids (rows_in before)).frames k)) →
         cause (world_of ids (rows_in before)) (ARx a k ms word) ≡ Some Torn → ⊥ }
 {
     a_choice_fits();
@@ -82,9 +83,9 @@ pub fn no_response_outlives_its_transfer_id()
     rows_are_shown();
 }
 
-/// A member on such a bus, to which frames of one kind and source come in the order in which they were made, puts nothing
-/// together of two transfers, where a transfer ID comes round only so late, or behind a transfer that it heard: a row is
-/// refused as torn only where one transfer of four frames or more lacks frames, and its CRC fits all the same.
+/// A member on such a bus, to which frames of one kind and source come in the order in which they were made, puts
+/// nothing together of two transfers, where a transfer ID comes round only so late, or behind a transfer that it heard:
+/// a row is refused as torn only where one transfer of four frames or more lacks frames, and its CRC fits all the same.
 pub fn a_member_puts_nothing_together_of_two()
     ensures { (limits : Limits) (ids : List ℕ) (before : List Timed) (now : Timed) (n k ms : ℕ) →
         AreMembers ids → limits.drift < 58000 → now.row ≡ Rx n k ms → Lawful (cluster ids) (rows_in before) →
@@ -108,14 +109,15 @@ pub fn a_member_puts_nothing_together_of_two()
 pub fn premises_can_be_met()
     ensures lawful { Lawful (cluster two) (rows_in first_rows) }
     ensures clock { ClockGoesOn some_limits 2 [] (cluster two) (first_rows ++ at_member ∷ []) }
-    ensures comes { FramesComeInTime some_limits (first_rows ++ at_member ∷ []) (cluster two) (first_rows ++ at_member ∷ []) }
+    ensures comes { FramesComeInTime some_limits (first_rows ++ at_member ∷ []) (cluster two)
+        (first_rows ++ at_member ∷ []) }
     ensures physical { ArePhysical some_limits (first_rows ++ at_allocatee ∷ []) 1 [] (cluster two)
         (first_rows ++ at_allocatee ∷ []) }
-    ensures apart { UsesIdsApart some_limits (first_rows ++ at_member ∷ []) (transfers_of_rows (cluster two) (rows_in first_rows) [])
-        (heard_by 2 (cluster two) (rows_in first_rows)) 2 }
+    ensures apart { UsesIdsApart some_limits (first_rows ++ at_member ∷ [])
+        (transfers_of_rows (cluster two) (rows_in first_rows) []) (heard_by 2 (cluster two) (rows_in first_rows)) 2 }
     ensures frames { ComeInOrder 2 [] (cluster two) (rows_in (first_rows ++ at_member ∷ [])) }
-    ensures waits { WaitsForAnswers some_limits (first_rows ++ at_member ∷ []) (transfers_of_rows (cluster two) (rows_in first_rows) [])
-        (heard_by 2 (cluster two) (rows_in first_rows)) 2 }
+    ensures waits { WaitsForAnswers some_limits (first_rows ++ at_member ∷ [])
+        (transfers_of_rows (cluster two) (rows_in first_rows) []) (heard_by 2 (cluster two) (rows_in first_rows)) 2 }
     ensures order { AnswersInOrder (heard_by 2 (cluster two) (rows_in first_rows))
         (frame_at (world_of two (rows_in first_rows)).frames 1) }
     ensures member { cause (world_of two (rows_in first_rows)) at_member.row ≡ None }
@@ -124,9 +126,10 @@ pub fn premises_can_be_met()
     ensures otherwise { LawfulButForBus (cluster two) (rows_in everything) }
 {}
 
-/// On a physical bus a schedule whose rows are otherwise lawful is lawful, whatever frames are lost: but for a row at which
-/// one transfer of four frames or more lacks frames, and its CRC fits all the same. So the two premises on what is torn and
-/// stale follow from when frames come, how clocks go on, the order of answers, and when transfer IDs are used again.
+/// On a physical bus a schedule whose rows are otherwise lawful is lawful, whatever frames are lost: but for a row at
+/// which one transfer of four frames or more lacks frames, and its CRC fits all the same. So the two premises on what is
+/// torn and stale follow from when frames come, how clocks go on, the order of answers, and when transfer IDs are used
+/// again.
 pub fn schedules_on_a_bus_are_lawful()
     ensures { (limits : Limits) (ids : List ℕ) (all : List Timed) → AreMembers ids → limits.drift < 58000 →
         HappenOnBus limits ids [] all → LawfulButForBus (cluster ids) (rows_in all) →
@@ -137,8 +140,8 @@ pub fn schedules_on_a_bus_are_lawful()
     no_response_outlives_its_transfer_id();
 }
 
-/// The same of processes of `node`: in a trace whose rows happen on a physical bus, what comes from the bus may come, but
-/// where frames are lost. So the headline needs no premise on what is torn or stale.
+/// The same of processes of `node`: in a trace whose rows happen on a physical bus, what comes from the bus may come,
+/// but where frames are lost. So the headline needs no premise on what is torn or stale.
 pub fn traces_on_a_bus_may_happen()
     ensures may { (limits : Limits) (ids : List ℕ) (trace : List Event) (all : List Timed) → AreMembers ids →
         limits.drift < 58000 → rows_in all ≡ all_rows trace (cluster ids) → HappenOnBus limits ids [] all →

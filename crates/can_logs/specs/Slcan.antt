@@ -28,9 +28,10 @@ pub record ReadsBytes (id : ℕ) (bytes : List ℕ) (stamp : Option ℕ) (line :
   pub bytes_read : IsHex bytes bytes_word
   pub stamp_read : SpellsStamp stamp stamp_word
 
--- the letters of other frames, `t`, `r` and `R`, and of what an adapter answers
+-- the letters of other frames, `t`, `r` and `R`, of what an adapter answers, `z`, `Z`, `V`, `v`, `N` and `F`, and of
+-- its state and its error counters, `s` and `e`
 abbrev pub other_letters : List ℕ
-other_letters = codes "trRzZVNF"
+other_letters = codes "trRzZVvNFse"
 
 -- a line of something else: nothing, one that begins with such a letter, or a frame without bytes
 abbrev pub IsSkipped : List ℕ → Type 0

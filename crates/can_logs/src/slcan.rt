@@ -8,8 +8,8 @@ use can_frame::Frame;
 use can_frame::laws::frames_are_their_parts;
 use replay_text::{read_bytes, read_identifier};
 
-/// The letters of other frames, and of what an adapter answers.
-const OTHER_LETTERS: &[u8] = b"trRzZVNF";
+/// The letters of other frames, and of what an adapter answers or tells of its state.
+const OTHER_LETTERS: &[u8] = b"trRzZVvNFse";
 
 /// A line of a serial adapter.
 #[derive(Debug, Drop, PartialEq, Eq)]
@@ -18,7 +18,7 @@ pub enum SlLine {
     Data { frame: Frame, stamp: Option<u16> },
 
     /// Something else: a frame with an identifier of 11 bits, one without bytes, a remote frame, or what
-    /// an adapter answers.
+    /// an adapter answers or tells of its state.
     Skipped,
 }
 

@@ -97,4 +97,5 @@ two_of world me you = record { leader = world.server me; peer = world.server you
 abbrev pub PeersCatchUpInRuns : Type 0
 PeersCatchUpInRuns = InEveryRun (λ world. (me you : ℕ) → you ≢ me → (world.server me).memory.role ≡ Leader →
     (world.server you).store.term ≤ (world.server me).store.term →
-    AreJoined world.members me you (two_of world me you) × CatchesUp world.members me you world.steps (two_of world me you))
+    AreJoined world.members me you (two_of world me you)
+    × CatchesUp world.members me you world.steps (two_of world me you))

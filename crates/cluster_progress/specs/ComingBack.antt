@@ -31,7 +31,7 @@ pub record IsLed (world : World) (group : List ℕ) (me : ℕ) : Type 0 where
   pub peers : (n : ℕ) → In n group → n ≢ me
       → ((world.server n).memory.up ≡ true) × ((world.server n).store.term ≤ (world.server me).store.term)
 
--- and all that stands in its log is committed
+-- such a leader, all of whose log is committed
 pub record IsBack (world : World) (group : List ℕ) (me : ℕ) : Type 0 where
   pub led : IsLed world group me
   pub committed : (world.server me).store.commit ≡ length (world.server me).store.log

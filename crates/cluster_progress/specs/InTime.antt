@@ -21,7 +21,8 @@ use Rattle.alloc_spec.specs.Transfers.{Offer}
 use Rattle.alloc_spec_laws.specs.Phases.{when_told}
 use Rattle.cluster_progress.specs.Requests.{moment_at}
 
--- whoever knows all members and heard no leader for the longest wait stands at its next tick, where there is a next term
+-- whoever knows all members and heard no leader for the longest wait stands at its next tick, where there is a next
+-- term
 abbrev pub StandsInTime : Type 0
 StandsInTime = (t : AllocatorState) (number now word : ℕ) → knows_all t ≡ true →
     t.times.since + election_wait + election_spread ≤ max t.now now → t.raft_server.memory.role ≢ Leader →
@@ -49,8 +50,10 @@ NoCallIsOld = (t : AllocatorState) (number : ℕ) (event : Event) (peer : ℕ) �
     let after = (step t number event).step_state.allocator in
     is_overdue (after.times.sending peer) after.now ≡ false
 
--- the frame completes an append request of a listed member, of a higher term, or of the own one where this is no leader's
-pub record HearsLeader (t : AllocatorState) (arrival : Arrival) (delivery : Delivery) (request : AppendRequest) : Type 0 where
+-- the frame completes an append request of a listed member, of a higher term, or of the own one where the receiver does
+-- not lead
+pub record HearsLeader (t : AllocatorState) (arrival : Arrival) (delivery : Delivery)
+    (request : AppendRequest) : Type 0 where
   pub gives : answer (setting_for t.me) t.sessions (record arrival { moment = moment_at t arrival }) ≡ Gives delivery
   pub kind : delivery.ident.kind ≡ Request
   pub number : delivery.ident.number ≡ append_entries.number

@@ -60,7 +60,7 @@ pub record FollowsUp (t : AllocatorState) (arrival : Arrival) (message : Allocat
   pub accepted : result.step_state.allocator.accepted ≡ after t.accepted message (moment_at t arrival) true
   pub now : result.step_state.allocator.now ≡ moment_at t arrival
   pub ready : IsAsReady t result.step_state.allocator
-  -- and who had told all has told all
+  -- who had told all that it committed has told all that it commits
   pub told : t.raft_server.memory.told ≡ t.raft_server.store.commit
       → result.step_state.allocator.raft_server.memory.told ≡ result.step_state.allocator.raft_server.store.commit
 

@@ -1,5 +1,5 @@
 -- What a sink has of what was to be written.
-use Rattle.std.specs.Prelude.{◌≡◌, ℕ, List, ◌++◌, Option, Result, OnOk, OnErr}
+use Rattle.std.specs.Prelude.{◌≡◌, ◌⊎◌, ℕ, List, ◌++◌, Option, Result, OnOk, OnErr}
 use Rattle.std.specs.Io.KnownBytes.{Appends, append_known}
 
 -- some bytes were written
@@ -24,3 +24,16 @@ pub record WritesLast {T E : Type 0} (sink_before : Option (List ℕ)) (waited :
     (result : Result T E) : Type 0 where
   pub ok : OnOk result (Appends (append_known sink_before waited) sink_now piece)
   pub err : OnErr result (WritesFront sink_before sink_now (waited ++ piece))
+
+-- a piece waits behind what waited, or alone where the sink took what waited
+abbrev pub WaitsBehind : Option (List ℕ) → List ℕ → Option (List ℕ) → List ℕ → List ℕ → Type 0
+WaitsBehind sink_before waited sink_now waits piece =
+    ((waits ≡ waited ++ piece) × (sink_now ≡ sink_before)) ⊎ ((waits ≡ piece) × Appends sink_before sink_now waited)
+
+-- after a last piece that was not written: what waited still waits, or the piece waits too, and the sink has a front
+-- of what waits
+abbrev pub StillWaits : Option (List ℕ) → List ℕ → Option (List ℕ) → List ℕ → List ℕ → Type 0
+StillWaits sink_before waited sink_now waits piece =
+    (waits ≡ waited)
+    ⊎ ((sink_mid : Option (List ℕ))
+    × WaitsBehind sink_before waited sink_mid waits piece × WritesFront sink_mid sink_now waits)

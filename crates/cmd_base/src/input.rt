@@ -38,11 +38,12 @@ impl Input {
         }
     }
 
-    /// Reads more behind what waits; false at the end of the input.
+    /// Reads more behind what waits; false at the end of the input. After a failure the same bytes wait.
     pub fn fill<S: Source>(&mut self, source: &mut S) -> Result<bool, Failed>
         requires { length self.old < 4096 }
         ensures more { IfOk result (λ more. ReadsMore (S.left source.old) (S.left source.new) self.old self.new more) }
         ensures err { OnErr result (Keeps (S.left source.old) (S.left source.new)) }
+        ensures unchanged { OnErr result (self.new ≡ self.old) }
         ensures cause { HasCause (S.faults source.old) (S.faults source.new) result }
         ensures kept { OnOk result (S.faults source.new ≡ S.faults source.old) }
     {

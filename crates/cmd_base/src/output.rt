@@ -1,7 +1,7 @@
 ghost use Rattle.std.specs.Prelude.{◌≡◌, ◌≤◌, ◌<◌, [], List, ℕ, length, OnOk, OnErr};
 ghost use Rattle.std.specs.Io.KnownBytes.{Appends};
 ghost use Rattle.outside.specs.Faults.{HasCause};
-ghost use Rattle.cmd_base.specs.Output.{Writes, WritesFront, WritesLast};
+ghost use Rattle.cmd_base.specs.Output.{StillWaits, WaitsBehind, Writes, WritesFront, WritesLast};
 
 use arrayvec::ArrayVec;
 use outside::{Failed, Sink};
@@ -36,6 +36,8 @@ impl Output {
     pub fn line<K: Sink>(&mut self, sink: &mut K, line: &[u8]) -> Result<(), Failed>
         requires { length line.now ≤ 400 }
         ensures told { Writes (K.written sink.old) self.old (K.written sink.new) self.new line.now result }
+        ensures waits { OnOk result
+            (WaitsBehind (K.written sink.old) self.old (K.written sink.new) self.new line.now) }
         ensures unchanged { OnErr result (self.new ≡ self.old) }
         ensures cause { HasCause (K.faults sink.old) (K.faults sink.new) result }
         ensures kept { OnOk result (K.faults sink.new ≡ K.faults sink.old) }
@@ -47,11 +49,14 @@ impl Output {
         Ok(())
     }
 
-    /// Writes the last line, and all that waits before it.
+    /// Writes the last line, and all that waits before it. After a failure what waited still waits, or the
+    /// line waits too.
     pub fn last<K: Sink>(&mut self, sink: &mut K, line: &[u8]) -> Result<(), Failed>
         requires { length line.now ≤ 400 }
         ensures told { WritesLast (K.written sink.old) self.old (K.written sink.new) line.now result }
         ensures none_waits { OnOk result (self.new ≡ []) }
+        ensures waits { OnErr result
+            (StillWaits (K.written sink.old) self.old (K.written sink.new) self.new line.now) }
         ensures cause { HasCause (K.faults sink.old) (K.faults sink.new) result }
         ensures kept { OnOk result (K.faults sink.new ≡ K.faults sink.old) }
     {

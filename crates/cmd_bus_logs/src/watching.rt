@@ -18,7 +18,8 @@ use can_logs::laws::a_line_has_one_reading;
 use cmd_base::{Output, Status, number_line};
 use outside::{Failed, Sink, Source};
 
-/// Lists the transfers of a log of at most `limit` lines: the messages, and the services for these nodes.
+/// Lists the transfers of a log of at most `limit` lines: Allocations, NodeStatus and Discovery messages, and
+/// the requests and responses of GetNodeInfo, AppendEntries and RequestVote for these nodes.
 /// Each has a line when its last frame comes, by the number of that line of the log. Of the bytes behind
 /// the lines that were taken at most 4,096 are read. With `Done` the last line tells how many lines the log
 /// has; with `BadRow` and `Limit` it tells the number of the first line that is not taken.

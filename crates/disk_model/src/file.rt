@@ -1,21 +1,25 @@
-ghost use Rattle.std.specs.Prelude.{◌≡◌, ◌≤◌, ℕ, false, length, IfOk, OnOk, if◌then◌else◌};
+ghost use Rattle.std.specs.Prelude.{◌≡◌, ◌≤◌, ℕ, false, length, is_ok, IfOk, OnOk};
 ghost use Rattle.disk_model.specs.Contents.{image_size};
-ghost use Rattle.outside.specs.Faults.{HasCause, counted, one_more};
+ghost use Rattle.outside.specs.Faults.{HasCause, counted};
 
 use crate::{Disk, IMAGE};
 use outside::Failed;
 use std::fs;
 use std::fs::{File, OpenOptions};
 use std::io::ErrorKind;
-use std::os::unix::fs::FileExt;
+use std::os::unix::fs::{FileExt, MetadataExt};
 use std::path::Path;
 use std::rt::Files;
 
 /// A disk in a file of `IMAGE` bytes. It tells no contents.
 ///
-/// One that [`FileDisk::open`] gives holds an advisory lock on the whole file (`flock`) as long as it lives,
-/// so a second such disk on the same file is refused, in this process and in any other. A process that asks
-/// for no lock is not held off: what it writes comes between, and nothing here notices.
+/// One that [`FileDisk::open`], [`FileDisk::open_made`] or [`FileDisk::make`] gives holds an advisory lock on the
+/// whole file (`flock`) as long as it lives, so a second such disk on the same file is refused, in this process
+/// and in any other. A process that asks for no lock is not held off: what it writes comes between, and nothing
+/// here notices.
+///
+/// From a sync that failed on, every call fails. The system tells of a write that did not reach the device once:
+/// what is read after it may be what the device does not have, and a sync after it may succeed.
 #[derive(Drop)]
 pub struct FileDisk {
     file: File,
@@ -23,6 +27,9 @@ pub struct FileDisk {
 
     /// Whether it holds the lock.
     locked: bool,
+
+    /// Whether a sync failed.
+    lost: bool,
 }
 
 impl FileDisk {
@@ -32,21 +39,50 @@ impl FileDisk {
     /// taken away.
     ///
     /// It fails, and changes nothing, where the file has another length, is locked, is a folder or may
-    /// not be read and written, where a missing one cannot be made, as in a missing folder or on a full
-    /// device, and where a sync fails.
+    /// not be read and written, where its folder may not be read, and where a missing one cannot be made,
+    /// as in a missing folder or on a full device. Where a sync fails, it gives a disk of which every call
+    /// fails; a file that it made is then taken away again.
     pub fn open<R: Files<File = File>>(rt: &R, path: &str) -> Result<FileDisk, Failed>
         ensures { IfOk result (λ disk. disk.faults ≡ 0) }
     {
         match OpenOptions::new().read(true).write(true).open(rt, path) {
-            Ok(file) if is_free(&file) && has_size(&file) && is_kept(rt, &file, path) => {
-                Ok(FileDisk {
-                    file,
-                    faults: 0,
-                    locked: true,
-                })
-            }
+            Ok(file) => FileDisk::of(rt, file, path),
             Err(error) if error.kind() == ErrorKind::NotFound => FileDisk::make(rt, path),
-            _ => Err(Failed),
+            Err(_) => Err(Failed),
+        }
+    }
+
+    /// The disk in the file at this path, as [`FileDisk::open`] gives it, but a missing file is not made: there
+    /// it fails.
+    pub fn open_made<R: Files<File = File>>(rt: &R, path: &str) -> Result<FileDisk, Failed>
+        ensures { IfOk result (λ disk. disk.faults ≡ 0) }
+    {
+        match OpenOptions::new().read(true).write(true).open(rt, path) {
+            Ok(file) => FileDisk::of(rt, file, path),
+            Err(_) => Err(Failed),
+        }
+    }
+
+    /// The disk in a file that is made for it, of zeros, as [`FileDisk::open`] makes a missing one. It fails, and
+    /// changes nothing, where there is something at this path already, and where the file cannot be made.
+    pub fn make<R: Files<File = File>>(rt: &R, path: &str) -> Result<FileDisk, Failed>
+        ensures { IfOk result (λ disk. disk.faults ≡ 0) }
+    {
+        let Ok(file) = File::create_new(rt, path) else {
+            return Err(Failed);
+        };
+        let made = if is_zeroed(&file) {
+            FileDisk::of(rt, file, path)
+        } else {
+            Err(Failed)
+        };
+        match made {
+            Ok(disk) if !disk.lost => Ok(disk),
+            // A file that cannot be taken away either has another length, or is one of zeros.
+            failed => {
+                let _ = fs::remove_file(rt, path);
+                failed
+            }
         }
     }
 
@@ -72,43 +108,44 @@ impl FileDisk {
                 file,
                 faults: 0,
                 locked: false,
+                lost: false,
             }),
             _ => Err(Failed),
         }
     }
 
-    /// Makes the file. Where that fails it is taken away again.
-    fn make<R: Files<File = File>>(rt: &R, path: &str) -> Result<FileDisk, Failed>
+    /// The disk in this file, whose lock it takes. The file and its folder, which has its name, are synced.
+    fn of<R: Files<File = File>>(rt: &R, file: File, path: &str) -> Result<FileDisk, Failed>
         ensures { IfOk result (λ disk. disk.faults ≡ 0) }
     {
-        let Ok(file) = File::create_new(rt, path) else {
+        if !is_free(&file) || !has_size(&file) {
+            return Err(Failed);
+        }
+        let Ok(folder) = File::open(rt, folder_of(path)) else {
             return Err(Failed);
         };
-        if is_free(&file) && is_zeroed(&file) && is_kept(rt, &file, path) {
-            return Ok(FileDisk {
-                file,
-                faults: 0,
-                locked: true,
-            });
-        }
-        // A file that cannot be taken away either has another length, or is one of zeros.
-        let _ = fs::remove_file(rt, path);
-        Err(Failed)
+        let lost = file.sync_all().is_err() || folder.sync_all().is_err();
+        Ok(FileDisk {
+            file,
+            faults: 0,
+            locked: true,
+            lost,
+        })
     }
 
     /// Counts a call that failed.
-    fn answer<E: Drop>(&mut self, done: Result<(), E>) -> Result<(), Failed>
+    fn answer(&mut self, is_done: bool) -> Result<(), Failed>
+        ensures done { is_ok result ≡ is_done }
         ensures cause { HasCause self.old.faults self.new.faults result }
         ensures no_fault { OnOk result (self.new.faults ≡ self.old.faults) }
         ensures faults { self.new.faults ≡ counted result self.old.faults }
+        ensures lost { self.new.lost ≡ self.old.lost }
     {
-        match done {
-            Ok(()) => Ok(()),
-            Err(_) => {
-                self.faults = self.faults.saturating_add(1);
-                Err(Failed)
-            }
+        if is_done {
+            return Ok(());
         }
+        self.faults = self.faults.saturating_add(1);
+        Err(Failed)
     }
 }
 
@@ -138,51 +175,55 @@ fn is_zeroed(file: &File) -> bool {
     file.write_all_at(&[0; IMAGE], 0).is_ok()
 }
 
-/// Syncs a file and its folder, which has its name.
-fn is_kept<R: Files<File = File>>(rt: &R, file: &File, path: &str) -> bool {
-    let folder = match Path::new(path).parent() {
+/// The folder that has the name of the file at this path.
+fn folder_of(path: &str) -> Path<'_> {
+    match Path::new(path).parent() {
         Some(folder) if !folder.as_str().is_empty() => folder,
         _ => Path::new("."),
-    };
-    match File::open(rt, folder) {
-        Ok(folder) => file.sync_all().is_ok() && folder.sync_all().is_ok(),
+    }
+}
+
+/// Whether a file has a name in some folder.
+fn has_name(file: &File) -> bool {
+    match file.metadata() {
+        Ok(metadata) => metadata.nlink() > 0,
         Err(_) => false,
     }
 }
 
 impl Disk for FileDisk {
     ghost use Rattle.disk_model.specs.Contents.{untold};
+    ghost use Rattle.disk_model.specs.File.{DoesInFile};
     ghost use Rattle.std.proofs.lemmas.Bool.{false≢true};
 
     ghost tells = { λ d. false };
 
     ghost contents = { λ d. untold };
 
-    ghost does = { λ old call ok new.
-        new.faults ≡ (if ok then old.faults else one_more old.faults) };
+    ghost does = { λ old call ok new. DoesInFile old call ok new };
 
     ghost faults = { λ d. d.faults };
 
-    ghost counts = { λ old new call done. done };
+    ghost counts = { λ old new call done. done.faults };
 
     ghost sound = { λ d told. absurd (false≢true told) };
 
     fn read(&mut self, at: usize, buf: &mut [u8]) -> Result<(), Failed> {
-        let mut done = self.file.read_exact_at(buf, at as u64);
-        if !self.locked && done.is_ok() && !is_still(&self.file, at, buf) {
-            done = Err(ErrorKind::ResourceBusy.into());
-        }
-        self.answer(done)
+        let is_done = !self.lost
+            && self.file.read_exact_at(buf, at as u64).is_ok()
+            && (self.locked || is_still(&self.file, at, buf));
+        self.answer(is_done)
     }
 
     fn write(&mut self, at: usize, bytes: &[u8]) -> Result<(), Failed> {
-        let done = self.file.write_all_at(bytes, at as u64);
-        self.answer(done)
+        let is_done = !self.lost && self.file.write_all_at(bytes, at as u64).is_ok();
+        self.answer(is_done)
     }
 
     fn sync(&mut self) -> Result<(), Failed> {
-        let done = self.file.sync_data();
-        self.answer(done)
+        let is_done = !self.lost && self.file.sync_data().is_ok() && has_name(&self.file);
+        self.lost = !is_done;
+        self.answer(is_done)
     }
 
     fn faults(&self) -> u64 {
@@ -292,6 +333,75 @@ mod tests {
     }
 
     #[test]
+    fn a_missing_file_is_made_on_purpose_alone(rt: HostRuntime) -> Result<(), Fail> {
+        let path = "purpose.store";
+        let _ = fs::remove_file(&rt, path);
+        assert!(rt; FileDisk::open_made(&rt, path).is_err());
+        assert!(rt; fs::metadata(&rt, path).is_err());
+        drop(FileDisk::make(&rt, path)?);
+        assert!(rt; fs::read(&rt, path)?.as_slice() == [0; IMAGE].as_slice());
+        let mut disk = FileDisk::open_made(&rt, path)?;
+        disk.write(0, &[1])?;
+        drop(disk);
+        assert!(rt; FileDisk::make(&rt, path).is_err());
+        assert_eq!(rt; fs::read(&rt, path)?.first(), Some(&1));
+        fs::remove_file(&rt, path)?;
+        Ok(())
+    }
+
+    #[test]
+    fn bytes_that_change_under_a_read_are_seen(rt: HostRuntime) -> Result<(), Fail> {
+        let path = "changed.store";
+        let _ = fs::remove_file(&rt, path);
+        let mut disk = FileDisk::open(&rt, path)?;
+        let other = File::open(&rt, path)?;
+        let mut bytes = [0; 4];
+        disk.read(8190, &mut bytes)?;
+        assert!(rt; is_still(&other, 8190, &bytes));
+        disk.write(8193, &[1])?;
+        assert!(rt; !is_still(&other, 8190, &bytes));
+        assert!(rt; is_still(&other, 8189, &bytes));
+        fs::remove_file(&rt, path)?;
+        Ok(())
+    }
+
+    #[test]
+    fn only_a_disk_without_the_lock_is_read_twice(rt: HostRuntime) -> Result<(), Fail> {
+        // Each read of this device gives other bytes.
+        for (locked, answer) in [(false, Err(Failed)), (true, Ok(()))] {
+            let mut disk = FileDisk {
+                file: File::open(&rt, "/dev/urandom")?,
+                faults: 0,
+                locked,
+                lost: false,
+            };
+            let mut bytes = [0; 16];
+            assert_eq!(rt; disk.read(0, &mut bytes), answer);
+        }
+        Ok(())
+    }
+
+    #[test]
+    fn a_file_without_a_name_is_not_synced_and_lost(rt: HostRuntime) -> Result<(), Fail> {
+        let path = "nameless.store";
+        let _ = fs::remove_file(&rt, path);
+        let mut disk = FileDisk::open(&rt, path)?;
+        fs::hard_link(&rt, path, "second.store")?;
+        fs::remove_file(&rt, path)?;
+        assert_eq!(rt; disk.sync(), Ok(()));
+        fs::remove_file(&rt, "second.store")?;
+        assert_eq!(rt; disk.write(0, &[1]), Ok(()));
+        assert_eq!(rt; disk.sync(), Err(Failed));
+        assert_eq!(rt; disk.write(0, &[2]), Err(Failed));
+        let mut byte = [0; 1];
+        assert_eq!(rt; disk.read(0, &mut byte), Err(Failed));
+        assert_eq!(rt; disk.file.read_exact_at(&mut byte, 0).is_ok(), true);
+        assert_eq!(rt; byte, [1]);
+        assert_eq!(rt; disk.faults(), 3);
+        Ok(())
+    }
+
+    #[test]
     fn a_full_device_takes_no_bytes_and_is_not_synced(rt: HostRuntime) -> Result<(), Fail> {
         let file = OpenOptions::new().write(true).open(&rt, "/dev/full")?;
         assert!(rt; !is_zeroed(&file));
@@ -299,6 +409,7 @@ mod tests {
             file,
             faults: 0,
             locked: true,
+            lost: false,
         };
         assert_eq!(rt; disk.write(0, &[1]), Err(Failed));
         assert_eq!(rt; disk.faults(), 1);

@@ -1,5 +1,5 @@
 -- Types without the fields that take no bits give the same numbers.
-use Rattle.std.proofs.Common.{◌≡◌, ◌<◌, ◌≤◌, ◌+◌, ◌*◌, ℕ, zero, suc, List, [], ◌∷◌, ◌++◌, length, Bool, true, false, ◌&&◌, cond, not, min, nat_eq, nat_le, get_or, take, Some, None, refl, ap, sym, ◌∙◌, arith, subst}
+use Rattle.std.proofs.Common.{◌≡◌, ◌<◌, ◌≤◌, ◌+◌, ◌*◌, ℕ, zero, suc, List, [], ◌∷◌, ◌++◌, length, Bool, true, false, ◌&&◌, cond, filter, not, min, nat_eq, nat_le, get_or, take, Some, None, refl, ap, sym, ◌∙◌, arith, subst}
 use Rattle.std.specs.Prelude.{slice_get}
 use Rattle.std.proofs.Math.Path.{fun_ext}
 use Rattle.std.proofs.lemmas.Bool.{eqb-true}
@@ -11,25 +11,43 @@ use Rattle.dsdl_text.specs.declared.section.Field.{Field}
 use Rattle.dsdl_text.specs.declared.section.Field.TheVariants.{Void, Data}
 use Rattle.dsdl_text.specs.declared.section.Section.{Section}
 use Rattle.dsdl_text.specs.Layout.{DataType, Layout, nothing, void, number, pair, exactly, up_to, joined}
-use Rattle.dsdl_text.specs.Numbers.{◌>>=◌, Reading, bits_of, count_width, least_bits, numbers_of, read_both, read_counted, read_last, read_number, read_part, read_tail, read_times, read_void, reads, told_tail, whole}
+use Rattle.dsdl_text.specs.Numbers.{◌>>=◌, Reading, bits_of, count_width, least_bits, numbers_of, read_both, read_counted, read_counted_to_last, read_last, read_number, read_part, read_tail, read_times, read_to_last, read_void, reads, told_tail, whole}
 use Rattle.dsdl_text.specs.Sections.{field_layout, first_layout, kind_layout, part_layout, type_of, types_of}
-use Rattle.dsdl_text.specs.Sizes.{IsCompact, has_no_number, size_of, sizes_in, takes_bits, with_bits}
-use Rattle.dsdl_text.proofs.Readings.{last_one}
+use Rattle.dsdl_text.specs.Sizes.{IsCompact, has_bits, has_no_number, size_of, sizes_in, takes_bits, with_bits}
 use Rattle.dsdl_text.proofs.Sizes.{blank, both, void_none}
 use Rattle.dsdl_text.proofs.Types.{types_of_push}
 
 -- all bits read the same under both, and their values are as long
 pub record Alike (a b : Layout) : Type 0 where
   pub same : reads a ≡ reads b
+  pub last : read_last a ≡ read_last b
   pub least : least_bits a ≡ least_bits b
   pub empty : has_no_number a ≡ has_no_number b
 
 itself : (a : Layout) → Alike a a
-itself a = record { same = refl; least = refl; empty = refl }
+itself a = record { same = refl; last = refl; least = refl; empty = refl }
 
-pairs : {a b c d : Layout} → Alike a b → Alike c d → Alike (pair a c) (pair b d)
-pairs front back = record {
+-- a last field
+ends : {a b : Layout} → Alike a b → Alike (pair a nothing) (pair b nothing)
+ends h = record {
+  same = λ i bits. read_both (h.same i) (reads nothing) bits;
+  last = h.last;
+  least = λ i. h.least i + 0;
+  empty = λ i. h.empty i && true;
+}
+
+-- a field, and more behind it
+abbrev IsMore : Layout → Type 0
+IsMore a = (front back : Layout) × (a ≡ pair front back)
+
+behind_more : (a b : Layout) → IsMore b → read_last (pair a b) ≡ read_both (reads a) (read_last b)
+behind_more a b more = rw more.2 refl
+
+pairs : {a b c d : Layout} → Alike a b → Alike c d → IsMore c → IsMore d → Alike (pair a c) (pair b d)
+pairs {a = a} {b = b} {c = c} {d = d} front back more others = record {
   same = λ i bits. read_both (front.same i) (back.same i) bits;
+  last = let ahead : read_both (reads a) (read_last c) ≡ read_both (reads b) (read_last d) = λ i bits. read_both (front.same i) (back.last i) bits in
+      behind_more a c more ∙ ahead ∙ sym (behind_more b d others);
   least = λ i. front.least i + back.least i;
   empty = λ i. front.empty i && back.empty i;
 }
@@ -37,6 +55,7 @@ pairs front back = record {
 so_many : {a b : Layout} → (count : ℕ) → Alike a b → Alike (exactly count a) (exactly count b)
 so_many count h = record {
   same = λ i bits. read_times count (h.same i) bits;
+  last = λ i bits. read_to_last count (h.same i) (h.last i) bits;
   least = λ i. count * h.least i;
   empty = h.empty;
 }
@@ -44,6 +63,9 @@ so_many count h = record {
 at_most : {a b : Layout} → (most : ℕ) → Alike a b → Alike (up_to most a) (up_to most b)
 at_most most h = record {
   same = λ i bits. read_number (count_width most) bits >>= read_counted most (h.same i);
+  last = λ i bits. cond (nat_le 8 (h.least i))
+      (told_tail (read_tail most (h.same i) bits))
+      (read_number (count_width most) bits >>= read_counted_to_last most (h.same i) (h.last i));
   least = refl;
   empty = refl;
 }
@@ -54,7 +76,12 @@ is_true : (b : Bool) → not b ≡ false → b ≡ true
 is_true true e = refl
 is_true false e = absurd (cc)
 
-is_nothing : (a : Layout) → takes_bits (size_of a) ≡ false → Alike a nothing
+record IsNothing (a : Layout) : Type 0 where
+  same : reads a ≡ reads nothing
+  least : least_bits a ≡ 0
+  empty : has_no_number a ≡ true
+
+is_nothing : (a : Layout) → takes_bits (size_of a) ≡ false → IsNothing a
 is_nothing a none =
     let capped = min 4096 (least_bits a) in
     let parts = both (has_no_number a) (nat_eq capped 0) (is_true (has_no_number a && nat_eq capped 0) none) in
@@ -66,18 +93,38 @@ is_nothing a none =
       empty = parts.0;
     }
 
-behind_nothing : {a b c : Layout} → Alike a nothing → Alike b c → Alike (pair a b) c
-behind_nothing {c = c} none h =
-    let two = pairs none h in
+behind_nothing : {a b c : Layout} → IsNothing a → Alike b c → IsMore b → Alike (pair a b) c
+behind_nothing {a = a} {b = b} none h more =
+    let same : read_both (reads a) (reads b) ≡ read_both (reads nothing) (reads b) = λ i bits. read_both (none.same i) (reads b) bits in
+    let last : read_both (reads a) (read_last b) ≡ read_both (reads nothing) (read_last b) = λ i bits. read_both (none.same i) (read_last b) bits in
+    let alone : read_both (reads nothing) (reads b) ≡ reads b = fun_ext (λ bits. go (reads b bits)) in
+    let alone_last : read_both (reads nothing) (read_last b) ≡ read_last b = fun_ext (λ bits. go (read_last b bits)) in
+    let sum : least_bits a + least_bits b ≡ least_bits b = omega (arith, none.least) in
     record {
-      same = two.same ∙ fun_ext (λ bits. go (reads c bits));
-      least = two.least ∙ omega arith;
-      empty = two.empty;
+      same = same ∙ alone ∙ h.same;
+      last = behind_more a b more ∙ last ∙ alone_last ∙ h.last;
+      least = sum ∙ h.least;
+      empty = ap (λ e. e && has_no_number b) none.empty ∙ h.empty;
     }
   where
     go : (o : Reading) → (o >>= λ y. Some ([] ++ y.0, y.1)) ≡ o
     go None = refl
     go (Some y) = refl
+
+-- ---- the last field is kept
+
+pub with_bits_last : (types : List DataType) (front : List Field) (last : Field)
+    → with_bits types (front ++ last ∷ []) ≡ filter (has_bits types) front ++ last ∷ []
+with_bits_last types [] last = refl
+with_bits_last types (field ∷ []) last = go (has_bits types field) refl where
+  go : (b : Bool) → has_bits types field ≡ b → with_bits types (field ∷ last ∷ []) ≡ filter (has_bits types) (field ∷ []) ++ last ∷ []
+  go true e = rw e refl
+  go false e = rw e refl
+with_bits_last types (field ∷ next ∷ front) last = go (has_bits types field) refl (with_bits_last types (next ∷ front) last) where
+  go : (b : Bool) → has_bits types field ≡ b → with_bits types (next ∷ (front ++ last ∷ [])) ≡ filter (has_bits types) (next ∷ front) ++ last ∷ []
+      → with_bits types (field ∷ next ∷ (front ++ last ∷ [])) ≡ filter (has_bits types) (field ∷ next ∷ front) ++ last ∷ []
+  go true e later = rw e (ap (λ kept. field ∷ kept) later)
+  go false e later = rw e later
 
 -- ---- types one behind the other
 
@@ -128,36 +175,37 @@ module _ (types others : List DataType) (alike : AreAlike types others) where
   abbrev compact_part : List Field → Layout
   compact_part fields = joined (part_layout others (with_bits types fields))
 
+  -- one field at least is kept
+  some_kept : (field : Field) (fields : List Field) → IsMore (compact_part (field ∷ fields))
+  some_kept field [] = (field_layout others field, nothing, refl)
+  some_kept field (next ∷ fields) = go (has_bits types field) (some_kept next fields) where
+    go : (b : Bool) → IsMore (compact_part (next ∷ fields))
+        → IsMore (joined (part_layout others (cond b (field ∷ with_bits types (next ∷ fields)) (with_bits types (next ∷ fields)))))
+    go true more = (field_layout others field, compact_part (next ∷ fields), refl)
+    go false more = more
+
   alike_parts : (fields : List Field) → Alike (whole_part fields) (compact_part fields)
   alike_parts [] = itself nothing
-  alike_parts (field ∷ fields) = go (takes_bits (size_of layout)) refl (alike_parts fields) where
+  alike_parts (field ∷ []) = ends (alike_field field)
+  alike_parts (field ∷ next ∷ fields) = go (takes_bits (size_of layout)) refl (alike_parts (next ∷ fields)) where
     layout : Layout
     layout = field_layout types field
 
     kept : Bool → List Field
-    kept b = cond b (field ∷ with_bits types fields) (with_bits types fields)
+    kept b = cond b (field ∷ with_bits types (next ∷ fields)) (with_bits types (next ∷ fields))
 
-    go : (b : Bool) → takes_bits (size_of layout) ≡ b → Alike (whole_part fields) (compact_part fields)
-        → Alike (pair layout (whole_part fields)) (joined (part_layout others (kept b)))
-    go true e later = pairs (alike_field field) later
-    go false e later = behind_nothing (is_nothing layout e) later
+    more : IsMore (whole_part (next ∷ fields))
+    more = (field_layout types next, whole_part fields, refl)
 
-  alike_last : (field : Field) (bits : List Bool)
-      → read_last (field_layout types field) bits ≡ read_last (field_layout others field) bits
-  alike_last (Void width) bits = refl
-  alike_last (Data kind One) bits =
-      last_one types kind bits ∙ ap (λ read. read bits) (alike_kind kind).same ∙ sym (last_one others kind bits)
-  alike_last (Data kind (Exactly count)) bits = ap (λ read. read_times count read bits) (alike_kind kind).same
-  alike_last (Data kind (UpTo most)) bits =
-      let h = alike_kind kind in
-      λ i. cond (nat_le 8 (h.least i))
-      (told_tail (read_tail most (h.same i) bits))
-      (read_number (count_width most) bits >>= read_counted most (h.same i))
+    go : (b : Bool) → takes_bits (size_of layout) ≡ b → Alike (whole_part (next ∷ fields)) (compact_part (next ∷ fields))
+        → Alike (pair layout (whole_part (next ∷ fields))) (joined (part_layout others (kept b)))
+    go true e later = pairs (alike_field field) later more (some_kept next fields)
+    go false e later = behind_nothing (is_nothing layout e) later more
 
   alike_reading : (part : List Field) (bits : List Bool)
       → read_part (part_layout types part) bits ≡ read_part (part_layout others part) bits
   alike_reading [] bits = refl
-  alike_reading (field ∷ []) bits = alike_last field bits
+  alike_reading (field ∷ []) bits = ap (λ read. read bits) (alike_field field).last
   alike_reading (field ∷ next ∷ fields) bits =
       let front = alike_field field in
       λ i. read_both (front.same i) (λ rest. alike_reading (next ∷ fields) rest i) bits

@@ -2,16 +2,11 @@
 use Rattle.std.proofs.Common.{◌≡◌, ◌<◌, ◌≤◌, ◌+◌, ◌-◌, ℕ, zero, suc, List, [], ◌∷◌, ◌++◌, length, Bool, true, false, cond, nat_le, Option, Some, None, Bor, refl, unwrap_or, insert, ap, sym, ◌∙◌, arith, append_assoc, length-append}
 use Rattle.std.proofs.lemmas.Bool.{le-leb, le-ltb, leb-false, lt-leb, lt-ltb}
 use Rattle.std.proofs.Math.Seq.{take-append_seam, drop-append_seam}
-use Rattle.std.specs.Prelude.{slice_get, ◌&&◌, nat_lt}
-use Rattle.dsdl_text.specs.declared.line.Shape.{Shape}
-use Rattle.dsdl_text.specs.declared.line.Shape.TheVariants.{One}
-use Rattle.dsdl_text.specs.declared.section.Kind.{Kind}
-use Rattle.dsdl_text.specs.declared.section.Kind.TheVariants.{Number, Section as Earlier}
+use Rattle.std.specs.Prelude.{◌&&◌, nat_lt}
 use Rattle.dsdl_text.specs.declared.section.Field.{Field}
-use Rattle.dsdl_text.specs.declared.section.Field.TheVariants.{Data}
-use Rattle.dsdl_text.specs.Layout.{DataType, Layout, joined, shaped}
-use Rattle.dsdl_text.specs.Sections.{field_layout, first_layout, kind_layout, part_layout}
-use Rattle.dsdl_text.specs.Numbers.{◌>>=◌, Gives, Reading, behind, bits_of, elements, numbers_of, read_counted, read_last, read_number, read_part, read_tail, read_times, reads, tail_count, whole}
+use Rattle.dsdl_text.specs.Layout.{DataType, Layout, joined}
+use Rattle.dsdl_text.specs.Sections.{field_layout, part_layout}
+use Rattle.dsdl_text.specs.Numbers.{◌>>=◌, Gives, Reading, behind, bits_of, elements, numbers_of, read_both, read_counted, read_counted_to_last, read_last, read_number, read_part, read_tail, read_times, read_to_last, reads, tail_count, whole}
 
 -- a reading, and another behind it
 abbrev pub then : Reading → (List Bool → Reading) → Reading
@@ -140,21 +135,24 @@ pub part_more : (types : List DataType) (field : Field) (fields : List Field) (b
 part_more types field [] bits filled = absurd (omega arith)
 part_more types field (next ∷ fields) bits filled = refl
 
--- the type of a field is never an array itself
-last_joined : (first : List Layout) (bits : List Bool) → read_last (joined first) bits ≡ reads (joined first) bits
-last_joined [] bits = refl
-last_joined (layout ∷ layouts) bits = refl
+-- the fields of a type that stands at the end
+pub part_joined : (layouts : List Layout) → read_last (joined layouts) ≡ read_part layouts
+part_joined [] = refl
+part_joined (layout ∷ []) = refl
+part_joined (layout ∷ next ∷ layouts) = λ i bits. read_both (reads layout) (part_joined (next ∷ layouts) i) bits
 
-pub last_one : (types : List DataType) (kind : Kind) (bits : List Bool) → read_last (kind_layout types kind) bits ≡ reads (kind_layout types kind) bits
-last_one types (Number width) bits = refl
-last_one types (Earlier place) bits = go (slice_get types place) where
-  go : (found : Option DataType) → read_last (first_layout found) bits ≡ reads (first_layout found) bits
-  go None = refl
-  go (Some type) = last_joined type.first bits
+pub to_last_none : (n : ℕ) (read last : List Bool → Reading) (bits : List Bool) → n ≡ 0 → read_to_last n read last bits ≡ Some ([], bits)
+to_last_none n read last bits is = rw is refl
 
-pub last_field : (types : List DataType) (field : Field) (kind : Kind) (shape : Shape) (bits : List Bool) → field ≡ Data kind shape → shape ≡ One
-    → read_last (field_layout types field) bits ≡ reads (shaped shape (kind_layout types kind)) bits
-last_field types field kind shape bits is one = rw (is, one) (last_one types kind bits)
+pub to_last_more : (n : ℕ) (read last : List Bool → Reading) (bits : List Bool) → 0 < n
+    → read_to_last n read last bits ≡ then (read_times (n - 1) read bits) last
+to_last_more zero read last bits filled = absurd (omega arith)
+to_last_more (suc n) read last bits filled = let less : suc n - 1 ≡ n = omega arith in rw less refl
+
+pub counted_to_last : (most count width : ℕ) (read last : List Bool → Reading) (bits rest : List Bool) → read_number width bits ≡ Some (count ∷ [], rest)
+    → count ≤ most
+    → (read_number width bits >>= read_counted_to_last most read last) ≡ then (Some (count ∷ [], rest)) (read_to_last count read last)
+counted_to_last most count width read last bits rest is within = rw (is, le-leb count most within) refl
 
 -- ---- the whole payload
 

@@ -2,8 +2,10 @@
 --
 -- The bits of a byte are taken from the high one. A number of more than 8 bits is its bytes, the low one first,
 -- wherever it begins. An array of at most N elements has a count in front, of as many bits as hold N; but where it
--- is the last field of the part that is decoded and an element has 8 bits at least, it has none and takes what is
--- left (UAVCAN v0, "tail array optimization"). Fewer than 8 bits may be left behind the last field: padding.
+-- stands at the end of the part that is decoded and an element has 8 bits at least, it has none and takes what is left
+-- (UAVCAN v0, "tail array optimization"). At the end stands the last field, and what stands at the end of its type: the
+-- last field of that type, or of the last element of an array. So the public generators have it, which hand the mode on
+-- from each last field to the next. Fewer than 8 bits may be left behind the last field: padding.
 use Rattle.std.specs.Prelude.{◌≡◌, ◌+◌, ◌*◌, ◌/◌, ◌%◌, ℕ, zero, suc, Bool, ◌&&◌, nat_eq, nat_le, nat_lt, if◌then◌else◌, List, [], ◌∷◌, ◌++◌, length, take, drop, flat_map, Option, Some, None}
 use Rattle.std.specs.Option.{option_and_then}
 use Rattle.std.specs.Borrow.{Bor}
@@ -118,12 +120,30 @@ read_tail (suc most) read bits = if nat_lt (length bits) 8 then Some (0, [], bit
 abbrev pub told_tail : Option (ℕ × List ℕ × List Bool) → Reading
 told_tail tail = tail >>= λ x. Some (x.0 ∷ x.1, x.2)
 
--- the last field
+-- so many elements, the last of which stands at the end
+abbrev pub read_to_last : ℕ → (read last : List Bool → Reading) → List Bool → Reading
+read_to_last zero read last bits = Some ([], bits)
+read_to_last (suc count) read last bits = read_both (read_times count read) last bits
+
+-- as many as the number says that was read in front of them
+abbrev pub read_counted_to_last : ℕ → (read last : List Bool → Reading) → List ℕ × List Bool → Reading
+read_counted_to_last most read last (count ∷ [], bits) =
+    if nat_le count most then read_both (λ rest. Some (count ∷ [], rest)) (read_to_last count read last) bits else None
+read_counted_to_last most read last (_, bits) = None
+
+-- their count, and they
+abbrev pub read_array_to_last : ℕ → (read last : List Bool → Reading) → List Bool → Reading
+read_array_to_last most read last bits = read_number (count_width most) bits >>= read_counted_to_last most read last
+
+-- what stands at the end
 abbrev pub read_last : Layout → List Bool → Reading
+read_last (pair front nothing) bits = read_last front bits
+read_last (pair front back) bits = read_both (reads front) (read_last back) bits
+read_last (exactly count element) bits = read_to_last count (reads element) (read_last element) bits
 read_last (up_to most element) bits =
     if nat_le 8 (least_bits element) then told_tail (read_tail most (reads element) bits)
-    else reads (up_to most element) bits
-read_last field bits = reads field bits
+    else read_array_to_last most (reads element) (read_last element) bits
+read_last layout bits = reads layout bits
 
 -- the fields of the part
 abbrev pub read_part : List Layout → List Bool → Reading

@@ -1,5 +1,5 @@
 -- How long the values of a layout are.
-use Rattle.std.specs.Prelude.{◌≡◌, ◌<◌, ℕ, Bool, true, false, ◌&&◌, not, nat_eq, min, List, length, map, filter, take, slice_index_or}
+use Rattle.std.specs.Prelude.{◌≡◌, ◌<◌, ℕ, Bool, true, false, ◌&&◌, not, nat_eq, min, if◌then◌else◌, List, [], ◌∷◌, length, map, take, slice_index_or}
 use Rattle.dsdl_text.specs.declared.section.Field.{Field}
 use Rattle.dsdl_text.specs.declared.section.Section.{Section}
 use Rattle.dsdl_text.specs.declared.size.Size.{Size}
@@ -30,11 +30,19 @@ sizes_in types = map (λ type. size_of (joined type.first)) types
 abbrev pub takes_bits : Size → Bool
 takes_bits size = not (size.blank && nat_eq size.bits 0)
 
--- the fields whose values have bits, behind these types
-abbrev pub with_bits : List DataType → List Field → List Field
-with_bits types fields = filter (λ field. takes_bits (size_of (field_layout types field))) fields
+-- whether the values of a field have bits, behind these types
+abbrev pub has_bits : List DataType → Field → Bool
+has_bits types field = takes_bits (size_of (field_layout types field))
 
--- the first parts of sections, without the fields whose values have no bits
+-- the fields whose values have bits, and the last field: what stands at the end goes by it
+abbrev pub with_bits : List DataType → List Field → List Field
+with_bits types [] = []
+with_bits types (field ∷ []) = field ∷ []
+with_bits types (field ∷ next ∷ fields) =
+    if has_bits types field then field ∷ with_bits types (next ∷ fields)
+    else with_bits types (next ∷ fields)
+
+-- the first parts of sections, without the other fields
 pub record IsCompact (sections compact : List Section) : Type 0 where
   pub count : length compact ≡ length sections
   pub fields : (place : ℕ) (d e : Section) → place < length sections

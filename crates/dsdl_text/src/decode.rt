@@ -10,7 +10,8 @@ use crate::line::Shape;
 use crate::section::{Field, Kind, Numbers, Section};
 use crate::size::{Size, count_width, has_byte, size_of_kind};
 
-/// Reads the part that is decoded, and gives the bits behind it. Its last field may have the tail form.
+/// Reads the part that is decoded, and gives the bits behind it. An array at its end may have the tail form.
+#[cycle(last)]
 pub fn read_part<'a>(
     earlier: &[Section],
     sizes: &[Size],
@@ -32,7 +33,8 @@ pub fn read_part<'a>(
     read_part(earlier, sizes, fields, bits, numbers)
 }
 
-/// Reads the last field of the part that is decoded.
+/// Reads a field that stands at the end.
+#[cycle(last)]
 fn read_last<'a>(
     earlier: &[Section],
     sizes: &[Size],
@@ -47,16 +49,93 @@ fn read_last<'a>(
     match field {
         Field::Void(_) => read_field(earlier, sizes, field, bits, numbers),
         Field::Data { kind, shape } => match shape {
+            Shape::One => read_last_kind(earlier, sizes, kind, bits, numbers),
+            Shape::Exactly(count) => read_to_last(earlier, sizes, kind, count, bits, numbers),
             Shape::UpTo(most) => {
                 if has_byte(sizes, kind) {
                     read_tail(earlier, sizes, kind, most, bits, numbers)
                 } else {
-                    read_field(earlier, sizes, field, bits, numbers)
+                    read_counted_to_last(earlier, sizes, kind, most, bits, numbers)
                 }
             }
-            Shape::One => read_field(earlier, sizes, field, bits, numbers),
-            Shape::Exactly(_) => read_field(earlier, sizes, field, bits, numbers),
         },
+    }
+}
+
+/// Reads a value of a type that stands at the end.
+#[cycle(last)]
+fn read_last_kind<'a>(
+    earlier: &[Section],
+    sizes: &[Size],
+    kind: Kind,
+    bits: &'a [bool],
+    numbers: &mut Numbers,
+) -> Option<&'a [bool]>
+    requires { sizes.now ≡ sizes_in (types_of earlier.now) }
+    ensures { Gives result numbers.old.items numbers.new.items
+        (numbers_in.read_last (kind_layout (types_of earlier.now) kind) bits.now) }
+{
+    match kind {
+        Kind::Number(width) => read_number(width.bits, bits, numbers),
+        Kind::Section(place) => {
+            if place >= earlier.len() {
+                return keep(bits, numbers);
+            }
+            read_part(
+                &earlier[..place],
+                &sizes[..place],
+                &earlier[place].first,
+                bits,
+                numbers,
+            )
+        }
+    }
+}
+
+/// Reads so many values of a type, the last of which stands at the end.
+#[cycle(last)]
+fn read_to_last<'a>(
+    earlier: &[Section],
+    sizes: &[Size],
+    kind: Kind,
+    count: u8,
+    bits: &'a [bool],
+    numbers: &mut Numbers,
+) -> Option<&'a [bool]>
+    requires { sizes.now ≡ sizes_in (types_of earlier.now) }
+    ensures { let element = kind_layout (types_of earlier.now) kind in
+        Gives result numbers.old.items numbers.new.items
+        (numbers_in.read_to_last count (reads element) (numbers_in.read_last element) bits.now) }
+{
+    if count == 0 {
+        return keep(bits, numbers);
+    }
+    let bits = read_times(earlier, sizes, kind, count - 1, bits, numbers)?;
+    read_last_kind(earlier, sizes, kind, bits, numbers)
+}
+
+/// Reads a count, and so many values of a type, the last of which stands at the end.
+#[cycle(last)]
+fn read_counted_to_last<'a>(
+    earlier: &[Section],
+    sizes: &[Size],
+    kind: Kind,
+    most: u8,
+    bits: &'a [bool],
+    numbers: &mut Numbers,
+) -> Option<&'a [bool]>
+    requires { sizes.now ≡ sizes_in (types_of earlier.now) }
+    ensures { let element = kind_layout (types_of earlier.now) kind in
+        Gives result numbers.old.items numbers.new.items
+        (numbers_in.read_array_to_last most (reads element) (numbers_in.read_last element) bits.now) }
+{
+    let (count, rest) = split_number(count_width(most), bits)?;
+    if count > u64::from(most) {
+        return None;
+    }
+    match numbers.try_push(count) {
+        Ok(()) => read_to_last(earlier, sizes, kind, count as u8, rest, numbers),
+        Err(_) => None,
     }
 }
 
@@ -109,7 +188,7 @@ fn read_elements<'a>(
     Some((count + 1, rest))
 }
 
-/// Reads fields, none of which has the tail form.
+/// Reads fields with more behind them, none of which has the tail form.
 #[cycle(reading)]
 fn read_fields<'a>(
     earlier: &[Section],

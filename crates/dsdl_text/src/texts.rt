@@ -50,7 +50,8 @@ impl Texts {
     /// The numbers of a payload under the part that stands there; `None` where it has no reading.
     ///
     /// It ends soon, whatever the text. The size of each type is found once, and the fields that take no bits
-    /// are left out of it once; so each value inside a field of the part takes one bit of the payload at least.
+    /// are left out of it once, but for a last one, which is passed over at once. So each other value inside a
+    /// field of the part takes one bit of the payload at least.
     /// Bits of no meaning are passed over at once, also an array of them. With the numbers and the counts they
     /// are at most 3,008 values, as many as a payload has bits. Any other value or array has a number in it, or
     /// the reading breaks off in it: there are at most 401 of each at each of 16 depths, since there is room for

@@ -12,12 +12,14 @@ ghost use Rattle.dsdl_codec.specs.Numbers as numbers;
 ghost use Rattle.dsdl_codec.specs.VoteAnswer.{vote_answer_of};
 ghost use Rattle.dsdl_codec.specs.VoteRequest.{vote_request_of};
 ghost use Rattle.dsdl_text.specs.Text.{Text};
-ghost use Rattle.dsdl_text_codec_laws.specs.Profile.{IsText, TextGivesNumbers, profile};
+ghost use Rattle.dsdl_text_codec_laws.specs.Profile.{IsText, ReadAs, TextGivesNumbers, lines_of, profile};
+ghost use Rattle.dsdl_text_codec_laws.specs.Published.{profile_lines};
 
 use dsdl_text::PROFILE;
 
-/// Each line of the profile reads, and has no fault; these are its types.
+/// The lines of the profile are these, each with its names and numbers; none has a fault, and these are its types.
 pub fn the_profile_is_a_text()
+    ensures lines { ReadAs profile_lines (lines_of PROFILE.now) }
     ensures text { IsText PROFILE.now profile }
     ensures only { (text : Text) → IsText PROFILE.now text → text ≡ profile }
 {}

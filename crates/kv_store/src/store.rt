@@ -117,6 +117,12 @@ impl<D: Disk> Store<D> {
             × Rose (D.faults (store_disk self.old)) (D.faults (store_disk self.new))) }
         ensures closed { IsErr result → IsSome (store_fault self.new) }
 
+        // What it keeps after a refusal is the fault that it answers, and it has the count of the disk.
+        ensures kept { IfErr result (λ why. (fault : Fault) → why ≡ DiskFault fault →
+            store_fault self.new ≡ Some fault) }
+        ensures count { OnErr result (IfSome (store_fault self.new) (λ fault.
+            fault.count ≡ D.faults (store_disk self.new))) }
+
         // It adds no image that a stop may leave, also where it refuses.
         ensures images { D.tells (store_disk self.old) ≡ true →
             AddsNoImage (D.contents (store_disk self.old)) (D.contents (store_disk self.new)) }
@@ -130,15 +136,17 @@ impl<D: Disk> Store<D> {
         self.close();
         let mut image = [0; IMAGE];
         if load(&mut self.disk, &mut image).is_err() {
-            let count = self.disk.faults();
-            return Err(OpenFault::Fault(Fault { count }));
+            return Err(OpenFault::Fault(self.shut()));
         }
         match self.table.refill(&image) {
             Ok(()) => {
                 self.failed = None;
                 Ok(())
             }
-            Err(key) => Err(OpenFault::Damaged(key)),
+            Err(key) => {
+                self.shut();
+                Err(OpenFault::Damaged(key))
+            }
         }
     }
 
@@ -150,9 +158,21 @@ impl<D: Disk> Store<D> {
         ensures count { IfSome (store_fault self.new) (λ fault.
             fault.count ≡ D.faults (store_disk self.old)) }
     {
-        self.failed = Some(Fault {
+        self.shut();
+    }
+
+    /// Closes the store, and answers the fault that every put answers from now on.
+    fn shut(&mut self) -> Fault
+        ensures disk { store_disk self.new ≡ store_disk self.old }
+        ensures table { store_table self.new ≡ store_table self.old }
+        ensures kept { store_fault self.new ≡ Some result }
+        ensures count { result.count ≡ D.faults (store_disk self.old) }
+    {
+        let fault = Fault {
             count: self.disk.faults(),
-        });
+        };
+        self.failed = Some(fault);
+        fault
     }
 
     /// The fault that every put answers. None while the store is open and no put has failed.

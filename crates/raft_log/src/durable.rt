@@ -1,4 +1,4 @@
-ghost use Rattle.std.specs.Prelude.{◌≡◌, ◌≢◌, ◌≤◌, ◌<◌, ◌∷◌, [], ℕ, true, None, is_ok, OnOk, IfOk, IfErr, IfSome, IsErr, IsSome, length};
+ghost use Rattle.std.specs.Prelude.{◌≡◌, ◌≢◌, ◌≤◌, ◌<◌, ◌∷◌, [], ℕ, true, None, Some, is_ok, OnOk, OnErr, IfOk, IfErr, IfSome, IsErr, IsSome, length};
 ghost use Rattle.std.specs.Result.{result_err};
 ghost use Rattle.std.proofs.Props.{props};
 ghost use Rattle.can_frame.specs.Log.{entry_at, log_limit};
@@ -126,6 +126,13 @@ impl<D: Disk> Durable<D> {
             FailsToOpen D.Disk (durable_disk self.old) (durable_disk self.new)) }
 
         ensures closed { IsErr result → IsSome (durable_fault self.new) }
+
+        // What it keeps after a refusal is the fault that it answers, and it has the count of the disk.
+        ensures kept { IfErr result (λ why. (fault : Fault) → why ≡ DiskFault fault →
+            durable_fault self.new ≡ Some fault) }
+        ensures count { OnErr result (IfSome (durable_fault self.new) (λ fault.
+            fault.count ≡ D.faults (durable_disk self.new))) }
+
         ensures tells { D.tells (durable_disk self.new) ≡ D.tells (durable_disk self.old) }
         ensures later { D.faults (durable_disk self.old) ≤ D.faults (durable_disk self.new) }
     {
@@ -302,6 +309,10 @@ impl<D: Disk> Durable<D> {
         ensures failed { IfErr result (λ why. (fault : Fault) → why ≡ DiskFault fault →
             IsNotRead D.Disk (durable_disk self.old) (durable_disk self.new)) }
         ensures closed { IsErr result → IsSome (durable_fault self.new) }
+        ensures kept { IfErr result (λ why. (fault : Fault) → why ≡ DiskFault fault →
+            durable_fault self.new ≡ Some fault) }
+        ensures count { OnErr result (IfSome (durable_fault self.new) (λ fault.
+            fault.count ≡ D.faults (durable_disk self.new))) }
 
         // No image is added, also where the disk is refused.
         ensures images { D.tells (durable_disk self.old) ≡ true →

@@ -11,6 +11,8 @@ pub fn longest(stores: &[Stored]) -> usize
     ensures exists { result < length stores.now }
     ensures most { (k : ℕ) → k < length stores.now →
         (store_at stores.now k).commit ≤ (store_at stores.now result).commit }
+    ensures first { (k : ℕ) → k < result →
+        (store_at stores.now k).commit < (store_at stores.now result).commit }
 {
     let mut longest = 0;
     for next in 1..stores.len() {

@@ -19,7 +19,7 @@ use raft_log::Stored;
 /// committed, and a last line. Else it writes one line of what it found: a disk that failed, a store that is
 /// damaged, or the first place at which two have committed different entries.
 ///
-/// Each disk is read by one call, in order, and then read as a store, up to the first that is not read as
+/// Each disk is read by one call at the most, and then read as a store, up to the first that is not read as
 /// one. No disk is written. `DiskFault` comes only where the disk of that node failed, `WriteFault` only
 /// where the sink did, and it then has a front of what was to be written.
 pub fn audit_stores<K: Sink, D: Disk>(ids: &[u8], disks: &mut [Option<D>], sink: &mut K) -> Status

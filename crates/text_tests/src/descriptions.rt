@@ -42,6 +42,33 @@ fn payloads_have_numbers_under_the_profile(rt: HostRuntime) -> Result<(), Fail> 
     Ok(())
 }
 
+/// BeginFirmwareUpdate of UAVCAN v0: its last field is a type that ends in an array.
+const FIRMWARE: &[u8] = b"@ Path
+uint8[<=200] path
+@ BeginFirmwareUpdate
+uint8 source_node_id
+Path image_file_remote_path
+@ Two
+Path first
+Path second
+@ Pair
+uint8 number
+Two paths
+@ Paths
+Path[2] paths";
+
+#[test]
+fn what_stands_at_the_end_has_no_count(rt: HostRuntime) -> Result<(), Fail> {
+    let text = text_of(FIRMWARE)?;
+    let update = numbers_of(&text, b"BeginFirmwareUpdate", 1, b"\x05a.b").ok_or("no value")?;
+    assert_eq!(rt; update.as_slice(), [5, 3, 97, 46, 98].as_slice());
+    let pair = numbers_of(&text, b"Pair", 1, b"\x07\x01ab").ok_or("no value")?;
+    assert_eq!(rt; pair.as_slice(), [7, 1, 97, 1, 98].as_slice());
+    let paths = numbers_of(&text, b"Paths", 1, b"\x01abc").ok_or("no value")?;
+    assert_eq!(rt; paths.as_slice(), [1, 97, 2, 98, 99].as_slice());
+    Ok(())
+}
+
 #[test]
 fn each_line_has_its_first_fault(rt: HostRuntime) {
     assert_eq!(rt; fault_of(b"# remark\n\nuint8 x"), Some(LineFault::Form));

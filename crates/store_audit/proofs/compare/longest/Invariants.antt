@@ -6,4 +6,6 @@ abbrev pub invariant-loop-next : goal.invariant-loop-next
 invariant-loop-next l = record {
   exists : l.longest < length l.stores;
   most : (k : ℕ) → k < l.next → (store_at l.stores k).commit ≤ (store_at l.stores l.longest).commit;
+  first : (k : ℕ) → k < l.longest → (store_at l.stores k).commit < (store_at l.stores l.longest).commit;
+  below : l.longest < l.next;
 }

@@ -1,0 +1,446 @@
+"""The tests of tools/can_bridge. They are started by tests/bridge."""
+from __future__ import annotations
+
+import errno
+import importlib.machinery
+import importlib.util
+import io
+import os
+import pty
+import select
+import shutil
+import socket
+import struct
+import subprocess
+import sys
+import time
+import tty
+import unittest
+from collections import deque
+from contextlib import redirect_stderr
+from typing import Any, Callable
+
+import support
+
+BRIDGE = str(support.ROOT / "tools" / "can_bridge")
+MEMBERS = [1, 2]
+NODE_STATUS_OF_7 = 0x10015507
+NODE_STATUS_OF_1 = 0x10015501
+OTHER = 0x10B0AA32  # a message that no allocator takes
+DATA = bytes.fromhex("0b000000000000c0")
+ERROR, RESTARTED = 0x20000000, 0x100
+
+
+def load() -> Any:
+    loader = importlib.machinery.SourceFileLoader("can_bridge", BRIDGE)
+    spec = importlib.util.spec_from_loader("can_bridge", loader)
+    assert spec is not None
+    module = importlib.util.module_from_spec(spec)
+    sys.modules["can_bridge"] = module
+    loader.exec_module(module)
+    return module
+
+
+bridge = load()
+
+
+def datagram(identifier: int, data: bytes = DATA) -> bytes:
+    return identifier.to_bytes(4, "big") + bytes([len(data)]) + data
+
+
+def can_frame(identifier: int, data: bytes = DATA) -> bytes:
+    return struct.pack("=IB3x8s", identifier | 0x80000000, len(data), data)
+
+
+class RawCan:
+    """Stands in for a raw CAN socket: what it was sent, and what it has."""
+
+    def __init__(self) -> None:
+        self.options: dict[tuple[int, int], Any] = {}
+        self.sent: list[bytes] = []
+        self.has: deque[Any] = deque()  # an error, or bytes, flags, how long they waited, and drops
+        self.full = False
+
+    def setsockopt(self, level: int, option: int, value: Any) -> None:
+        self.options[level, option] = value
+
+    def bind(self, address: tuple[str]) -> None:
+        self.address = address
+
+    def setblocking(self, blocks: bool) -> None:
+        assert not blocks
+
+    def fileno(self) -> int:
+        return 0
+
+    def send(self, frame: bytes) -> None:
+        if self.full:
+            raise OSError(errno.ENOBUFS, "No buffer space available")
+        self.sent.append(frame)
+
+    def recvmsg(self, length: int, room: int) -> tuple[bytes, list[Any], int, Any]:
+        if not self.has:
+            raise BlockingIOError
+        item = self.has.popleft()
+        if isinstance(item, OSError):
+            raise item
+        data, flags, waited, drops = item
+        moment = time.time() - waited
+        stamp = struct.pack("@ll", int(moment), int(moment % 1 * 1e9))
+        return data, [(socket.SOL_SOCKET, 35, stamp), (socket.SOL_SOCKET, 40, struct.pack("=I", drops))], flags, None
+
+    def gives(self, frame: bytes, flags: int = 0, waited: float = 0.0, drops: int = 0) -> None:
+        self.has.append((frame, flags, waited, drops))
+
+    def echoes(self) -> None:
+        self.gives(self.sent[-1], socket.MSG_CONFIRM)
+
+
+class Case(unittest.TestCase):
+    """A bridge over a stand-in for a CAN socket, with members at the first base whose ports are free."""
+
+    def setUp(self) -> None:
+        self.raw = RawCan()
+        self.errors = io.StringIO()
+        self.open(bridge.SocketCan(self.raw, "can0", MEMBERS))
+        self.addCleanup(self.close)
+
+    def open(self, bus: Any) -> None:
+        for base in range(33000, 34000, 130):
+            try:
+                self.ears = {node: self.ear(base + node) for node in (*MEMBERS, 3)}
+                self.bridge = bridge.Bridge(base, bus, MEMBERS)
+                self.base = base
+                return
+            except (OSError, bridge.Stop):
+                self.close()
+        self.fail("no ports are free")
+
+    def ear(self, port: int) -> socket.socket:
+        link = socket.socket(socket.AF_INET, socket.SOCK_DGRAM)
+        link.bind(("127.0.0.1", port))
+        link.settimeout(2)
+        return link
+
+    def close(self) -> None:
+        for link in self.ears.values():
+            link.close()
+        if hasattr(self, "bridge"):
+            self.bridge.link.close()
+
+    def says(self, node: int, data: bytes) -> None:
+        self.ears[node].sendto(data, ("127.0.0.1", self.base + 119))
+
+    def turn(self) -> None:
+        with redirect_stderr(self.errors):
+            self.bridge.take_from_members()
+            self.bridge.hand_on_from_bus()
+            self.bridge.give_to_bus()
+
+    def told(self, node: int) -> list[bytes]:
+        """What the bridge handed to a member."""
+        found = []
+        while select.select([self.ears[node]], [], [], 0)[0]:
+            found.append(self.ears[node].recv(64))
+        return found
+
+    def counts(self, *names: str) -> list[int]:
+        return [self.bridge.counts[name] for name in names]
+
+
+class FromMembers(Case):
+    def test_a_frame_of_a_member_goes_to_the_bus(self) -> None:
+        self.says(1, datagram(NODE_STATUS_OF_1))
+        self.turn()
+        self.assertEqual(self.raw.sent, [can_frame(NODE_STATUS_OF_1)])
+        self.assertEqual(self.counts("to_bus", "stranger", "junk"), [1, 0, 0])
+
+    def test_nothing_of_another_port_goes_to_the_bus(self) -> None:
+        for identifier in (NODE_STATUS_OF_1, OTHER, 0x1E000103, 0x0804060A, 0x1E000500):
+            self.says(3, datagram(identifier))
+        with socket.socket(socket.AF_INET, socket.SOCK_DGRAM) as link:
+            link.sendto(datagram(NODE_STATUS_OF_1), ("127.0.0.1", self.base + 119))
+        self.turn()
+        self.assertEqual(self.raw.sent, [])
+        self.assertEqual(self.counts("stranger"), [6])
+        self.assertIn(f"a datagram of port {self.base + 3} with the frame 10015501 was dropped", self.errors.getvalue())
+        self.assertEqual(self.errors.getvalue().count("\n"), 1)
+
+    def test_a_member_speaks_for_itself_alone(self) -> None:
+        for identifier in (NODE_STATUS_OF_1 + 1, NODE_STATUS_OF_7, OTHER, 0x1E000500):
+            self.says(1, datagram(identifier))
+        self.turn()
+        self.assertEqual(self.raw.sent, [])
+        self.assertEqual(self.counts("stranger"), [4])
+
+    def test_a_flood_of_one_side_leaves_the_other_its_turn(self) -> None:
+        for _ in range(100):
+            self.says(3, datagram(NODE_STATUS_OF_1))
+        self.raw.gives(can_frame(NODE_STATUS_OF_7))
+        self.turn()
+        self.assertEqual(self.counts("stranger", "to_members"), [64, 1])
+
+    def test_what_is_no_frame_is_junk(self) -> None:
+        whole = datagram(NODE_STATUS_OF_1)
+        for data in (b"", whole[:5], whole[:-1], whole + b"x", b"\xff" + whole[1:]):
+            self.says(1, data)
+        self.turn()
+        self.assertEqual((self.raw.sent, self.counts("junk")), ([], [5]))
+
+
+class OneAtATime(Case):
+    def test_the_next_frame_waits_for_the_echo(self) -> None:
+        for number in range(3):
+            self.says(1, datagram(NODE_STATUS_OF_1, bytes([number, 0xC0])))
+        self.turn()
+        self.turn()
+        self.assertEqual(len(self.raw.sent), 1)
+        self.raw.echoes()
+        self.turn()
+        self.assertEqual(len(self.raw.sent), 2)
+        self.assertEqual(self.told(1) + self.told(2), [])
+        self.assertEqual(self.counts("own"), [0])
+
+    def test_a_frame_that_nobody_acknowledges_is_told_once(self) -> None:
+        self.says(1, datagram(NODE_STATUS_OF_1))
+        self.turn()
+        self.assertEqual(self.errors.getvalue(), "")
+        time.sleep(0.55)
+        self.says(1, datagram(NODE_STATUS_OF_1))
+        self.turn()
+        self.turn()
+        self.assertEqual(self.errors.getvalue().count("acknowledged"), 1)
+        time.sleep(0.55)
+        self.raw.echoes()
+        self.turn()
+        self.assertEqual(len(self.raw.sent), 1, "what waited for longer than 0.5 s is dropped")
+        self.assertEqual(self.counts("to_bus", "too_old"), [1, 1])
+
+    def frees(self, what: Callable[[], None]) -> None:
+        for _ in range(2):
+            self.says(1, datagram(NODE_STATUS_OF_1))
+        self.turn()
+        what()
+        self.turn()
+        self.assertEqual(len(self.raw.sent), 2)
+
+    def test_an_interface_that_was_down_has_nothing(self) -> None:
+        self.frees(lambda: self.raw.has.append(OSError(errno.ENETDOWN, "Network is down")))
+
+    def test_a_controller_that_was_started_again_has_nothing(self) -> None:
+        self.frees(lambda: self.raw.gives(struct.pack("=IB3x8s", ERROR | RESTARTED, 8, bytes(8))))
+
+    def test_an_echo_may_be_among_what_the_kernel_dropped(self) -> None:
+        self.frees(lambda: self.raw.gives(can_frame(NODE_STATUS_OF_7), drops=1))
+
+    def test_a_full_queue_is_counted_once_for_each_frame(self) -> None:
+        self.raw.full = True
+        self.says(1, datagram(NODE_STATUS_OF_1))
+        for _ in range(5):
+            self.turn()
+        self.raw.full = False
+        self.turn()
+        self.assertEqual(self.counts("refused", "to_bus"), [1, 1])
+
+    def test_the_options_of_the_socket(self) -> None:
+        options = self.raw.options
+        self.assertEqual(options[socket.SOL_CAN_RAW, socket.CAN_RAW_RECV_OWN_MSGS], 1)
+        pairs = struct.iter_unpack("=II", options[socket.SOL_CAN_RAW, socket.CAN_RAW_FILTER])
+        passes = [(bits, mask) for bits, mask in pairs]
+
+        def passed(identifier: int) -> bool:
+            return any((0x80000000 | identifier) & mask == bits & mask for bits, mask in passes)
+
+        self.assertTrue(passed(NODE_STATUS_OF_7) and passed(NODE_STATUS_OF_1) and passed(0x1E1E8187))
+        self.assertFalse(passed(OTHER) or passed(0x1E1E8487))
+
+    def test_another_error_ends_the_bridge(self) -> None:
+        self.raw.has.append(OSError(errno.ENODEV, "No such device"))
+        with self.assertRaisesRegex(bridge.Stop, "can0: No such device"):
+            self.turn()
+
+
+class FromTheBus(Case):
+    def test_a_frame_goes_to_each_member(self) -> None:
+        self.raw.gives(can_frame(NODE_STATUS_OF_7))
+        self.turn()
+        self.assertEqual(self.told(1) + self.told(2), [datagram(NODE_STATUS_OF_7)] * 2)
+        self.assertEqual(self.told(3), [])
+
+    def test_what_waited_is_dropped(self) -> None:
+        self.raw.gives(can_frame(NODE_STATUS_OF_7), waited=0.6)
+        self.raw.gives(can_frame(NODE_STATUS_OF_7), waited=-3600)  # the clock was set
+        self.turn()
+        self.assertEqual((self.told(1), self.counts("too_old")), ([], [2]))
+
+    def test_another_node_with_the_id_of_a_member_is_told_at_once(self) -> None:
+        for _ in range(3):
+            self.raw.gives(can_frame(NODE_STATUS_OF_1))
+        self.turn()
+        self.assertEqual((self.told(1) + self.told(2), self.counts("own")), ([], [3]))
+        self.assertIn("with the node ID 1, of a member of this machine", self.errors.getvalue())
+        self.assertEqual(self.errors.getvalue().count("\n"), 1)
+        self.bridge.told["own"] = time.monotonic() - 1  # a minute later
+        self.raw.gives(can_frame(NODE_STATUS_OF_1))
+        self.turn()
+        self.assertEqual(self.errors.getvalue().count("\n"), 2)
+
+    def test_other_and_empty_frames_are_not_handed_on(self) -> None:
+        self.raw.gives(can_frame(OTHER))
+        self.raw.gives(can_frame(NODE_STATUS_OF_7, b""))
+        self.turn()
+        self.assertEqual((self.told(1), self.counts("to_members", "empty")), ([], [0, 1]))
+
+    def test_a_member_that_cannot_be_reached_does_not_end_the_bridge(self) -> None:
+        self.bridge.link.close()
+
+        class Filtered:
+            def recvmsg(self, *_: Any) -> None:
+                raise BlockingIOError
+
+            def sendto(self, *_: Any) -> None:
+                raise OSError(errno.EPERM, "Operation not permitted")
+
+            def close(self) -> None:
+                pass
+
+        self.bridge.link = Filtered()
+        self.raw.gives(can_frame(NODE_STATUS_OF_7))
+        self.turn()
+        self.assertIn(f"port {self.base + 1}: Operation not permitted", self.errors.getvalue())
+
+
+class SerialLine(Case):
+    """The adapter is a pair of pseudo terminals: `adapter` is its end of the line."""
+
+    def setUp(self) -> None:
+        self.adapter, line = pty.openpty()
+        tty.setraw(self.adapter)
+        self.errors = io.StringIO()
+        self.bus = bridge.Serial(os.ttyname(line), 500_000, settle=0)
+        os.close(line)
+        self.open(self.bus)
+        self.addCleanup(self.close)
+
+    def writes(self, text: bytes) -> None:
+        os.write(self.adapter, text)
+
+    def after(self, seconds: float = 0.5) -> list[bytes]:
+        """What the member 1 is told within so many seconds, or until something comes."""
+        end = time.monotonic() + seconds
+        while time.monotonic() < end:
+            select.select([self.bus], [], [], 0.05)
+            self.turn()
+            if select.select([self.ears[1]], [], [], 0.01)[0]:
+                return self.told(1)
+        return []
+
+    def line_of(self, identifier: int) -> bytes:
+        return b"T%08X8%s\r" % (identifier, DATA.hex().encode())
+
+    def test_the_adapter_is_opened_with_its_rate(self) -> None:
+        self.assertEqual(os.read(self.adapter, 64), b"C\rS6\rO\r")
+        with self.assertRaisesRegex(bridge.Stop, "no bit rate 300000"):
+            bridge.Serial("/dev/null", 300_000, settle=0)
+
+    def test_a_wanted_line_behind_three_others_in_one_write(self) -> None:
+        self.writes(self.line_of(OTHER) * 2 + b"Z\r" + self.line_of(NODE_STATUS_OF_7))
+        self.assertEqual(self.after(), [datagram(NODE_STATUS_OF_7)])
+
+    def test_nothing_waits_in_a_burst_of_unwanted_lines(self) -> None:
+        """Bursts of three unwanted lines each 10 ms, and a wanted one in each tenth."""
+        waits = []
+        for burst in range(100):
+            self.writes(self.line_of(OTHER) * 3 + (self.line_of(NODE_STATUS_OF_7) if burst % 10 == 0 else b""))
+            if burst % 10 == 0:
+                begun = time.monotonic()
+                self.assertEqual(self.after(2.0), [datagram(NODE_STATUS_OF_7)])
+                waits.append(time.monotonic() - begun)
+            time.sleep(0.01)
+        self.assertLess(max(waits), 0.25)
+
+    def test_torn_lines_are_counted_and_end_nothing(self) -> None:
+        self.writes(b"T1E01Z501..\r\xff\xfe\rT1E\r" + b"x" * 300 + b"\r" + self.line_of(NODE_STATUS_OF_7))
+        self.assertEqual(self.after(), [datagram(NODE_STATUS_OF_7)])
+        self.assertEqual(self.counts("torn"), [4])
+
+    def test_other_frames_and_answers_are_passed_over(self) -> None:
+        self.writes(b"\r\aZ\rz\rV1013\rN1234\rF00\rs00\rt1230\rr1238\rR000001238\r\n" + self.line_of(NODE_STATUS_OF_7))
+        self.writes(self.line_of(NODE_STATUS_OF_7)[:-1] + b"12AB\r")  # with a stamp
+        self.assertEqual(self.after() + self.after(), [datagram(NODE_STATUS_OF_7)] * 2)
+        self.assertEqual(self.counts("torn"), [0])
+
+    def test_what_came_while_the_process_did_not_run_is_old(self) -> None:
+        """The thread was last seen to look at an empty line 2 s ago."""
+        self.bus.mailbox.put(time.monotonic() - 2, [self.line_of(NODE_STATUS_OF_7)[:-1]])
+        self.assertEqual((self.after(), self.counts("too_old")), ([], [1]))
+
+    def test_a_frame_is_written(self) -> None:
+        os.read(self.adapter, 64)
+        self.says(1, datagram(NODE_STATUS_OF_1, b"\x0b\xc0"))
+        self.turn()
+        self.assertEqual(os.read(self.adapter, 64), b"T1001550120BC0\r")
+
+    def test_an_adapter_that_goes_away_ends_the_bridge(self) -> None:
+        os.close(self.adapter)
+        with self.assertRaises(bridge.Stop):
+            self.after()
+
+
+class AdapterOfPythonCan(Case):
+    def setUp(self) -> None:
+        if importlib.util.find_spec("can") is None:
+            self.skipTest("without the module can")
+        self.can = importlib.import_module("can")
+        self.far = self.can.Bus("bridge", interface="virtual")
+        self.errors = io.StringIO()
+        self.bus = bridge.PythonCan("virtual", "bridge", MEMBERS, None)
+        self.open(self.bus)
+        self.addCleanup(self.close)
+
+    def test_frames_go_both_ways(self) -> None:
+        for identifier in (OTHER, OTHER, OTHER, NODE_STATUS_OF_7):
+            self.far.send(self.can.Message(arbitration_id=identifier, data=DATA, is_extended_id=True))
+        select.select([self.bus], [], [], 2)
+        self.turn()
+        self.assertEqual(self.told(1), [datagram(NODE_STATUS_OF_7)])
+        self.says(1, datagram(NODE_STATUS_OF_1))
+        self.turn()
+        self.assertEqual(self.far.recv(2).arbitration_id, NODE_STATUS_OF_1)
+
+
+class Words(unittest.TestCase):
+    def ended(self, *words: str) -> tuple[int, str]:
+        done = subprocess.run([sys.executable, BRIDGE, *words], capture_output=True, text=True, timeout=30)
+        return done.returncode, done.stderr
+
+    def test_wrong_words_are_2(self) -> None:
+        for words in (["1023", "can0", "1"], ["5000", "can0", "119"], ["5000", "can0", "0"], ["5000", "can0"],
+                      ["5000", "can0", *map(str, range(1, 7))], ["5000", "can0", "1", "--bitrate", "fast"]):
+            self.assertEqual(self.ended(*words)[0], 2, words)
+
+    def test_an_adapter_that_is_not_there_is_1(self) -> None:
+        status, said = self.ended("33000", "/dev/no-adapter", "1", "--interface", "slcan")
+        self.assertEqual((status, said), (1, "can_bridge: /dev/no-adapter: No such file or directory\n"))
+        status, said = self.ended("33000", "no-interface", "1")
+        self.assertEqual((status, said.split(":")[:2]), (1, ["can_bridge", " no-interface"]))
+
+    def test_it_runs_alone(self) -> None:
+        """The package installs this one file: nothing beside it is loaded."""
+        with open(BRIDGE, encoding="utf-8") as file:
+            self.assertNotIn("sys.path", file.read())
+
+    @unittest.skipUnless(shutil.which("mypy"), "without mypy")
+    def test_types(self) -> None:
+        words = ["mypy", "--strict", "--python-version", "3.9", "--cache-dir", os.devnull, BRIDGE]
+        done = subprocess.run(words, capture_output=True, text=True)
+        self.assertEqual(done.returncode, 0, done.stdout)
+
+
+def main() -> int:
+    words = support.parser("tests/bridge", "The tests of the bridge.")
+    return support.run("tests/bridge", ["__main__"], words.parse_args().patterns)
+
+
+if __name__ == "__main__":
+    sys.exit(main())

@@ -1,0 +1,211 @@
+"""Tests of tools/check_vehicle: what a machine, a bus and a log tell of what the promise assumes."""
+from __future__ import annotations
+
+import os
+import pathlib
+import tempfile
+import unittest
+from typing import Dict, List
+
+import images
+from support import EXAMPLES, TESTS, Ended, run_tool, write_lines
+
+from caldrouz import logs, machine, stores, timing
+
+MOUNTS = r"""21 1 254:0 / / rw,relatime - ext4 /dev/vda rw
+22 21 0:21 / /proc rw - proc proc rw
+30 21 0:30 / /var rw - overlay overlay rw,lowerdir=/a:/b
+31 30 8:1 / /var/lib/with\040space rw,noatime shared:1 - ext4 /dev/sda1 rw,nobarrier
+32 21 0:32 / /net rw - nfs4 host:/x rw
+33 21 0:33 / /run rw - tmpfs tmpfs rw
+"""
+
+
+def check(*words: object, **environment: str) -> Ended:
+    return run_tool("check_vehicle", "--settings", os.devnull, *words, env={**os.environ, **environment})
+
+
+class Disks(unittest.TestCase):
+    def test_the_file_system_of_a_path(self) -> None:
+        with tempfile.TemporaryDirectory() as folder:
+            mounts = str(write_lines(pathlib.Path(folder) / "mountinfo", MOUNTS.splitlines()))
+
+            def kind(path: str) -> str:
+                disk = machine.disk_of(path, mounts)
+                return f"{disk.kind}: {disk.wrong()}" if disk else "none"
+
+            self.assertEqual(kind("/home/x"), "ext4: ")
+            self.assertIn("is reset", kind("/var/lib/caldrouz"))
+            self.assertIn("what was synced may be lost", kind("/var/lib/with space/1"))
+            self.assertIn("of the network", kind("/net/store"))
+            self.assertIn("gone with the power", kind("/run/store"))
+            self.assertEqual(kind("/runner"), "ext4: ")
+        self.assertIsNone(machine.disk_of("/", "no such file"))
+
+    def test_a_store_in_memory_is_told(self) -> None:
+        said = check("--stores", "/dev/shm")
+        self.assertEqual(said.status, 1)
+        self.assertRegex(said.written, r"A1 +NOT SO: +/dev/shm: tmpfs is in memory")
+
+    def test_stores_of_a_folder(self) -> None:
+        said = check("--stores", EXAMPLES / "a_real_bus")
+        self.assertRegex(said.written, r"A9 +ok: +the store of member 1 can be read: term 2, 3 entries, 3 committed")
+        with tempfile.TemporaryDirectory(dir=TESTS) as folder:
+            (pathlib.Path(folder) / "alloc-1.store").write_bytes(b"\xff" * 8844)
+            said = check("--stores", folder)
+        self.assertEqual(said.status, 1)
+        self.assertRegex(said.written, r"A9 +NOT SO: .*damaged at key 0")
+
+
+class Processes(unittest.TestCase):
+    def test_processes_of_members(self) -> None:
+        with tempfile.TemporaryDirectory() as name:
+            proc = pathlib.Path(name)
+            lines = {7: "allocator node 3 5000 9 1", 8: "/usr/bin/allocator node 1,2,3 5200 9 1 2", 9: "less node"}
+            for number, words in lines.items():
+                (proc / str(number)).mkdir()
+                (proc / str(number) / "cmdline").write_text(words.replace(" ", "\0") + "\0")
+                (proc / str(number) / "cwd").symlink_to(name)
+            found = machine.members_running(name)
+        self.assertEqual([(it.process, it.members) for it in found], [(7, [1]), (8, [1, 2])])
+
+
+class Interfaces(unittest.TestCase):
+    """`ip` and `journalctl` are scripts of the test."""
+
+    def told(self, scripts: Dict[str, str]) -> machine.Interface:
+        with tempfile.TemporaryDirectory() as name:
+            for script, text in scripts.items():
+                path = pathlib.Path(name) / script
+                path.write_text(f"#!/bin/sh\n{text}\n")
+                path.chmod(0o755)
+            before, os.environ["PATH"] = os.environ["PATH"], f"{name}:{os.environ['PATH']}"
+            try:
+                found = machine.interface("can0")
+                self.journal = machine.journal("caldrouz-bridge@can0")
+            finally:
+                os.environ["PATH"] = before
+        assert found is not None
+        return found
+
+    def test_what_ip_tells(self) -> None:
+        found = self.told(
+            {
+                "ip": """echo '[{"flags":["NOARP","UP"],"txqlen":1000,"linkinfo":{"info_kind":"can","info_data":
+                {"state":"ERROR-PASSIVE","restart_ms":100,"bittiming":{"bitrate":500000}}}}]'""",
+                "journalctl": "echo to_bus=5 own=3",
+            }
+        )
+        self.assertEqual(found, machine.Interface(True, "can", 1000, 100, 500000, "ERROR-PASSIVE"))
+        self.assertEqual(self.journal, "to_bus=5 own=3\n")
+
+    def test_what_makes_no_sense(self) -> None:
+        for text in ("", "[]", "[5]", "{}", "nonsense"):
+            with tempfile.TemporaryDirectory() as name:
+                path = pathlib.Path(name) / "ip"
+                path.write_text(f"#!/bin/sh\necho '{text}'\n")
+                path.chmod(0o755)
+                before, os.environ["PATH"] = os.environ["PATH"], f"{name}:{os.environ['PATH']}"
+                try:
+                    self.assertIsNone(machine.interface("can0"), text)
+                finally:
+                    os.environ["PATH"] = before
+
+
+class Logs(unittest.TestCase):
+    log = EXAMPLES / "a_real_bus/log"
+
+    def of(self, lines: List[str], *words: str) -> Ended:
+        with tempfile.TemporaryDirectory() as folder:
+            log = write_lines(pathlib.Path(folder) / "log", lines)
+            return check("--log", log, "--members", "1,2,3", "--hold", "3500", *words)
+
+    def lines(self) -> List[str]:
+        return self.log.read_text(encoding="ascii").splitlines()
+
+    def test_a_calm_log(self) -> None:
+        said = self.of(self.lines())
+        self.assertEqual(said.status, 0, said.written)
+        self.assertIn("2 AppendEntries request to 3: 12559 ms, at line 520", said.written)
+        self.assertIn("1 Allocation message: -", said.written)
+
+    def test_a_frame_that_came_twice(self) -> None:
+        lines = self.lines()
+        said = self.of(lines[:100] + [lines[99]] + lines[100:])
+        self.assertEqual(said.status, 1)
+        self.assertRegex(said.written, r"A7 +NOT SO: +the frame in line 101 came twice")
+
+    def test_frames_that_changed_places(self) -> None:
+        lines = self.lines()
+        pairs = [at for at in range(len(lines) - 1) if "1E1E8281#" in lines[at] and "1E1E8281#" in lines[at + 1]]
+        at = pairs[3]
+        lines[at], lines[at + 1] = lines[at + 1], lines[at]
+        said = self.of(lines)
+        self.assertEqual(said.status, 1)
+        self.assertRegex(said.written, r"A7 +NOT SO: +the frame in line \d+ does not go on where its transfer stands")
+
+    def test_an_answer_that_is_late(self) -> None:
+        def moved(line: str, by: float) -> str:
+            stamp, _, rest = line[1:].partition(")")
+            return f"({float(stamp) + by:.6f}){rest}"
+
+        lines = self.lines()
+        at = next(at for at, line in enumerate(lines) if "1E1E0182#" in line)
+        said = self.of(lines[:at] + [moved(line, 8) for line in lines[at:]])
+        self.assertEqual(said.status, 1)
+        self.assertRegex(said.written, r"A6 +NOT SO: +member .*: its answer in line \d+ came 8\d\d\d ms after it")
+
+    def test_a_member_that_came_back_at_once(self) -> None:
+        said = check("--log", self.log, "--members", "1,2,3", "--hold", "15000")
+        self.assertRegex(said.written, r"A8 +NOT SO: +member 1 began anew \d+ ms after its last frame")
+
+    def test_allocations_that_use_an_id_again(self) -> None:
+        begin = 1_600_000_000
+        data = [f"0001020304050{at % 10}{0xC0 | at % 32:02X}" for at in range(64)]
+        lines = [f"({begin + at / 10:.6f}) can0 1E000101#{data[at]}" for at in range(64)]
+        said = self.of(lines)
+        soon = "member 1 Allocation message: a transfer ID was used again after 3200 ms"
+        self.assertRegex(said.written, rf"A8 +NOT SO: +{soon}")
+
+    def test_words(self) -> None:
+        self.assertEqual(run_tool("check_vehicle", "--help").status, 0)
+        self.assertEqual(check("--log", self.log).status, 2)
+        self.assertEqual(check("--log", self.log, "--members", "8,9").status, 3)
+        self.assertEqual(check("--log", "no such log", "--members", "1").status, 3)
+        self.assertEqual(check("--members", "0").status, 2)
+        self.assertEqual(run_tool("check_vehicle", "--settings", "no such file").status, 3)
+        self.assertEqual(check("nocan0", "--seconds", "1").status, 3)
+
+
+class Timings(unittest.TestCase):
+    def test_an_id_that_got_its_answer_may_come_round(self) -> None:
+        said = timing.Timing([1, 2])
+        lines = [
+            "(1.000000) can0 1E1E8281#1209010000000080",
+            "(1.001000) can0 1E1E8281#000000000060",
+            "(1.002000) can0 1E1E0182#0100000080C0",
+            "(2.000000) can0 1E1E8281#1209010000000080",
+            "(5.000000) can0 1E1E8281#1209010000000080",
+        ]
+        for record in logs.read_lines(lines).frames:
+            said.take(record)
+        way = timing.Way(1, "appq", 2)
+        self.assertEqual(said.reuse[way], timing.Least(1000, 4))
+        self.assertEqual(said.unanswered, {way: timing.Least(3000, 5)})
+        self.assertEqual(said.answers, {way: timing.Late(2, 3)})
+
+
+class Settings(unittest.TestCase):
+    def test_settings_of_the_units(self) -> None:
+        with tempfile.TemporaryDirectory() as name:
+            folder = pathlib.Path(name)
+            path = write_lines(folder / "caldrouz", ["# a comment", "CLUSTER=1,2,3", 'MEMBERS="1 2"', "nonsense"])
+            self.assertEqual(machine.settings(str(path)), {"CLUSTER": "1,2,3", "MEMBERS": "1 2"})
+            image = images.image(stores.Store(2, 1, 0, 0, []))
+            (folder / "alloc-1.store").write_bytes(image)
+            said = run_tool("check_vehicle", "--settings", path, "--stores", folder)
+            self.assertIn("the store of member 1 can be read", said.written)
+
+
+if __name__ == "__main__":
+    unittest.main()

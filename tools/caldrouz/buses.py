@@ -1,0 +1,104 @@
+"""A bus that is there now: the datagrams of the members on this machine, or a CAN interface. Not proved.
+
+    bus = buses.open_bus("5000")          # or "can0": a Bus, or OSError; "5000" is the base port of the members
+    bus = buses.open_bus("5000", True)    # one that is to send as well
+    frame = bus.receive(0.5)              # a Frame, or None where none comes for so many seconds
+    bus.send(frame)                       # as a node on the bus would
+    buses.is_base("5000")                 # whether a word is a base port
+"""
+from __future__ import annotations
+
+import errno
+import socket
+import time
+from typing import List, Optional, Sequence, Tuple, Union
+
+from . import table, wire
+
+LEAST_BASE, GREATEST_BASE = 1024, 65410
+# Tools listen at these ports, counted from the base: a member has none of them (1 to 117), nor the bridge (119).
+TOOL_PORTS = 118, 121, 122, 123, 124, 125
+BRIDGE_PORT = 119  # members that were told their list take frames of the bus from this port alone
+ROOM = 1 << 20  # bytes that a socket is asked to keep
+FULL_FOR = 0.5  # seconds for which a full queue of an interface is tried again
+
+
+def is_base(word: str) -> bool:
+    return word.isascii() and word.isdigit() and LEAST_BASE <= int(word[:9]) <= GREATEST_BASE and len(word) < 9
+
+
+class UdpBus:
+    """The members of this machine. Each sends each frame to the ports of all other node IDs, so also to this one. To
+    send, it takes the place of a bridge, where none is there."""
+
+    def __init__(self, base: int, sends: bool = False) -> None:
+        self.link = socket.socket(socket.AF_INET, socket.SOCK_DGRAM)
+        self.link.setsockopt(socket.SOL_SOCKET, socket.SO_RCVBUF, ROOM)
+        mine = _first_free(self.link, base, (BRIDGE_PORT, *TOOL_PORTS) if sends else TOOL_PORTS)
+        self._ports = [("127.0.0.1", base + node) for node in range(1, table.LAST + 1) if node != mine]
+
+    def receive(self, seconds: float) -> Optional[wire.Frame]:
+        packet = _receive(self.link, seconds)
+        return None if packet is None else wire.from_datagram(packet)
+
+    def send(self, frame: wire.Frame) -> None:
+        datagram = wire.to_datagram(frame)
+        for port in self._ports:
+            self.link.sendto(datagram, port)
+
+
+class CanBus:
+    """A CAN interface of the system."""
+
+    def __init__(self, channel: str) -> None:
+        self.link = socket.socket(socket.AF_CAN, socket.SOCK_RAW, socket.CAN_RAW)
+        self.link.setsockopt(socket.SOL_SOCKET, socket.SO_RCVBUF, ROOM)
+        self.link.bind((channel,))
+
+    def receive(self, seconds: float) -> Optional[wire.Frame]:
+        packet = _receive(self.link, seconds)
+        return None if packet is None else wire.from_can(packet)
+
+    def send(self, frame: wire.Frame) -> None:
+        end = time.monotonic() + FULL_FOR
+        while True:
+            try:
+                self.link.send(wire.to_can(frame))
+                return
+            except OSError as error:
+                if error.errno != errno.ENOBUFS or time.monotonic() > end:
+                    raise
+                time.sleep(0.001)
+
+
+Bus = Union[UdpBus, CanBus]
+
+
+def open_bus(word: str, sends: bool = False) -> Bus:
+    """The bus of a base port, or of a CAN interface with this name; OSError where it cannot be listened to."""
+    if is_base(word):
+        return UdpBus(int(word), sends)
+    if "\0" in word or not 1 <= len(word.encode(errors="surrogateescape")) <= 15:
+        raise OSError(errno.ENODEV, "neither a base port, nor a name that a CAN interface can have")
+    return CanBus(word)
+
+
+def _first_free(link: socket.socket, base: int, nodes: Sequence[int]) -> int:
+    """Binds a socket to the first of these ports that nobody has."""
+    taken: List[Tuple[int, OSError]] = []
+    for node in nodes:
+        try:
+            link.bind(("127.0.0.1", base + node))
+            return node
+        except OSError as error:
+            taken.append((base + node, error))
+    port, first = taken[0]
+    raise OSError(first.errno, f"port {port}: {first.strerror}")
+
+
+def _receive(link: socket.socket, seconds: float) -> Optional[bytes]:
+    link.settimeout(max(seconds, 1e-6))
+    try:
+        return link.recv(64)
+    except (socket.timeout, ConnectionRefusedError):
+        return None

@@ -1,0 +1,160 @@
+"""What a machine tells of itself: the disk below a store, processes of members, a CAN interface, its clock. Not proved.
+
+    machine.disk_of(path)                 # a Disk: the kind of its file system, where it is mounted, with which options
+    machine.members_running()             # the processes that run members
+    machine.interface("can0")             # an Interface, or None where `ip` cannot tell
+    machine.slept()                       # seconds for which the machine was suspended since its start
+"""
+from __future__ import annotations
+
+import json
+import os
+import re
+import subprocess
+import time
+from typing import Dict, List, NamedTuple, Optional
+
+LASTING = {"btrfs", "ext2", "ext3", "ext4", "f2fs", "jffs2", "jfs", "reiserfs", "ubifs", "vfat", "xfs", "zfs"}
+IN_MEMORY = {"tmpfs", "ramfs", "devtmpfs", "rootfs"}
+OF_NETWORK = {"nfs", "nfs4", "cifs", "smb3", "9p", "ceph", "afs", "fuse.sshfs", "glusterfs", "virtiofs"}
+LAYERS = {"overlay", "aufs", "squashfs", "iso9660", "erofs"}
+UNSAFE_OPTIONS = {"nobarrier", "barrier=0"}
+SETTING = re.compile(r"\s*([A-Z_]+)=(.*)")
+
+
+class Disk(NamedTuple):
+    """The file system of a file."""
+
+    kind: str
+    mounted: str
+    options: List[str]
+
+    def wrong(self) -> str:
+        """Why it is none for a store, or nothing."""
+        if self.kind in IN_MEMORY:
+            return f"{self.kind} is in memory, and gone with the power"
+        if self.kind in OF_NETWORK:
+            return f"{self.kind} is a file system of the network"
+        if self.kind in LAYERS:
+            return f"{self.kind} is a layer of a container or an image, which is reset"
+        unsafe = UNSAFE_OPTIONS & set(self.options)
+        return f"it is mounted with {min(unsafe)}: what was synced may be lost" if unsafe else ""
+
+
+def disk_of(path: str, mounts: str = "/proc/self/mountinfo") -> Optional[Disk]:
+    """The file system below a path, or None where the system does not tell."""
+    place, found = os.path.realpath(path), None
+    try:
+        with open(mounts, encoding="utf-8", errors="surrogateescape") as file:
+            for line in file:
+                front, _, back = line.partition(" - ")
+                words, kinds = front.split(), back.split()
+                if len(words) < 6 or len(kinds) < 3:
+                    continue
+                mounted = re.sub(r"\\([0-7]{3})", lambda it: chr(int(it[1], 8)), words[4])
+                inside = place == mounted or place.startswith(mounted.rstrip("/") + "/")
+                if inside and (found is None or len(mounted) >= len(found.mounted)):
+                    found = Disk(kinds[0], mounted, words[5].split(",") + kinds[2].split(","))
+    except OSError:
+        return None
+    return found
+
+
+class Running(NamedTuple):
+    """A process that runs members."""
+
+    process: int
+    members: List[int]
+    folder: str
+
+
+def members_running(proc: str = "/proc") -> List[Running]:
+    """The processes `.. node <members> <base> <turns> <id>..` of this machine, as far as they may be seen."""
+    found = []
+    for name in sorted(filter(str.isdigit, os.listdir(proc)), key=int):
+        try:
+            with open(os.path.join(proc, name, "cmdline"), "rb") as file:
+                words = file.read().decode("utf-8", "replace").split("\0")[:-1]
+            folder = os.readlink(os.path.join(proc, name, "cwd"))
+        except OSError:
+            continue
+        if len(words) < 6 or words[1] != "node" or "allocator" not in os.path.basename(words[0]):
+            continue
+        ids = [int(word) for word in words[5:] if word.isascii() and word.isdigit()]
+        found.append(Running(int(name), ids, folder))
+    return found
+
+
+class Interface(NamedTuple):
+    """A CAN interface, as `ip` tells it; None where it does not."""
+
+    up: bool
+    kind: str
+    queue: Optional[int]
+    restart: Optional[int]
+    bit_rate: Optional[int]
+    state: Optional[str]
+
+
+def interface(name: str) -> Optional[Interface]:
+    try:
+        done = subprocess.run(["ip", "-json", "-details", "link", "show", "dev", name], capture_output=True, text=True)
+        told = json.loads(done.stdout)[0] if done.returncode == 0 else None
+    except (OSError, ValueError, LookupError):
+        return None
+    info = _part(told, "linkinfo")
+    data = _part(info, "info_data")
+    flags = told.get("flags") if isinstance(told, dict) else None
+    if not isinstance(flags, list):
+        return None
+    return Interface(
+        "UP" in flags,
+        str(info.get("info_kind", told.get("link_type", ""))),
+        _number(told.get("txqlen")),
+        _number(data.get("restart_ms")),
+        _number(_part(data, "bittiming").get("bitrate")),
+        str(data["state"]) if "state" in data else None,
+    )
+
+
+def _part(told: object, name: str) -> Dict[str, object]:
+    """An object in an object of JSON; an empty one where there is none."""
+    part = told.get(name) if isinstance(told, dict) else None
+    return part if isinstance(part, dict) else {}
+
+
+def _number(value: object) -> Optional[int]:
+    return value if isinstance(value, int) else None
+
+
+def slept() -> float:
+    """Seconds for which the machine was suspended since its start."""
+    return time.clock_gettime(time.CLOCK_BOOTTIME) - time.clock_gettime(time.CLOCK_MONOTONIC)
+
+
+def settings(path: str) -> Dict[str, str]:
+    """The settings of the units, NAME=value. OSError where they cannot be read."""
+    with open(path, encoding="utf-8", errors="replace") as file:
+        found = [SETTING.match(line) for line in file]
+    return {it[1]: it[2].strip().strip("\"'") for it in found if it}
+
+
+def journal(unit: str) -> Optional[str]:
+    """What a unit wrote to the journal since the machine's start, or None where that is not told."""
+    try:
+        words = ["journalctl", "-q", "-b", "-o", "cat", "--no-pager", "-n", "5000", "-u", unit]
+        done = subprocess.run(words, capture_output=True, text=True, errors="replace", timeout=30)
+    except (OSError, subprocess.TimeoutExpired):
+        return None
+    return done.stdout if done.returncode == 0 and done.stdout.strip() else None
+
+
+def unit_value(unit: str, name: str) -> Optional[str]:
+    """A property of a unit of systemd, or None where that is not told."""
+    try:
+        done = subprocess.run(
+            ["systemctl", "show", "-p", name, "--value", unit], capture_output=True, text=True, timeout=30
+        )
+    except (OSError, subprocess.TimeoutExpired):
+        return None
+    return done.stdout.strip() or None if done.returncode == 0 else None

@@ -1,0 +1,455 @@
+"""What can be heard on a bus about its nodes, its allocators and the devices that ask them. Not proved.
+
+    scene = scene.Scene()
+    events = scene.take(12.5, frame)      # at a moment in seconds: what this frame tells that is new, mostly nothing
+    events = scene.pass_time(13.0)        # what is so since nothing came
+    scene.members(), scene.nodes[50], scene.leader(), scene.requests, scene.told()
+
+It keeps no more than a bounded number of whatever comes again and again, so it can listen for months.
+"""
+from __future__ import annotations
+
+from collections import deque
+from dataclasses import dataclass, field
+from typing import Deque, Dict, Iterable, List, NamedTuple, Optional, Set, Tuple, Union
+
+from . import table, wire
+
+ONLINE = table.ONLINE_TIMEOUT / 1000  # seconds for which a node is there after its NodeStatus
+ALL_CALLED = 1.5  # seconds after which a leader has called each member
+LEADS_FOR = 2.5  # seconds for which who called as a leader is taken to lead
+JITTER = 1.5  # seconds by which the openings that uptimes tell may differ, as they are whole seconds
+LATE = 5.0  # seconds by which a NodeStatus may be late
+REPEATS = 4  # so many more transfer IDs that do not go on than half of all are those of two nodes
+KEPT = 256  # of requests and answers
+FEW = 32  # of what is kept of each node
+ALLOCATOR_NAME = "uavcan.allocator"  # what a member answers to GetNodeInfo
+HEALTH = "ok", "warning", "error", "critical"
+MODES = {0: "operational", 1: "initialization", 2: "maintenance", 3: "software update", 7: "offline"}
+
+
+# --- events
+
+
+class Appeared(NamedTuple):
+    """A node is there that was not, for the so manieth time; `uptime` is what it told."""
+
+    node: int
+    uptime: int
+    times: int
+
+
+class Vanished(NamedTuple):
+    """Nothing was heard of a node for three seconds."""
+
+    node: int
+
+
+class Restarted(NamedTuple):
+    """A node that was there began anew."""
+
+    node: int
+    uptime: int
+
+
+class Doubled(NamedTuple):
+    """Two nodes use one node ID: the uptimes of two openings come in turn."""
+
+    node: int
+
+
+class Introduced(NamedTuple):
+    """A node told its unique ID and its name."""
+
+    node: int
+    unique_id: str
+    name: str
+
+
+class Led(NamedTuple):
+    """A member leads, in a term."""
+
+    node: int
+    term: int
+
+
+class Unled(NamedTuple):
+    """No leader calls any more."""
+
+    node: int
+    term: int
+
+
+class Stood(NamedTuple):
+    """A member asks for votes, in a term."""
+
+    node: int
+    term: int
+
+
+class Told(NamedTuple):
+    """A device was told its node ID, by a node."""
+
+    node: int
+    unique_id: str
+    by: int
+
+
+class Recorded(NamedTuple):
+    """A leader hands on an entry."""
+
+    place: int
+    entry: wire.Entry
+
+
+class Met(NamedTuple):
+    """A node tells whom it knows as members of its cluster, otherwise than before."""
+
+    node: int
+    size: int
+    known: List[int]
+
+
+class Strange(NamedTuple):
+    """A node does what members alone do, and is none: `does` is the kind of its transfer."""
+
+    node: int
+    does: str
+
+
+Event = Union[Appeared, Vanished, Restarted, Doubled, Introduced, Led, Unled, Stood, Told, Recorded, Met, Strange]
+
+
+# --- what is kept
+
+
+class Introduction(NamedTuple):
+    """What a node told of itself: its unique ID, its name, and when."""
+
+    unique_id: str
+    name: str
+    moment: float
+
+
+@dataclass
+class Node:
+    """What was heard of a node ID."""
+
+    first: float
+    last: float  # its last NodeStatus, or its first frame
+    uptime: Optional[int] = None
+    health: int = 0
+    mode: int = 0
+    here: bool = False
+    came: Deque[float] = field(default_factory=lambda: deque(maxlen=FEW))
+    openings: Deque[float] = field(default_factory=lambda: deque(maxlen=FEW))  # moment less uptime, where they differ
+    doubled: Optional[float] = None  # when it was last seen that two nodes use this ID
+    transfer_id: Optional[int] = None
+    repeats: int = 0  # 2 for each NodeStatus whose transfer ID did not go on, less 1 for each other one
+    told: List[Introduction] = field(default_factory=list)  # the latest last; another unique ID is another line
+    asked: int = 0  # how often a member asked it for its unique ID since it last answered
+    asked_first: float = 0.0
+    asked_last: float = 0.0
+
+    @property
+    def identity(self) -> Optional[Introduction]:
+        return self.told[-1] if self.told else None
+
+
+class Listing(NamedTuple):
+    """A Discovery: the size of the cluster, and the members that its sender knows."""
+
+    moment: float
+    size: int
+    known: Tuple[int, ...]
+
+
+@dataclass
+class Call:
+    """The calls of a leader to one member: what the last one said, and since when none was answered."""
+
+    moment: float
+    term: int
+    place: int  # the place that the call goes on behind, or that of its entry
+    commit: int
+    unanswered: int = 0
+    answered: Optional[float] = None
+    agreed: Optional[float] = None
+
+
+class Lead(NamedTuple):
+    """The leader that was heard last: since when it is known, and its last call."""
+
+    node: int
+    term: int
+    since: float
+    moment: float
+
+
+class Request(NamedTuple):
+    """A request of a device: its stage, 0 to 2, and the bytes of the unique ID that it tells."""
+
+    moment: float
+    stage: int
+    part: str
+
+
+class Answer(NamedTuple):
+    """An Allocation of a node: the bytes of the unique ID that it has, and the node ID that it tells, or 0."""
+
+    moment: float
+    by: int
+    part: str
+    node: int
+
+
+class Election(NamedTuple):
+    """A member stands for election."""
+
+    moment: float
+    node: int
+    term: int
+
+
+class Scene:
+    """What was heard so far. `members` are those that are known beforehand, `size` how many there are."""
+
+    def __init__(self, members: Iterable[int] = (), size: Optional[int] = None) -> None:
+        self.given, self.given_size = set(members), size
+        self.frames = 0
+        self.begin: Optional[float] = None
+        self.now = 0.0
+        self.nodes: Dict[int, Node] = {}
+        self.listings: Dict[int, Listing] = {}
+        self.calls: Dict[Tuple[int, int], Call] = {}
+        self.lead: Optional[Lead] = None
+        self.elections: Deque[Election] = deque(maxlen=KEPT)
+        self.votes: Deque[Tuple[float, int, int, bool]] = deque(maxlen=KEPT)  # moment, by, for, granted
+        self.requests: Deque[Request] = deque(maxlen=KEPT)
+        self.answers: Deque[Answer] = deque(maxlen=KEPT)
+        self.log: Dict[int, wire.Entry] = {}  # by place, as leaders handed it on
+        self.strangers: Dict[Tuple[int, str], float] = {}
+        self._transfers = wire.Transfers()
+        self._peers: Set[int] = set()
+
+    # --- what is asked of it
+
+    @property
+    def heard_for(self) -> float:
+        """Seconds from the first frame on."""
+        return 0.0 if self.begin is None else self.now - self.begin
+
+    def size(self) -> Optional[int]:
+        """How many members the cluster has, as far as it is known: by the words, by most lists, or by calls."""
+        if self.given_size or self.given:
+            return self.given_size or len(self.given)
+        sizes = [listing.size for listing in self.listings.values()]
+        if sizes:
+            return max(sorted(set(sizes)), key=sizes.count)
+        return len(self._peers) or None
+
+    def members(self) -> Set[int]:
+        """The nodes that are taken for members: those of the words, or those that do what only members do."""
+        if self.given:
+            return set(self.given)
+        strange = {node for node, _ in self.strangers}
+        listings = {node: listing for node, listing in self.listings.items() if node not in strange}
+        listed = {node for listing in listings.values() for node in listing.known}
+        named = {node for node, it in self.nodes.items() if it.identity and it.identity.name == ALLOCATOR_NAME}
+        return listed | set(listings) | self._peers | named
+
+    def is_online(self, node: int) -> bool:
+        return node in self.nodes and self.nodes[node].here
+
+    def online(self) -> List[int]:
+        return sorted(node for node, it in self.nodes.items() if it.here)
+
+    def leader(self) -> Optional[Lead]:
+        """Who leads now, as far as it was heard; a cluster of one calls nobody."""
+        return self.lead if self.lead and self.now - self.lead.moment <= LEADS_FOR else None
+
+    def told(self) -> Dict[str, int]:
+        """The node IDs that devices were told, by unique ID."""
+        return {answer.part: answer.node for answer in self.answers if answer.node}
+
+    # --- what comes
+
+    def pass_time(self, now: float) -> List[Event]:
+        """Time went by: who is not heard any more is away."""
+        self.now = max(self.now, now)
+        events: List[Event] = []
+        for node, it in self.nodes.items():
+            if it.here and self.now - it.last > ONLINE:
+                it.here = False
+                events.append(Vanished(node))
+        if self.lead and not self.leader():
+            events.append(Unled(self.lead.node, self.lead.term))
+            self.lead = None
+        return events
+
+    def take(self, moment: float, frame: wire.Frame) -> List[Event]:
+        """A frame was on the bus."""
+        self.begin = moment if self.begin is None else self.begin
+        events = self.pass_time(moment)
+        self.frames += 1
+        heading = frame.heading
+        if heading.kind == wire.OTHER:
+            return events
+        payload = self._transfers.take(heading.source, frame)
+        if payload is None:
+            return events
+        handle = getattr(self, f"_{heading.kind}")
+        events += handle(heading, payload, frame.tail.transfer_id)
+        return events
+
+    def _stat(self, heading: wire.Heading, payload: bytes, transfer_id: int) -> List[Event]:
+        if len(payload) < 5:
+            return []
+        events: List[Event] = []
+        uptime, node = wire.number(payload), self._node(heading.source)
+        if not node.here:
+            node.here = True
+            node.came.append(self.now)
+            events.append(Appeared(heading.source, uptime, len(node.came)))
+        events += self._note_opening(heading.source, node, uptime, transfer_id)
+        node.last, node.uptime, node.transfer_id = self.now, uptime, transfer_id
+        node.health, node.mode = payload[4] >> 6, payload[4] >> 3 & 7
+        return events
+
+    def _node(self, number: int) -> Node:
+        return self.nodes.setdefault(number, Node(self.now, self.now))
+
+    def _note_opening(self, number: int, node: Node, uptime: int, transfer_id: int) -> List[Event]:
+        """Uptimes tell when a node was opened. Where an earlier opening speaks again, there are two nodes; and so there
+        are where uptimes go on and transfer IDs do not."""
+        opening = self.now - uptime
+        before = node.openings[-1] if node.openings else opening
+        doubled = False
+        if node.openings and abs(before - opening) <= JITTER:
+            node.openings[-1] += (opening - before) / 8  # clocks drift
+            if node.transfer_id is not None:
+                step = (transfer_id - node.transfer_id) % table.TRANSFER_IDS
+                goes_on = 0 < step <= table.TRANSFER_IDS // 2
+                node.repeats = max(0, node.repeats - 1) if goes_on else node.repeats + 2
+            doubled = node.repeats >= REPEATS
+        else:
+            far = abs(before - opening) > LATE
+            doubled = far and any(abs(earlier - opening) <= JITTER for earlier in list(node.openings)[:-1])
+            if far or not node.openings:
+                node.openings.append(opening)
+            if not doubled:
+                return [Restarted(number, uptime)] if uptime < (node.uptime or 0) and node.came[-1] < self.now else []
+        if not doubled:
+            return []
+        is_new, node.doubled = node.doubled is None, self.now
+        return [Doubled(number)] if is_new else []
+
+    def _disc(self, heading: wire.Heading, payload: bytes, __: int) -> List[Event]:
+        if not payload or len(payload) > 6:
+            return []
+        listing = Listing(self.now, payload[0], tuple(payload[1:]))
+        before, events = self.listings.get(heading.source), self._strange(heading)
+        self.listings[heading.source] = listing
+        if before is None or before[1:] != listing[1:]:
+            events.append(Met(heading.source, listing.size, list(listing.known)))
+        return events
+
+    def _strange(self, heading: wire.Heading) -> List[Event]:
+        """A node does what members do, while all members are known and it is none of them: their lists are complete, or
+        a leader called all of them."""
+        known, key = self.members(), (heading.source, heading.kind)
+        sizes = [self.given_size or len(self.given)] if self.given or self.given_size else []
+        size = max(sizes + [listing.size for listing in self.listings.values()], default=None)
+        all_called = self.lead is not None and self.now - self.lead.since > ALL_CALLED
+        if heading.source in known or not all_called and (size is None or len(known) < size):
+            return []
+        is_new = key not in self.strangers
+        if is_new and len(self.strangers) >= KEPT:
+            return []
+        self.strangers[key] = self.now
+        return [Strange(*key)] if is_new else []
+
+    def _infoq(self, heading: wire.Heading, _: bytes, __: int) -> List[Event]:
+        node = self._node(heading.destination)
+        node.asked_first = self.now if node.asked == 0 else node.asked_first
+        node.asked += 1
+        node.asked_last = self.now
+        return []
+
+    def _info(self, heading: wire.Heading, payload: bytes, __: int) -> List[Event]:
+        if len(payload) < 41:
+            return []
+        node = self._node(heading.source)
+        name = payload[41 + payload[40] :].decode("ascii", "replace")
+        name = "".join(letter if letter.isprintable() else "?" for letter in name)
+        node.asked = 0
+        told = Introduction(payload[24:40].hex(), name, self.now)
+        is_new = not any(it[:2] == told[:2] for it in node.told)
+        node.told = [it for it in node.told if it.unique_id != told.unique_id][-3:] + [told]
+        return [Introduced(heading.source, told.unique_id, told.name)] if is_new else []
+
+    def _voteq(self, heading: wire.Heading, payload: bytes, __: int) -> List[Event]:
+        if len(payload) < 9:
+            return []
+        events = self._strange(heading)
+        if not events and (heading.source, heading.kind) not in self.strangers:
+            self._peers |= {heading.source, heading.destination}
+        election = Election(self.now, heading.source, wire.number(payload))
+        is_new = not any(before[1:] == election[1:] for before in self.elections)
+        if is_new:
+            self.elections.append(election)
+            events.append(Stood(election.node, election.term))
+        return events
+
+    def _vote(self, heading: wire.Heading, payload: bytes, __: int) -> List[Event]:
+        if len(payload) >= 5:
+            self.votes.append((self.now, heading.source, heading.destination, bool(payload[4] & 0x80)))
+        return []
+
+    def _appq(self, heading: wire.Heading, payload: bytes, __: int) -> List[Event]:
+        if len(payload) < 10:
+            return []
+        events = self._strange(heading)
+        if not events and (heading.source, heading.kind) not in self.strangers:
+            self._peers |= {heading.source, heading.destination}
+        term, place, commit = wire.number(payload), payload[8], payload[9]
+        if len(payload) >= 31:
+            place += 1
+            entry = wire.read_entry(payload[10:])
+            if self.log.get(place) != entry:
+                self.log[place] = entry
+                events.append(Recorded(place, entry))
+        call = self.calls.get((heading.source, heading.destination))
+        if call is None or call.term != term:
+            call = self.calls[heading.source, heading.destination] = Call(self.now, term, place, commit)
+        call.moment, call.place, call.commit = self.now, place, commit
+        call.unanswered += 1
+        if self.lead is None or (term, heading.source) != (self.lead.term, self.lead.node):
+            if self.lead is None or term > self.lead.term:
+                events.append(Led(heading.source, term))
+                self.lead = Lead(heading.source, term, self.now, self.now)
+        else:
+            self.lead = self.lead._replace(moment=self.now)
+        return events
+
+    def _app(self, heading: wire.Heading, payload: bytes, __: int) -> List[Event]:
+        call = self.calls.get((heading.destination, heading.source))
+        if call is not None and len(payload) >= 5:
+            call.unanswered, call.answered = 0, self.now
+            if payload[4] & 0x80:
+                call.agreed = self.now
+        return []
+
+    def _alloc(self, heading: wire.Heading, payload: bytes, __: int) -> List[Event]:
+        if not payload or len(payload) > 17:
+            return []
+        node, part = payload[0] >> 1, payload[1:].hex()
+        if heading.source == 0:
+            asked = wire.asked_part(heading, payload)
+            if asked is not None:
+                self.requests.append(Request(self.now, asked[0] // 6, asked[1]))
+            return []
+        events = self._strange(heading)
+        pair = wire.told(heading, payload)
+        self.answers.append(Answer(self.now, heading.source, part, node if pair else 0))
+        return events + ([Told(node, part, heading.source)] if pair else [])

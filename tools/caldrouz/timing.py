@@ -1,0 +1,127 @@
+"""What a recorded log of the bus says of times, order and transfer IDs of the members. Not proved.
+
+    said = timing.Timing([1, 2, 3])
+    said.take(record)                     # each Record of a log, in its order
+    said.reuse, said.answers, .repeats, .pauses
+
+A receiver can take frames of two transfers for one, or a late answer for another, only where a transfer ID comes round
+sooner than frames may be late (docs/PROTOCOL.md, "Held frames, and a process that slept").
+"""
+from __future__ import annotations
+
+from dataclasses import dataclass
+from typing import Collection, Dict, List, NamedTuple, Optional, Tuple
+
+from . import logs, table, wire
+
+# How long a frame may be on its way: it may wait in two links of members, and for 0.5 s in each of two bridges; half a
+# second is for the bus itself.
+HOLD = 2 * table.LONGEST_WAIT + 1500  # milliseconds
+AT_ONCE = 50  # milliseconds within which the same frame is one that came twice
+
+NAMES = {name: f"{kind.data_type.name} {kind.kind}" for name, kind in table.TRANSFERS.items()}
+
+
+class Way(NamedTuple):
+    """Transfers of one kind from a member, to one destination or to all."""
+
+    source: int
+    kind: str
+    destination: int
+
+    def __str__(self) -> str:
+        return f"{self.source} {NAMES[self.kind]}" + (f" to {self.destination}" if self.destination else "")
+
+
+class Least(NamedTuple):
+    """The least time after which a transfer ID was used again, in milliseconds, and the line where it was."""
+
+    time: int
+    line: int
+
+
+@dataclass
+class Sent:
+    """The last use of a transfer ID: when, and whether it was a request that got its answer."""
+
+    stamp: int
+    answered: bool = False
+
+
+class Late(NamedTuple):
+    """An answer, and how many milliseconds after its request it came."""
+
+    time: int
+    line: int
+
+
+class Timing:
+    """What was found so far, for these members."""
+
+    def __init__(self, members: Collection[int]) -> None:
+        self.members = members
+        self.reuse: Dict[Way, Optional[Least]] = {}  # by the way: the least time, or None where no ID came round
+        self.unanswered: Dict[Way, Least] = {}  # of requests: the least time of those whose last use had no answer
+        self.answers: Dict[Way, Late] = {}  # of requests: the latest answer
+        self.repeats: List[int] = []  # lines with a frame that came twice
+        self.disorder: List[int] = []  # lines with a frame that does not go on where its transfer stands
+        self.pauses: Dict[int, List[Late]] = {}  # by member: how long nothing came before it began anew
+        self._used: Dict[Tuple[Way, int], Sent] = {}
+        self._last: Dict[int, Tuple[int, bytes]] = {}  # by identifier: the last frame
+        self._heard: Dict[int, int] = {}  # by member: its last frame
+        self._up: Dict[int, int] = {}
+
+    def take(self, record: logs.Record) -> None:
+        heading, tail, stamp = record.heading, record.tail, record.stamp
+        if heading.source not in self.members or heading.kind == wire.OTHER:
+            return
+        self._look_at_order(record)
+        if heading.kind == "stat" and len(record.frame.data) == table.FRAME_BYTES + 1:
+            self._look_at_uptime(record)
+        self._heard[heading.source] = stamp
+        if not tail.starts:
+            return
+        way = Way(heading.source, heading.kind, heading.destination)
+        before = self._used.get((way, tail.transfer_id))
+        least = self.reuse.setdefault(way, None)
+        if before is not None:
+            time = stamp - before.stamp
+            if least is None or time < least.time:
+                self.reuse[way] = Least(time, record.line)
+            if way.kind in wire.RESPONSES and not before.answered:
+                if way not in self.unanswered or time < self.unanswered[way].time:
+                    self.unanswered[way] = Least(time, record.line)
+        self._used[way, tail.transfer_id] = Sent(stamp)
+        if way.kind in wire.REQUESTS:
+            self._look_at_answer(way, tail.transfer_id, record)
+
+    def _look_at_answer(self, way: Way, transfer_id: int, record: logs.Record) -> None:
+        asked = Way(way.destination, wire.REQUESTS[way.kind], way.source)
+        request = self._used.get((asked, transfer_id))
+        if request is not None and not request.answered:
+            request.answered = True
+            late = Late(record.stamp - request.stamp, record.line)
+            self.answers[asked] = max(self.answers.get(asked, late), late)
+
+    def _look_at_order(self, record: logs.Record) -> None:
+        """A frame that is the last one of its identifier again came twice; one whose toggle does not go on is out of
+        order, or the one before it is missing."""
+        identifier, data = record.frame.identifier, record.frame.data
+        before = self._last.get(identifier)
+        self._last[identifier] = record.stamp, data
+        if before is None:
+            return
+        if before[1] == data and record.stamp - before[0] <= AT_ONCE:
+            self.repeats.append(record.line)
+        last, tail = wire.read_tail(before[1][-1]), record.tail
+        goes_on = last.transfer_id == tail.transfer_id and not last.ends and last.toggle != tail.toggle
+        if not tail.starts and not goes_on:
+            self.disorder.append(record.line)
+
+    def _look_at_uptime(self, record: logs.Record) -> None:
+        member, uptime = record.heading.source, wire.number(record.frame.data)
+        if uptime < self._up.get(member, 0):
+            # The first NodeStatus comes a second after the opening, and others may have come before it.
+            opened = record.stamp - 1000 * uptime
+            self.pauses.setdefault(member, []).append(Late(opened - self._heard[member], record.line))
+        self._up[member] = uptime

@@ -1,0 +1,274 @@
+"""Frames of the bus and the transfers that they are cut from, by docs/PROTOCOL.md. Not proved, and no part of the program.
+
+    frame = wire.from_datagram(datagram)          # or from_can: a Frame, or None where it is none
+    frame.heading.kind, .source, .destination     # "alloc", "stat", .. by their names in a report, or OTHER
+    frame.tail.starts, .ends, .transfer_id
+    transfers = wire.Transfers()
+    payload = transfers.take(sender, frame)       # bytes, where a transfer is whole with this frame
+    wire.Teller(members).says(heading, payload)   # in words
+"""
+from __future__ import annotations
+
+import struct
+from typing import Dict, Hashable, Iterable, List, NamedTuple, Optional, Tuple
+
+from .table import CRC_BYTES, DATAGRAM_HEAD, DATAGRAM_MOST_DATA, FRAME_BYTES, TRANSFER_IDS, TRANSFERS, DataType
+
+PRIORITY = 30  # of whatever a member sends
+START, END, TOGGLE = 0x80, 0x40, 0x20
+SERVICE, REQUEST = 0x80, 0x8000
+FIRST_WIDE = 1 << 29  # identifiers are below it
+NO_UNIQUE_ID = "0" * 32
+OTHER = "other"  # the kind of a frame that no allocator takes
+
+_NUMBERS = {(kind.kind, kind.data_type.number): name for name, kind in TRANSFERS.items()}
+RESPONSES = {  # request: response
+    name: _NUMBERS["response", kind.data_type.number] for name, kind in TRANSFERS.items() if kind.kind == "request"
+}
+REQUESTS = {response: request for request, response in RESPONSES.items()}
+
+_CAN_FRAME = struct.Struct("=IB3x8s")  # struct can_frame of linux/can.h
+CAN_FRAME_SIZE = _CAN_FRAME.size
+_EXTENDED, _REMOTE, _ERROR = 1 << 31, 1 << 30, 1 << 29
+
+
+class Heading(NamedTuple):
+    """What an identifier says: the kind of the transfer, its source, and its destination (0: for all)."""
+
+    identifier: int
+    kind: str
+    source: int
+    destination: int
+
+
+class Tail(NamedTuple):
+    """The last byte of a frame."""
+
+    starts: bool
+    ends: bool
+    toggle: bool
+    transfer_id: int
+
+
+class Frame(NamedTuple):
+    """A frame of the bus: an identifier of 29 bits and 1 to 8 bytes of data."""
+
+    identifier: int
+    data: bytes
+
+    @property
+    def heading(self) -> Heading:
+        return read_heading(self.identifier)
+
+    @property
+    def tail(self) -> Tail:
+        return read_tail(self.data[-1])
+
+    def __str__(self) -> str:
+        return f"{self.identifier:08x}#{self.data.hex()}"
+
+
+def read_heading(identifier: int) -> Heading:
+    source, destination = identifier & 0x7F, 0
+    if identifier & SERVICE:
+        destination = identifier >> 8 & 0x7F
+        part = "request" if identifier & REQUEST else "response"
+        kind = _NUMBERS.get((part, identifier >> 16 & 0xFF), OTHER) if source and destination else OTHER
+    elif source == 0:  # it tells the two low bits of its number alone, behind a discriminator
+        kind = "alloc" if identifier >> 8 & 3 == TRANSFERS["alloc"].data_type.number else OTHER
+    else:
+        kind = _NUMBERS.get(("message", identifier >> 8 & 0xFFFF), OTHER)
+    return Heading(identifier, kind, source, destination)
+
+
+def read_tail(tail: int) -> Tail:
+    return Tail(bool(tail & START), bool(tail & END), bool(tail & TOGGLE), tail % TRANSFER_IDS)
+
+
+def identifier_of(source: int, name: str, destination: int = 0) -> int:
+    """The identifier of a transfer that a member offers, from the name and the destination of a mark."""
+    kind, data_type = TRANSFERS[name]
+    if kind == "message":
+        return PRIORITY << 24 | data_type.number << 8 | source
+    request = REQUEST if kind == "request" else 0
+    return PRIORITY << 24 | data_type.number << 16 | request | destination << 8 | SERVICE | source
+
+
+# --- how frames come
+
+
+def from_datagram(datagram: bytes) -> Optional[Frame]:
+    """The frame of a datagram (docs/FORMATS.md, "Datagrams"), or None where it is none."""
+    identifier, data = int.from_bytes(datagram[:4], "big"), datagram[DATAGRAM_HEAD:]
+    whole = 1 <= len(data) <= DATAGRAM_MOST_DATA and datagram[DATAGRAM_HEAD - 1] == len(data)
+    return Frame(identifier, data) if whole and identifier < FIRST_WIDE else None
+
+
+def to_datagram(frame: Frame) -> bytes:
+    return frame.identifier.to_bytes(4, "big") + bytes([len(frame.data)]) + frame.data
+
+
+def from_can(packet: bytes) -> Optional[Frame]:
+    """The frame of a packet of a raw CAN socket, or None where it is no data frame with 29 bits and data."""
+    if len(packet) != CAN_FRAME_SIZE:
+        return None
+    identifier, length, data = _CAN_FRAME.unpack(packet)
+    if identifier & (_EXTENDED | _REMOTE | _ERROR) != _EXTENDED or not 1 <= length <= 8:
+        return None
+    return Frame(identifier % FIRST_WIDE, data[:length])
+
+
+def to_can(frame: Frame) -> bytes:
+    return _CAN_FRAME.pack(frame.identifier | _EXTENDED, len(frame.data), frame.data)
+
+
+# --- transfers
+
+
+def transfer_crc(data_type: DataType, payload: bytes) -> int:
+    """CRC-16/CCITT-FALSE over the signature of the type and the payload."""
+    register = 0xFFFF
+    for byte in data_type.signature.to_bytes(8, "little") + payload:
+        register ^= byte << 8
+        for _ in range(8):
+            register = (register << 1 ^ 0x1021 if register & 0x8000 else register << 1) & 0xFFFF
+    return register
+
+
+def cut(data_type: DataType, transfer_id: int, payload: bytes) -> List[bytes]:
+    """The data of the frames of a transfer."""
+    if len(payload) > FRAME_BYTES:
+        payload = transfer_crc(data_type, payload).to_bytes(CRC_BYTES, "little") + payload
+    pieces = [payload[at : at + FRAME_BYTES] for at in range(0, len(payload), FRAME_BYTES)] or [b""]
+    last = len(pieces) - 1
+    return [
+        piece + bytes([(at == 0) * START | (at == last) * END | (at % 2) * TOGGLE | transfer_id])
+        for at, piece in enumerate(pieces)
+    ]
+
+
+class Transfers:
+    """Joins frames into transfers. A sender's frames come here in the order in which it put them on the bus. The CRC is
+    not looked at."""
+
+    def __init__(self) -> None:
+        self._begun: Dict[Tuple[Hashable, int, int], bytes] = {}
+
+    def take(self, sender: Hashable, frame: Frame) -> Optional[bytes]:
+        """The payload of the transfer that is whole with this frame, or None. `sender` tells equal sources apart."""
+        tail = frame.tail
+        key = (sender, frame.identifier, tail.transfer_id)
+        body = b"" if tail.starts else self._begun.get(key)
+        if body is None:
+            return None
+        body += frame.data[:-1]
+        if not tail.ends:
+            self._begun[key] = body
+            return None
+        self._begun.pop(key, None)
+        return body if tail.starts else body[CRC_BYTES:]
+
+
+# --- what transfers say
+
+
+def number(data: bytes, at: int = 0) -> int:
+    """The number of 4 bytes, low byte first."""
+    return int.from_bytes(data[at : at + 4], "little")
+
+
+class Entry(NamedTuple):
+    """An entry of a log, as it stands in 21 bytes of a request or a store."""
+
+    term: int
+    unique_id: str
+    node: int
+
+    def __str__(self) -> str:
+        return entry_words(self.node, self.unique_id)
+
+
+def read_entry(data: bytes) -> Entry:
+    return Entry(number(data), data[4:20].hex(), data[20] & 0x7F)
+
+
+def entry_words(node: int, unique_id: str) -> str:
+    """An entry of a log in words."""
+    if node == 0:
+        return "a blank"
+    if unique_id == NO_UNIQUE_ID:
+        return f"node ID {node} kept back"
+    return f"node ID {node} for {unique_id}"
+
+
+def told(heading: Heading, payload: bytes) -> Optional[Tuple[int, str]]:
+    """The node ID and the unique ID that an Allocation tells, or None."""
+    if heading.kind == "alloc" and heading.source and len(payload) == 17 and payload[0] >> 1:
+        return payload[0] >> 1, payload[1:].hex()
+    return None
+
+
+def asked_part(heading: Heading, payload: bytes) -> Optional[Tuple[int, str]]:
+    """Where in the unique ID the bytes of a device's request belong, and these bytes; or None."""
+    if heading.kind != "alloc" or heading.source or not 4 <= len(payload) - 1 <= 6:
+        return None
+    at = 0 if payload[0] & 1 else 6 if len(payload) == 7 else 12
+    return at, payload[1:].hex()
+
+
+class Teller:
+    """Says in words what a whole transfer says."""
+
+    def __init__(self, members: Iterable[int]) -> None:
+        self.members = set(members)
+
+    def name(self, node: int) -> str:
+        if node == 0:
+            return "a device"
+        return f"member {node}" if node in self.members else f"node {node}"
+
+    def says(self, heading: Heading, payload: bytes) -> str:
+        try:
+            return self._says(heading, payload)
+        except IndexError:
+            return f"{self.name(heading.source)} sends a payload of {heading.kind} that has no reading: {payload.hex()}"
+
+    def _says(self, heading: Heading, payload: bytes) -> str:
+        kind, source = heading.kind, self.name(heading.source)
+        to = self.name(heading.destination) if heading.destination else ""
+        if kind == "alloc":
+            return self._allocation(heading, payload)
+        if kind == "stat":
+            return f"{source} is there, up {number(payload)} s"
+        if kind == "disc":
+            known = ", ".join(map(str, payload[1:])) or "nobody"
+            return f"{source} knows {known}, in a cluster of {payload[0]}"
+        if kind == "infoq":
+            return f"{source} asks {to} for its unique ID"
+        if kind == "info":
+            return f"{source} tells {to} its unique ID {payload[24:40].hex()}"
+        if kind == "voteq":
+            log = f"its log ends at place {payload[8]}" + (f" of term {number(payload, 4)}" if payload[8] else "")
+            return f"{source} asks {to} for its vote in term {number(payload)}; {log}"
+        if kind == "vote":
+            verb = "votes for" if payload[4] & 0x80 else "denies its vote to"
+            return f"{source} {verb} {to} in term {number(payload)}"
+        if kind == "appq":
+            what = f"{source} leads {to} in term {number(payload)}"
+            if len(payload) > 10:
+                entry = read_entry(payload[10:])
+                return f"{what}, and hands on place {payload[8] + 1}: {entry}, of term {entry.term}"
+            return f"{what}, behind place {payload[8]}, {payload[9]} committed"
+        if kind == "app":
+            return f"{source} tells {to} {'yes' if payload[4] & 0x80 else 'no'} in term {number(payload)}"
+        return f"{source} sends something else: {payload.hex()}"
+
+    def _allocation(self, heading: Heading, payload: bytes) -> str:
+        node, part = payload[0] >> 1, payload[1:].hex()
+        if heading.source == 0:
+            stage = "first" if payload[0] & 1 else "second" if len(payload) == 7 else "third"
+            wish = f", and would like node ID {node}" if node else ""
+            return f"a device asks, {stage} stage: {part}{wish}"
+        if node:
+            return f"{self.name(heading.source)} tells node ID {node} to {part}"
+        return f"{self.name(heading.source)} has {len(payload) - 1} bytes of the unique ID: {part}"

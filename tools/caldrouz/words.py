@@ -1,0 +1,102 @@
+"""The command lines of the tools: their words, their exit codes, and how they end. Not proved."""
+from __future__ import annotations
+
+import argparse
+import os
+import sys
+from typing import Callable, List, NoReturn, Sequence, Tuple
+
+from . import buses, stores, table
+
+DONE, FOUND, WORDS, CANNOT, PROGRAM, WRITE = 0, 1, 2, 3, 4, 6  # exit codes
+MOST_MEMBERS = 5
+
+
+class Ended(Exception):
+    """A tool ends with a status, and says why."""
+
+    def __init__(self, status: int, text: str) -> None:
+        super().__init__(text)
+        self.status = status
+
+
+def parser(name: str, about: str, usage: str) -> argparse.ArgumentParser:
+    """A parser that shows a module's text, in which the exit codes come last."""
+    what, _, codes = about.partition("exit codes")
+    return argparse.ArgumentParser(
+        prog=name,
+        formatter_class=argparse.RawDescriptionHelpFormatter,
+        description=what,
+        usage=usage,
+        epilog="exit codes" + codes,
+    )
+
+
+def run(name: str, main: Callable[[], int]) -> NoReturn:
+    """Runs a tool to its exit code: an end says why, and neither Ctrl-C nor a closed pipe shows a trace."""
+    try:
+        status = main()
+        sys.stdout.flush()
+    except Ended as end:
+        print(f"{name}: {end}", file=sys.stderr)
+        status = end.status
+    except KeyboardInterrupt:
+        status = 130
+    except BrokenPipeError:
+        os.dup2(os.open(os.devnull, os.O_WRONLY), sys.stdout.fileno())
+        status = WRITE
+    except OSError as error:  # standard output: what else can fail is looked at where it is done
+        print(f"{name}: {error.strerror}", file=sys.stderr)
+        os.dup2(os.open(os.devnull, os.O_WRONLY), sys.stdout.fileno())
+        status = WRITE
+    sys.exit(status)
+
+
+def node_ids(text: str) -> List[int]:
+    """The node IDs of members, with commas between them, for argparse."""
+    words = text.split(",")
+    if not all(word.isascii() and word.isdigit() and len(word) <= 3 for word in words):
+        raise argparse.ArgumentTypeError("node IDs with commas between them are asked for, as 1,2,3")
+    nodes = [int(word) for word in words]
+    if len(set(nodes)) != len(nodes) or len(nodes) > MOST_MEMBERS or not all(1 <= node <= table.LAST for node in nodes):
+        raise argparse.ArgumentTypeError(f"a cluster has 1 to {MOST_MEMBERS} different members, of 1 to {table.LAST}")
+    return nodes
+
+
+def seconds(text: str) -> float:
+    """A time in seconds, up to a day, for argparse."""
+    try:
+        value = float(text)
+    except ValueError:
+        value = -1.0
+    if not 0 <= value <= 86400:
+        raise argparse.ArgumentTypeError("a time is 0 to 86400 seconds")
+    return value
+
+
+def open_bus(word: str, sends: bool = False) -> buses.Bus:
+    """A bus that is there now."""
+    try:
+        return buses.open_bus(word, sends)
+    except OSError as error:
+        raise Ended(CANNOT, f"{word}: {error.strerror}{_hint(error)}") from None
+
+
+def _hint(error: OSError) -> str:
+    return ": is the kernel's module `can` there?" if error.strerror and "Address family" in error.strerror else ""
+
+
+def read_stores(paths: Sequence[str]) -> List[Tuple[str, stores.Store]]:
+    """The stores of files, and those in folders, with their names."""
+    found = []
+    for path in paths:
+        try:
+            files = [file for _, file in stores.in_folder(path)] if os.path.isdir(path) else [path]
+            if not files:
+                raise Ended(CANNOT, f"{path}: no store (alloc-<id>.store) is in this folder")
+            found += [(os.path.basename(file), stores.read(file)) for file in files]
+        except stores.Damaged as why:
+            raise Ended(CANNOT, f"{path}: {why}") from None
+        except OSError as error:
+            raise Ended(CANNOT, f"{error.filename or path}: {error.strerror}") from None
+    return found
