@@ -381,6 +381,14 @@ class SerialLine(Case):
         self.turn()
         self.assertEqual(os.read(self.adapter, 64), b"T1001550120BC0\r")
 
+    def test_the_rest_of_a_line_goes_out_first_unless_it_is_old(self) -> None:
+        os.read(self.adapter, 64)
+        for since, rest in ((time.monotonic(), b"BC0\r"), (time.monotonic() - 1, b"\r")):
+            self.bus.unsent, self.bus.since = b"BC0\r", since
+            self.says(1, datagram(NODE_STATUS_OF_1, b"\x0b\xc0"))
+            self.turn()
+            self.assertEqual(os.read(self.adapter, 64), rest + b"T1001550120BC0\r")
+
     def test_an_adapter_that_goes_away_ends_the_bridge(self) -> None:
         os.close(self.adapter)
         with self.assertRaises(bridge.Stop):

@@ -43,7 +43,7 @@ def read_lines(path: pathlib.Path) -> List[str]:
 
 
 def write_lines(path: pathlib.Path, lines: Sequence[str]) -> pathlib.Path:
-    path.write_text("".join(line + "\n" for line in lines), encoding="ascii")
+    path.write_text("".join(line + "\n" for line in lines), encoding="utf-8")
     return path
 
 
@@ -95,5 +95,6 @@ def run(script: str, modules: Sequence[str], patterns: Sequence[str]) -> int:
 def parser(script: str, what: str) -> argparse.ArgumentParser:
     """The words of a script, with the one that all have."""
     words = argparse.ArgumentParser(prog=script, description=what)
-    words.add_argument("-k", dest="patterns", metavar="PART", action="append", default=[], help="tests with such names alone")
+    names = "tests with such names alone"
+    words.add_argument("-k", dest="patterns", metavar="PART", action="append", default=[], help=names)
     return words

@@ -39,7 +39,8 @@ def needs(*programs: str, module: str = "") -> Callable[[Any], Any]:
 
 def written_by(words: Sequence[str], log: str) -> str:
     """What a program wrote that was given this log."""
-    return subprocess.run(words, input=log, stdout=subprocess.PIPE, stderr=subprocess.DEVNULL, universal_newlines=True, check=True).stdout
+    done = subprocess.run(words, input=log.encode(), stdout=subprocess.PIPE, stderr=subprocess.DEVNULL, check=True)
+    return done.stdout.decode()
 
 
 class LogCase(unittest.TestCase):
@@ -47,7 +48,8 @@ class LogCase(unittest.TestCase):
         """What the program makes of a log."""
         done = Ended([PROGRAM, "convert", before, after, "1000000"], input=lines.encode())
         self.assertEqual(done.status, 0, done.written[-200:])
-        return done.written
+        written: str = done.written
+        return written
 
     def data_frames(self, log: str) -> List[DataFrame]:
         found = []
@@ -167,8 +169,9 @@ class Lines(unittest.TestCase):
             self.assertEqual(str(found.frame), "1e000101#00c0")
 
     def test_other_traffic_is_passed_over(self) -> None:
-        for line in ("", "(1.5) can0 123#00", "(1.5) can0 1E000101#R", "(1.5) can0 1E000101##0", "(1.5) can0 FE000101#00"):
-            self.assertIsInstance(logs.read_line(line), logs.PassedOver, line)
+        for frame in ("123#00", "1E000101#R", "1E000101##0", "FE000101#00"):
+            self.assertIsInstance(logs.read_line(f"(1.5) can0 {frame}"), logs.PassedOver, frame)
+        self.assertIsInstance(logs.read_line("\n"), logs.PassedOver)
 
     def test_what_is_no_line_is_none(self) -> None:
         for line in ("x", "(1.5) can0", "(².5) can0 1E000101#00C0", "1.5 can0 1E000101#00C0"):

@@ -90,7 +90,7 @@ class Preludes(unittest.TestCase):
 
     def test_a_full_log(self) -> None:
         log = [(1, node) for node in range(4, 126)] + [(term, 0) for term in range(2, 7)]
-        self.reaches(m1=store(6, 1, 126, *log), m2=store(6, 1, 126, *log), m3=store(6, 1, 122, *log[:122]))
+        self.reaches(m1=store(6, 1, 127, *log), m2=store(6, 1, 125, *log), m3=store(6, 1, 121, *log[:122]))
 
     def cannot(self, text: str, **wanted: stores.Store) -> None:
         members = {int(name[1:]): its for name, its in wanted.items()}
@@ -121,9 +121,6 @@ class Preludes(unittest.TestCase):
         logged = [line.split(" ")[2].lower().split("#") for line in read_lines(LATER / "log")]
         mine = iter(frames)
         self.assertTrue(all(frame in mine for frame in logged if int(frame[0], 16) & 0x7F), "in their order")
-
-    def test_without_its_stores_it_is_not(self) -> None:
-        self.assertEqual(run_tool("follow", LATER / "log", 1, 2, 3, "--program", support.PROGRAM).status, 1)
 
     def test_words_of_stores(self) -> None:
         log = LATER / "log"

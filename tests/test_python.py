@@ -1,4 +1,4 @@
-"""Checks of all Python of tools/, tests/ and bench/: types by mypy, rules by flake8 or ruff, where these are installed."""
+"""Checks of all Python of tools/, tests/ and bench/: types by mypy, rules by flake8 or ruff, where installed."""
 from __future__ import annotations
 
 import shutil

@@ -159,7 +159,8 @@ class Listening(unittest.TestCase):
         ends.set()
         sender.join()
         self.assertEqual((ended.status, ended.errors), (0, ""))
-        return ended.written.splitlines()
+        lines: List[str] = ended.written.splitlines()
+        return lines
 
     def test_members_and_the_leader_are_told(self) -> None:
         frames = [wire.Frame(0x1E015501, b"\7\0\0\0\0\0\0\xc0"), wire.Frame(0x1E018602, b"\3\2\xc0")]
@@ -169,18 +170,17 @@ class Listening(unittest.TestCase):
         self.assertEqual(told[1:3], ["node 1: up 7 s, leads in term 5", "node 2: no status heard"])
 
     def test_what_is_no_frame_is_passed_over(self) -> None:
-        told = self.told_of([b"", b"\0", b"\x1e\1\x55\1", bytes(5), b"\xff" * 13, b"\x1e\1\x55\1\7\1\0\0\0\xc0", bytes(60)])
+        short = b"\x1e\1\x55\1"
+        told = self.told_of([b"", b"\0", short, bytes(5), b"\xff" * 13, short + b"\7\1\0\0\0\xc0", bytes(60)])
         self.assertEqual(told[0], "0 frames in 1 s")
         self.assertNotIn("node ", told[1])
 
 
 class Alone(StoreCase):
     def test_a_tool_in_one_file_says_the_same_without_the_repository(self) -> None:
-        for tool, words in [
-            ("node_status", [5000, WHOLE, "--seconds", 0]),
-            ("view", [WHOLE / "schedule", WHOLE / "report"]),
-            ("follow", ["--help"]),
-        ]:
+        status = ["5000", str(WHOLE), "--seconds", "0"]
+        view = [str(WHOLE / "schedule"), str(WHOLE / "report")]
+        for tool, words in [("node_status", status), ("view", view), ("follow", ["--help"])]:
             alone = self.folder / tool
             subprocess.run([ROOT / "tools/make_standalone", tool, alone], check=True)
             again = self.folder / "again"

@@ -64,8 +64,11 @@ class Pages(ViewCase):
         received = [row for row, text in enumerate(facts["rows"], 1) if text.startswith(("rx ", "arx "))]
         self.assertEqual(sorted(arrow[1] for arrow in facts["arrows"]), received)
         for one in facts["lanes"]:
-            told = [line.split() for line in facts["lines"] if re.match(one["name"][7:] + " ([FCL]|open|stop|fault)\\b", line)]
-            if one["kind"] == "member" and told and told[-1][1] in "FCL":
+            if one["kind"] != "member":
+                continue
+            of_it = re.compile(one["name"][7:] + r" ([FCL]|open|stop|fault)\b")
+            told = [line.split() for line in facts["lines"] if of_it.match(line)]
+            if told and told[-1][1] in "FCL":
                 self.assertEqual([str(value) for value in one["states"][-1][1:5]], told[-1][1:5], one["name"])
 
     def test_a_device_is_told(self) -> None:
@@ -133,7 +136,8 @@ class Pages(ViewCase):
             rows = ["open 1 0 0", "tick 1 2000 0", *(f"tick 1 {2001 + at} 0" for at in range(rounds))]
             lines = ["1 open 0 0 0 0", "1 L 1 0 0 1 tick +stat:0", *["1 L 1 0 0 1 tick"] * rounds, "log 1 0"]
             files = self.written(rows, [*lines, f"end {len(rows)}"])
-            done = Ended([sys.executable, "-B", "-c", code, ROOT / "tools", ROOT / "tools/view", *files, "--rows", "1-10"])
+            words = [code, ROOT / "tools", ROOT / "tools/view", *files, "--rows", "1-10"]
+            done = Ended([sys.executable, "-B", "-c", *words])
             self.assertEqual(done.status, 0, done.errors)
             return int(done.errors.split()[1])
 
@@ -165,8 +169,10 @@ class Refusals(ViewCase):
             self.is_refused(2, "two numbers", schedule, report, "--rows", rows)
 
     def test_a_row_that_is_none_is_named(self) -> None:
-        for row, line in [("tick x 2000 0", "x L 1 0 0 1 tick"), ("open 1 y 0", "1 open 0 0 0 0"), ("tick 1 " + "9" * 5000 + " 0", "1 L")]:
-            self.is_refused(1, "row 2", *self.written(["open 1 0 0", row], ["1 open 0 0 0 0", line]))
+        for row in ("tick x 2000 0", "open 1 y 0", "tick 1 " + "9" * 5000 + " 0", "tick 1 -1 0", "tick ² 1 0"):
+            files = self.written(["open 1 0 0", "send 1"], ["1 open 0 0 0 0", f"{row.split()[1]} L 1 0 0 1 tick"])
+            files[0].write_text(f"open 1 0 0\n{row}\n", encoding="utf-8")
+            self.is_refused(1, "row 2", *files)
 
     def test_a_report_that_no_program_writes_is_named(self) -> None:
         """A list of members of which the last frame did not come; ends without their numbers."""

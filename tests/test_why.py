@@ -52,7 +52,7 @@ class RecordedCauses(unittest.TestCase):
         said = why(LOGS / "missing-members.log")
         self.assertEqual((named(said), said.status), (["missing-members"], 1))
         self.assertIn("1 and 2 of 3 members tell that they search for the others", said.written)
-        self.assertIn("nobody heard the other 1", said.written)
+        self.assertIn("and nothing was heard of 1 more", said.written)
         self.assertIn("Start the members that are missing", said.written)
 
     def test_each_cause_has_a_row_in_the_document(self) -> None:

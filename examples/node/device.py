@@ -1,22 +1,25 @@
 #!/usr/bin/env python3
-"""A device without a node ID: it asks the allocators of this machine in three stages, and prints the node ID it was given.
+"""A device without a node ID: it asks the allocators of this machine in three stages, and prints the ID it was given.
 
 device.py BASE UNIQUE_ID [PORT_ID]
   BASE       the base port of the allocators
   UNIQUE_ID  32 hexadecimal digits
   PORT_ID    the device listens at the port BASE + PORT_ID, 120 where nothing else is said: no allocator may have it
 """
+from __future__ import annotations
+
 import random
 import socket
 import sys
 import time
+from typing import Dict, Optional
 
 ALLOCATION = 1
 CRC_OF_TYPE = 0xF258  # of the signature of the data type
 LIMIT = 120.0  # seconds
 
 
-def crc(value, data):
+def crc(value: int, data: bytes) -> int:
     for byte in data:
         value ^= byte << 8
         for _ in range(8):
@@ -25,7 +28,7 @@ def crc(value, data):
     return value
 
 
-def request(unique_id, stage, transfer):
+def request(unique_id: bytes, stage: int, transfer: int) -> bytes:
     """The frame of a stage: which bytes of the unique ID it tells, and whether it is the first stage."""
     data = bytes([(0x7D << 1) | (stage == 0)]) + unique_id[6 * stage:6 * stage + 6]
     frame = data + bytes([0xC0 | transfer])
@@ -36,10 +39,10 @@ def request(unique_id, stage, transfer):
 class Answers:
     """Joins the frames of Allocation messages, by their source."""
 
-    def __init__(self):
-        self.parts = {}
+    def __init__(self) -> None:
+        self.parts: Dict[int, bytes] = {}
 
-    def take(self, datagram):
+    def take(self, datagram: bytes) -> Optional[bytes]:
         """The payload of a message that is whole with this datagram, or None."""
         if len(datagram) < 6 or len(datagram) != 5 + datagram[4]:
             return None
@@ -61,19 +64,29 @@ class Answers:
         return payload[2:] if crc(CRC_OF_TYPE, payload[2:]) == int.from_bytes(payload[:2], "little") else None
 
 
-class UdpBus:
+class Bus:
+    """A bus on which frames are told as datagrams."""
+
+    def send(self, datagram: bytes) -> None:
+        raise NotImplementedError
+
+    def receive(self, seconds: float) -> Optional[bytes]:
+        raise NotImplementedError
+
+
+class UdpBus(Bus):
     """The bus of this machine, as datagrams; the device is heard at the port BASE + PORT_ID."""
 
-    def __init__(self, base, port_id):
+    def __init__(self, base: int, port_id: int) -> None:
         self.link = socket.socket(socket.AF_INET, socket.SOCK_DGRAM)
         self.link.bind(("127.0.0.1", base + port_id))
         self.ports = [("127.0.0.1", base + node) for node in range(1, 126) if node != port_id]
 
-    def send(self, datagram):
+    def send(self, datagram: bytes) -> None:
         for port in self.ports:
             self.link.sendto(datagram, port)
 
-    def receive(self, seconds):
+    def receive(self, seconds: float) -> Optional[bytes]:
         """The next datagram, or None where none comes for so long."""
         self.link.settimeout(seconds)
         try:
@@ -82,7 +95,7 @@ class UdpBus:
             return None
 
 
-def ask_on(bus, unique_id, limit):
+def ask_on(bus: Bus, unique_id: bytes, limit: float) -> Optional[int]:
     """The node ID that the allocators of a bus give to this unique ID, or None where the time is over."""
     answers, transfer, end = Answers(), 0, time.monotonic() + limit
     told = 0  # how many bytes of the unique ID the allocators have
@@ -104,12 +117,12 @@ def ask_on(bus, unique_id, limit):
     return None
 
 
-def ask(base, unique_id, port_id, limit=LIMIT):
+def ask(base: int, unique_id: bytes, port_id: int, limit: float = LIMIT) -> Optional[int]:
     """The same of the bus of this machine."""
     return ask_on(UdpBus(base, port_id), unique_id, limit)
 
 
-def main():
+def main() -> None:
     if len(sys.argv) not in (3, 4):
         sys.exit(__doc__)
     port_id = int(sys.argv[3]) if len(sys.argv) == 4 else 120

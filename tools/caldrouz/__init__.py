@@ -1,5 +1,5 @@
-"""What the tools share. Python 3.9 or later with its standard library; nothing else is needed, and nothing here is proved:
-where it matters, the program is the judge.
+"""What the tools share. They need Python 3.9 or later and its standard library. Nothing here is proved: where it
+matters, the program is the judge.
 
     table     data types, timers and sizes of the program, made from its sources by tools/make_table
     wire      frames, identifiers, tails, transfers, and what transfers say

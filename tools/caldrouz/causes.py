@@ -12,14 +12,13 @@ from typing import Dict, Iterable, Iterator, List, NamedTuple, Sequence, Set, Tu
 
 from . import table, wire
 from .scene import Lead, Listing, Scene
-from .stores import Store
+from .stores import MANY_BLANKS, Store
 
 RECENT = 10.0  # seconds before the end in which what is told as going on has to be heard
 SEARCHES = 2.5  # seconds after which a member that still searched would have told so again
 COMES_OFTEN = 60.0  # seconds in which a node that came twice comes and goes
 ELECTED_BY = 5.0  # seconds within which members that have each other elect somebody
 UNANSWERED_CALLS = 3  # so many calls in a row without an answer are told
-MANY_BLANKS = 16
 FEW_PLACES = 8
 
 
@@ -87,6 +86,7 @@ def _lists(scene: Scene, _: Sequence[NamedStore]) -> Iterator[Cause]:
         return
     listings = {node: it for node, it in scene.listings.items() if scene.now - it.moment <= RECENT}
     others = {node: it.size for node, it in listings.items() if it.size != size}
+    short = {node: it for node, it in _searching(scene).items() if it.size == size}
     if others:
         told = ", ".join(f"node {node} says {other}" for node, other in sorted(others.items()))
         agree = [node for node, it in listings.items() if it.size == size]
@@ -96,28 +96,34 @@ def _lists(scene: Scene, _: Sequence[NamedStore]) -> Iterator[Cause]:
             "other",
             "give all members the same SIZE, or the same list of members, and start those again that had another",
         )
-    short = {node: it for node, it in _searching(scene).items() if it.size == size}
-    if short:
-        know = "; ".join(f"{node} knows {_ids(it.known)}" for node, it in sorted(short.items()))
-        unheard = {node for it in short.values() for node in scene.members() - set(it.known)}
-        missing = f", and nobody heard the other {size - len(members)}" if size and size > len(members) else ""
-        if unheard and not missing:
-            missing = f", and {_ids(unheard)} did not reach them all"
-        yield Cause(
-            "missing-members",
-            f"{_ids(members)} of {size} members tell that they search for the others ({know}){missing}. Members that "
-            "were told a number alone elect nobody before each of them was heard once since power-on",
-            "start the members that are missing, or mend their interface and bridge; or tell all members the list "
-            "(`node 1,2,3 ..`), so that most of them are enough",
-        )
-    if size and len(members) > size:
+    elif short:
+        yield _missing(short, members, size or 0)
+    yield from _strange_members(scene, members, size or 0)
+
+
+def _missing(short: Dict[int, Listing], members: Set[int], size: int) -> Cause:
+    know = "; ".join(f"{node} knows {_ids(it.known)}" for node, it in sorted(short.items()))
+    unheard = {node for it in short.values() for node in members - set(it.known)}
+    missing = f", and {_ids(unheard)} did not reach them all" if unheard else ""
+    if size > len(members):
+        missing = f", and nothing was heard of {size - len(members)} more"
+    return Cause(
+        "missing-members",
+        f"{_ids(members)} of {size} members tell that they search for the others ({know}){missing}. Members that were "
+        "told a number alone elect nobody before each of them was heard once since power-on",
+        "start the members that are missing, or mend their interface and bridge; or tell all members the list "
+        "(`node 1,2,3 ..`), so that most of them are enough",
+    )
+
+
+def _strange_members(scene: Scene, members: Set[int], size: int) -> Iterator[Cause]:
+    if 0 < size < len(members):
         yield Cause(
             "strange-member",
             f"{_ids(members)} are {len(members)} members, in a cluster of {size}",
             "end the one that is none of this vehicle; a list that has it stays wrong until its member starts again",
         )
-    strange = sorted({node for (node, kind) in scene.strangers if kind in ("disc", "voteq", "appq")})
-    for node in strange:
+    for node in sorted({node for (node, kind) in scene.strangers if kind in ("disc", "voteq", "appq")}):
         yield Cause(
             "strange-member",
             f"Node {node} does what members do, and the members of this cluster of {size} are {_ids(members)}",
@@ -165,8 +171,8 @@ def _room(scene: Scene, stores: Sequence[NamedStore]) -> Iterator[Cause]:
     elif last >= table.PLACES:
         yield Cause(
             "log-full",
-            f"The log is full ({table.PLACES} entries), and only {commit} of them are committed: no entry can be added "
-            "that would let the rest be committed, so no new device is ever served",
+            f"The log is full ({table.PLACES} entries), and {commit} of them are committed: no entry can be added that "
+            "would let the rest be committed, so no new device is ever served",
             "begin anew with the same IDs; tell the members their list, which does not use up places so",
         )
     if longest is None:
@@ -179,11 +185,10 @@ def _room(scene: Scene, stores: Sequence[NamedStore]) -> Iterator[Cause]:
             f"No node ID is left: {len(given)} stand in the log, and the others are those of members",
             "export the pairs, drop those of devices that are gone, and begin anew with the same IDs",
         )
-    blanks = sum(entry.node == 0 for entry in longest.entries)
-    if blanks >= MANY_BLANKS:
+    if longest.blanks >= MANY_BLANKS:
         yield Cause(
             "many-blanks",
-            f"{blanks} of {len(longest.entries)} entries are blanks, each of an election while an entry was not "
+            f"{longest.blanks} of {len(longest.entries)} entries are blanks, each of an election while an entry was not "
             "committed: the bus loses much, or members come and go",
             "look at the counts of the bridges and at the interfaces; a log has 127 places and gets none back",
             stops=False,
@@ -223,15 +228,15 @@ def _no_leader(scene: Scene) -> Iterator[Cause]:
     elections = [it for it in scene.elections if scene.now - it.moment <= 2 * RECENT]
     if elections:
         terms = sorted({it.term for it in elections})
-        granted = sum(vote[3] for vote in scene.votes if scene.now - vote[0] <= 2 * RECENT)
-        answered = sum(scene.now - vote[0] <= 2 * RECENT for vote in scene.votes)
+        votes = [vote for vote in scene.votes if scene.now - vote[0] <= 2 * RECENT]
+        granted = sum(vote[3] for vote in votes)
+        answers = f"of the {len(votes)} answers {granted} were votes" if votes else "no answer was heard"
         text = f"terms {terms[0]} to {terms[-1]}" if len(terms) > 1 else f"term {terms[0]}"
         if len(elections) == 1 and scene.now - elections[0].moment < ELECTED_BY:
             return
         yield Cause(
             "no-leader",
-            f"Nobody leads: {_ids({it.node for it in elections})} stood in {text}, and of the votes that were heard "
-            f"{granted} of {answered} were given",
+            f"Nobody leads: {_ids({it.node for it in elections})} stood in {text}, and {answers}",
             "frames between the members are lost, or come late: look at the counts of the bridges and the load of the "
             "machines. Members whose IDs are 15 apart stand at one moment again and again: take others",
         )
@@ -398,8 +403,8 @@ def _devices(scene: Scene, _: Sequence[NamedStore]) -> Iterator[Cause]:
             unique_id, node = it.told[-1][1:]
             yield Cause(
                 "unheard-answer",
-                f"The device {unique_id} was told node ID {node} {len(it.told)} times, and asks on: it does not hear "
-                "the answer, or does not take it",
+                f"The device {unique_id} was told {len(it.told)} times that it has node ID {node}, and asks on: it "
+                "does not hear the answer, or does not take it",
                 "look at the device: it has to receive frames of other nodes (its acceptance filters, its bit timing, "
                 "its end of the bus), and to take an Allocation that it did not ask for by itself",
             )
@@ -444,7 +449,7 @@ def notes(scene: Scene) -> List[str]:
     size, members, lead = scene.size(), scene.members(), scene.leader()
     there = sorted(node for node in members if scene.is_online(node))
     if members:
-        of = f" of {size}" if size else ""
+        of = f" (of {size})" if size else ""
         said.append(f"Members that are there: {_ids(there)}{of}.")
     if lead:
         said.append(f"Member {lead.node} leads in term {lead.term}.")

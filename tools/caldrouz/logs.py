@@ -100,8 +100,8 @@ def _read_by_python_can(path: str) -> Log:
     log = Log()
     try:
         for number, message in enumerate(LogReader(path), 1):
-            is_data = message.is_extended_id and not (message.is_error_frame or message.is_remote_frame or message.is_fd)
-            if is_data and 1 <= len(message.data) <= 8:
+            is_other = message.is_error_frame or message.is_remote_frame or message.is_fd
+            if message.is_extended_id and not is_other and 1 <= len(message.data) <= 8:
                 frame = Frame(message.arbitration_id, bytes(message.data))
                 log.frames.append(Record(number, int(message.timestamp * 1000), str(message.channel), frame))
             else:

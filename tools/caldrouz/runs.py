@@ -344,7 +344,8 @@ class _Reader:
             return f"{lane.name}: its disk failed"
         if what == "armed":
             self._mark(number, lane, "armed", row.words[2])
-            return f"{lane.name}: a {'stop' if row.name == 'crash' else 'failure'} is armed for device call {row.words[2]}"
+            end = "stop" if row.name == "crash" else "failure"
+            return f"{lane.name}: a {end} is armed for device call {row.words[2]}"
         raise ValueError
 
     def _step(self, number: int, row: Row, step: report.Step, lane: Lane) -> str:

@@ -255,8 +255,9 @@ class Scene:
         strange = {node for node, _ in self.strangers}
         listings = {node: listing for node, listing in self.listings.items() if node not in strange}
         listed = {node for listing in listings.values() for node in listing.known}
+        known = listed | set(listings) | self._peers
         named = {node for node, it in self.nodes.items() if it.identity and it.identity.name == ALLOCATOR_NAME}
-        return listed | set(listings) | self._peers | named
+        return known or named
 
     def is_online(self, node: int) -> bool:
         return node in self.nodes and self.nodes[node].here

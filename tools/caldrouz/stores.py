@@ -13,6 +13,7 @@ from . import table, wire
 
 ORIGINS = "from a leader", "by the exchange", "by GetNodeInfo", "a reservation", "the blank of its win"
 TRIES = 10
+MANY_BLANKS = 16  # more are no accident: a bus that is bad for minutes adds a few
 _NAME = re.compile(r"alloc-([1-9][0-9]{0,2})\.store")
 
 
@@ -57,7 +58,7 @@ class Store(NamedTuple):
 
 
 def read(path: str) -> Store:
-    """The store in a file. While its member writes, the file is read again until it is twice the same, for some times."""
+    """The store in a file. While its member writes, the file is read again until it is twice the same, some times."""
     with open(path, "rb", buffering=0) as file:
         image = file.read(table.IMAGE + 1)
         for _ in range(TRIES):

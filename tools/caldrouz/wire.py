@@ -1,4 +1,4 @@
-"""Frames of the bus and the transfers that they are cut from, by docs/PROTOCOL.md. Not proved, and no part of the program.
+"""Frames of the bus and the transfers that they are cut from, by docs/PROTOCOL.md. Not proved.
 
     frame = wire.from_datagram(datagram)          # or from_can: a Frame, or None where it is none
     frame.heading.kind, .source, .destination     # "alloc", "stat", .. by their names in a report, or OTHER

@@ -53,8 +53,8 @@ def run(name: str, main: Callable[[], int]) -> NoReturn:
 
 
 def node_ids(text: str) -> List[int]:
-    """The node IDs of members, with commas between them, for argparse."""
-    words = text.split(",")
+    """The node IDs of members, with commas between them, for argparse. One alone may end in a comma."""
+    words = text[:-1].split(",") if text.endswith(",") else text.split(",")
     if not all(word.isascii() and word.isdigit() and len(word) <= 3 for word in words):
         raise argparse.ArgumentTypeError("node IDs with commas between them are asked for, as 1,2,3")
     nodes = [int(word) for word in words]

@@ -33,3 +33,4 @@ pub mod Commits
 pub mod MemberLists
 pub mod StepMessages
 pub mod FreeNodes
+pub mod Answering

@@ -1,15 +1,27 @@
 -- Which node IDs a step may give to a device that asks, in words of the bus.
 use Rattle.std.specs.Prelude.{◌≡◌, ◌⊎◌, ℕ, ◌-◌, ◌<◌, ◌≤◌, List, Some}
 use Rattle.can_frame.specs.declared.entry.Entry.{Entry}
+use Rattle.can_frame.specs.declared.identifier.Kind.TheVariants.{Message as Broadcast}
+use Rattle.can_frame.specs.DataTypes.{node_status}
 use Rattle.can_frame.specs.Log.{HasNodeId}
+use Rattle.dsdl_codec.specs.declared.node_status.NodeStatus.{NodeStatus}
+use Rattle.dsdl_codec.specs.NodeStatus.{node_status_of}
 use Rattle.node_discovery.specs.History.{last_status, unique_id}
 use Rattle.node_discovery.specs.Watch.{history}
 use Rattle.raft_model.specs.Lists.{In}
+use Rattle.transfer_rx.specs.Reassembly.{Delivery}
 use Rattle.alloc_spec.specs.AllocatorState.{AllocatorState, members_of}
 
 -- the last NodeStatus of the node was heard at that moment
 abbrev pub WasHeardAt : AllocatorState → ℕ → ℕ → Type 0
 WasHeardAt t node moment = last_status (history node t.watch) ≡ Some moment
+
+-- a delivered transfer is a NodeStatus
+pub record IsStatus (d : Delivery) : Type 0 where
+  pub kind : d.ident.kind ≡ Broadcast
+  pub number : d.ident.number ≡ node_status.number
+  pub status : NodeStatus
+  pub says : node_status_of d.payload ≡ Some status
 
 -- the node ID is none of a member, stands in no entry of the log, and no NodeStatus of it was heard within 3,000 ms
 pub record IsFreeToGive (t : AllocatorState) (now node : ℕ) : Type 0 where

@@ -2,22 +2,26 @@
 //!
 //! The source is standard input, the sink is standard output, the clock is the system's, and the exit
 //! code is that of the status. For the words of `node` each member has its link over UDP, and its disk
-//! in the file `alloc-<id>.store`; those of `audit` have the disks alone, in files that are there, and only
+//! in the file `alloc-<id>.store`. Where the members are told a list of them, links are strict, and a missing
+//! file is refused; where they are told a number, a missing file is made. The words of `new` have the disks
+//! alone, in files that are made for them: where one is there already, or `run` does not come to its end, none
+//! of those that were made stays. Those of `audit` have the disks alone, in files that are there, and only
 //! read them. Where one of these cannot be opened the exit code is 12. A standard stream that is closed
 //! stays so for `run`: its descriptor never becomes that of a link or a disk. A word that is not UTF-8 is
 //! none that the program reads.
 #![tactic(auto)]
 
-use allocator_app::{Plan, Status, plan, run};
+use allocator_app::{Plan, Status, Told, plan, run};
 use disk_model::FileDisk;
 use node_clock_and_links::{PacedClock, TimelyLink};
-use outside::{StdSink, StdSource};
+use outside::{StdClock, StdSink, StdSource};
 use std::alloc::{AllocError, Global};
 use std::cell::Cell;
-use std::env;
 use std::fs::File;
 use std::io::ErrorKind;
 use std::process::ExitCode;
+use std::rt::Files;
+use std::{env, fs};
 use udp_link::UdpLink;
 
 /// The exit code where a link or a disk was not opened.
@@ -44,8 +48,9 @@ fn main(rt: HostRuntime) -> ExitCode {
     let idle = Cell::new(0);
     let mut links = Vec::new(rt.alloc());
     let mut disks = Vec::new(rt.alloc());
+    let mut made = Vec::new(rt.alloc());
     let asked = plan(&words);
-    if let Some(Plan::Node { .. } | Plan::Audit { .. }) = &asked {
+    if let Some(Plan::Node { .. } | Plan::New { .. } | Plan::Audit { .. }) = &asked {
         // An opened file gets the lowest free descriptor. These files take those of the standard streams
         // that are closed, and keep them to the end. They are only read, so a report for a closed output
         // still fails.
@@ -59,19 +64,50 @@ fn main(rt: HostRuntime) -> ExitCode {
         }
     }
     match &asked {
-        Some(Plan::Node { base, ids, .. }) => {
+        Some(
+            Plan::Node {
+                told,
+                base,
+                ids,
+                ..
+            },
+        ) => {
             for id in ids.as_slice() {
-                let Ok(link) = UdpLink::open(&rt, *base, *id) else {
+                let opened = match told {
+                    Told::Size(_) => UdpLink::open(&rt, *base, *id),
+                    Told::Members(_) => UdpLink::open_strict(&rt, *base, *id, ids),
+                };
+                let Ok(link) = opened else {
                     return ExitCode::from(NOT_OPENED);
                 };
                 let Ok(path) = store_of(rt.alloc(), *id) else {
                     return ExitCode::from(Status::Memory.code());
                 };
-                let Ok(disk) = FileDisk::open(&rt, path.as_str()) else {
+                let opened = match told {
+                    Told::Size(_) => FileDisk::open(&rt, path.as_str()),
+                    Told::Members(_) => FileDisk::open_made(&rt, path.as_str()),
+                };
+                let Ok(disk) = opened else {
                     return ExitCode::from(NOT_OPENED);
                 };
-                let link = TimelyLink::new(link, &rt, &idle);
+                let link = TimelyLink::new(link, StdClock::new(&rt), &idle);
                 if links.push(link).is_err() || disks.push(Some(disk)).is_err() {
+                    return ExitCode::from(Status::Memory.code());
+                }
+            }
+        }
+        Some(Plan::New { ids }) => {
+            for id in ids.as_slice() {
+                let Ok(path) = store_of(rt.alloc(), *id) else {
+                    take_away(&rt, &made);
+                    return ExitCode::from(Status::Memory.code());
+                };
+                let Ok(disk) = FileDisk::make(&rt, path.as_str()) else {
+                    take_away(&rt, &made);
+                    return ExitCode::from(NOT_OPENED);
+                };
+                if made.push(path).is_err() || disks.push(Some(disk)).is_err() {
+                    take_away(&rt, &made);
                     return ExitCode::from(Status::Memory.code());
                 }
             }
@@ -93,7 +129,7 @@ fn main(rt: HostRuntime) -> ExitCode {
     }
     let mut source = StdSource::new(rt.stdin());
     let mut sink = StdSink::new(rt.stdout());
-    let mut clock = PacedClock::new(&rt, links.len(), &idle);
+    let mut clock = PacedClock::new(StdClock::new(&rt), &rt, links.len(), &idle);
     let status = run(
         rt.alloc(),
         &words,
@@ -103,7 +139,17 @@ fn main(rt: HostRuntime) -> ExitCode {
         disks.as_mut_slice(),
         &mut clock,
     );
+    if status != Status::Done {
+        take_away(&rt, &made);
+    }
     ExitCode::from(status.code())
+}
+
+/// Takes these files away, as far as they can be.
+fn take_away<R: Files>(rt: &R, paths: &[String]) {
+    for path in paths {
+        let _ = fs::remove_file(rt, path.as_str());
+    }
 }
 
 /// The file in which this member has its store.

@@ -2,6 +2,7 @@ pub mod Coming
 pub mod Ending
 pub mod Entries
 pub mod Lines
+pub mod Listing
 pub mod Logs
 pub mod Needs
 pub mod OnePlan

@@ -3,7 +3,7 @@ use Rattle.std.proofs.Common.{◌≡◌, ◌≤◌, ◌<◌, ℕ, List, length, 
 use Rattle.std.specs.declared.option.Option.{Option}
 use Rattle.std.proofs.lemmas.Bool.{true≢false}
 use Rattle.allocator_app.specs.declared.plans.Plan.{Plan}
-use Rattle.allocator_app.specs.declared.plans.Plan.TheVariants.{Replay, Node, Soak, Audit, Watch, Convert, Decode}
+use Rattle.allocator_app.specs.declared.plans.Plan.TheVariants.{Replay, Node, Soak, New, Audit, Watch, Convert, Decode}
 use Rattle.allocator_app.specs.Words.{AreGiven, AreNone, AreStored, HasObjects, IsPlan, UsesDisks, UsesLinks}
 use Rattle.allocator_app.proofs.OnePlan.{only}
 
@@ -26,8 +26,9 @@ some_stored ids links disks some given none =
 pub no_links_used : {L D : Type 0} (plan : Plan) (words : List (List ℕ)) (links : List L) (disks : List (Option D)) → IsPlan plan words → UsesLinks plan
     → HasObjects plan links disks → AreNone links disks → ⊥
 no_links_used (Replay rows ids) words links disks planned uses has none = uses
-no_links_used (Node size base turns ids) words links disks planned uses has none = some_given ids.items links disks planned.members.some has none
+no_links_used (Node told base turns ids) words links disks planned uses has none = some_given ids.items links disks planned.members.some has none
 no_links_used (Soak seed rounds size) words links disks planned uses has none = uses
+no_links_used (New ids) words links disks planned uses has none = uses
 no_links_used (Audit ids) words links disks planned uses has none = uses
 no_links_used (Watch candump lines ids) words links disks planned uses has none = uses
 no_links_used (Convert from_candump to_candump lines) words links disks planned uses has none = uses
@@ -36,8 +37,9 @@ no_links_used (Decode name part payload) words links disks planned uses has none
 pub no_disks_used : {L D : Type 0} (plan : Plan) (words : List (List ℕ)) (links : List L) (disks : List (Option D)) → IsPlan plan words → UsesDisks plan
     → HasObjects plan links disks → AreNone links disks → ⊥
 no_disks_used (Replay rows ids) words links disks planned uses has none = uses
-no_disks_used (Node size base turns ids) words links disks planned uses has none = some_given ids.items links disks planned.members.some has none
+no_disks_used (Node told base turns ids) words links disks planned uses has none = some_given ids.items links disks planned.members.some has none
 no_disks_used (Soak seed rounds size) words links disks planned uses has none = uses
+no_disks_used (New ids) words links disks planned uses has none = some_stored ids.items links disks planned.members.some has none
 no_disks_used (Audit ids) words links disks planned uses has none = some_stored ids.items links disks planned.members.some has none
 no_disks_used (Watch candump lines ids) words links disks planned uses has none = uses
 no_disks_used (Convert from_candump to_candump lines) words links disks planned uses has none = uses

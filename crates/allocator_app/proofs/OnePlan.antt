@@ -1,19 +1,29 @@
 -- The plan of some words: there is one.
-use Rattle.std.proofs.Common.{◌≡◌, ◌≤◌, ◌<◌, ◌^◌, ℕ, Bool, true, false, codes, inl, inr, List, [], ◌∷◌, refl, sym, ◌∙◌, ap, subst, arith, decimal, map}
+use Rattle.std.proofs.Common.{◌≡◌, ◌≤◌, ◌<◌, ◌^◌, ℕ, Bool, true, false, codes, inl, inr, List, [], ◌∷◌, refl, sym, ◌∙◌, ap, subst, arith, decimal, length, map}
 use Rattle.std.specs.Prelude.{◌==◌, if◌then◌else◌}
 use Rattle.std.proofs.lemmas.Fmt.{decimal_injective}
 use Rattle.arrayvec.specs.ArrayVec.{ArrayVec}
 use Rattle.raft_model.specs.Lists.{In}
 use Rattle.replay_text.specs.Words.{IsHex}
 use Rattle.cluster_spec.specs.Cluster.{AreMembers}
-use Rattle.allocator_app.specs.Words.{AreFew, IsAudit, IsConvert, IsDecode, IsNode, IsPlan, IsReplay, IsSoak, IsSound, IsWatch, SpellsPayload, form_word}
+use Rattle.allocator_app.specs.declared.told.Told.{Told}
+use Rattle.allocator_app.specs.declared.told.Told.TheVariants.{Members, Size}
+use Rattle.allocator_app.specs.Told.{IsCluster, Spells, size_of}
+use Rattle.allocator_app.specs.Words.{AreFew, IsAudit, IsConvert, IsDecode, IsNew, IsNode, IsPlan, IsReplay, IsSoak, IsSound, IsWatch, SpellsPayload, form_word}
 use Rattle.allocator_app.specs.declared.plans.Plan.{Plan}
-use Rattle.allocator_app.specs.declared.plans.Plan.TheVariants.{Replay, Node, Soak, Audit, Watch, Convert, Decode}
+use Rattle.allocator_app.proofs.Listing.{same_numbers, same_told}
+use Rattle.allocator_app.specs.declared.plans.Plan.TheVariants.{Replay, Node, Soak, New, Audit, Watch, Convert, Decode}
+
+-- a cluster has 1 to 5 members
+sizes : (told : Told) → IsCluster told → (1 ≤ size_of told) × (size_of told ≤ 5)
+sizes (Size size) h = h
+sizes (Members members) h = (h.some, h.five)
 
 pub sound : (plan : Plan) (words : List (List ℕ)) → IsPlan plan words → IsSound plan
 sound (Replay rows ids) words h = (h.rows_most, h.members)
-sound (Node size base turns ids) words h = let some = h.members.some in let few = h.few in (omega (arith, some, few), h.size_most, h.turns_most, h.members)
+sound (Node told base turns ids) words h = let size = sizes told h.cluster in (size.0, size.1, h.turns_most, h.members)
 sound (Soak seed rounds size) words h = (h.rounds_most, h.size_least, h.size_most)
+sound (New ids) words h = h.members
 sound (Audit ids) words h = h.members
 sound (Watch candump lines ids) words h = (h.lines_least, h.lines_most, h.nodes)
 sound (Convert from_candump to_candump lines) words h = (h.lines_least, h.lines_most)
@@ -21,24 +31,26 @@ sound (Decode name part payload) words h = (h.named, h.part_least, h.part_most, 
 
 -- words that have no plan by any mode have none
 pub unplanned : (words : List (List ℕ)) → ((rows : ℕ) (ids : List ℕ) → IsReplay rows ids words → ⊥)
-    → ((size base turns : ℕ) (ids : List ℕ) → IsNode size base turns ids words → ⊥) → ((seed rounds size : ℕ) → IsSoak seed rounds size words → ⊥)
-    → ((ids : List ℕ) → IsAudit ids words → ⊥) → ((candump : Bool) (lines : ℕ) (ids : List ℕ) → IsWatch candump lines ids words → ⊥)
+    → ((told : Told) (base turns : ℕ) (ids : List ℕ) → IsNode told base turns ids words → ⊥) → ((seed rounds size : ℕ) → IsSoak seed rounds size words → ⊥)
+    → ((ids : List ℕ) → IsNew ids words → ⊥) → ((ids : List ℕ) → IsAudit ids words → ⊥) → ((candump : Bool) (lines : ℕ) (ids : List ℕ) → IsWatch candump lines ids words → ⊥)
     → ((from_candump to_candump : Bool) (lines : ℕ) → IsConvert from_candump to_candump lines words → ⊥)
     → ((name : List ℕ) (part : ℕ) (payload : List ℕ) → IsDecode name part payload words → ⊥) → (plan : Plan) → IsPlan plan words → ⊥
-unplanned words no_replay no_node no_soak no_audit no_watch no_convert no_decode (Replay rows ids) is = no_replay rows ids.items is
-unplanned words no_replay no_node no_soak no_audit no_watch no_convert no_decode (Node size base turns ids) is = no_node size base turns ids.items is
-unplanned words no_replay no_node no_soak no_audit no_watch no_convert no_decode (Soak seed rounds size) is = no_soak seed rounds size is
-unplanned words no_replay no_node no_soak no_audit no_watch no_convert no_decode (Audit ids) is = no_audit ids.items is
-unplanned words no_replay no_node no_soak no_audit no_watch no_convert no_decode (Watch candump lines ids) is = no_watch candump lines ids.items is
-unplanned words no_replay no_node no_soak no_audit no_watch no_convert no_decode (Convert from_candump to_candump lines) is = no_convert from_candump to_candump lines is
-unplanned words no_replay no_node no_soak no_audit no_watch no_convert no_decode (Decode name part payload) is = no_decode name.items part payload.items is
+unplanned words no_replay no_node no_soak no_new no_audit no_watch no_convert no_decode (Replay rows ids) is = no_replay rows ids.items is
+unplanned words no_replay no_node no_soak no_new no_audit no_watch no_convert no_decode (Node told base turns ids) is = no_node told base turns ids.items is
+unplanned words no_replay no_node no_soak no_new no_audit no_watch no_convert no_decode (Soak seed rounds size) is = no_soak seed rounds size is
+unplanned words no_replay no_node no_soak no_new no_audit no_watch no_convert no_decode (New ids) is = no_new ids.items is
+unplanned words no_replay no_node no_soak no_new no_audit no_watch no_convert no_decode (Audit ids) is = no_audit ids.items is
+unplanned words no_replay no_node no_soak no_new no_audit no_watch no_convert no_decode (Watch candump lines ids) is = no_watch candump lines ids.items is
+unplanned words no_replay no_node no_soak no_new no_audit no_watch no_convert no_decode (Convert from_candump to_candump lines) is = no_convert from_candump to_candump lines is
+unplanned words no_replay no_node no_soak no_new no_audit no_watch no_convert no_decode (Decode name part payload) is = no_decode name.items part payload.items is
 
--- ---- the mode, as the first letter of the words tells it
+-- ---- the mode, as the first letter of the words tells it, and for `new` the number of letters
 
 data Mode : Type 0 where
   replaying : Mode
   running : Mode
   soaking : Mode
+  making : Mode
   auditing : Mode
   watching : Mode
   converting : Mode
@@ -46,8 +58,9 @@ data Mode : Type 0 where
 
 abbrev mode : Plan → Mode
 mode (Replay rows ids) = replaying
-mode (Node size base turns ids) = running
+mode (Node told base turns ids) = running
 mode (Soak seed rounds size) = soaking
+mode (New ids) = making
 mode (Audit ids) = auditing
 mode (Watch candump lines ids) = watching
 mode (Convert from_candump to_candump lines) = converting
@@ -66,12 +79,13 @@ mode_of_letter letter =
 abbrev mode_of : List (List ℕ) → Mode
 mode_of [] = decoding
 mode_of ([] ∷ words) = decoding
-mode_of ((letter ∷ word) ∷ words) = mode_of_letter letter
+mode_of ((letter ∷ word) ∷ words) = if length word == 2 then making else mode_of_letter letter
 
 mode_is : (plan : Plan) (words : List (List ℕ)) → IsPlan plan words → mode_of words ≡ mode plan
 mode_is (Replay rows ids) words h = ap mode_of h.spelled
-mode_is (Node size base turns ids) words h = ap mode_of h.spelled
+mode_is (Node told base turns ids) words h = ap mode_of h.spelled
 mode_is (Soak seed rounds size) words h = ap mode_of h.spelled
+mode_is (New ids) words h = ap mode_of h.spelled
 mode_is (Audit ids) words h = ap mode_of h.spelled
 mode_is (Watch candump lines ids) words h = ap mode_of h.spelled
 mode_is (Convert from_candump to_candump lines) words h = ap mode_of h.spelled
@@ -80,8 +94,9 @@ mode_is (Decode name part payload) words h = ap mode_of h.spelled
 -- a plan of this mode
 abbrev IsOf : Mode → Plan → Type 0
 IsOf replaying plan = (rows : ℕ) × (ids : ArrayVec ℕ) × (plan ≡ Replay rows ids)
-IsOf running plan = (size base turns : ℕ) × (ids : ArrayVec ℕ) × (plan ≡ Node size base turns ids)
+IsOf running plan = (told : Told) × (base turns : ℕ) × (ids : ArrayVec ℕ) × (plan ≡ Node told base turns ids)
 IsOf soaking plan = (seed rounds size : ℕ) × (plan ≡ Soak seed rounds size)
+IsOf making plan = (ids : ArrayVec ℕ) × (plan ≡ New ids)
 IsOf auditing plan = (ids : ArrayVec ℕ) × (plan ≡ Audit ids)
 IsOf watching plan = (candump : Bool) × (lines : ℕ) × (ids : ArrayVec ℕ) × (plan ≡ Watch candump lines ids)
 IsOf converting plan = (from_candump to_candump : Bool) × (lines : ℕ) × (plan ≡ Convert from_candump to_candump lines)
@@ -89,8 +104,9 @@ IsOf decoding plan = (name : ArrayVec ℕ) × (part : ℕ) × (payload : ArrayVe
 
 is_of : (plan : Plan) → IsOf (mode plan) plan
 is_of (Replay rows ids) = (rows, ids, refl)
-is_of (Node size base turns ids) = (size, base, turns, ids, refl)
+is_of (Node told base turns ids) = (told, base, turns, ids, refl)
 is_of (Soak seed rounds size) = (seed, rounds, size, refl)
+is_of (New ids) = (ids, refl)
 is_of (Audit ids) = (ids, refl)
 is_of (Watch candump lines ids) = (candump, lines, ids, refl)
 is_of (Convert from_candump to_candump lines) = (from_candump, to_candump, lines, refl)
@@ -111,28 +127,17 @@ same_number a b low high e = decimal_injective a b low high e
 one_number : (a b : ℕ) → a ≤ 1000000000 → b ≤ 1000000000 → decimal a ≡ decimal b → a ≡ b
 one_number a b a_most b_most e = decimal_injective a b (omega arith) (omega arith) e
 
-one_list : (xs ys : List ℕ) → ((n : ℕ) → In n xs → n ≤ 125) → ((n : ℕ) → In n ys → n ≤ 125) → map decimal xs ≡ map decimal ys → xs ≡ ys
-one_list [] [] p q e = refl
-one_list [] (y ∷ ys) p q e = cc
-one_list (x ∷ xs) [] p q e = cc
-one_list (x ∷ xs) (y ∷ ys) p q e =
-    let x_most = p x (inl refl) in
-    let y_most = q y (inl refl) in
-    let first : x ≡ y = one_number x y (omega (arith, x_most)) (omega (arith, y_most)) cc in
-    let rest : xs ≡ ys = one_list xs ys (λ n in_xs. p n (inr in_xs)) (λ n in_ys. q n (inr in_ys)) cc in
-    ap (λ a. a ∷ xs) first ∙ ap (λ l. y ∷ l) rest
-
-same_members : (xs ys : List ℕ) → AreMembers xs → AreMembers ys → map decimal xs ≡ map decimal ys → xs ≡ ys
-same_members xs ys p q e = one_list xs ys (λ n here. (p.nodes n here).1) (λ n here. (q.nodes n here).1) e
-
-nodes_of_few : (ids : List ℕ) → AreFew ids → (n : ℕ) → In n ids → n ≤ 125
+nodes_of_few : (ids : List ℕ) → AreFew ids → (n : ℕ) → In n ids → n ≤ 255
 nodes_of_few ids few n here = elim few [
   | inl none ↦ absurd (subst (In n) none here)
-  | inr members ↦ (members.nodes n here).1
+  | inr members ↦ let node = (members.nodes n here).1 in omega (arith, node)
 ]
 
 same_few : (xs ys : List ℕ) → AreFew xs → AreFew ys → map decimal xs ≡ map decimal ys → xs ≡ ys
-same_few xs ys p q e = one_list xs ys (nodes_of_few xs p) (nodes_of_few ys q) e
+same_few xs ys p q e = same_numbers xs ys (nodes_of_few xs p) (nodes_of_few ys q) e
+
+same_members : (xs ys : List ℕ) → AreMembers xs → AreMembers ys → map decimal xs ≡ map decimal ys → xs ≡ ys
+same_members xs ys p q e = same_few xs ys (inr p) (inr q) e
 
 same_form : (a b : Bool) → form_word a ≡ form_word b → a ≡ b
 same_form true true e = refl
@@ -187,16 +192,17 @@ module _ (plan : Plan) (words : List (List ℕ)) (planned : IsPlan plan words) w
       own.2 ∙ ap (λ n. Replay n own.1) (one_number own.0 rows (omega (arith, a)) (omega (arith, b)) (second same))
       ∙ ap (λ l. Replay rows (kept l)) (same_members own.1.items ids is.members asks.members (after_two same))
 
-  pub only_node : (size base turns : ℕ) (ids : List ℕ) → IsNode size base turns ids words → plan ≡ Node size base turns (kept ids)
-  only_node size base turns ids asks =
-      let own = of_mode plan (Node size base turns (kept ids)) words planned asks in
+  pub only_node : (told : Told) (base turns : ℕ) (ids : List ℕ) → IsNode told base turns ids words → plan ≡ Node told base turns (kept ids)
+  only_node told base turns ids asks =
+      let own = of_mode plan (Node told base turns (kept ids)) words planned asks in
       let is = by (Node own.0 own.1 own.2 own.3) own.4 in
       let same = sym is.spelled ∙ asks.spelled in
-      let a = is.size_most in let b = asks.size_most in let c = is.base_most in let d = asks.base_most in
-      own.4 ∙ ap (λ n. Node n own.1 own.2 own.3) (one_number own.0 size (omega (arith, a)) (omega (arith, b)) (second same))
-      ∙ ap (λ n. Node size n own.2 own.3) (one_number own.1 base (omega (arith, c)) (omega (arith, d)) (third same))
-      ∙ ap (λ n. Node size base n own.3) (one_number own.2 turns is.turns_most asks.turns_most (fourth same))
-      ∙ ap (λ l. Node size base turns (kept l)) (same_members own.3.items ids is.members asks.members (after_four same))
+      let c = is.base_most in let d = asks.base_most in
+      own.4 ∙ ap (λ t. Node t own.1 own.2 own.3)
+      (same_told own.0 told asks.word is.cluster asks.cluster (subst (Spells own.0) (second same) is.spells) asks.spells)
+      ∙ ap (λ n. Node told n own.2 own.3) (one_number own.1 base (omega (arith, c)) (omega (arith, d)) (third same))
+      ∙ ap (λ n. Node told base n own.3) (one_number own.2 turns is.turns_most asks.turns_most (fourth same))
+      ∙ ap (λ l. Node told base turns (kept l)) (same_members own.3.items ids is.members asks.members (after_four same))
 
   pub only_soak : (seed rounds size : ℕ) → IsSoak seed rounds size words → plan ≡ Soak seed rounds size
   only_soak seed rounds size asks =
@@ -207,6 +213,12 @@ module _ (plan : Plan) (words : List (List ℕ)) (planned : IsPlan plan words) w
       own.3 ∙ ap (λ n. Soak n own.1 own.2) (same_number own.0 seed is.seed_most asks.seed_most (second same))
       ∙ ap (λ n. Soak seed n own.2) (one_number own.1 rounds (omega (arith, a)) (omega (arith, b)) (third same))
       ∙ ap (λ n. Soak seed rounds n) (one_number own.2 size (omega (arith, c)) (omega (arith, d)) (fourth same))
+
+  pub only_new : (ids : List ℕ) → IsNew ids words → plan ≡ New (kept ids)
+  only_new ids asks =
+      let own = of_mode plan (New (kept ids)) words planned asks in
+      let is = by (New own.0) own.1 in
+      own.1 ∙ ap (λ l. New (kept l)) (same_members own.0.items ids is.members asks.members (after_one (sym is.spelled ∙ asks.spelled)))
 
   pub only_audit : (ids : List ℕ) → IsAudit ids words → plan ≡ Audit (kept ids)
   only_audit ids asks =
@@ -249,8 +261,9 @@ module _ (plan : Plan) (words : List (List ℕ)) (planned : IsPlan plan words) w
   -- words have one plan
   pub only : (other : Plan) → IsPlan other words → plan ≡ other
   only (Replay rows ids) asks = only_replay rows ids.items asks
-  only (Node size base turns ids) asks = only_node size base turns ids.items asks
+  only (Node told base turns ids) asks = only_node told base turns ids.items asks
   only (Soak seed rounds size) asks = only_soak seed rounds size asks
+  only (New ids) asks = only_new ids.items asks
   only (Audit ids) asks = only_audit ids.items asks
   only (Watch candump lines ids) asks = only_watch candump lines ids.items asks
   only (Convert from_candump to_candump lines) asks = only_convert from_candump to_candump lines asks

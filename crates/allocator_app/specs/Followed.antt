@@ -6,13 +6,15 @@ use Rattle.outside.specs.declared.received.Received.{Received}
 use Rattle.cmd_decode.specs.Ends.{Decodes}
 use Rattle.cmd_bus_logs.specs.Converted.{Converts}
 use Rattle.cmd_bus_logs.specs.Watched.{Watches}
+use Rattle.cmd_new.specs.Made.{MakesStores}
 use Rattle.cmd_node.specs.Nodes.{RunsNodes}
 use Rattle.cmd_base.specs.declared.status.Status.{Status}
 use Rattle.store_audit.specs.Audits.{Audits}
 use Rattle.allocator_app.specs.declared.plans.Plan.{Plan}
-use Rattle.allocator_app.specs.declared.plans.Plan.TheVariants.{Replay, Node, Soak, Audit, Watch, Convert, Decode}
+use Rattle.allocator_app.specs.declared.plans.Plan.TheVariants.{Replay, Node, Soak, New, Audit, Watch, Convert, Decode}
 use Rattle.allocator_app.specs.Rows.{Replays}
 use Rattle.allocator_app.specs.Soaking.{Soaks}
+use Rattle.allocator_app.specs.Told.{size_of}
 
 -- The objects of the outside before and now: links, disks, what the clock reads, what is left in the source and the
 -- faults that it has counted, those that the sink has counted and what it has been written.
@@ -22,9 +24,10 @@ module _ {L D : Type 0} (coming : L → Option (List Received)) (sent : L → Op
     (before now : Option (List ℕ)) (status : Status) where
   abbrev pub IsFollowed : Plan → Type 0
   IsFollowed (Replay rows ids) = Replays rows ids.items left_old left before now status
-  IsFollowed (Node size base turns ids) = RunsNodes coming sent link_faults disk size turns ids.items links_old links
-      disks_old disks readings_old readings sink_old sink before now status
+  IsFollowed (Node told base turns ids) = RunsNodes coming sent link_faults disk (size_of told) turns ids.items links_old
+      links disks_old disks readings_old readings sink_old sink before now status
   IsFollowed (Soak seed rounds size) = Soaks seed rounds size sink_old sink before now status
+  IsFollowed (New ids) = MakesStores disk ids.items disks_old disks before now status
   IsFollowed (Audit ids) = Audits disk ids.items disks_old disks before now status
   IsFollowed (Watch candump lines ids) =
       Watches candump lines ids.items left_old left source_old source sink_old sink before now status

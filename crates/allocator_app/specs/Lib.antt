@@ -9,4 +9,5 @@ pub mod Reaching
 pub mod Report
 pub mod Rows
 pub mod Soaking
+pub mod Told
 pub mod Words

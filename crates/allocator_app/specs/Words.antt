@@ -4,7 +4,9 @@ use Rattle.dsdl_text.specs.Words.{is_name}
 use Rattle.replay_text.specs.Words.{IsHex}
 use Rattle.cluster_spec.specs.Cluster.{AreMembers}
 use Rattle.allocator_app.specs.declared.plans.Plan.{Plan}
-use Rattle.allocator_app.specs.declared.plans.Plan.TheVariants.{Replay, Node, Soak, Audit, Watch, Convert, Decode}
+use Rattle.allocator_app.specs.declared.told.Told.{Told}
+use Rattle.allocator_app.specs.Told.{AreAmong, IsCluster, Spells, size_of}
+use Rattle.allocator_app.specs.declared.plans.Plan.TheVariants.{Replay, Node, Soak, New, Audit, Watch, Convert, Decode}
 
 -- the words `replay <rows> <id>..`: how many rows the schedule may have, and the members of the cluster
 pub record IsReplay (rows : ℕ) (ids : List ℕ) (words : List (List ℕ)) : Type 0 where
@@ -13,16 +15,18 @@ pub record IsReplay (rows : ℕ) (ids : List ℕ) (words : List (List ℕ)) : Ty
   pub rows_most : rows ≤ 1000000
   pub members : AreMembers ids
 
--- the words `node <size> <base> <turns> <id>..`: how many members the cluster has, the port that their ports are
--- counted from, how many turns are taken, and which members run here
-pub record IsNode (size base turns : ℕ) (ids : List ℕ) (words : List (List ℕ)) : Type 0 where
-  pub spelled : words ≡ codes "node" ∷ decimal size ∷ decimal base ∷ decimal turns ∷ map decimal ids
-  pub size_most : size ≤ 5
+-- the words `node <members> <base> <turns> <id>..`: what the members are told of the cluster, the port that their ports
+-- are counted from, how many turns are taken, and which members run here
+pub record IsNode (told : Told) (base turns : ℕ) (ids : List ℕ) (words : List (List ℕ)) : Type 0 where
+  pub word : List ℕ
+  pub spelled : words ≡ codes "node" ∷ word ∷ decimal base ∷ decimal turns ∷ map decimal ids
+  pub spells : Spells told word
+  pub cluster : IsCluster told
   pub base_least : 1024 ≤ base
   pub base_most : base ≤ 65410
   pub turns_most : turns ≤ 1000000000
   pub members : AreMembers ids
-  pub few : length ids ≤ size
+  pub among : AreAmong told ids
 
 -- the words `soak <seed> <rounds> <size>`: what is drawn, how often, and how many members the cluster has
 pub record IsSoak (seed rounds size : ℕ) (words : List (List ℕ)) : Type 0 where
@@ -31,6 +35,11 @@ pub record IsSoak (seed rounds size : ℕ) (words : List (List ℕ)) : Type 0 wh
   pub rounds_most : rounds ≤ 20000
   pub size_least : 1 ≤ size
   pub size_most : size ≤ 5
+
+-- the words `new <id>..`: whose stores are made
+pub record IsNew (ids : List ℕ) (words : List (List ℕ)) : Type 0 where
+  pub spelled : words ≡ codes "new" ∷ map decimal ids
+  pub members : AreMembers ids
 
 -- the words `audit <id>..`: whose stores are compared
 pub record IsAudit (ids : List ℕ) (words : List (List ℕ)) : Type 0 where
@@ -79,8 +88,9 @@ pub record IsDecode (name : List ℕ) (part : ℕ) (payload : List ℕ) (words :
 -- the plan is what the words ask for
 abbrev pub IsPlan : Plan → List (List ℕ) → Type 0
 IsPlan (Replay rows ids) words = IsReplay rows ids.items words
-IsPlan (Node size base turns ids) words = IsNode size base turns ids.items words
+IsPlan (Node told base turns ids) words = IsNode told base turns ids.items words
 IsPlan (Soak seed rounds size) words = IsSoak seed rounds size words
+IsPlan (New ids) words = IsNew ids.items words
 IsPlan (Audit ids) words = IsAudit ids.items words
 IsPlan (Watch candump lines ids) words = IsWatch candump lines ids.items words
 IsPlan (Convert from_candump to_candump lines) words = IsConvert from_candump to_candump lines words
@@ -89,8 +99,10 @@ IsPlan (Decode name part payload) words = IsDecode name.items part payload.items
 -- a plan that some words ask for
 abbrev pub IsSound : Plan → Type 0
 IsSound (Replay rows ids) = (rows ≤ 1000000) × AreMembers ids.items
-IsSound (Node size base turns ids) = (1 ≤ size) × (size ≤ 5) × (turns ≤ 1000000000) × AreMembers ids.items
+IsSound (Node told base turns ids) =
+    (1 ≤ size_of told) × (size_of told ≤ 5) × (turns ≤ 1000000000) × AreMembers ids.items
 IsSound (Soak seed rounds size) = (rounds ≤ 20000) × (1 ≤ size) × (size ≤ 5)
+IsSound (New ids) = AreMembers ids.items
 IsSound (Audit ids) = AreMembers ids.items
 IsSound (Watch candump lines ids) = (1 ≤ lines) × (lines ≤ 1000000) × AreFew ids.items
 IsSound (Convert from_candump to_candump lines) = (1 ≤ lines) × (lines ≤ 1000000)
@@ -124,7 +136,8 @@ pub record AreStored {L D : Type 0} (ids : List ℕ) (links : List L) (disks : L
 
 -- the objects that a plan needs
 abbrev pub HasObjects : {L D : Type 0} → Plan → List L → List (Option D) → Type 0
-HasObjects (Node size base turns ids) links disks = AreGiven ids.items links disks
+HasObjects (Node told base turns ids) links disks = AreGiven ids.items links disks
+HasObjects (New ids) links disks = AreStored ids.items links disks
 HasObjects (Audit ids) links disks = AreStored ids.items links disks
 HasObjects _ links disks = AreNone links disks
 
@@ -136,17 +149,19 @@ pub record IsAsked {L D : Type 0} (words : List (List ℕ)) (links : List L) (di
 
 -- a plan that reads the source; one that works on links and with the clock; and one that works on disks
 abbrev pub Reads : Plan → Type 0
-Reads (Node size base turns ids) = ⊥
+Reads (Node told base turns ids) = ⊥
 Reads (Soak seed rounds size) = ⊥
+Reads (New ids) = ⊥
 Reads (Audit ids) = ⊥
 Reads _ = Unit {0}
 
 abbrev pub UsesLinks : Plan → Type 0
-UsesLinks (Node size base turns ids) = Unit {0}
+UsesLinks (Node told base turns ids) = Unit {0}
 UsesLinks _ = ⊥
 
 abbrev pub UsesDisks : Plan → Type 0
-UsesDisks (Node size base turns ids) = Unit {0}
+UsesDisks (Node told base turns ids) = Unit {0}
+UsesDisks (New ids) = Unit {0}
 UsesDisks (Audit ids) = Unit {0}
 UsesDisks _ = ⊥
 

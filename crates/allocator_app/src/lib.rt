@@ -16,9 +16,11 @@ mod program;
 mod replay;
 mod report;
 mod rows;
+mod told;
 mod words;
 
 pub use cmd_base::Status;
 pub use plans::Plan;
 pub use program::run;
+pub use told::Told;
 pub use words::plan;

@@ -1,3 +1,4 @@
+use crate::told::Told;
 use arrayvec::ArrayVec;
 
 /// What the words ask for.
@@ -10,10 +11,12 @@ pub enum Plan {
         ids: ArrayVec<u8, 5>,
     },
 
-    /// To run these members, 1 to `size` of 1 to 125 each, of a cluster of `size`, 1 to 5, for so many
-    /// turns, at most 1,000,000,000. The port of a member is its node ID above `base`, 1,024 to 65,410.
+    /// To run these members of a cluster, which are told so much of it, for so many turns, at most
+    /// 1,000,000,000. They are 1 to 5 of 1 to 125 each: at most as many as the cluster has, where they are told
+    /// its size, and members of it, where they are told its members. The port of a member is its node ID above
+    /// `base`, 1,024 to 65,410.
     Node {
-        size: u8,
+        told: Told,
         base: u16,
         turns: u64,
         ids: ArrayVec<u8, 5>,
@@ -25,6 +28,11 @@ pub enum Plan {
         seed: u64,
         rounds: u64,
         size: u8,
+    },
+
+    /// To make new stores for these nodes, 1 to 5 of 1 to 125 each.
+    New {
+        ids: ArrayVec<u8, 5>,
     },
 
     /// To compare the stores of these nodes, 1 to 5 of 1 to 125 each.

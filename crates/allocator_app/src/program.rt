@@ -5,6 +5,7 @@ ghost use Rattle.cmd_bus_logs.specs.Watched.{Watches};
 ghost use Rattle.outside.specs.Faults.{Rose};
 ghost use Rattle.replay_text.specs.declared.row.Row.{Row};
 ghost use Rattle.replay_text.specs.Lines.{ReadsRows};
+ghost use Rattle.cmd_new.specs.Made.{MakesStores};
 ghost use Rattle.cmd_soak.specs.Rounds.{members, soaked};
 ghost use Rattle.store_audit.specs.Audits.{Audits};
 ghost use Rattle.cluster_spec.specs.Cluster.{cluster};
@@ -17,7 +18,9 @@ ghost use Rattle.allocator_app.specs.Report.{IsBegun, IsReport, IsToTheEnd};
 ghost use Rattle.allocator_app.specs.Rows.{IsTold, Replays};
 ghost use Rattle.allocator_app.specs.Soaking.{Soaks};
 ghost use Rattle.allocator_app.specs.Words.{AreAbsent, AreGiven, AreNone, ArePresent, AreStored, Asks, HasObjects, Reads, UsesDisks, UsesLinks};
-ghost use Rattle.allocator_app.specs.Words.{IsAsked, IsAudit, IsConvert, IsDecode, IsNode, IsReplay, IsSoak, IsSound, IsWatch};
+ghost use Rattle.allocator_app.specs.Told.{size_of};
+ghost use Rattle.allocator_app.specs.Words.{IsAsked, IsAudit, IsConvert, IsDecode, IsNew, IsNode, IsReplay, IsSoak, IsSound, IsWatch};
+ghost use Rattle.allocator_app.specs.declared.told.Told.{Told};
 
 use crate::plans::Plan;
 use crate::replay::replay;
@@ -27,6 +30,7 @@ use cluster_agreement::headline::{rows_are_safe, the_headline};
 use cmd_base::Status;
 use cmd_bus_logs::{convert, watch};
 use cmd_decode::decode;
+use cmd_new::make_stores;
 use cmd_node::node;
 use cmd_node_laws::laws::{runs_of_node_are_rows, traces_are_lawful};
 use cmd_soak::laws::rows_are_lawful;
@@ -51,8 +55,8 @@ use store_audit::audit_stores;
 /// `soak <seed> <rounds> <size>` makes its rows from the seed, and writes what they came to in six lines
 /// (`Rounds` and `Counts` of `cmd_soak`).
 ///
-/// `node <size> <base> <turns> <id>..` runs these members of a cluster over the links and the disks that
-/// are handed in, one of each for a member, in their order, and writes what the last 256 steps told. Each
+/// `node <members> <base> <turns> <id>..` runs these members of a cluster, which are told its size or a list
+/// of its members, over the links and the disks that are handed in, one of each for a member, in their order, and writes what the last 256 steps told. Each
 /// disk is there again at the end (`RunsNodes` of `cmd_node`). `LinkFault` and `DiskFault` come only where
 /// the link or the disk of that node failed, and `Damaged` only where the store of that node is damaged,
 /// first at that key, and those before it are not, if these disks tell what they hold. Then one line is
@@ -67,6 +71,9 @@ use store_audit::audit_stores;
 /// every trace of a cluster of processes in which the run stands, what it sent and stored is what the world
 /// of the trace's rows says (`Traces` and `Stands` of `cmd_node_laws`).
 ///
+/// `new <id>..` makes a new store of each of the disks that are handed in, one for each of these members: an
+/// image of zeros, synced (`MakesStores` of `cmd_new`).
+///
 /// `audit <id>..` compares the stores of these members, a disk for each, and changes none of them: the lines of
 /// what they agree on, or `Differ` with the line that names two that differ (`Audits` of `store_audit`).
 ///
@@ -74,10 +81,10 @@ use store_audit::audit_stores;
 /// `cmd_bus_logs`), and `convert <format> <format> <lines>` writes the log in the other form or the same
 /// (`Converts`). `decode <name> <part> <hex>` writes the numbers of a payload under the part of a type that the
 /// text of the source describes (`Decodes` of `cmd_decode`); it is `NoPart` where the text has no such part, and
-/// `NoValue` where the payload has no reading. `audit`, `watch`, `convert` and `decode` take no memory, and come to
+/// `NoValue` where the payload has no reading. `new`, `audit`, `watch`, `convert` and `decode` take no memory, and come to
 /// the end that their input has unless something fails.
 ///
-/// Links are handed in for `node` alone, and disks for `node` and `audit`; with other words or objects the status
+/// Links are handed in for `node` alone, and disks for `node`, `new` and `audit`; with other words or objects the status
 /// is `Usage`. With `Usage` and `Memory` nothing is touched.
 ///
 /// The promise (`KeepsPromise`) holds along the rows of a report that no fault ended, of a soak and of such a
@@ -147,11 +154,15 @@ pub fn run<S: Source, K: Sink, L: Link, D: Disk, C: Clock>(
         KeepsPromise (members size) (soaked seed rounds size).rows) }
     // Allocators over links and disks: what is left and written; and in every trace of processes in
     // which the run stands it is what the world of the trace says, along whose rows the promise holds.
-    ensures nodes { (size base turns : ℕ) (ids : List ℕ) →
-        IsNode size base turns ids (map string_bytes words.now) →
-        (result ≡ Status.Usage) ⊎ RunsInTraces L.coming L.sent L.faults D.Disk size turns ids
+    ensures nodes { (told : Told) (base turns : ℕ) (ids : List ℕ) →
+        IsNode told base turns ids (map string_bytes words.now) →
+        (result ≡ Status.Usage) ⊎ RunsInTraces L.coming L.sent L.faults D.Disk (size_of told) turns ids
         links.old links.new disks.old disks.new (C.readings clock.old) (C.readings clock.new)
         (K.faults sink.old) (K.faults sink.new) (K.written sink.old) (K.written sink.new) result }
+    // Stores that are made: what is written, and that each disk has zeros then, all of them stable.
+    ensures new { (ids : List ℕ) → IsNew ids (map string_bytes words.now) →
+        (result ≡ Status.Usage) ⊎ MakesStores D.Disk ids disks.old disks.new
+        (K.written sink.old) (K.written sink.new) result }
     // Stores that are compared: what is written, and that they stay as they are.
     ensures audit { (ids : List ℕ) → IsAudit ids (map string_bytes words.now) →
         (result ≡ Status.Usage) ⊎ Audits D.Disk ids disks.old disks.new
@@ -197,6 +208,7 @@ fn has_objects<L: Link, D: Disk>(plan: &Plan, links: &[L], disks: &[Option<D>]) 
 {
     match plan {
         Plan::Node { ids, .. } => are_given(ids, links, disks),
+        Plan::New { ids } => are_stored(ids, links, disks),
         Plan::Audit { ids } => are_stored(ids, links, disks),
         Plan::Replay { .. }
         | Plan::Soak { .. }
@@ -269,12 +281,13 @@ fn follow<S: Source, K: Sink, L: Link, D: Disk, C: Clock>(
     match plan {
         Plan::Replay { rows, ids } => replay(alloc, rows, &ids, source, sink),
         Plan::Node {
-            size,
+            told,
             turns,
             ids,
             ..
-        } => node(alloc, size, turns, &ids, sink, links, disks, clock),
+        } => node(alloc, told.size(), turns, &ids, sink, links, disks, clock),
         Plan::Soak { seed, rounds, size } => soak(alloc, seed, rounds, size, sink),
+        Plan::New { ids } => make_stores(&ids, disks, sink),
         Plan::Audit { ids } => audit_stores(&ids, disks, sink),
         Plan::Watch {
             candump,

@@ -2,17 +2,19 @@ ghost use Rattle.std.specs.Prelude.{◌≡◌, ◌≤◌, ◌<◌, ◌⊎◌, []
 ghost use Rattle.dsdl_text.specs.Words as text_words;
 ghost use Rattle.raft_model.specs.Lists.{In};
 ghost use Rattle.cluster_spec.specs.Cluster.{AreMembers};
-ghost use Rattle.allocator_app.specs.Words.{AreFew, IsAudit, IsConvert, IsDecode, IsNode, IsPlan, IsReplay, IsSoak, IsWatch, SpellsPayload, form_word};
+ghost use Rattle.allocator_app.specs.declared.told.Told.{Told};
+ghost use Rattle.allocator_app.specs.Words.{AreFew, IsAudit, IsConvert, IsDecode, IsNew, IsNode, IsPlan, IsReplay, IsSoak, IsWatch, SpellsPayload, form_word};
 
 use crate::plans::Plan;
+use crate::told::read_told;
 use arrayvec::ArrayVec;
 use cluster_spec::are_members;
 use dsdl_text::is_name;
 use replay_text::{read_bytes, read_number};
 
 /// The plan of the words, without the program's name; `None` where they are none of
-/// `replay <rows> <id>..`, `node <size> <base> <turns> <id>..`, `soak <seed> <rounds> <size>`,
-/// `audit <id>..`, `watch <format> <lines> <id>..`, `convert <format> <format> <lines>` and
+/// `replay <rows> <id>..`, `node <members> <base> <turns> <id>..`, `soak <seed> <rounds> <size>`,
+/// `new <id>..`, `audit <id>..`, `watch <format> <lines> <id>..`, `convert <format> <format> <lines>` and
 /// `decode <name> <part> <hex>`.
 pub fn plan(words: &[String]) -> Option<Plan>
     ensures some { IfSome result (λ plan. IsPlan plan (map string_bytes words.now)) }
@@ -25,6 +27,9 @@ pub fn plan(words: &[String]) -> Option<Plan>
         return Some(plan);
     }
     if let Some(plan) = soak_plan(words) {
+        return Some(plan);
+    }
+    if let Some(plan) = new_plan(words) {
         return Some(plan);
     }
     if let Some(plan) = audit_plan(words) {
@@ -57,24 +62,24 @@ fn replay_plan(words: &[String]) -> Option<Plan>
 
 fn node_plan(words: &[String]) -> Option<Plan>
     ensures some { IfSome result (λ plan. IsPlan plan (map string_bytes words.now)) }
-    ensures none { IsNone result → (size base turns : ℕ) (ids : List ℕ) →
-        IsNode size base turns ids (map string_bytes words.now) → ⊥ }
+    ensures none { IsNone result → (told : Told) (base turns : ℕ) (ids : List ℕ) →
+        IsNode told base turns ids (map string_bytes words.now) → ⊥ }
 {
-    let [mode, size, base, turns, ids @ ..] = words else {
+    let [mode, told, base, turns, ids @ ..] = words else {
         return None;
     };
     if mode.as_str() != "node" {
         return None;
     }
-    let size = number_within(size.as_bytes(), 1, 5)? as u8;
+    let told = read_told(told.as_bytes())?;
     let base = number_within(base.as_bytes(), 1_024, 65_410)? as u16;
     let turns = read_number(turns.as_bytes(), 1_000_000_000)?;
     let ids = read_members(ids)?;
-    if ids.len() > usize::from(size) {
+    if !told.has_room_for(&ids) {
         return None;
     }
     Some(Plan::Node {
-        size,
+        told,
         base,
         turns,
         ids,
@@ -96,6 +101,21 @@ fn soak_plan(words: &[String]) -> Option<Plan>
     let rounds = read_number(rounds.as_bytes(), 20_000)?;
     let size = number_within(size.as_bytes(), 1, 5)? as u8;
     Some(Plan::Soak { seed, rounds, size })
+}
+
+fn new_plan(words: &[String]) -> Option<Plan>
+    ensures some { IfSome result (λ plan. IsPlan plan (map string_bytes words.now)) }
+    ensures none { IsNone result → (ids : List ℕ) →
+        IsNew ids (map string_bytes words.now) → ⊥ }
+{
+    let [mode, ids @ ..] = words else {
+        return None;
+    };
+    if mode.as_str() != "new" {
+        return None;
+    }
+    let ids = read_members(ids)?;
+    Some(Plan::New { ids })
 }
 
 fn audit_plan(words: &[String]) -> Option<Plan>
@@ -266,7 +286,7 @@ fn read_ids(words: &[String]) -> Option<ArrayVec<u8, 5>>
 }
 
 /// The number, of `least` to `most`, that a word spells.
-fn number_within(word: &[u8], least: u64, most: u64) -> Option<u64>
+pub(crate) fn number_within(word: &[u8], least: u64, most: u64) -> Option<u64>
     ensures some { IfSome result (λ n. (least ≤ n) × (n ≤ most) × (word.now ≡ decimal n)) }
     ensures none { IsNone result → (n : ℕ) → least ≤ n → n ≤ most → word.now ≡ decimal n → ⊥ }
 {

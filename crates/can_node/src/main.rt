@@ -10,8 +10,9 @@ use cluster_spec::are_members;
 use cmd_base::Status;
 use cmd_node::node;
 use disk_model::FileDisk;
+use node_clock_and_links::{PacedClock, TimelyLink};
 use outside::{StdClock, StdSink};
-use std::cell::RefCell;
+use std::cell::{Cell, RefCell};
 use std::env;
 use std::process::ExitCode;
 
@@ -48,6 +49,7 @@ fn main(rt: HostRuntime) -> ExitCode {
         return ExitCode::from(Status::Usage.code());
     }
     let bus = RefCell::new(CanBus::new(SOCKET));
+    let idle = Cell::new(0);
     let mut links = Vec::new(rt.alloc());
     let mut disks = Vec::new(rt.alloc());
     for id in &ids {
@@ -58,12 +60,13 @@ fn main(rt: HostRuntime) -> ExitCode {
             return ExitCode::from(NOT_OPENED);
         };
         let link = CanLink::new(&bus, links.len());
+        let link = TimelyLink::new(link, StdClock::new(&rt), &idle);
         if links.push(link).is_err() || disks.push(Some(disk)).is_err() {
             return ExitCode::from(Status::Memory.code());
         }
     }
     let mut sink = StdSink::new(rt.stdout());
-    let mut clock = StdClock::new(&rt);
+    let mut clock = PacedClock::new(StdClock::new(&rt), &rt, links.len(), &idle);
     let status = node(
         rt.alloc(),
         size,

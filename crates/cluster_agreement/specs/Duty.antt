@@ -10,6 +10,7 @@ use Rattle.raft_model.specs.Server.Role.{Leader}
 use Rattle.replay_text.specs.declared.row.Row.{Row}
 use Rattle.replay_text.specs.declared.row.Row.TheVariants.{Rx as RxRow, Tick as TickRow}
 use Rattle.transfer_rx.specs.Reassembly.{Arrival}
+use Rattle.alloc_spec_laws.specs.Answering.{AnswersRequests}
 use Rattle.alloc_spec_laws.specs.FreeNodes.{GivesFreeNode}
 use Rattle.alloc_spec_laws.specs.Phases.{TellsDuly, when_committed, when_seen, when_told}
 use Rattle.alloc_spec.specs.Ending.{call_phase}
@@ -44,6 +45,9 @@ pub record DoesItsDuty (members : List ℕ) (t : AllocatorState) (number : ℕ) 
   pub give : (arrival : Arrival) (entry : Entry) → event ≡ Rx arrival
       → In (ProposeEntry entry) (step t number event).step_state.moves
       → GivesFreeNode t (max t.now arrival.moment) entry
+  -- whoever is asked answers: it offers a response to each request of GetNodeInfo, and to each of Raft of a node on its
+  -- list of members
+  pub answer : AnswersRequests t number event
 
 -- a stopped member takes no step, nor does one that failed
 abbrev pub DoDutyIn : List ℕ → ℕ → Event → MemberStatus → Type 0

@@ -83,6 +83,41 @@ fn another_datagram_is_junk(rt: HostRuntime) -> Result<(), Fail> {
     Ok(())
 }
 
+/// The datagram of the frame with these eights.
+fn eights(id: [u8; 4]) -> [u8; 13] {
+    let mut datagram = [8; 13];
+    datagram[..4].copy_from_slice(&id);
+    datagram
+}
+
+#[test]
+fn a_strict_link_looks_at_the_sender(rt: HostRuntime) -> Result<(), Fail> {
+    let (base, mut one, two, _last) = links(&rt)?;
+    drop(two);
+    let mut two = UdpLink::open_strict(&rt, base, 2, &[2])?;
+    let to = (Ipv4Addr::LOCALHOST, base.saturating_add(2));
+    assert_eq!(rt; one.send(&FRAME), Ok(()));
+    assert_eq!(rt; next(&mut two), Ok(Received::Frame(FRAME)));
+    // The identifier ends with the source: node 1, none, node 2.
+    let first = eights([0x1e, 1, 0x55, 1]);
+    let anonymous = eights([0x1e, 1, 0x55, 0]);
+    let own = eights([0x1e, 1, 0x55, 2]);
+    let stranger = UdpSocket::bind(&rt, (Ipv4Addr::LOCALHOST, 0))?;
+    stranger.send_to(&first, to)?;
+    assert_eq!(rt; next(&mut two), Ok(Received::Junk));
+    stranger.send_to(&anonymous, to)?;
+    assert!(rt; matches!(next(&mut two), Ok(Received::Frame(_))));
+    let bridge = UdpSocket::bind(&rt, (Ipv4Addr::LOCALHOST, base.saturating_add(119)))?;
+    bridge.send_to(&first, to)?;
+    assert!(rt; matches!(next(&mut two), Ok(Received::Frame(_))));
+    bridge.send_to(&own, to)?;
+    assert_eq!(rt; next(&mut two), Ok(Received::Junk));
+    let elsewhere = UdpSocket::bind(&rt, (Ipv4Addr::new(127, 0, 0, 2), base.saturating_add(1)))?;
+    elsewhere.send_to(&first, to)?;
+    assert_eq!(rt; next(&mut two), Ok(Received::Junk));
+    Ok(())
+}
+
 #[test]
 fn a_port_without_a_listener_is_no_failure(rt: HostRuntime) -> Result<(), Fail> {
     let (_base, mut one, two, last) = links(&rt)?;

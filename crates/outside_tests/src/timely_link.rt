@@ -2,55 +2,77 @@
 
 use crate::frame::FRAME;
 use node_clock_and_links::TimelyLink;
-use outside::{Failed, Link, Received};
+use outside::{Failed, Link, MemoryClock, MemoryLink, RawFrame, Received};
 use std::cell::Cell;
-use std::net::Net;
-use std::thread;
-use std::time::Duration;
-use udp_link::UdpLink;
 
-/// The longest that a frame may wait, in milliseconds.
-const LONGEST_WAIT: u64 = 4000;
+/// A link that nothing comes to, which counts what is sent.
+#[derive(Drop)]
+struct Counts<'a> {
+    sent: &'a Cell<u64>,
+}
 
-/// Links 1 and 2 at the first base whose ports are free.
-fn two_links<R: Net>(rt: &R) -> Result<(UdpLink, UdpLink), Failed> {
-    for number in 0..100 {
-        let base = 25_000 + 200 * number;
-        if let Ok(one) = UdpLink::open(rt, base, 1) {
-            if let Ok(two) = UdpLink::open(rt, base, 2) {
-                return Ok((one, two));
-            }
-        }
+impl Link for Counts<'_> {
+    ghost use Rattle.std.specs.Prelude.{None};
+
+    ghost coming = { λ _. None };
+
+    ghost sent = { λ _. None };
+
+    ghost faults = { λ _. 0 };
+
+    fn recv(&mut self) -> Result<Received, Failed> {
+        Ok(Received::Nothing)
     }
-    Err(Failed)
+
+    fn send(&mut self, _frame: &RawFrame) -> Result<(), Failed> {
+        self.sent.set(self.sent.get().saturating_add(1));
+        Ok(())
+    }
 }
 
 #[test]
-fn frames_pass_where_they_did_not_wait_too_long(rt: HostRuntime) -> Result<(), Failed> {
+fn a_frame_that_waited_in_the_link_below_is_junk(rt: HostRuntime) {
+    let items = [
+        Received::Nothing,
+        Received::Frame(FRAME),
+        Received::Frame(FRAME),
+        Received::Junk,
+        Received::Nothing,
+        Received::Frame(FRAME),
+    ];
     let idle = Cell::new(0);
-    let (one, two) = two_links(&rt)?;
-    let mut one = TimelyLink::new(one, &rt, &idle);
-    let mut two = TimelyLink::new(two, &rt, &idle);
-    assert_eq!(rt; one.recv(), Ok(Received::Nothing));
-    assert_eq!(rt; two.recv(), Ok(Received::Nothing));
-    assert_eq!(rt; idle.get(), 2);
-    assert_eq!(rt; one.send(&FRAME), Ok(()));
-    assert_eq!(rt; two.recv(), Ok(Received::Frame(FRAME)));
+    let below = MemoryLink::new(&items, None);
+    // The first reading is that of the beginning.
+    let clock = MemoryClock::new(&[1000, 1000, 5000, 5001, 5001, 5001, 9001]);
+    let mut link = TimelyLink::new(below, clock, &idle);
+    assert_eq!(rt; link.recv(), Ok(Received::Nothing));
+    assert_eq!(rt; idle.get(), 1);
+    assert_eq!(rt; link.recv(), Ok(Received::Frame(FRAME)));
     assert_eq!(rt; idle.get(), 0);
+    assert_eq!(rt; link.recv(), Ok(Received::Junk));
+    assert_eq!(rt; link.recv(), Ok(Received::Junk));
+    assert_eq!(rt; link.recv(), Ok(Received::Nothing));
+    assert_eq!(rt; link.recv(), Ok(Received::Frame(FRAME)));
+}
 
-    // One that waits in the socket, and one that waits to be sent.
-    assert_eq!(rt; one.send(&FRAME), Ok(()));
-    thread::sleep(&rt, Duration::from_millis(LONGEST_WAIT + 100));
-    assert_eq!(rt; two.recv(), Ok(Received::Junk));
-    assert_eq!(rt; two.recv(), Ok(Received::Nothing));
-    assert_eq!(rt; one.send(&FRAME), Ok(()));
-    assert_eq!(rt; two.recv(), Ok(Received::Nothing));
-
-    // Once nothing waits all is as before.
-    assert_eq!(rt; one.recv(), Ok(Received::Nothing));
-    assert_eq!(rt; one.recv(), Ok(Received::Nothing));
-    assert_eq!(rt; one.recv(), Ok(Received::Nothing));
-    assert_eq!(rt; one.send(&FRAME), Ok(()));
-    assert_eq!(rt; two.recv(), Ok(Received::Frame(FRAME)));
-    Ok(())
+#[test]
+fn a_frame_that_waited_to_be_sent_is_not_sent(rt: HostRuntime) {
+    let sent = Cell::new(0);
+    let idle = Cell::new(0);
+    let below = Counts { sent: &sent };
+    let clock = MemoryClock::new(&[0, 4000, 4001, 4001, 4002, 4100, 4200, 8100]);
+    let mut link = TimelyLink::new(below, clock, &idle);
+    assert_eq!(rt; link.send(&FRAME), Ok(()));
+    assert_eq!(rt; sent.get(), 1);
+    assert_eq!(rt; link.send(&FRAME), Ok(()));
+    assert_eq!(rt; sent.get(), 1);
+    // Frames were handed in before this call, and before the next.
+    assert_eq!(rt; link.recv(), Ok(Received::Nothing));
+    assert_eq!(rt; link.send(&FRAME), Ok(()));
+    assert_eq!(rt; sent.get(), 1);
+    assert_eq!(rt; link.recv(), Ok(Received::Nothing));
+    assert_eq!(rt; link.recv(), Ok(Received::Nothing));
+    assert_eq!(rt; link.send(&FRAME), Ok(()));
+    assert_eq!(rt; sent.get(), 2);
+    assert_eq!(rt; idle.get(), 3);
 }

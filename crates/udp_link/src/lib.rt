@@ -11,5 +11,6 @@
 mod datagram;
 pub mod laws;
 mod link;
+mod senders;
 
 pub use link::UdpLink;

@@ -1,9 +1,11 @@
-ghost use Rattle.std.specs.Prelude.{◌≡◌, ◌≤◌, ◌+◌, ℕ, List, None, IfOk, IsErr, OnOk};
+ghost use Rattle.std.specs.Prelude.{◌≡◌, ◌≤◌, ◌+◌, ℕ, List, None, length, IfOk, IfSome, IsErr, IsSome, OnOk};
 ghost use Rattle.outside.specs.Contents.{WhereTold};
 ghost use Rattle.outside.specs.Faults.{HasCause, counted, one_more};
 ghost use Rattle.outside.specs.Traffic.{Receives, Sends};
 
-use crate::datagram::{MOST, datagram_of, frame_of};
+use crate::datagram::{MOST, datagram_of};
+use crate::senders::frame_from;
+use arrayvec::ArrayVec;
 use outside::{Failed, Link, RawFrame, Received};
 use std::io::ErrorKind;
 use std::net::{Ipv4Addr, Net, UdpSocket};
@@ -16,12 +18,20 @@ const LAST: u8 = 125;
 const TRIES: u8 = 3;
 
 /// The link of a node over UDP on this machine. It tells no contents.
+///
+/// One that [`UdpLink::open`] gives takes each datagram for what it is, whoever sent it. One that
+/// [`UdpLink::open_strict`] gives looks at the sender (`MaySend`): a frame of a node has to come from that node's
+/// port of 127.0.0.1, or from that of the bridge to the bus, `base + 119`, if it is of none of the nodes that run
+/// here. An anonymous frame may come from any port of 127.0.0.1. All else is junk.
 #[derive(Drop)]
 pub struct UdpLink {
     socket: UdpSocket,
     base: u16,
     id: u8,
     faults: u64,
+
+    /// The node IDs that run here, where the link is strict.
+    here: Option<ArrayVec<u8, 5>>,
 }
 
 impl UdpLink {
@@ -47,7 +57,25 @@ impl UdpLink {
             base,
             id,
             faults: 0,
+            here: None,
         })
+    }
+
+    /// The strict link of the node with this ID, which [`UdpLink::open`] gives else, in a process in which the nodes
+    /// with these IDs run.
+    pub fn open_strict<R: Net>(rt: &R, base: u16, id: u8, here: &[u8]) -> Result<UdpLink, Failed>
+        requires { length here.now ≤ 5 }
+        ensures base { IfOk result (λ link. link.base ≡ base) }
+        ensures id { IfOk result (λ link. link.id ≡ id) }
+        ensures faults { IfOk result (λ link. link.faults ≡ 0) }
+        ensures here { IfOk result (λ link. IfSome link.here (λ nodes. nodes.items ≡ here.now)) }
+        ensures strict { IfOk result (λ link. IsSome link.here) }
+    {
+        let mut nodes = ArrayVec::new();
+        nodes.try_extend_from_slice(here).unwrap();
+        let mut link = UdpLink::open(rt, base, id)?;
+        link.here = Some(nodes);
+        Ok(link)
     }
 
     /// Counts a call that failed.
@@ -56,6 +84,7 @@ impl UdpLink {
         ensures faults { self.new.faults ≡ one_more self.old.faults }
         ensures base { self.new.base ≡ self.old.base }
         ensures id { self.new.id ≡ self.old.id }
+        ensures here { self.new.here ≡ self.old.here }
     {
         self.faults = self.faults.saturating_add(1);
         Failed
@@ -67,7 +96,9 @@ impl UdpLink {
         let mut datagram = [0; MOST + 1];
         for _ in 0..TRIES {
             match self.socket.recv_from(&mut datagram) {
-                Ok((count, _)) => return Some(frame_of(&datagram[..count])),
+                Ok((count, from)) => {
+                    return Some(frame_from(self.base, &self.here, &from, &datagram[..count]));
+                }
                 Err(error) if error.kind() == ErrorKind::WouldBlock => break,
                 Err(error) if error.kind() == ErrorKind::ConnectionRefused => {}
                 Err(_) => return None,
@@ -118,6 +149,7 @@ impl Link for UdpLink {
         ensures faults { self.new.faults ≡ counted result self.old.faults }
         ensures base { self.new.base ≡ self.old.base }
         ensures id { self.new.id ≡ self.old.id }
+        ensures here { self.new.here ≡ self.old.here }
     {
         match self.received() {
             Some(received) => Ok(received),
@@ -132,6 +164,7 @@ impl Link for UdpLink {
         ensures faults { self.new.faults ≡ counted result self.old.faults }
         ensures base { self.new.base ≡ self.old.base }
         ensures id { self.new.id ≡ self.old.id }
+        ensures here { self.new.here ≡ self.old.here }
     {
         if self.send_to_others(&datagram_of(frame)) {
             Ok(())

@@ -28,7 +28,7 @@ class Foreign(Exception):
 
 
 class OnBus(NamedTuple):
-    """A frame on the bus of the run: its number there, and the index of the log's frame that it is, if the log has it."""
+    """A frame on the bus of the run: its number there, and where the log has it, if it does."""
 
     number: int
     frame: wire.Frame
@@ -59,8 +59,9 @@ class Kept(NamedTuple):
 
 class Cluster:
     """`index` is the frame of the log that is looked for. `early`: how many milliseconds before its stamp a frame is
-    received, as a member takes a frame at a reading of its clock from before; `heard`: whether what a member sent before
-    its first frame in the log was heard by the others (the log began late), or not (the member came to the bus late)."""
+    received, as a member takes a frame at a reading of its clock from before; `heard`: whether what a member sent
+    before its first frame in the log was heard by the others (the log began late), or not (the member came to the bus
+    late)."""
 
     def __init__(self, recording: Recording, partner: Partner, early: int, heard: bool) -> None:
         self.recording, self.partner, self.early, self.heard = recording, partner, early, heard

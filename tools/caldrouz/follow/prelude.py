@@ -4,7 +4,7 @@
     before.rows, before.lines, before.moment                        # the moment of the last row
 
 A run begins with empty stores. So the terms of the files are gone through in their order. Whoever has a vote in one
-stands, or asks for it. A member that has all entries of a term leads in it, with the votes of members whose files allow it.
+stands, or asks for it. A member that has all entries of a term leads in it, with votes of members whose files allow it.
 It records each entry of the term: a node with that node ID is heard, is asked for its unique ID, and tells it (zeros,
 where the entry keeps the ID back). Each entry is handed on to the members whose files have it, and each is told what is
 committed up to what its file says. Nothing is given to anybody else, and nobody else does anything. How an entry came
@@ -22,6 +22,7 @@ from ..stores import Store
 from .partner import Partner, Refused
 
 MOST_ELECTIONS = 20_000  # by which terms are raised
+MOST_TRIES = 8  # with other leaders
 EACH_NODE = 50  # milliseconds between two nodes: a member has sessions for some 80 of them at a time
 TERM_AND_NO_VOTE = 9  # the device call of an election before which the term is stored, and no vote
 Entry = Tuple[int, str, int]  # term, unique ID, node ID
@@ -410,7 +411,7 @@ def bring(words: List[str], stores: Dict[int, Store]) -> Before:
             raise CannotReach(f"by the terms and votes of the files nobody can have led in term {term} with its log")
     leaders = {term: members[0] for term, members in able.items()}
     reason = ""
-    while True:
+    for _ in range(MOST_TRIES):
         partner = Partner(words)
         try:
             moment = Prelude(partner, aim, leaders).run()
@@ -421,5 +422,6 @@ def bring(words: List[str], stores: Dict[int, Store]) -> Before:
             partner.drop()
         others = [term for term in able if able[term].index(leaders[term]) + 1 < len(able[term])]
         if not others:
-            raise CannotReach(reason)
+            break
         leaders[others[0]] = able[others[0]][able[others[0]].index(leaders[others[0]]) + 1]
+    raise CannotReach(reason)

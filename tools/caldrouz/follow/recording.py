@@ -135,7 +135,8 @@ class Recording:
         openings = [_opened(group) for group in groups]
         for frame in mine:
             if groups:
-                frames[max((at for at, opened in enumerate(openings) if opened <= frame.stamp), default=0)].append(frame)
+                before = (at for at, opened in enumerate(openings) if opened <= frame.stamp)
+                frames[max(before, default=0)].append(frame)
         return [Spell(member, group, own) for group, own in zip(groups, frames) if own]
 
     def _answers(self) -> Dict[int, Optional[int]]:

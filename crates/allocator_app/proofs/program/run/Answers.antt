@@ -1,10 +1,11 @@
 use Rattle.std.proofs.Common.{inl, inr, refl}
 use Rattle.cluster_spec.specs.Cluster.{cluster}
 use Rattle.allocator_app.specs.Promise.{KeepsPromise}
+use Rattle.allocator_app.specs.Told.{size_of}
 use Rattle.allocator_app.specs.declared.plans.Plan.TheVariants.{Replay}
 use Rattle.allocator_app.proofs.Ending.{all_lawful, completed, holds_along}
 use Rattle.allocator_app.proofs.Needs.{no_disks_used, no_links_used}
-use Rattle.allocator_app.proofs.OnePlan.{only_audit, only_convert, only_decode, only_node, only_replay, only_soak, only_watch}
+use Rattle.allocator_app.proofs.OnePlan.{only_audit, only_convert, only_decode, only_new, only_node, only_replay, only_soak, only_watch}
 use Rattle.allocator_app.proofs.Traces.{in_traces}
 use Rattle.allocator_app.proofs.program.run.Goals as goal
 
@@ -53,15 +54,19 @@ returns-clause-soak g c = λ seed rounds size asks.
     )
 
 pub returns-clause-nodes : goal.returns-clause-nodes
-returns-clause-nodes g c = λ size base turns ids asks.
-    inr (in_traces g.L.Link.coming g.L.Link.sent g.L.Link.faults g.D.Disk size turns ids c.args.links.now c.follow.new.links
+returns-clause-nodes g c = λ told base turns ids asks.
+    inr (in_traces g.L.Link.coming g.L.Link.sent g.L.Link.faults g.D.Disk (size_of told) turns ids c.args.links.now c.follow.new.links
     c.args.disks.now c.follow.new.disks (g.C.Clock.readings c.args.clock.now) (g.C.Clock.readings c.follow.new.clock)
     (g.K.Sink.faults c.args.sink.now) (g.K.Sink.faults c.follow.new.sink) (g.K.Sink.written c.args.sink.now) (g.K.Sink.written c.follow.new.sink) c.follow.result
     c.runs_of_node_are_rows.ensures.done c.runs_of_node_are_rows.ensures.cut (λ ids trace members may. record {
       headline = c.traces_are_lawful.ensures.headline ids trace members may;
       allocatees = c.traces_are_lawful.ensures.allocatees ids trace members may;
       safe = c.traces_are_lawful.ensures.safe ids trace members may;
-    }) (rw (only_node c.in-Some.plan _ c.in-Some.ensures.some size base turns ids asks) at c.follow.ensures.followed))
+    }) (rw (only_node c.in-Some.plan _ c.in-Some.ensures.some told base turns ids asks) at c.follow.ensures.followed))
+
+pub returns-clause-new : goal.returns-clause-new
+returns-clause-new g c = λ ids asks.
+    inr (rw (only_new c.in-Some.plan _ c.in-Some.ensures.some ids asks) at c.follow.ensures.followed)
 
 pub returns-clause-audit : goal.returns-clause-audit
 returns-clause-audit g c = λ ids asks.

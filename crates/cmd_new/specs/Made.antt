@@ -1,0 +1,70 @@
+-- What a run of `new` leaves of its disks, and what it writes.
+use Rattle.std.specs.Prelude.{⊤, ◌≡◌, ◌⊎◌, ℕ, ◌<◌, true, List, [], ◌++◌, codes, decimal, length, slice_index, slice_index_or, Option, Some, None, IsSome}
+use Rattle.std.specs.Io.KnownBytes.{Appends}
+use Rattle.cmd_base.specs.Output.{WritesFront}
+use Rattle.cmd_base.specs.declared.status.Status.{Status}
+use Rattle.cmd_base.specs.declared.status.Status.TheVariants.{DiskFault, Done, WriteFault}
+use Rattle.disk_model.specs.Contents.{Contents, IsSettled, image_size}
+use Rattle.disk_model.specs.declared.disk.Disk.{Ghosts}
+use Rattle.outside.specs.Faults.{Rose}
+
+-- zeros, all of them stable: the store of a member that has stored nothing
+pub record IsBlank (disk : Contents) : Type 0 where
+  pub size : length disk.seen ≡ image_size
+  pub zeros : (i : ℕ) → i < image_size → slice_index disk.seen i ≡ 0
+  pub stable : disk.stable ≡ disk.seen
+  pub settled : IsSettled disk
+
+-- the line that is written at an end
+abbrev pub line_of : (ids : List ℕ) → Status → List ℕ
+line_of ids Done = codes "made " ++ decimal (length ids) ++ codes "\n"
+line_of ids (DiskFault id) = codes "disk fault " ++ decimal id ++ codes "\n"
+line_of ids _ = []
+
+abbrev pub HasLine : Status → Type 0
+HasLine Done = ⊤
+HasLine (DiskFault id) = ⊤
+HasLine _ = ⊥
+
+-- a run that came to this ends so: its line was written, or a front of it, where the sink failed. The lists at the end
+-- are what the sink has been written, before and now
+abbrev pub IsWritten : Status → List ℕ → Option (List ℕ) → Option (List ℕ) → Status → Type 0
+IsWritten outcome line before now status =
+    ((status ≡ outcome) × Appends before now line) ⊎ ((status ≡ WriteFault) × WritesFront before now line)
+
+module _ {D : Type 0} (ghosts : Ghosts D) where
+  -- a new store was made of a disk, which counted no fault
+  pub record IsMade (before : D) (place : Option D) : Type 0 where
+    pub after : D
+    pub is : place ≡ Some after
+    pub tells : ghosts.tells after ≡ ghosts.tells before
+    pub blank : ghosts.tells before ≡ true → IsBlank (ghosts.contents after)
+    pub faults : ghosts.faults after ≡ ghosts.faults before
+
+  module _ (old new : List (Option D)) where
+    -- of the disk at this index, where there is one
+    abbrev pub IsMadeAt : ℕ → Type 0
+    IsMadeAt k = (before : D) → slice_index_or old k None ≡ Some before → IsMade before (slice_index_or new k None)
+
+    -- the disk at this place failed: new stores were made of those before it, and nothing of those behind it
+    pub record FailsAt (place : ℕ) : Type 0 where
+      pub within : place < length old
+      pub made : (k : ℕ) → k < place → IsMadeAt k
+      pub there : IsSome (slice_index_or new place None)
+      pub failed : (before after : D) → slice_index_or old place None ≡ Some before →
+          slice_index_or new place None ≡ Some after → Rose (ghosts.faults before) (ghosts.faults after)
+      pub behind : (k : ℕ) → place < k → slice_index_or new k None ≡ slice_index_or old k None
+
+    -- how it ends while nothing of the sink fails
+    abbrev pub Comes : List ℕ → Status → Type 0
+    Comes ids Done = (k : ℕ) → k < length old → IsMadeAt k
+    Comes ids (DiskFault id) = (place : ℕ) × FailsAt place × (id ≡ slice_index ids place)
+    Comes ids _ = ⊥
+
+  -- all of a run over the disks of these nodes
+  pub record MakesStores (ids : List ℕ) (old new : List (Option D)) (before now : Option (List ℕ)) (status : Status)
+      : Type 0 where
+    pub outcome : Status
+    pub comes : Comes old new ids outcome
+    pub count : length new ≡ length old
+    pub written : IsWritten outcome (line_of ids outcome) before now status

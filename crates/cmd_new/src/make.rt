@@ -1,0 +1,102 @@
+ghost use Rattle.std.specs.Prelude.{◌≡◌, ◌≤◌, ◌<◌, ◌⊎◌, ℕ, length, IsSome, None, Some, true, OnOk, IfErr, slice_index_or};
+ghost use Rattle.outside.specs.Faults.{HasCause, Rose};
+ghost use Rattle.cmd_new.specs.Made.{FailsAt, HasLine, IsBlank, IsMade, IsMadeAt, IsWritten, MakesStores, line_of};
+
+use cmd_base::{Output, Status, number_line};
+use disk_model::{Disk, IMAGE};
+use outside::{Failed, Sink};
+use replay_text::Line;
+
+/// Makes a new store of each of these disks, one for each of these nodes, in order, up to the first that fails:
+/// zeros are written over all of it, and synced. Then one line is written, with how many stores were made, or
+/// with the node whose disk failed.
+pub fn make_stores<K: Sink, D: Disk>(ids: &[u8], disks: &mut [Option<D>], sink: &mut K) -> Status
+    requires five { length ids.now ≤ 5 }
+    requires disks { length disks.old ≡ length ids.now }
+    requires present { (i : ℕ) → i < length ids.now → IsSome (slice_index_or disks.old i None) }
+    // What it comes to and writes, and how it leaves the disks.
+    ensures makes { MakesStores D.Disk ids.now disks.old disks.new
+        (K.written sink.old) (K.written sink.new) result }
+    ensures write_fault { result ≡ Status.WriteFault →
+        Rose (K.faults sink.old) (K.faults sink.new) }
+    ensures kept { (result ≡ Status.WriteFault) ⊎ (K.faults sink.new ≡ K.faults sink.old) }
+    ensures begun { result ≡ Status.Usage → ⊥ }
+    ensures memory { result ≡ Status.Memory → ⊥ }
+    ensures unread { result ≡ Status.ReadFault → ⊥ }
+{
+    match make_all(disks) {
+        Ok(()) => write_end(Status::Done, ids, sink),
+        Err(place) => write_end(Status::DiskFault(ids[place]), ids, sink),
+    }
+}
+
+/// Writes the one line of a run over the disks of these nodes that ends so.
+fn write_end<K: Sink>(outcome: Status, ids: &[u8], sink: &mut K) -> Status
+    requires line { HasLine outcome }
+    requires five { length ids.now ≤ 5 }
+    ensures written { IsWritten outcome (line_of ids.now outcome)
+        (K.written sink.old) (K.written sink.new) result }
+    ensures write_fault { result ≡ Status.WriteFault →
+        Rose (K.faults sink.old) (K.faults sink.new) }
+    ensures kept { (result ≡ Status.WriteFault) ⊎ (K.faults sink.new ≡ K.faults sink.old) }
+    ensures begun { result ≡ Status.Usage → ⊥ }
+    ensures memory { result ≡ Status.Memory → ⊥ }
+    ensures unread { result ≡ Status.ReadFault → ⊥ }
+{
+    match Output::new().last(sink, end_line(outcome, ids).as_bytes()) {
+        Ok(()) => outcome,
+        Err(Failed) => Status::WriteFault,
+    }
+}
+
+fn end_line(outcome: Status, ids: &[u8]) -> Line
+    requires { length ids.now ≤ 5 }
+    ensures short { length result ≤ 400 }
+    ensures text { result ≡ line_of ids.now outcome }
+{
+    match outcome {
+        Status::Done => number_line(b"made ", ids.len() as u64),
+        Status::DiskFault(id) => number_line(b"disk fault ", u64::from(id)),
+        _ => Line::new(),
+    }
+}
+
+/// Makes a new store of each disk, in order, and answers the place of the first that fails.
+fn make_all<D: Disk>(disks: &mut [Option<D>]) -> Result<(), usize>
+    requires present { (i : ℕ) → i < length disks.old → IsSome (slice_index_or disks.old i None) }
+    ensures count { length disks.new ≡ length disks.old }
+    ensures made { OnOk result ((k : ℕ) → k < length disks.old → IsMadeAt D.Disk disks.old disks.new k) }
+    ensures failed { IfErr result (λ place. FailsAt D.Disk disks.old disks.new place) }
+{
+    for place in 0..disks.len() {
+        if make_place(&mut disks[place]).is_err() {
+            return Err(place);
+        }
+    }
+    Ok(())
+}
+
+/// Makes a new store of the disk at a place.
+fn make_place<D: Disk>(place: &mut Option<D>) -> Result<(), Failed>
+    requires { IsSome place.old }
+    ensures made { OnOk result ((before : D) → place.old ≡ Some before → IsMade D.Disk before place.new) }
+    ensures there { IsSome place.new }
+    ensures failed { IfErr result (λ _. (before after : D) → place.old ≡ Some before →
+        place.new ≡ Some after → Rose (D.faults before) (D.faults after)) }
+{
+    match place {
+        Some(disk) => make_store(disk),
+        None => unreachable!(),
+    }
+}
+
+/// Makes a new store of a disk.
+fn make_store<D: Disk>(disk: &mut D) -> Result<(), Failed>
+    ensures tells { D.tells disk.new ≡ D.tells disk.old }
+    ensures blank { OnOk result (D.tells disk.old ≡ true → IsBlank (D.contents disk.new)) }
+    ensures cause { HasCause (D.faults disk.old) (D.faults disk.new) result }
+    ensures kept { OnOk result (D.faults disk.new ≡ D.faults disk.old) }
+{
+    disk.write(0, &[0; IMAGE])?;
+    disk.sync()
+}

@@ -1,0 +1,146 @@
+"""Looks at the system calls by which the program keeps its stores, under strace.
+
+store_calls.py WAY PROGRAM BASE: in an empty folder. WAY is `order`, `write`, `sync` or `opening`. The status is 0 where
+all is as it has to be, 1 where it is not, and 77 where there is no strace that may trace.
+"""
+import importlib.machinery
+import importlib.util
+import os
+import pathlib
+import re
+import subprocess
+import sys
+
+TOP = pathlib.Path(__file__).resolve().parent.parent
+SKIPPED = 77
+MEMBERS = (1, 2, 3)
+KEY_BYTES = 67  # a key of the store: its selector, and two copies of 33 bytes
+UNIQUE_ID = bytes(range(16))
+DISK_FAULT = 10
+
+STORE = re.compile(r'openat\(AT_FDCWD, "alloc-(\d+)\.store", .*\) = (\d+)$')
+SOCKET = re.compile(r"bind\((\d+), .*sin_port=htons\((\d+)\).*\) = 0$")
+CALL = re.compile(r"(pwrite64|fdatasync|sendto)\((\d+)[,)]")
+PLACE = re.compile(r", (\d+), (\d+)\) += ")
+
+
+def load_device():
+    path = TOP / "examples" / "node" / "device.py"
+    loader = importlib.machinery.SourceFileLoader("device", str(path))
+    module = importlib.util.module_from_spec(importlib.util.spec_from_loader("device", loader))
+    loader.exec_module(module)
+    return module
+
+
+def strace(log, *words):
+    return ["strace", "-qq", "-s", "0", "-o", log, "-e", "trace=openat,bind,pwrite64,fsync,fdatasync,sendto", *words]
+
+
+def can_trace():
+    try:
+        return subprocess.run(strace("/dev/null", "true"), check=False, stderr=subprocess.DEVNULL).returncode == 0
+    except FileNotFoundError:
+        return False
+
+
+class Member:
+    """What one member has done so far: its puts, and the write of a put that is not synced yet."""
+
+    def __init__(self):
+        self.puts, self.writes, self.unsynced, self.datagrams, self.faults = 0, [], False, 0, []
+
+    def takes(self, call, line):
+        if call == "pwrite64":
+            if self.unsynced:
+                self.faults.append("writes again before a sync")
+            size, at = map(int, PLACE.search(line).groups())
+            self.writes.append((at, size))
+            self.unsynced = True
+        elif call == "fdatasync":
+            self.unsynced = False
+            if len(self.writes) == 2:
+                self.end_put()
+        else:
+            self.datagrams += 1
+            if self.unsynced or self.writes:
+                self.faults.append("sends amid a put")
+
+    def end_put(self):
+        (copy, _), (selector, size) = self.writes
+        if selector % KEY_BYTES or size != 1 or not selector < copy < selector + KEY_BYTES:
+            self.faults.append(f"a put writes at {copy} and {selector}")
+        self.puts, self.writes = self.puts + 1, []
+
+
+def read_log(log, base):
+    """The members of a log, with what they did."""
+    members, stores, sockets = {node: Member() for node in MEMBERS}, {}, {}
+    for line in pathlib.Path(log).read_text(encoding="ascii", errors="replace").splitlines():
+        store, socket, call = STORE.match(line), SOCKET.match(line), CALL.match(line)
+        if store:
+            stores[store.group(2)] = int(store.group(1))
+        elif socket:
+            sockets[socket.group(1)] = int(socket.group(2)) - base
+        elif call:
+            number = call.group(2)
+            node = sockets.get(number) if call.group(1) == "sendto" else stores.get(number)
+            if node in members:
+                members[node].takes(call.group(1), line)
+    return members
+
+
+def order(program, base):
+    """One election and one allocation: each datagram comes when the puts before it are synced, twice each."""
+    device = load_device()
+    nodes = [str(node) for node in MEMBERS]
+    subprocess.run([program, "new", *nodes], check=True, stdout=subprocess.DEVNULL)
+    words = [program, "node", ",".join(nodes), str(base), "1000000000", *nodes]
+    with subprocess.Popen(strace("log", *words), stdout=subprocess.DEVNULL) as tracer:
+        try:
+            given = device.ask(base, UNIQUE_ID, 120, 30.0)
+        finally:
+            children = pathlib.Path(f"/proc/{tracer.pid}/task/{tracer.pid}/children").read_text(encoding="ascii")
+            for child in children.split():
+                os.kill(int(child), 9)
+    members = read_log("log", base)
+    faults = [f"member {node} {fault}" for node, member in members.items() for fault in member.faults]
+    if given is None:
+        faults.append("no node ID was given")
+    # A term, a vote and an entry are put by two members at least, and each of these sends.
+    busy = [member for member in members.values() if member.puts >= 3 and member.datagrams]
+    if len(busy) < 2:
+        faults.append(f"the puts are {[member.puts for member in members.values()]}")
+    return faults
+
+
+def fails(program, base, call):
+    """A call that fails ends the member with 10, and what comes after it in the log."""
+    subprocess.run([program, "new", "1"], check=True, stdout=subprocess.DEVNULL)
+    injected = ("-e", f"inject={call}:error=EIO:when=1")
+    words = strace("log", *injected, program, "node", "1,", str(base), "100000", "1")
+    done = subprocess.run(words, check=False, stdout=subprocess.PIPE)
+    lines = pathlib.Path("log").read_text(encoding="ascii", errors="replace").splitlines()
+    failed = [place for place, line in enumerate(lines) if "(INJECTED)" in line]
+    faults = [] if failed else [f"no {call} was made"]
+    if done.returncode != DISK_FAULT or done.stdout != b"disk fault 1\n":
+        faults.append(f"the status is {done.returncode}, and this was written: {done.stdout!r}")
+    after = [line for line in lines[failed[0] + 1:] if CALL.match(line)] if failed else []
+    return faults + [f"after it comes {line}" for line in after]
+
+
+def main():
+    way, program, base = sys.argv[1], sys.argv[2], int(sys.argv[3])
+    if not can_trace():
+        return SKIPPED
+    if way == "order":
+        faults = order(program, base)
+    else:
+        call = {"write": "pwrite64", "sync": "fdatasync", "opening": "fsync"}[way]
+        faults = fails(program, base, call)
+    for fault in faults[:5]:
+        print(fault)
+    return 1 if faults else 0
+
+
+if __name__ == "__main__":
+    sys.exit(main())

@@ -1,0 +1,96 @@
+"""Tests of the buses that the tools listen to. A pair of sockets stands for a CAN interface."""
+from __future__ import annotations
+
+import errno
+import socket
+import unittest
+from unittest import mock
+
+import members
+from support import run_tool
+
+from caldrouz import buses, wire
+
+FRAME = wire.Frame(0x1E015501, bytes.fromhex("0100000000000000"))
+
+
+class Words(unittest.TestCase):
+    def test_base_ports(self) -> None:
+        self.assertTrue(all(map(buses.is_base, ("1024", "5000", "65410"))))
+        self.assertFalse(any(map(buses.is_base, ("1023", "65411", "can0", "", "-5000", "5000 ", "٥٠٠٠", "9" * 5000))))
+
+    def test_names_that_no_interface_has(self) -> None:
+        for name in ("", "an_interface_that_is_too_long", "can\0"):
+            with self.assertRaises(OSError):
+                buses.open_bus(name)
+
+
+class OverUdp(unittest.TestCase):
+    def test_frames_go_to_the_ports_of_all_nodes(self) -> None:
+        base = members.free_base()
+        here, there = buses.UdpBus(base), buses.UdpBus(base)
+        with here.link, there.link:
+            self.assertEqual(here.link.getsockname()[1], base + buses.TOOL_PORTS[0])
+            self.assertEqual(there.link.getsockname()[1], base + buses.TOOL_PORTS[1])
+            here.send(FRAME)
+            self.assertEqual(there.receive(5), FRAME)
+            self.assertIsNone(here.receive(0.01))
+            here.link.sendto(b"junk", there.link.getsockname())
+            self.assertIsNone(there.receive(5))
+
+    def test_who_sends_takes_the_place_of_a_bridge_that_is_not_there(self) -> None:
+        base = members.free_base()
+        first, second = buses.UdpBus(base, True), buses.UdpBus(base, True)
+        with first.link, second.link:
+            self.assertEqual(first.link.getsockname()[1], base + buses.BRIDGE_PORT)
+            self.assertEqual(second.link.getsockname()[1], base + buses.TOOL_PORTS[0])
+
+    def test_no_port_is_free(self) -> None:
+        base = members.free_base()
+        taken = [buses.UdpBus(base) for _ in buses.TOOL_PORTS]
+        try:
+            said = run_tool("why", base, "--seconds", "1")
+            self.assertEqual(said.status, 3)
+            self.assertIn(f"port {base + buses.TOOL_PORTS[0]}: Address already in use", said.errors)
+        finally:
+            for bus in taken:
+                bus.link.close()
+
+
+class OnCan(unittest.TestCase):
+    def setUp(self) -> None:
+        ours, self.other = socket.socketpair(socket.AF_UNIX, socket.SOCK_DGRAM)
+        self.bus = buses.CanBus.__new__(buses.CanBus)
+        self.bus.link = ours
+
+    def tearDown(self) -> None:
+        self.bus.link.close()
+        self.other.close()
+
+    def test_frames_both_ways(self) -> None:
+        self.bus.send(FRAME)
+        packet = self.other.recv(64)
+        self.assertEqual(packet, wire.to_can(FRAME))
+        self.other.send(packet)
+        self.assertEqual(self.bus.receive(5), FRAME)
+
+    def test_other_packets_are_none(self) -> None:
+        self.other.send(b"short")
+        self.assertIsNone(self.bus.receive(5))
+        self.other.send(bytes(72))
+        self.assertIsNone(self.bus.receive(5))
+
+    def test_a_full_queue_is_tried_again(self) -> None:
+        link = mock.Mock(wraps=self.bus.link)
+        link.send.side_effect = [OSError(errno.ENOBUFS, "full"), OSError(errno.ENOBUFS, "full"), 16]
+        self.bus.link, kept = link, self.bus.link
+        self.bus.send(FRAME)
+        self.assertEqual(link.send.call_count, 3)
+        link.send.side_effect = OSError(errno.ENETDOWN, "down")
+        with self.assertRaises(OSError):
+            self.bus.send(FRAME)
+        self.bus.link = kept
+
+
+if __name__ == "__main__":
+    unittest.main()
