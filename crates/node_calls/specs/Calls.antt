@@ -57,6 +57,7 @@ pub record MakesStep (old new : Node) (event : Event) (result : ℕ) : Type 0 wh
 -- the next frame of its queue is taken, if there is one
 pub record TakesFrame (old new : Node) (result : ℕ) : Type 0 where
   pub open : (t : AllocatorState) → IsAt old t → IsAt new (after_pop t)
+  pub none : (t : AllocatorState) → IsAt old t → next_out t.queue ≡ None → new ≡ old
   pub head : (t : AllocatorState) → IsAt old t → result ≡ head_of (next_out t.queue)
   pub bytes : (t : AllocatorState) → IsAt old t → new.bytes ≡ bytes_of (next_out t.queue) old.bytes
   pub closed : IsUnmade old ⊎ IsClosed old → (result ≡ 0) × (new ≡ old)
