@@ -7,6 +7,7 @@
 
 mod calling;
 mod node;
+mod numbers;
 
 pub use calling::call;
 pub use node::Node;
