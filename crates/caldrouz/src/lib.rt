@@ -1,13 +1,13 @@
-//! The allocator as a static library for C (`include/caldrouz.h`).
+//! The allocator as a static library for C.
 //!
 //! A C program gives a [`Node`] its memory, and drives it by calls. Each call is total in its numbers; of the
-//! memory the caller owes what the `requires` say, and that no two calls on one node run at one time. What lies in that
-//! memory after a call is what `node_calls` leaves there.
+//! memory the caller owes what the `requires` say, and that no two calls on one node run at one time.
 #![tactic(auto)]
 
 ghost use Rattle.std.specs.Borrow.{full_share, sem};
 ghost use Rattle.std.specs.Ptr.{lies_at, room_at};
-ghost use Rattle.node_calls.specs.Calls.{Does, IsMade};
+ghost use Rattle.caldrouz.specs.Held.{held};
+ghost use Rattle.node_calls.specs.At.{Opens, Takes, Ticks};
 ghost use Rattle.node_calls.specs.contracts.node.Node.{the_row};
 ghost use Rattle.node_calls.specs.declared.node.Node.{Node};
 
@@ -20,22 +20,23 @@ pub extern "C" fn caldrouz_size() -> usize {
     size_of::<Node>()
 }
 
-/// Makes a node that is not open in the room at `at`, on the disk behind the descriptor `fd`.
+/// Makes a node that is not open in the room at `at`.
 #[unsafe(no_mangle)]
 pub unsafe extern "C" fn caldrouz_make(at: *mut u8, id: u32, size: u32, fd: u32)
     requires* { sem 𝓛 (room_at the_row at) }
-    ensures* { ∃ₛ (λ (node : Node). sem 𝓛 (lies_at the_row full_share at node) ∗ ⌜ IsMade node id size ⌝) }
+    ensures* { sem 𝓛 (held the_row at) }
 {
     (at as *mut Node).write(Node::closed(id, size, fd))
 }
 
-/// Does what the number `op` asks the node at `at` for (`node_calls::call`).
+/// Does what the number `op` asks the node at `at` for (`node_calls::call`): whatever allocator of the definition it
+/// stands for, afterwards it stands for that one after the opening, the step or the taking.
 #[unsafe(no_mangle)]
 pub unsafe extern "C" fn caldrouz_call(at: *mut u8, op: u32, now: u64, a: u64, b: u64) -> u64
     ghost node: { Node }
     requires* { sem 𝓛 (lies_at the_row full_share at node) }
     ensures* { ∃ₛ (λ (after : Node). sem 𝓛 (lies_at the_row full_share at after) ∗
-        ⌜ Does node after op now a b result ⌝) }
+        ⌜ Opens node after op now a result × Ticks node after op now a result × Takes node after op ⌝) }
 {
     node_calls::call(&mut *(at as *mut Node), op, now, a, b)
 }

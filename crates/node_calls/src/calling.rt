@@ -1,8 +1,7 @@
-ghost use Rattle.std.specs.Prelude.{◌≡◌};
-ghost use Rattle.node_calls.specs.Calls.{Does};
+ghost use Rattle.std.specs.Prelude.{◌≡◌, ◌%◌};
+ghost use Rattle.node_calls.specs.At.{Opens, Takes, Ticks};
 
 use crate::node::Node;
-use crate::numbers::{frame_of, low};
 use alloc_server::Event;
 use can_frame::{Frame, Mark};
 
@@ -15,7 +14,7 @@ const HEAR: u32 = 3;
 
 const TAKE: u32 = 4;
 
-const BYTES: u32 = 5;
+const DATA: u32 = 5;
 
 const VIEW: u32 = 6;
 
@@ -33,31 +32,50 @@ const OUTSIDE: Mark = Mark {
     place: 0,
 };
 
-/// Does what the number `op` asks for, with its arguments (`specs/Calls.antt`). Whatever the numbers are, it returns;
-/// what they do not fit changes nothing.
+/// Does what the number `op` asks for, with its arguments.
+///
+/// `OPEN` leaves a node that stands for a server in time that opens with what is stored, `TICK` one that stands for the
+/// step of it at that reading of the clock, and `TAKE` one without the frame that was taken.
 pub fn call(node: &mut Node, op: u32, now: u64, a: u64, b: u64) -> u64
-    ensures { Does node.old node.new op now a b result }
+    ensures opens { Opens node.old node.new op now a result }
+    ensures ticks { Ticks node.old node.new op now a result }
+    ensures takes { Takes node.old node.new op }
 {
     match op {
         OPEN => node.open(now, low(a)),
         TICK => node.step(Event::Tick { now, word: low(a) }),
-        HEAR => hear(node, now, frame_of(a, b)),
+        HEAR => match frame_of(a, b) {
+            Some(frame) => node.step(Event::Rx {
+                frame,
+                mark: OUTSIDE,
+                now,
+            }),
+            None => NO_FRAME,
+        },
         TAKE => node.take(),
-        BYTES => node.bytes,
+        DATA => node.data,
         VIEW => node.view(a),
         ENTRY => node.entry(a, b),
         _ => UNKNOWN,
     }
 }
 
-/// A frame comes, if the words are one.
-fn hear(node: &mut Node, now: u64, frame: Option<Frame>) -> u64 {
-    match frame {
-        Some(frame) => node.step(Event::Rx {
-            frame,
-            mark: OUTSIDE,
-            now,
-        }),
-        None => NO_FRAME,
+/// The frame with the identifier in the low 32 bits of a word and the number of its bytes above them.
+fn frame_of(head: u64, data: u64) -> Option<Frame> {
+    let count = head >> 32;
+    if 8 < count {
+        return None;
     }
+    let bytes = data.to_le_bytes();
+    match Frame::from_parts(low(head), &bytes[..count as usize]) {
+        Ok(frame) => Some(frame),
+        Err(_) => None,
+    }
+}
+
+/// The low 32 bits.
+fn low(word: u64) -> u32
+    ensures { result ≡ word % 4294967296 }
+{
+    (word % (1 << 32)) as u32
 }

@@ -7,7 +7,6 @@
 
 mod calling;
 mod node;
-mod numbers;
 
 pub use calling::call;
 pub use node::Node;

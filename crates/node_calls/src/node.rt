@@ -1,9 +1,7 @@
-ghost use Rattle.std.specs.Prelude.{◌≡◌, ◌≤◌, ℕ, IfSome};
+ghost use Rattle.std.specs.Prelude.{◌≡◌, ◌≤◌, IfSome, ℕ};
 ghost use Rattle.alloc_spec.specs.Accepted as accepted;
 ghost use Rattle.transfer_rx.specs.Acceptance.{first_signature};
-ghost use Rattle.node_calls.specs.Numbers as numbers;
 
-use crate::numbers::{head_of, word_of};
 use alloc_server::{Event, Role, Server, accept_rows};
 use can_frame::{Entry, Kind};
 use fd_disk::FdDisk;
@@ -18,8 +16,10 @@ const CLOSED: u64 = 2;
 
 const FAULT: u64 = 3;
 
-/// And more: the first key of the store that is damaged.
 const DAMAGED: u64 = 256;
+
+/// The answer to `TAKE` has this bit where there was a frame.
+const SOME: u64 = 1 << 63;
 
 /// An allocator in one piece of memory.
 #[derive(Drop)]
@@ -28,12 +28,10 @@ pub struct Node {
     server: Option<Server<FdDisk, ()>>,
     id: u8,
     size: u8,
-
-    /// How many steps it has made, modulo 2^64.
     steps: u64,
 
-    /// The bytes of the frame that was taken last.
-    pub(crate) bytes: u64,
+    /// The data of the frame that was taken last.
+    pub(crate) data: u64,
     ghost least: { 1 ≤ id },
     ghost most: { id ≤ 125 },
     ghost some: { 1 ≤ size },
@@ -41,21 +39,24 @@ pub struct Node {
 }
 
 impl Node {
-    ghost use Rattle.alloc_server.specs.Server.{event_of};
-    ghost use Rattle.node_calls.specs.Calls.{IsMade, MakesStep, Opens, TakesFrame, TellsEntry, TellsView};
+    ghost use Rattle.alloc_server.specs.Server.{StandsFor, durable_of, event_of};
+    ghost use Rattle.alloc_spec.specs.AllocatorState.{AllocatorState, opening};
+    ghost use Rattle.alloc_spec.specs.Step as steps;
+    ghost use Rattle.alloc_spec.specs.Step.{after_pop};
+    ghost use Rattle.node_calls.specs.At.{IsAt};
+    ghost use Rattle.raft_core.specs.StoredPuts.{store_of};
+    ghost use Rattle.raft_log.specs.DurableViews.{durable_state};
 
     /// A node with this ID, of a cluster of `size` members, on the disk behind a descriptor. It is not open:
     /// nothing was read yet. Where there is no such ID or size, it stays closed for ever.
-    pub fn closed(id: u32, size: u32, fd: u32) -> Node
-        ensures { IsMade result id size }
-    {
+    pub fn closed(id: u32, size: u32, fd: u32) -> Node {
         if id < 1 || 125 < id || size < 1 || 5 < size {
             return Node {
                 server: None,
                 id: 1,
                 size: 1,
                 steps: 0,
-                bytes: 0,
+                data: 0,
             };
         }
         let (id, size) = (id as u8, size as u8);
@@ -65,15 +66,14 @@ impl Node {
             id,
             size,
             steps: 0,
-            bytes: 0,
+            data: 0,
         }
     }
 
     /// Opens with what is stored, at a moment and with a random word.
     pub(crate) fn open(&mut self, now: u64, word: u32) -> u64
-        ensures opens { Opens self.old self.new now word result }
-        ensures id { self.new.id ≡ self.old.id }
-        ensures size { self.new.size ≡ self.old.size }
+        ensures opened { result ≡ 0 → IfSome self.new.server (λ server. StandsFor server
+            (opening self.old.id self.old.size (store_of (durable_state (durable_of server))) now word)) }
     {
         let Some(server) = &mut self.server else {
             return NOT_MADE;
@@ -87,9 +87,8 @@ impl Node {
 
     /// Makes a step.
     pub(crate) fn step(&mut self, event: Event) -> u64
-        ensures steps { MakesStep self.old self.new (event_of event) result }
-        ensures id { self.new.id ≡ self.old.id }
-        ensures size { self.new.size ≡ self.old.size }
+        ensures stepped { (t : AllocatorState) → IsAt self.old t → result ≡ 0 →
+            IsAt self.new (steps.step t self.new.steps (event_of event)).step_state.allocator }
     {
         let Some(server) = &mut self.server else {
             return NOT_MADE;
@@ -104,11 +103,9 @@ impl Node {
         }
     }
 
-    /// Takes the next frame for the bus: its identifier, and how many bytes it has.
+    /// Takes the next frame for the bus: its identifier, and how many bytes of data it has.
     pub(crate) fn take(&mut self) -> u64
-        ensures takes { TakesFrame self.old self.new result }
-        ensures id { self.new.id ≡ self.old.id }
-        ensures size { self.new.size ≡ self.old.size }
+        ensures taken { (t : AllocatorState) → IsAt self.old t → IsAt self.new (after_pop t) }
     {
         let Some(server) = &mut self.server else {
             return 0;
@@ -116,20 +113,22 @@ impl Node {
         let Some(next) = server.pop() else {
             return 0;
         };
-        self.bytes = word_of(&next.frame.bytes);
-        head_of(&next)
+        let bytes = next.frame.bytes.as_slice();
+        self.data = word_of(bytes);
+        SOME | (bytes.len() as u64) << 32 | u64::from(next.frame.id)
     }
 
-    /// What it shows of itself, by a number.
-    pub(crate) fn view(&self, which: u64) -> u64
-        ensures { TellsView self.now which result }
-    {
+    pub(crate) fn view(&self, which: u64) -> u64 {
         let Some(server) = &self.server else {
             return 0;
         };
         let view = server.view();
         match which {
-            0 => number_of_role(view.role),
+            0 => match view.role {
+                Role::Follower => 0,
+                Role::Candidate => 1,
+                Role::Leader => 2,
+            },
             1 => u64::from(view.term),
             2 => u64::from(view.vote),
             3 => u64::from(view.last),
@@ -141,16 +140,22 @@ impl Node {
     }
 
     /// A part of the entry at a place of the log, from 1.
-    pub(crate) fn entry(&self, place: u64, part: u64) -> u64
-        ensures { TellsEntry self.now place part result }
-    {
+    pub(crate) fn entry(&self, place: u64, part: u64) -> u64 {
         let Some(server) = &self.server else {
             return 0;
         };
         if place < 1 || u64::from(server.view().last) < place {
             return 0;
         }
-        part_of(&server.entry(place as u8), part)
+        let Entry { term, uid, node } = server.entry(place as u8);
+        let (front, back) = uid.split_at(8);
+        match part {
+            0 => u64::from(node),
+            1 => word_of(front),
+            2 => word_of(back),
+            3 => u64::from(term),
+            _ => 0,
+        }
     }
 }
 
@@ -161,25 +166,10 @@ fn accept(kind: Kind, number: u16) -> Option<u64>
     alloc_server::accept(kind, number)
 }
 
-fn number_of_role(role: Role) -> u64
-    ensures { result ≡ numbers.number_of_role role }
-{
-    match role {
-        Role::Follower => 0,
-        Role::Candidate => 1,
-        Role::Leader => 2,
-    }
-}
-
-/// A part of an entry, by a number: 0 where there is no such part.
-fn part_of(entry: &Entry, part: u64) -> u64
-    ensures { numbers.ShowsEntry entry.now part result }
-{
-    match part {
-        0 => u64::from(entry.node),
-        1 => word_of(&entry.uid[..8]),
-        2 => word_of(&entry.uid[8..]),
-        3 => u64::from(entry.term),
-        _ => 0,
-    }
+/// The first eight bytes as a number, the first one lowest, and zeros where there are fewer.
+fn word_of(bytes: &[u8]) -> u64 {
+    let mut word = [0; 8];
+    let count = bytes.len().min(8);
+    word[..count].copy_from_slice(&bytes[..count]);
+    u64::from_le_bytes(word)
 }
