@@ -1,10 +1,10 @@
 -- A request that a step is delivered is answered by it, and a NodeStatus is heard.
-use Rattle.std.proofs.Common.{◌≡◌, ◌≢◌, ℕ, Bool, true, false, List, [], ◌∷◌, ◌++◌, ◌≤◌, drop, inl, inr, refl, sym, ◌∙◌, ap, subst, arith, Option, Some, None}
+use Rattle.std.proofs.Common.{◌≡◌, ◌≢◌, ℕ, Bool, true, false, List, [], ◌∷◌, ◌≤◌, drop, inl, inr, refl, sym, ◌∙◌, ap, subst, arith, Option, Some, None}
 use Rattle.std.specs.Prelude.{max, nat_eq, slice_index_or}
 use Rattle.std.proofs.lemmas.Bool.{le-leb}
 use Rattle.can_frame.specs.declared.entry.Entry.{Entry}
 use Rattle.can_frame.specs.declared.identifier.Kind.{Kind}
-use Rattle.can_frame.specs.declared.identifier.Kind.TheVariants.{Message as Broadcast, Request as RequestKind}
+use Rattle.can_frame.specs.declared.identifier.Kind.TheVariants.{Request as RequestKind}
 use Rattle.can_frame.specs.declared.step.What.{What}
 use Rattle.can_frame.specs.declared.step.What.TheVariants.{Alloc, App, AppQ, Info, Vote, VoteQ}
 use Rattle.can_frame.specs.Log.{blank}
@@ -21,7 +21,7 @@ use Rattle.node_discovery.specs.History.{last_status}
 use Rattle.node_discovery.specs.Watch.{Watched, after_status, history}
 use Rattle.raft_core.specs.Calls.{owed}
 use Rattle.raft_core.specs.Handled as handled
-use Rattle.raft_core.specs.Times.{given_at, given_call}
+use Rattle.raft_core.specs.Times.{given_at}
 use Rattle.raft_model.specs.Decisions.{grants, verdict_on}
 use Rattle.raft_model.specs.Lists.{In}
 use Rattle.raft_model.specs.Messages.{Message, Request}
@@ -30,7 +30,7 @@ use Rattle.raft_model.specs.Moves.{Move, next_entry}
 use Rattle.raft_model.specs.Moves.Appending.{Verdict, is_accepted}
 use Rattle.raft_model.specs.Moves.Elections.{with_term}
 use Rattle.raft_model.specs.Moves.Leading.{answer_to, append_request, vote_request}
-use Rattle.raft_model.specs.Moves.Move.{CallForVote, CallToAppend, TakeAppendRequest, TakeVoteRequest, TellNothing, TellPair}
+use Rattle.raft_model.specs.Moves.Move.{CallForVote, CallToAppend, TakeAppendRequest, TakeVoteRequest, TellPair}
 use Rattle.transfer_rx.specs.Reassembly.{Answer as Received, Arrival, Delivery}
 use Rattle.transfer_rx.specs.Reassembly.Answer.{Gives}
 use Rattle.transfer_rx.specs.Reassembly as rx
@@ -39,11 +39,11 @@ use Rattle.alloc_spec.specs.AllocatorState.{AllocatorState, is_zero, members_of}
 use Rattle.alloc_spec.specs.Delivered.{StepResult, asks_info, by_kind, delivery_phase, hears_status, reads, request}
 use Rattle.alloc_spec.specs.Ending.{append_call_bytes, calls_all, calls_by, calls_owed, calls_peer, commit_phase, end_phase, has_to_tell, tell_phase, tells_next, vote_call_bytes}
 use Rattle.alloc_spec.specs.Exchange.{allocation_payload, gives_entry}
-use Rattle.alloc_spec.specs.Services.{answers_append_request, answers_vote_request, info_of, is_listed, takes_append_request, takes_vote_request, tells_info}
+use Rattle.alloc_spec.specs.Services.{info_of, is_listed}
 use Rattle.alloc_spec.specs.Step.{Event, at_step, begin_phase, moment_of, step, with_answer, with_sessions}
 use Rattle.alloc_spec.specs.Step.Event.{Rx}
 use Rattle.alloc_spec.specs.StepState.{StepState, with_moves, with_response_to, with_transfer}
-use Rattle.alloc_spec.specs.Transfers.{Offer, has_room, id_of}
+use Rattle.alloc_spec.specs.Transfers.{Offer, has_room}
 use Rattle.alloc_spec_laws.specs.Answering.{AnswersRequest, AnswersRequests, IsAnswered}
 use Rattle.alloc_spec_laws.specs.FreeNodes.{IsStatus, WasHeardAt}
 use Rattle.alloc_spec_laws.specs.Listing.{IsDelivered}
@@ -128,7 +128,9 @@ module _ (number : ℕ) where
   Result d what s = Responds d what s.step_state
 
   info : (d : Delivery) (g : StepState) → nat_eq d.ident.number 1 ≡ true → d.payload ≡ [] → Result d Info (request number d g)
-  info d g one empty = rw (one, empty) (responds Info d (node_info_bytes (info_of g.allocator)) None g)
+  info d g one empty =
+      let answered : Result d Info (asks_info number d [] g) = responds Info d (node_info_bytes (info_of g.allocator)) None g in
+      rw one (subst (λ (payload : List ℕ). Result d Info (asks_info number d payload g)) (sym empty) answered)
 
   vote : (d : Delivery) (value : VoteRequest) (g : StepState) → nat_eq d.ident.number 1 ≡ false → nat_eq d.ident.number 30 ≡ false
       → vote_request_of d.payload ≡ Some value → is_listed d g.allocator ≡ true → Result d Vote (request number d g)

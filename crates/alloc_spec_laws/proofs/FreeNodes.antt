@@ -1,6 +1,6 @@
 -- The node ID of an entry that a step records when it takes a frame.
-use Rattle.std.proofs.Common.{◌≡◌, ◌≢◌, ℕ, zero, suc, ◌+◌, ◌-◌, ◌<◌, ◌≤◌, Bool, true, false, List, [], ◌∷◌, ◌++◌, drop, get_or, ◌⊎◌, inl, inr, refl, sym, ◌∙◌, ap, subst, arith, Option, Some, None}
-use Rattle.std.specs.Prelude.{◌&&◌, ◌||◌, not, is_none, max, nat_eq, nat_le, nat_lt, slice_index_or}
+use Rattle.std.proofs.Common.{◌≡◌, ◌≢◌, ℕ, zero, suc, ◌+◌, ◌-◌, ◌<◌, ◌≤◌, Bool, true, false, List, [], ◌∷◌, drop, get_or, ◌⊎◌, inl, inr, refl, sym, ◌∙◌, ap, subst, arith, Option, Some, None}
+use Rattle.std.specs.Prelude.{◌&&◌, ◌||◌, not, is_none, max, nat_eq, nat_lt, slice_index_or}
 use Rattle.std.specs.List.{range_with_len}
 use Rattle.std.proofs.lemmas.Bool.{le-leb, leb-false}
 use Rattle.std.proofs.lemmas.List.FromFn.{get_or-map-range_with_len}
@@ -26,8 +26,8 @@ use Rattle.dsdl_codec.specs.NodeStatus.{node_status_of}
 use Rattle.dsdl_codec.specs.VoteAnswer.{vote_answer_of}
 use Rattle.dsdl_codec.specs.VoteRequest.{vote_request_of}
 use Rattle.id_selector.specs.Choice.{IsChoice, chosen}
-use Rattle.node_discovery.specs.History.{Event as Happens, is_nameless, is_online, last_status, unique_id}
-use Rattle.node_discovery.specs.Watch.{Watched, devices, history, is_unknown, some_unknown}
+use Rattle.node_discovery.specs.History.{Event as Happens, is_online, last_status, unique_id}
+use Rattle.node_discovery.specs.Watch.{devices, history, is_unknown, some_unknown}
 use Rattle.raft_core.specs.Calls.{owed}
 use Rattle.raft_core.specs.Handled as handled
 use Rattle.raft_core.specs.Taken.{proposal}
@@ -51,13 +51,13 @@ use Rattle.alloc_spec.specs.AllocatorState.{AllocatorState, is_known, is_recorde
 use Rattle.alloc_spec.specs.Delivered.{StepResult, asks_info, by_kind, delivery_phase, hears_discovery, hears_status, reads, request, response}
 use Rattle.alloc_spec.specs.Delivered as delivered
 use Rattle.alloc_spec.specs.Ending.{append_call_bytes, calls_all, calls_by, calls_owed, calls_peer, commit_phase, end_phase, has_to_tell, tell_phase, tells_next, vote_call_bytes}
-use Rattle.alloc_spec.specs.Exchange.{allocation_payload, answers_or_records, answers_request, gives_entry, hears_allocation, hears_whole, may_follow, records_at, with_request}
+use Rattle.alloc_spec.specs.Exchange.{allocation_payload, answers_or_records, answers_request, gives_entry, hears_allocation, may_follow, records_at, with_request}
 use Rattle.alloc_spec.specs.Services.{answers_append_request, answers_call, answers_vote_request, append_answered, ends_append_call, ends_vote_call, hears_info, is_listed, takes_append_answer, takes_append_request, takes_vote_answer, takes_vote_request, vote_answered}
-use Rattle.alloc_spec.specs.Step.{all_nodes, at_moment, at_step, begin_phase, receive_phase, step, with_answer, with_sessions}
+use Rattle.alloc_spec.specs.Step.{all_nodes, at_step, begin_phase, receive_phase, step, with_answer, with_sessions}
 use Rattle.alloc_spec.specs.Step.Event.{Rx}
-use Rattle.alloc_spec.specs.StepState.{StepState, initial_state, with_moves, with_transfer}
+use Rattle.alloc_spec.specs.StepState.{StepState, with_moves, with_transfer}
 use Rattle.alloc_spec.specs.Transfers.{has_room, id_of}
-use Rattle.alloc_spec_laws.specs.FreeNodes.{AllAreIdentified, GivesFreeNode, IsIdentified, WasHeardAt}
+use Rattle.alloc_spec_laws.specs.FreeNodes.{AllAreIdentified, GivesFreeNode, IsIdentified}
 use Rattle.alloc_spec_laws.proofs.CalledPeers.{IsQuiet, commit_quiet, expire_quiet, quiet_proposals}
 use Rattle.alloc_spec_laws.proofs.Choices.{and_right, either, eq_false, eq_true, not_true, tell}
 use Rattle.alloc_spec_laws.proofs.Lists.{in_append, none_passes}

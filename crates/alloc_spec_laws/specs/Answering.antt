@@ -1,5 +1,5 @@
 -- Who is asked answers.
-use Rattle.std.specs.Prelude.{◌≡◌, ◌≢◌, ℕ, true, List, [], Some}
+use Rattle.std.specs.Prelude.{◌≡◌, ◌≢◌, ℕ, true, [], Some}
 use Rattle.can_frame.specs.declared.identifier.Kind.TheVariants.{Request}
 use Rattle.can_frame.specs.declared.step.What.{What}
 use Rattle.can_frame.specs.declared.step.What.TheVariants.{App, Info, Vote}
