@@ -1,6 +1,8 @@
+pub mod Answering
 pub mod Apart
 pub mod Calls
 pub mod Coming
+pub mod FreeNodes
 pub mod Giving
 pub mod LawsBelow
 pub mod Listing

@@ -1,41 +1,35 @@
 -- A step that finished is one event of the run, and what is shown is shown after it.
-use Rattle.std.proofs.Common.{◌≡◌, ◌≢◌, ℕ, ◌+◌, ◌<◌, ◌≤◌, Bool, true, List, length, refl, sym, ap, subst, ◌∙◌, arith, ◌⊎◌, inl, inr, Some}
+use Rattle.std.proofs.Common.{◌≡◌, ◌≢◌, ℕ, ◌+◌, ◌<◌, ◌≤◌, Bool, true, List, length, refl, sym, ap, subst, ◌∙◌, arith, inl, inr, Some}
 use Rattle.std.specs.Prelude.{slice_index_or}
 use Rattle.can_frame.specs.declared.entry.Entry.{Entry}
 use Rattle.can_frame.specs.declared.step.What.TheVariants.{Alloc, Disc}
 use Rattle.can_frame.specs.Log.{IsInjective, blank}
-use Rattle.cluster_discovery.specs.Members.{IsMemberList, IsStart, Start}
-use Rattle.cluster_discovery.specs.Members as discovery
+use Rattle.cluster_discovery.specs.Members.{IsMemberList}
 use Rattle.dsdl_codec.specs.declared.allocation.Allocation.{Allocation}
 use Rattle.dsdl_codec.specs.declared.discovery.Discovery.{Discovery}
 use Rattle.dsdl_codec.specs.Allocation.{allocation_of}
 use Rattle.dsdl_codec.specs.Discovery.{discovery_of}
 use Rattle.dsdl_codec.specs.Entry.{IsEntry}
 use Rattle.kv_store.specs.KeyDisk.{KeyDisk}
-use Rattle.raft_core.specs.StoredPuts.{AreOfNodes, PutWithOrigin, VoteForNodes, puts_alone, store_of, stored_puts}
+use Rattle.raft_core.specs.StoredPuts.{AreOfNodes, VoteForNodes, puts_alone, store_of, stored_puts}
 use Rattle.raft_log.specs.KeyDisk.{are_put, puts_on}
-use Rattle.raft_log.specs.Stored.{Put as StoredPut, Stored, after_puts}
-use Rattle.raft_model.specs.Handlers.{server_after_all, puts_of_all}
+use Rattle.raft_log.specs.Stored.{Stored}
 use Rattle.raft_model.specs.Invariants.{Invariants}
 use Rattle.raft_model.specs.Lists.{In, at, at_here, at_other}
 use Rattle.raft_model.specs.Messages.{Message}
 use Rattle.raft_model.specs.Messages.Message.{Answers, Requests}
-use Rattle.raft_model.specs.Moves.{Move}
 use Rattle.raft_model.specs.Runs as machine
 use Rattle.raft_model.specs.Runs.{MayOccur, after, bag_with, local_state_after, local_state_of}
 use Rattle.raft_model.specs.Runs.Event.{Steps}
 use Rattle.raft_model.specs.Server.{RaftServer, Put, Store, committed, put_all}
 use Rattle.raft_model.specs.Stops.{AllEnabled, LocalState, state_after_moves}
-use Rattle.alloc_spec_laws.specs.Coming.{Begins, IsOfTheMachine, KeepsOrder, KnowsMembers, MayStep, TakesFrom}
-use Rattle.alloc_spec_laws.specs.Giving.{Gives, IsGivenIn}
-use Rattle.alloc_spec_laws.specs.Listing.{IsNamed}
-use Rattle.alloc_spec_laws.specs.Proposals.{HasUids, RecordsUids}
-use Rattle.alloc_spec_laws.specs.Sound.{IsInRange, IsOnTheBus, IsSound}
+use Rattle.alloc_spec_laws.specs.Coming.{IsOfTheMachine, KnowsMembers, MayStep, TakesFrom}
+use Rattle.alloc_spec_laws.specs.Sound.{IsInRange, IsOnTheBus}
 use Rattle.alloc_spec.specs.StepState.{StepState, messages}
 use Rattle.alloc_spec.specs.Step.{Event, step}
 use Rattle.alloc_spec.specs.Step.Event.{Rx, Tick}
 use Rattle.alloc_spec.specs.AllocatorState.{AllocatorState, members_of, start_of}
-use Rattle.alloc_spec.specs.Transfers.{Given, SentTransfer, Offer}
+use Rattle.alloc_spec.specs.Transfers.{SentTransfer, Offer}
 use Rattle.cluster_spec.specs.Cluster.{AreMembers, Cluster}
 use Rattle.cluster_spec.specs.Members.{Member}
 use Rattle.cluster_spec.specs.Members.MemberStatus.{Up}
@@ -51,7 +45,7 @@ use Rattle.cluster_agreement.proofs.MadeTransfers.{each_made, posted_when, still
 use Rattle.cluster_agreement.proofs.ByteRanges.{IsMessageWritable, Moved, moved_fits, of_nodes}
 use Rattle.cluster_agreement.proofs.StopsAndOpenings.{firm_after}
 use Rattle.cluster_agreement.proofs.StillWritable.{stores_with}
-use Rattle.cluster_agreement.specs.Events.{MayHappen, TellsMembers}
+use Rattle.cluster_agreement.specs.Events.{MayHappen}
 use Rattle.cluster_agreement.proofs.StepEffects.{among_after, answered_after, called_after, heard_after, queue_after, said_after, transfers_after}
 
 -- ---- a step that may come

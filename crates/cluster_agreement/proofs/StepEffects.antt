@@ -18,14 +18,12 @@ use Rattle.transfer_rx.specs.Keys.{is_anonymous}
 use Rattle.transfer_rx.specs.Origin.{CameWithKey}
 use Rattle.transfer_rx.specs.Reassembly.{Arrival, Delivery, Setting, next}
 use Rattle.transfer_rx.specs.Reassembly as rx
-use Rattle.transfer_rx.specs.Run as rx_run
 use Rattle.transfer_rx.specs.Sessions.{Session}
 use Rattle.transfer_tx.specs.Queue.{Queued}
-use Rattle.alloc_spec_laws.specs.Apart.{OneByName}
 use Rattle.alloc_spec_laws.specs.Calls as calls
 use Rattle.alloc_spec_laws.specs.Calls.{CallsAreMade, StaysPending}
 use Rattle.alloc_spec_laws.specs.Listing.{IsDelivered, IsNamed}
-use Rattle.alloc_spec_laws.specs.Responses.{AnswersAppend, AnswersAsked, AnswersVote, IsResponse, ResponsesAnswer}
+use Rattle.alloc_spec_laws.specs.Responses.{AnswersAppend, AnswersAsked, AnswersVote, IsResponse}
 use Rattle.alloc_spec_laws.specs.Saying.{IsSaid}
 use Rattle.alloc_spec_laws.specs.Sound.{IsInRange}
 use Rattle.alloc_spec_laws.specs.Waiting.{all_frames_put}

@@ -1,5 +1,5 @@
 -- What a server takes from members was said by them: requests are in the bag, and an answer that a call takes answers that very call.
-use Rattle.std.proofs.Common.{◌≡◌, ◌≢◌, ℕ, ◌<◌, ◌≤◌, ◌^◌, Bool, true, false, List, refl, sym, ap, subst, ◌∙◌, arith, inl, inr, Option, Some, None}
+use Rattle.std.proofs.Common.{◌≡◌, ◌≢◌, ℕ, ◌<◌, ◌≤◌, Bool, true, false, List, refl, sym, ap, subst, ◌∙◌, arith, inl, inr, Option, Some, None}
 use Rattle.std.specs.Prelude.{◌-◌, ◌==◌, ◌&&◌, not, nat_eq, nat_le, nat_lt, if◌then◌else◌, IfSome}
 use Rattle.std.proofs.lemmas.Bool.Decides.{eqb_tells, leb_tells}
 use Rattle.can_frame.specs.declared.entry.Entry.{Entry}
@@ -10,11 +10,11 @@ use Rattle.dsdl_codec.specs.declared.append_answer.AppendAnswer.{AppendAnswer}
 use Rattle.dsdl_codec.specs.declared.append_request.AppendRequest.{AppendRequest}
 use Rattle.dsdl_codec.specs.declared.vote_answer.VoteAnswer.{VoteAnswer}
 use Rattle.dsdl_codec.specs.declared.vote_request.VoteRequest.{VoteRequest}
-use Rattle.dsdl_codec.specs.AppendAnswer.{append_answer_bytes, append_answer_of}
-use Rattle.dsdl_codec.specs.AppendRequest.{IsAppendRequest, append_request_bytes, append_request_of}
+use Rattle.dsdl_codec.specs.AppendAnswer.{append_answer_of}
+use Rattle.dsdl_codec.specs.AppendRequest.{append_request_of}
 use Rattle.dsdl_codec.specs.Entry.{IsEntry}
-use Rattle.dsdl_codec.specs.VoteAnswer.{vote_answer_bytes, vote_answer_of}
-use Rattle.dsdl_codec.specs.VoteRequest.{IsVoteRequest, vote_request_bytes, vote_request_of}
+use Rattle.dsdl_codec.specs.VoteAnswer.{vote_answer_of}
+use Rattle.dsdl_codec.specs.VoteRequest.{vote_request_of}
 use Rattle.raft_core.specs.Handled as handled
 use Rattle.raft_core.specs.Times.{Sending, awaits}
 use Rattle.raft_model.specs.Lists.{In}
