@@ -71,7 +71,7 @@ def source_words() -> Set[str]:
             if folder not in ("tests", "docs") and path.suffix not in (".md", *IMAGES):
                 words.update(WORD.findall(without_comments(path)))
     for name in ("allocator", "crates.txt", "HANDLES", "pyproject.toml"):
-        words.update(WORD.findall(text_of(ROOT / name)))
+        words.update(WORD.findall(f"{name} {text_of(ROOT / name)}"))
     return words
 
 
