@@ -156,8 +156,11 @@ class Named(FollowCase):
     def test_two_nodes_with_the_id_of_a_member(self) -> None:
         """Each NodeStatus of one has a lower uptime than that of the other before it."""
         lines = real_bus(60)
-        status = next(line for line in lines if "1E015501#" in line)
-        doubled = [part for line in lines for part in ([line, status] if "1E015501#" in line else [line])]
+        status = next(line for line in lines if "1E015501#" in line).split(" ")[2]
+        doubled = []
+        for line in lines:
+            front, interface, frame = line.split(" ")
+            doubled += [line, f"{front} {interface} {status}"] if "1E015501#" in line and frame != status else [line]
         ended = follow(doubled)
         self.assertEqual(ended.status, 1, ended.errors)
         self.assertNotIn("Traceback", ended.errors)
@@ -171,7 +174,7 @@ class Refusals(unittest.TestCase):
 
     def test_words_stores_and_programs(self) -> None:
         calm, store = TESTS / "logs/calm.log", EXAMPLES / "a_real_bus/alloc-1.store"
-        self.is_refused(3, calm, 1, 2, 3, "--store", f"1={store}")
+        self.is_refused(3, calm, 1, 2, 3, "--store", f"1={store}", "--program", PROGRAM)
         self.is_refused(2, calm, 1, 2, 3, "--store", "9=x")
         self.is_refused(2, calm, 1, 2, 3, "--store", "²=x")
         self.is_refused(2, calm, 1, 2, 3, "--store", f"1={calm}")

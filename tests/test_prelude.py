@@ -85,6 +85,14 @@ class Preludes(unittest.TestCase):
             m5=store(1, 5, 0),
         )
 
+    def test_a_voter_that_got_entries_later(self) -> None:
+        """Member 3 voted in term 5 for member 1, whose log had less than it has now: it has the rest from member 2."""
+        self.reaches(
+            m1=store(12, 1, 2, (1, 125), (4, 0), (5, 60), (7, 0), (9, 0)),
+            m2=store(12, 0, 2, (1, 125), (4, 0), (4, 124), (6, 0), (8, 0), (11, 0)),
+            m3=store(12, 1, 2, (1, 125), (4, 0), (4, 124)),
+        )
+
     def test_an_allocator_alone(self) -> None:
         self.reaches(m7=store(3, 7, 3, (1, 125), (1, -50), (1, 124)))
 

@@ -73,8 +73,8 @@ class Aim:
     def begins_with_blank(self, term: int) -> bool:
         return self.leads[term][self.before(term)][2] == 0
 
-    def wants(self, member: int, term: int) -> int:
-        """Up to which place a member takes the log of the leader of this term; 0 where it takes no part."""
+    def shares(self, member: int, term: int) -> int:
+        """Up to which place a member's file has the log of the leader of this term; 0 where it takes no part."""
         if self.stores[member].term < term:
             return 0
         common = 0
@@ -83,6 +83,14 @@ class Aim:
                 break
             common += 1
         return common
+
+    def votes_with(self, member: int, term: int) -> int:
+        """How many of its entries a member may have when it votes for the leader of this term: no better log."""
+        before = self.leads[term][: self.before(term)]
+        best = (before[-1][0] if before else 0, len(before))
+        log = self.logs[member]
+        lasts = [0] + [entry[0] for entry in log]
+        return max(length for length, last in enumerate(lasts) if (last, length) <= best)
 
     def may_vote(self, member: int, term: int, candidate: int) -> bool:
         store = self.stores[member]
@@ -100,7 +108,7 @@ class Aim:
             member
             for member in self.members
             if self.may_vote(member, term, member)
-            and self.wants(member, term) == len(self.leads[term])
+            and self.shares(member, term) == len(self.leads[term])
             and sum(self.may_vote(other, term, member) for other in self.members) >= self.quorum
         ]
         return sorted(able, key=likely)
@@ -124,9 +132,38 @@ class Prelude:
 
     def __init__(self, partner: Partner, aim: Aim, leaders: Dict[int, int]) -> None:
         self.partner, self.aim, self.leaders = partner, aim, leaders
+        self.voters = {term: self._voters(term, leader) for term, leader in leaders.items()}
         self.now = 0
         self.lives = {member: Life() for member in aim.members}
         self._begun: Dict[int, Tuple[bytes, List[int]]] = {}
+
+    def _voters(self, term: int, leader: int) -> List[int]:
+        """Who votes for a leader: those whose files say so; and as many others as it needs, those first that then may
+        have all their entries of before."""
+
+        def lacks(member: int) -> int:
+            return sum(entry[0] < term for entry in self.aim.logs[member]) - self.aim.votes_with(member, term)
+
+        stores = self.aim.stores
+        forced = [it for it in stores if it != leader and (stores[it].term, stores[it].vote) == (term, leader)]
+        others = [it for it in stores if it != leader and stores[it].term > term and not self._led_better(it, term)]
+        needed = max(0, self.aim.quorum - 1 - len(forced))
+        return forced + sorted(others, key=lacks)[:needed]
+
+    def _led_better(self, member: int, term: int) -> bool:
+        """Whether a member led before this term with a log that is better than that of this term's leader."""
+        led = [other for other, leader in self.leaders.items() if leader == member and other < term]
+        return any(len(self.aim.leads[other]) > self.aim.votes_with(member, term) for other in led)
+
+    def _wants(self, member: int, term: int) -> int:
+        """Up to which place a member takes the log of the leader of this term: what its file shares with it, and no
+        more than what lets it vote later."""
+        limits = [
+            self.aim.votes_with(member, other)
+            for other, voters in self.voters.items()
+            if other > term and member in voters
+        ]
+        return min([self.aim.shares(member, term)] + limits)
 
     def run(self) -> int:
         for term in self.aim.terms:
@@ -264,7 +301,7 @@ class Prelude:
         calls = {it.heading.destination: it for it in offers if it.heading.kind == "voteq"}
         for member, offer in calls.items():
             mine = voters.get(member) == candidate
-            helps = leads and member not in voters and self.aim.may_vote(member, term, candidate)
+            helps = leads and member in self.voters[term]
             if not mine and not (helps and self.lives[candidate].role != report.LEADER):
                 continue
             answers = [it for it in self._give(member, offer) if it.heading.kind == "vote"]
@@ -304,6 +341,10 @@ class Prelude:
             why = f"would have to know in term {term} that {known} of its entries are committed"
             raise CannotReach(f"member {leader} {why}")
         matched = {member: 0 for member in self.aim.members if member != leader}
+        for member in matched:
+            wanted = self._wants(member, term)
+            if self.lives[member].last < wanted < first:
+                self._hand_on(leader, member, term, wanted)
         for place in range(first, len(log) + 1):
             entry = log[place - 1]
             if place > life.last:
@@ -313,7 +354,7 @@ class Prelude:
             answers = {
                 member: self._hand_on(leader, member, term, place)
                 for member in matched
-                if self.aim.wants(member, term) >= place
+                if self._wants(member, term) >= place
             }
             for member, answer in answers.items():
                 having = 2 + sum(had >= place for it, had in matched.items() if it != member)
@@ -322,7 +363,7 @@ class Prelude:
                     matched[member] = place
                     self._give(leader, answer)
             # (the call with the next entry tells it to those who get one)
-            self._tell(leader, term, [it for it in answers if matched[it] == place == self.aim.wants(it, term)])
+            self._tell(leader, term, [it for it in answers if matched[it] == place == self._wants(it, term)])
 
     def _record(self, leader: int, entry: Entry, place: int) -> None:
         """A node tells its unique ID, and the leader makes the entry of it."""
@@ -354,7 +395,8 @@ class Prelude:
         while True:
             call = self._call(leader, member)
             ends = call.payload[8] + (len(call.payload) > 10)
-            if ends > place or min(call.payload[9], ends) > self._cap(member, term):
+            follows = call.payload[8] <= self.lives[member].last  # else it is refused, and changes nothing
+            if follows and (ends > place or min(call.payload[9], ends) > self._cap(member, term)):
                 raise CannotReach(f"member {member} would know more in term {term} than its file has at place {place}")
             answers = [it for it in self._give(member, call) if it.heading.kind == "app"]
             if not answers:
