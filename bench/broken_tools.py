@@ -153,7 +153,7 @@ def write_stores(draw: random.Random, folder: str) -> List[str]:
     for node in draw.sample(range(1, 126), draw.randrange(3)):
         keep(folder, f"alloc-{node}.store", broken_store(draw))
     if draw.random() < 0.05:
-        os.mkdir(os.path.join(folder, "alloc-7.store"))
+        os.makedirs(os.path.join(folder, "alloc-126.store"))
     return [draw.choice(["5000", "5000", "5000", "99999", "x"]), "--seconds", "0", folder]
 
 

@@ -3,15 +3,19 @@
 store_calls.py WAY PROGRAM BASE: in an empty folder. WAY is `order`, `write`, `sync` or `opening`. The status is 0 where
 all is as it has to be, 1 where it is not, and 77 where there is no strace that may trace.
 """
-import importlib.machinery
-import importlib.util
+from __future__ import annotations
+
 import os
 import pathlib
 import re
 import subprocess
 import sys
+from typing import Dict, List, Tuple
 
 TOP = pathlib.Path(__file__).resolve().parent.parent
+sys.path.insert(0, str(TOP / "examples" / "node"))
+import device  # noqa: E402 (it stands beside the examples)
+
 SKIPPED = 77
 MEMBERS = (1, 2, 3)
 KEY_BYTES = 67  # a key of the store: its selector, and two copies of 33 bytes
@@ -24,19 +28,11 @@ CALL = re.compile(r"(pwrite64|fdatasync|sendto)\((\d+)[,)]")
 PLACE = re.compile(r", (\d+), (\d+)\) += ")
 
 
-def load_device():
-    path = TOP / "examples" / "node" / "device.py"
-    loader = importlib.machinery.SourceFileLoader("device", str(path))
-    module = importlib.util.module_from_spec(importlib.util.spec_from_loader("device", loader))
-    loader.exec_module(module)
-    return module
-
-
-def strace(log, *words):
+def strace(log: str, *words: str) -> List[str]:
     return ["strace", "-qq", "-s", "0", "-o", log, "-e", "trace=openat,bind,pwrite64,fsync,fdatasync,sendto", *words]
 
 
-def can_trace():
+def can_trace() -> bool:
     try:
         return subprocess.run(strace("/dev/null", "true"), check=False, stderr=subprocess.DEVNULL).returncode == 0
     except FileNotFoundError:
@@ -46,14 +42,16 @@ def can_trace():
 class Member:
     """What one member has done so far: its puts, and the write of a put that is not synced yet."""
 
-    def __init__(self):
-        self.puts, self.writes, self.unsynced, self.datagrams, self.faults = 0, [], False, 0, []
+    def __init__(self) -> None:
+        self.puts, self.unsynced, self.datagrams = 0, False, 0
+        self.writes: List[Tuple[int, int]] = []  # at which byte, and how many
+        self.faults: List[str] = []
 
-    def takes(self, call, line):
+    def takes(self, call: str, line: str) -> None:
         if call == "pwrite64":
             if self.unsynced:
                 self.faults.append("writes again before a sync")
-            size, at = map(int, PLACE.search(line).groups())
+            size, at = map(int, PLACE.findall(line)[0])
             self.writes.append((at, size))
             self.unsynced = True
         elif call == "fdatasync":
@@ -65,16 +63,18 @@ class Member:
             if self.unsynced or self.writes:
                 self.faults.append("sends amid a put")
 
-    def end_put(self):
+    def end_put(self) -> None:
         (copy, _), (selector, size) = self.writes
         if selector % KEY_BYTES or size != 1 or not selector < copy < selector + KEY_BYTES:
             self.faults.append(f"a put writes at {copy} and {selector}")
         self.puts, self.writes = self.puts + 1, []
 
 
-def read_log(log, base):
+def read_log(log: str, base: int) -> Dict[int, Member]:
     """The members of a log, with what they did."""
-    members, stores, sockets = {node: Member() for node in MEMBERS}, {}, {}
+    members = {node: Member() for node in MEMBERS}
+    stores: Dict[str, int] = {}
+    sockets: Dict[str, int] = {}
     for line in pathlib.Path(log).read_text(encoding="ascii", errors="replace").splitlines():
         store, socket, call = STORE.match(line), SOCKET.match(line), CALL.match(line)
         if store:
@@ -89,9 +89,8 @@ def read_log(log, base):
     return members
 
 
-def order(program, base):
+def order(program: str, base: int) -> List[str]:
     """One election and one allocation: each datagram comes when the puts before it are synced, twice each."""
-    device = load_device()
     nodes = [str(node) for node in MEMBERS]
     subprocess.run([program, "new", *nodes], check=True, stdout=subprocess.DEVNULL)
     words = [program, "node", ",".join(nodes), str(base), "1000000000", *nodes]
@@ -113,7 +112,7 @@ def order(program, base):
     return faults
 
 
-def fails(program, base, call):
+def fails(program: str, base: int, call: str) -> List[str]:
     """A call that fails ends the member with 10, and what comes after it in the log."""
     subprocess.run([program, "new", "1"], check=True, stdout=subprocess.DEVNULL)
     injected = ("-e", f"inject={call}:error=EIO:when=1")
@@ -124,11 +123,11 @@ def fails(program, base, call):
     faults = [] if failed else [f"no {call} was made"]
     if done.returncode != DISK_FAULT or done.stdout != b"disk fault 1\n":
         faults.append(f"the status is {done.returncode}, and this was written: {done.stdout!r}")
-    after = [line for line in lines[failed[0] + 1:] if CALL.match(line)] if failed else []
+    after = [line for line in lines[failed[0] + 1 :] if CALL.match(line)] if failed else []
     return faults + [f"after it comes {line}" for line in after]
 
 
-def main():
+def main() -> int:
     way, program, base = sys.argv[1], sys.argv[2], int(sys.argv[3])
     if not can_trace():
         return SKIPPED

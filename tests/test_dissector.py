@@ -1,4 +1,4 @@
-"""Tests of tools/uavcan_v0.lua: in each Lua that is installed, with stand-ins for Wireshark's objects, and in tshark."""
+"""Tests of tools/uavcan_v0.lua: in each Lua that is installed, with stand-ins for Wireshark's objects; in tshark."""
 from __future__ import annotations
 
 import pathlib
@@ -62,13 +62,14 @@ CASES: Sequence[Tuple[List[str], str]] = [
 
 
 class InLua(unittest.TestCase):
-    def said(self, interpreter: str, lines: Sequence[str]) -> List[str]:
+    def said(self, interpreter: str, given: Sequence[str]) -> List[str]:
         with tempfile.NamedTemporaryFile("w", suffix=".lua") as stand_ins:
             stand_ins.write(STAND_INS)
             stand_ins.flush()
-            ended = Ended([interpreter, stand_ins.name, SCRIPT], input="".join(f"{line}\n" for line in lines).encode())
+            ended = Ended([interpreter, stand_ins.name, SCRIPT], input="".join(f"{line}\n" for line in given).encode())
         self.assertEqual((ended.status, ended.errors), (0, ""))
-        return ended.written.splitlines()
+        lines: List[str] = ended.written.splitlines()
+        return lines
 
     @unittest.skipUnless(INTERPRETERS, "there is no Lua")
     def test_each_transfer_is_said_the_same_in_each_lua(self) -> None:
