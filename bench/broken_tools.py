@@ -3,17 +3,21 @@ traceback.
 
 view         schedules and reports of examples, of which bytes, words and lines are changed, doubled or left out
 follow       logs, broken likewise; `replay` is a stand-in, which answers each row with a line of some form for it
+why, check_vehicle    such logs and stores
+assign       broken tables
 node_status  stores of an example, of which bytes are changed, and random ones; and datagrams, while it listens
+monitor      datagrams, while it listens
 can_bridge   datagrams, and lines of a serial adapter that is a pair of pseudo terminals, while it runs
 
-A tool runs in a process of its own, which is forked from this one, so that Python need not start each time. What the
-tools import is imported here for the same reason.
+But for what listens, the tools run in this process, one after the other, so that Python need not start each time. The
+commands of the system that check_vehicle asks are not there for it.
 """
 from __future__ import annotations
 
 import collections
 import contextlib
 import glob
+import io
 import os
 import pty
 import random
@@ -26,19 +30,21 @@ import time
 import traceback
 import tty
 from types import CodeType
-from typing import Callable, Counter, Dict, List, NamedTuple, Sequence, Set
+from typing import Callable, Counter, Dict, List, NamedTuple, Sequence, Set, Tuple
 
 from scripts import TOP
 
-from caldrouz import page, report, table
-from caldrouz.follow import partner, story
+from caldrouz import asking, causes, machine, page, report, scene, table, timing, words
+from caldrouz.follow import partner, prelude, story
 
 TOOLS = os.path.join(TOP, "tools")
 EXAMPLES = os.path.join(TOP, "examples")
 SECONDS = 60  # after which a run goes on and on
+SETTLE = 10.0  # seconds in which a tool that listens has begun to
 TRACEBACK = 99
 BASE = 43000
-IMPORTED = page, story  # with all that they import
+MEMORY = "/dev/shm" if os.path.isdir("/dev/shm") else None
+IMPORTED = asking, causes, machine, page, prelude, scene, story, timing, words  # with all that they import
 MOST_BYTES = 12_000  # of an example of which runs are made
 
 
@@ -99,14 +105,38 @@ def write_run(draw: random.Random, folder: str) -> List[str]:
     return words + draw.choice([[], [], ["--rows", draw.choice(["1-5", "3-200", "9-3", "x", "1-\xb2", "0-1"])]])
 
 
-def write_log(draw: random.Random, folder: str) -> List[str]:
+def broken_log(draw: random.Random, folder: str) -> str:
     log = broken(draw, draw.choice(LOGS), 120)
     if draw.random() < 0.2:
         log = b"\n".join(line for one in log.split(b"\n") for line in [one] * draw.choice([1, 2, 2, 3]))
     if draw.random() < 0.05:
         log = random_bytes(draw, 500)
+    return keep(folder, "log", log)
+
+
+def write_log(draw: random.Random, folder: str) -> List[str]:
     store = ["--store", "1=" + keep(folder, "store", broken_store(draw))] if draw.random() < 0.1 else []
-    return [keep(folder, "log", log), *draw.choice([["1", "2", "3"], ["1"], ["3", "4"]]), *store, "--program", "true"]
+    members = draw.choice(["1 2 3", "1", "3 4"]).split()
+    return [broken_log(draw, folder), *members, *store, "--program", "true"]
+
+
+def write_why(draw: random.Random, folder: str) -> List[str]:
+    store = ["--store", keep(folder, "alloc-1.store", broken_store(draw))] if draw.random() < 0.3 else []
+    members = draw.choice(["", "--members 1,2,3", "--members 1,x", "--size 3", "--seconds 5"]).split()
+    return [broken_log(draw, folder), *members, *store]
+
+
+def write_vehicle(draw: random.Random, folder: str) -> List[str]:
+    keep(folder, "alloc-1.store", broken_store(draw))
+    settings = b"MEMBERS=%s\nCLUSTER=%s\nBASE=5000\n" % (random_bytes(draw, 3), draw.choice([b'"1 2 3"', b"x", b""]))
+    given = ["--stores", folder, "--settings", keep(folder, "settings", settings)]
+    return ["--log", broken_log(draw, folder), *given, *draw.choice(["", "--members 1,2,3", "--hold x"]).split()]
+
+
+def write_table(draw: random.Random, folder: str) -> List[str]:
+    """A table that no allocator is asked for: its last line is none."""
+    rows = b"\n".join(b"%d %s" % (draw.randrange(130), b"%032x" % draw.getrandbits(128)) for _ in range(5))
+    return [str(BASE), keep(folder, "table", broken(draw, rows, 5).rstrip(b"\n") + b"\nx\n"), "--members", "1"]
 
 
 def broken_store(draw: random.Random) -> bytes:
@@ -128,12 +158,12 @@ def write_stores(draw: random.Random, folder: str) -> List[str]:
 
 
 def random_bytes(draw: random.Random, mean: int) -> bytes:
-    return bytes(draw.getrandbits(8) for _ in range(int(draw.expovariate(1 / mean))))
+    return draw.randbytes(int(draw.expovariate(1 / mean)))
 
 
 def datagram(draw: random.Random) -> bytes:
     size = draw.randrange(1, 9)
-    frame = draw.getrandbits(29).to_bytes(4, "big") + bytes([size]) + bytes(draw.getrandbits(8) for _ in range(size))
+    frame = draw.getrandbits(29).to_bytes(4, "big") + bytes([size]) + draw.randbytes(size)
     near = bytearray(frame)
     near[draw.randrange(len(near))] = draw.getrandbits(8)
     return draw.choice([frame, bytes(near), frame[: draw.randrange(len(frame))], random_bytes(draw, 30)[:60]])
@@ -172,7 +202,7 @@ class StandIn(partner.Process):
             return f"{node} open 0 0 0 0"
         if row.name == "send":
             kind = draw.choice([0x1E015500, 0x1E018600, 0x1E1F8280, 0x1E1E8280]) | int(node)
-            return f"{node} send {self.rows} {kind:08x} {bytes(draw.getrandbits(8) for _ in range(8)).hex()}"
+            return f"{node} send {self.rows} {kind:08x} {draw.randbytes(8).hex()}"
         if row.name in ("crash", "fault"):
             return f"{node} {'stop' if row.words[2] == '0' else 'armed'}"
         marks = " ".join(draw.sample(["+stat:0", "+disc:0", "+voteq:2", "-app:2", "+vote:1", "+appq:3", "+alloc:0"], 2))
@@ -190,46 +220,56 @@ class StandIn(partner.Process):
         return [f"end {self.rows}"]
 
 
+class NoCommands:
+    """Stands for the module subprocess, where no command of the system is installed."""
+
+    TimeoutExpired = subprocess.TimeoutExpired
+
+    def run(self, *_: object, **__: object) -> None:
+        raise FileNotFoundError("no command")
+
+
 # --- runs
 
 
-def run_once(path: str, words: Sequence[str], errors: str) -> None:
-    """The tool in this process, which ends then."""
+class TooLong(BaseException):
+    """A run goes on and on."""
+
+
+def ends_too_late(*_: object) -> None:
+    raise TooLong
+
+
+def run_once(code: CodeType, words: Sequence[str]) -> Tuple[int, str]:
+    """The status of a tool, and what it wrote on standard error."""
+    said = io.StringIO()
+    sys.argv = [code.co_filename, *words]
     signal.alarm(SECONDS)
-    nothing, told = os.open(os.devnull, os.O_RDWR), os.open(errors, os.O_WRONLY | os.O_CREAT | os.O_TRUNC)
-    for old, new in (nothing, 0), (nothing, 1), (told, 2):
-        os.dup2(old, new)
-    sys.argv = [path, *words]
-    status = 0
     try:
-        exec(COMPILED[path], {"__name__": "__main__", "__file__": path, "__doc__": ""})
+        with contextlib.redirect_stderr(said), contextlib.redirect_stdout(io.StringIO()):
+            exec(code, {"__name__": "__main__", "__file__": code.co_filename, "__doc__": code.co_consts[0]})
+        status = 0
     except SystemExit as end:
         status = end.code if isinstance(end.code, int) else 0 if end.code is None else 1
     except BaseException:
-        traceback.print_exc()
+        said.write(traceback.format_exc())
         status = TRACEBACK
-    with contextlib.suppress(OSError):
-        sys.stdout.flush()
-    os._exit(status)
+    signal.alarm(0)
+    return status, said.getvalue()
 
 
 def run_tool(tool: Tool, count: int, seed: int) -> bool:
+    """Whether a tool took so many inputs, which are drawn by the seed, the tool and the number of the input."""
     path = os.path.join(TOOLS, tool.name)
     with open(path, encoding="utf-8") as file:
-        COMPILED[path] = compile(file.read(), path, "exec", dont_inherit=True)
+        code = compile(file.read(), path, "exec", dont_inherit=True)
     ended: Counter[str] = collections.Counter()
     failed = False
     for number in range(count):
-        draw = random.Random(f"{seed} {tool.name} {number}")
-        with tempfile.TemporaryDirectory() as folder, tempfile.NamedTemporaryFile("r", errors="replace") as errors:
-            words = tool.write(draw, folder)
-            child = os.fork()
-            if not child:
-                run_once(path, words, errors.name)
-            status = os.waitstatus_to_exitcode(os.waitpid(child, 0)[1])
-            said = errors.read()
-        ended[f"signal {-status}" if status < 0 else f"status {status}"] += 1
-        if status not in tool.statuses or "Traceback" in said:
+        with tempfile.TemporaryDirectory(dir=MEMORY) as folder:
+            status, said = run_once(code, tool.write(random.Random(f"{seed} {tool.name} {number}"), folder))
+        ended[f"status {status}"] += 1
+        if status not in tool.statuses:
             failed = True
             print(f"{tool.name}, input {number} of seed {seed}: status {status}\n{said[-1500:]}")
     tell(tool.name, count, ended)
@@ -244,7 +284,7 @@ def tell(name: str, count: int, ended: Dict[str, int]) -> None:
 def run_while(name: str, words: List[str], seed: int, feed: Callable[[random.Random], None], ends: bool) -> bool:
     """A tool that runs while it is fed. One that does not end by itself is ended by SIGTERM, and has to end with 0."""
     with subprocess.Popen([sys.executable, os.path.join(TOOLS, name), *words], stdout=-1, stderr=-1) as process:
-        time.sleep(5.0)
+        time.sleep(SETTLE)
         feed(random.Random(seed))
         time.sleep(1.0)
         if not ends:
@@ -290,17 +330,19 @@ def run_bridge(count: int, seed: int) -> bool:
 
 def run(count: int, seed: int) -> bool:
     """Whether every tool took every input."""
-    partner.Process = StandIn  # type: ignore[misc]
-    partner.prepare = lambda program: None
+    vars(partner).update(Process=StandIn, prepare=lambda program: None)
+    vars(machine)["subprocess"] = NoCommands()
+    signal.signal(signal.SIGALRM, ends_too_late)
     good = all([run_tool(tool, count, seed) for tool in RUN_ONCE])
-    seconds = str(10.0 + count * 0.001)
+    signal.signal(signal.SIGPIPE, signal.SIG_IGN)
+    seconds = str(2 * SETTLE + count * 0.001)
     listening = [str(BASE), "--seconds", seconds, os.path.join(EXAMPLES, "a_real_bus")]
     print(f"and {count} datagrams, and {count} lines and as many datagrams:")
     good &= run_while("node_status", listening, seed, feed_datagrams(BASE + 118, count), True)
+    good &= run_while("monitor", [str(BASE), "--lines"], seed, feed_datagrams(BASE + 118, count), False)
     return run_bridge(count, seed) and good
 
 
-COMPILED: Dict[str, CodeType] = {}
 RUNS = [
     os.path.basename(os.path.dirname(path))
     for path in sorted(glob.glob(os.path.join(EXAMPLES, "*", "schedule")))
@@ -311,5 +353,8 @@ STORES = [read(path) for path in sorted(glob.glob(os.path.join(EXAMPLES, "**", "
 RUN_ONCE = [
     Tool("view", {0, 1, 2, 3}, write_run),
     Tool("follow", {0, 1, 2, 3, 4}, write_log),
+    Tool("why", {0, 1, 2, 3}, write_why),
+    Tool("check_vehicle", {0, 1, 2, 3}, write_vehicle),
+    Tool("assign", {2}, write_table),
     Tool("node_status", {0, 1, 2}, write_stores),
 ]

@@ -4,7 +4,9 @@
 --   wireshark -X lua_script:tools/uavcan_v0.lua LOG
 --
 -- Filters: uavcan_v0.type == "Allocation", uavcan_v0.source == 3, uavcan_v0.says contains "TELLS".
--- A transfer is told at its last frame; other frames say (part). Its CRC is not looked at.
+-- A transfer is told at its last frame; other frames say (part). Its CRC is not looked at. Interfaces are kept apart in
+-- captures that name them (pcapng); of a log of candump Wireshark forgets the interfaces, so it should be of one bus.
+-- It is right under Lua 5.2 (Wireshark 4.0 and 4.2) and under Lua 5.4 (4.4 and later), whose numbers differ.
 
 local v0 = Proto("uavcan_v0", "UAVCAN v0")
 local fields = {
@@ -18,14 +20,14 @@ local fields = {
 }
 for name, field in pairs(fields) do v0.fields[name] = field end
 
-local identifier_field = Field.new("can.id")
+local identifier_field, interface_field = Field.new("can.id"), Field.new("frame.interface_id")
 local messages = {[1] = "Allocation", [341] = "NodeStatus", [390] = "Discovery"}
 local services = {[1] = "GetNodeInfo", [30] = "AppendEntries", [31] = "RequestVote"}
-local begun, whole = {}, {} -- by source, transfer and interface; by the number of the last frame
+local begun, whole = {}, {} -- by interface, identifier and transfer ID; by the number of the last frame
 
--- The bits of a number from a place on, so many of them.
+-- The bits of a number from a place on, so many of them; an integer also where 2 ^ count is none.
 local function bits(number, place, count)
-  return math.floor(number / 2 ^ place) % 2 ^ count
+  return math.floor(number / 2 ^ place) % math.floor(2 ^ count)
 end
 
 local function number(payload, at)
@@ -97,8 +99,8 @@ local function read(identifier)
 end
 
 -- Joins a frame to the transfer of its source. This is done once for each frame, in their order.
-local function join(identifier, tail, body, frame)
-  local key = identifier .. "/" .. tail % 32
+local function join(interface, identifier, tail, body, frame)
+  local key = interface .. "/" .. identifier .. "/" .. tail % 32
   if tail >= 128 then begun[key] = "" end
   if not begun[key] then return end
   begun[key] = begun[key] .. body
@@ -116,10 +118,12 @@ function v0.dissector(buffer, pinfo, tree)
   local long = buffer:len()
   local info = identifier_field()
   if not info or long == 0 then return 0 end
-  local identifier = info.value % 2 ^ 29
+  local identifier, interface = bits(info.value, 0, 29), interface_field()
   local kind, name, source, destination = read(identifier)
   local tail = buffer(long - 1, 1):uint()
-  if not pinfo.visited then join(identifier, tail, buffer:raw(0, long - 1), pinfo.number) end
+  if not pinfo.visited then
+    join(interface and tostring(interface.value) or "", identifier, tail, buffer:raw(0, long - 1), pinfo.number)
+  end
   local text = whole[pinfo.number] and says(kind, name, whole[pinfo.number]) or "(part)"
   pinfo.cols.protocol = "UAVCAN v0"
   pinfo.cols.src = source == 0 and "anonymous" or tostring(source)

@@ -32,5 +32,3 @@ pub mod StepDuties
 pub mod Commits
 pub mod MemberLists
 pub mod StepMessages
-pub mod FreeNodes
-pub mod Answering

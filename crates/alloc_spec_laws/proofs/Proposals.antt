@@ -6,8 +6,7 @@ use Rattle.can_frame.specs.declared.entry.Entry.{Entry}
 use Rattle.can_frame.specs.Log.{HasNodeId, HasUid, IsBlank, IsInjective, IsPair, IsReservation, blank, log_limit}
 use Rattle.can_frame.specs.Zeros.{zeros}
 use Rattle.id_selector.specs.Choice.{IsChoice, IsFree, chosen}
-use Rattle.node_discovery.specs.History.{is_online}
-use Rattle.node_discovery.specs.Watch.{devices, history}
+use Rattle.node_discovery.specs.Watch.{devices}
 use Rattle.raft_core.specs.Taken.{proposal}
 use Rattle.raft_model.specs.Handlers.{server_after_all}
 use Rattle.raft_model.specs.Lists.{In}
@@ -41,7 +40,7 @@ leads Leader h = refl
 pub leader_of : (role : Role) → is_leader role ≡ true → role ≡ Leader
 leader_of role h = leads role h
 
-pub or_false : (a b : Bool) → (a || b) ≡ false → (a ≡ false) × (b ≡ false)
+or_false : (a b : Bool) → (a || b) ≡ false → (a ≡ false) × (b ≡ false)
 or_false true b h = absurd (cc (h))
 or_false false b h = (refl, h)
 
@@ -85,13 +84,6 @@ module _ (chosen_is : (busy : List Bool) (preferred : ℕ) → IsChoice busy pre
       let at_node : get_or (taken t) node true ≡ is_taken t node = get_or-map-range_with_len (is_taken t) 0 128 node node true (omega (arith, f.most)) (omega arith) in
       let new : is_known t node ≡ false = (or_false (is_known t node) _ (sym at_node ∙ f.free)).0 in
       (f.least, f.most, unknown t node new, no_member t node new)
-
-  -- no NodeStatus of it was heard of late
-  pub chosen_offline : (t : AllocatorState) (preferred node : ℕ) → chosen (taken t) preferred ≡ Some node → is_online (history node t.watch) t.now ≡ false
-  chosen_offline t preferred node e =
-      let f = free (taken t) preferred node (subst (λ (o : Option ℕ). IsChoice (taken t) preferred o) e (chosen_is (taken t) preferred)) in
-      let at_node : get_or (taken t) node true ≡ is_taken t node = get_or-map-range_with_len (is_taken t) 0 128 node node true (omega (arith, f.most)) (omega arith) in
-      (or_false (is_known t node) (is_online (history node t.watch) t.now) (sym at_node ∙ f.free)).1
 
 -- ---- injective logs
 

@@ -1,8 +1,6 @@
-pub mod Answering
 pub mod Apart
 pub mod Calls
 pub mod Coming
-pub mod FreeNodes
 pub mod Giving
 pub mod LawsBelow
 pub mod Listing

@@ -11,8 +11,8 @@
 //! comes was said by members ([`laws::moves_of_a_step`]), what becomes of the list of members and
 //! what is told of it ([`laws::members_of_a_step`]), that what is given to a device is committed
 //! ([`laws::pairs_of_a_step`]), that unique IDs are whole ([`laws::proposals_of_a_step`]), what a
-//! step owes that ends ([`laws::duty_of_a_step`]), what it leaves for the bus and of it ([`bus`]),
-//! and which node IDs it gives away ([`nodes`]). `alloc_server` shows that the code takes this very step.
+//! step owes that ends ([`laws::duty_of_a_step`]), and what it leaves for the bus and of it
+//! ([`bus`]). `alloc_server` shows that the code takes this very step.
 //!
 //! What a reader must believe: `specs/Apart` (two transfers of one step), `specs/Sound` (ranges),
 //! `specs/Saying` (what a transfer says), `specs/Responses` (what a response answers),
@@ -20,9 +20,8 @@
 //! and what it means that they do), `specs/Giving` (what an Allocation gives, and a pair as an
 //! entry), `specs/Listing` (who is new on the list), `specs/Proposals` (whole unique IDs),
 //! `specs/Phases` (the step as far as it has come, and a leader's duty to tell), `specs/Waiting`
-//! (the frames of transfers that fitted), `specs/FreeNodes` (which node IDs may be given).
+//! (the frames of transfers that fitted).
 #![tactic(auto)]
 
 pub mod bus;
 pub mod laws;
-pub mod nodes;

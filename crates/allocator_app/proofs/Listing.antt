@@ -8,7 +8,6 @@ use Rattle.std.proofs.lemmas.List.Splits.{join_with_byte-slice_split, length-sli
 use Rattle.std.proofs.lemmas.List.Sums.{fails_before_first}
 use Rattle.std.specs.List.{join_with_byte}
 use Rattle.raft_model.specs.Lists.{In}
-use Rattle.arrayvec.specs.ArrayVec.{ArrayVec}
 use Rattle.cluster_spec.specs.Cluster.{AreMembers}
 use Rattle.allocator_app.specs.declared.told.Told.{Told}
 use Rattle.allocator_app.specs.declared.told.Told.TheVariants.{Members, Size}
@@ -109,10 +108,8 @@ same_told (Size a) (Size b) word p q x y =
 same_told (Size a) (Members b) word p q x y = absurd (size_or_list a b.items word p.0 p.1 x y)
 same_told (Members a) (Size b) word p q x y = absurd (size_or_list b a.items word q.0 q.1 y x)
 same_told (Members a) (Members b) word p q x y =
-    ap (λ l. Members (kept l)) (same_parts a.items b.items (bytes_of_members a.items p) (bytes_of_members b.items q) (sym x ∙ y))
-  where
-    kept : List ℕ → ArrayVec ℕ
-    kept list = record { items = list }
+    ap (λ (l : List ℕ). Members (record { items = l }))
+    (same_parts a.items b.items (bytes_of_members a.items p) (bytes_of_members b.items q) (sym x ∙ y))
 
 -- a word that is no number of members, and no list
 pub no_told : (word : List ℕ) → ((n : ℕ) → 1 ≤ n → n ≤ 5 → word ≡ decimal n → ⊥)

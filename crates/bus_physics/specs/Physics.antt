@@ -253,7 +253,6 @@ ComeInOrderToDevice a heard w (row ∷ rows) = IsInOrderToDevice a heard w row
 pub record AllocatesApart (limits : Limits) (all : List Timed) (made : List SentTransfer) (heard : List Queued)
     (Ordered : Type 0) : Type 0 where
   pub apart : (x y : SentTransfer) → In x made → In y made → x.offer.what ≡ Alloc → y.offer.what ≡ Alloc → x.by ≡ y.by
-      → x.offer.id ≡ y.offer.id → x.step < y.step
-      → AreApart (limits.hold + 2000 + limits.drift) (time_of all x.step) (time_of all y.step)
-      ⊎ (Ordered × IsParted heard x y)
+      → x.offer.id ≡ y.offer.id → x.step < y.step → AreApart (limits.hold + 2000 + limits.drift)
+      (time_of all x.step) (time_of all y.step) ⊎ (Ordered × IsParted heard x y)
   pub short : (x : SentTransfer) → In x made → x.offer.what ≡ Alloc → frame_count (length x.offer.payload) ≤ 3

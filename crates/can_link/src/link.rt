@@ -3,38 +3,38 @@ ghost use Rattle.outside.specs.Contents.{WhereTold};
 ghost use Rattle.outside.specs.Faults.{HasCause, counted, one_more};
 ghost use Rattle.outside.specs.Traffic.{Receives, Sends};
 
-use crate::frame::{PACKET, frame_of, packet_of};
-use libc::net::{POLLIN, poll};
-use libc::types::pollfd;
+use crate::bus::CanBus;
 use outside::{Failed, Link, RawFrame, Received};
+use std::cell::RefCell;
 
-/// How often `write` is called again that found no room in the queue of the interface.
-const TRIES: u8 = 3;
-
-/// `errno` where nothing waits, and where the interface has no room.
-const EAGAIN: i32 = 11;
-
-const ENOBUFS: i32 = 105;
-
-/// The link of a node over a raw CAN socket. It tells no contents.
+/// The link of one member over a bus that it may share with others of its process. It tells no contents.
 #[derive(Drop)]
-pub struct CanLink {
-    fd: i32,
+pub struct CanLink<'a> {
+    bus: &'a RefCell<CanBus>,
+
+    /// Of the members of this process, the first one has 0.
+    place: usize,
     faults: u64,
 }
 
-impl CanLink {
-    /// The link over this descriptor.
-    pub fn new(fd: i32) -> CanLink
-        ensures { result.faults ≡ 0 }
+impl<'a> CanLink<'a> {
+    /// The link of the member at a place, 0 to 4.
+    pub fn new(bus: &'a RefCell<CanBus>, place: usize) -> CanLink<'a>
+        ensures place { result.place ≡ place }
+        ensures faults { result.faults ≡ 0 }
     {
-        CanLink { fd, faults: 0 }
+        CanLink {
+            bus,
+            place,
+            faults: 0,
+        }
     }
 
     /// Counts a call that failed.
     fn fault(&mut self) -> Failed
         ensures later { self.old.faults ≤ self.new.faults }
         ensures faults { self.new.faults ≡ one_more self.old.faults }
+        ensures place { self.new.place ≡ self.old.place }
     {
         self.faults = self.faults.saturating_add(1);
         Failed
@@ -42,45 +42,22 @@ impl CanLink {
 
     /// What has come, unless the socket failed.
     fn received(&self) -> Option<Received> {
-        let mut packet = [0; PACKET];
-        let count = libc::read(self.fd, &mut packet);
-        if count < 0 {
-            let is_idle = os::errno() == EAGAIN;
-            self.rest();
-            return is_idle.then_some(Received::Nothing);
+        match self.bus.try_borrow_mut() {
+            Ok(mut bus) => bus.recv(self.place),
+            Err(_) => None,
         }
-        if count == 0 {
-            return None;
-        }
-        Some(frame_of(&packet, count as usize))
     }
 
-    /// Waits until something comes, a millisecond at most.
-    fn rest(&self) {
-        let mut waits = [pollfd {
-            fd: self.fd,
-            events: POLLIN,
-            revents: 0,
-        }];
-        let _ = poll(&mut waits, 1);
-    }
-
-    /// Whether the socket took a frame, or had no room for it and works.
-    fn is_sent(&self, packet: &[u8; PACKET]) -> bool {
-        for _ in 0..TRIES {
-            if libc::write(self.fd, packet) == PACKET as isize {
-                return true;
-            }
-            let error = os::errno();
-            if error != EAGAIN && error != ENOBUFS {
-                return false;
-            }
+    /// Whether the socket works, after a frame was sent.
+    fn is_sent(&self, frame: &RawFrame) -> bool {
+        match self.bus.try_borrow_mut() {
+            Ok(mut bus) => bus.send(self.place, frame),
+            Err(_) => false,
         }
-        true
     }
 }
 
-impl Link for CanLink {
+impl Link for CanLink<'_> {
     ghost coming = { λ _. None };
 
     ghost sent = { λ _. None };
@@ -92,6 +69,7 @@ impl Link for CanLink {
         ensures cause { HasCause self.old.faults self.new.faults result }
         ensures kept { OnOk result (self.new.faults ≡ self.old.faults) }
         ensures faults { self.new.faults ≡ counted result self.old.faults }
+        ensures place { self.new.place ≡ self.old.place }
     {
         match self.received() {
             Some(received) => Ok(received),
@@ -104,8 +82,9 @@ impl Link for CanLink {
         ensures cause { HasCause self.old.faults self.new.faults result }
         ensures kept { OnOk result (self.new.faults ≡ self.old.faults) }
         ensures faults { self.new.faults ≡ counted result self.old.faults }
+        ensures place { self.new.place ≡ self.old.place }
     {
-        if self.is_sent(&packet_of(frame)) {
+        if self.is_sent(frame) {
             Ok(())
         } else {
             Err(self.fault())

@@ -1,10 +1,9 @@
--- What devices have are pairs of the list, from the run that a world shows, and so no two have one node ID.
-use Rattle.std.proofs.Common.{◌≡◌, ◌≢◌, ◌⊎◌, ℕ, ◌<◌, ◌≤◌, Bool, List, [], ◌++◌, length, sym, ap, subst, ◌∙◌, arith, inl, inr}
+-- What allocatees hold are pairs of the list, from the run that a world shows, and so no two hold one node ID.
+use Rattle.std.proofs.Common.{◌≡◌, ◌≢◌, ◌⊎◌, ℕ, ◌<◌, Bool, List, [], ◌++◌, length, sym, ap, subst, ◌∙◌, arith, inl, inr}
 use Rattle.std.specs.Prelude.{slice_index_or}
 use Rattle.std.proofs.lemmas.Bool.Decides.{eqb_tells, leb_tells}
 use Rattle.std.proofs.lemmas.List.{append_assoc, append-nil}
 use Rattle.can_frame.specs.declared.entry.Entry.{Entry}
-use Rattle.can_frame.specs.declared.step.What.TheVariants.{Alloc}
 use Rattle.can_frame.specs.Log.{HasPair, IsBlank, IsInjective, IsPair, blank}
 use Rattle.raft_model.specs.Invariants.{Invariants}
 use Rattle.raft_model.specs.Lists.{In}
@@ -14,25 +13,21 @@ use Rattle.raft_model.specs.Runs as machine
 use Rattle.raft_model.specs.Runs.{InEveryRun, initial_world}
 use Rattle.raft_model.specs.Safety.{IsSafe}
 use Rattle.replay_text.specs.declared.row.Row.{Row}
-use Rattle.transfer_tx.specs.Queue.{Queued, queued_frames}
-use Rattle.alloc_spec.specs.Transfers.{SentTransfer, outgoing, signature_of}
+use Rattle.alloc_spec.specs.Transfers.{SentTransfer}
 use Rattle.cluster_spec.specs.Choices.{AgreesWithDisk}
-use Rattle.cluster_spec.specs.Cluster.{AreMembers, Cluster, cluster, no_frame, world_of}
+use Rattle.cluster_spec.specs.Cluster.{AreMembers, Cluster, cluster, world_of}
 use Rattle.cluster_spec.specs.Lawful.{Lawful}
 use Rattle.cluster_spec.specs.Refinement.{events, transfers_of_rows}
-use Rattle.cluster_agreement.specs.Allocatees.{Allocatees, HasAllocatees, Holds, IsGivenOnBus, MayHave}
+use Rattle.cluster_agreement.specs.Allocatees.{Allocatees, HasAllocatees, Holds}
 use Rattle.cluster_agreement.specs.Asking.{IsGiven}
 use Rattle.cluster_agreement.specs.Continues.{Continues}
-use Rattle.cluster_agreement.specs.Frames.{IsPiece}
 use Rattle.cluster_agreement.specs.Headline.{HasHeadline, Headline, the_list}
-use Rattle.cluster_agreement.specs.LawsBelow.{FrameLaws}
 use Rattle.cluster_agreement.specs.Mirrors.{Mirrors, OffersAreMade}
 use Rattle.cluster_agreement.specs.Shows.{Shows}
 use Rattle.cluster_agreement.proofs.HeadlineOfRuns.{pair_listed, still_pair}
 use Rattle.cluster_agreement.proofs.Concatenations.{first_fits, first_lawful, ids_stay}
 use Rattle.cluster_agreement.proofs.MirroredRuns.{mirrors}
-use Rattle.cluster_agreement.proofs.Lists.{in_at}
-use Rattle.cluster_agreement.proofs.OfferedAllocations.{IsAllocationOf, piece_on_bus, says_pair, was_made}
+use Rattle.cluster_agreement.proofs.OfferedAllocations.{says_pair}
 
 -- ---- pairs of a list
 
@@ -89,45 +84,6 @@ module _ (choice : ℕ → Bool) (made : List SentTransfer) (w : Cluster) (run :
       let found = pair_listed choice w run mirrors safe sound pair (shows.holds.transfers.makers x is.was_made) said in
       subst (λ (u : List ℕ). HasPair (the_list choice w) u node) is.own (subst (λ (n : ℕ). HasPair (the_list choice w) is.answer.uid.items n) is.gives found)
 
-  -- all frames of an Allocation on the bus are those of one that a member made
-  module _ (laws : FrameLaws) (members : AreMembers w.ids) (uid : List ℕ) (node : ℕ) (is : IsGivenOnBus w uid node) where
-    abbrev heard : List Queued
-    heard = queued_frames (outgoing is.source Alloc 0 is.id is.payload) is.step is.re
-
-    low : (n : ℕ) → In n w.ids → 1 ≤ n
-    low n listed = (members.nodes n listed).0
-
-    high : (n : ℕ) → In n w.ids → n ≤ 125
-    high n listed = (members.nodes n listed).1
-
-    of_source : (frame : Queued) → In frame heard → In is.source w.ids × IsPiece made is.source frame
-    of_source frame i = piece_on_bus laws w.ids low high made run.bag shows.holds frame is.source (is.there frame i).1 (shows.bus frame (is.there frame i).0)
-
-    some : 0 < length heard
-    some = omega (
-      arith,
-      laws.queued_count (outgoing is.source Alloc 0 is.id is.payload) is.step is.re,
-      laws.cut_count (signature_of Alloc) is.id is.payload,
-      laws.count (signature_of Alloc) is.id is.payload,
-    )
-
-    made_it : IsAllocationOf made is.source is.answer
-    made_it = was_made laws w.ids low high made shows.holds.transfers is.source (of_source (slice_index_or heard 0 no_frame) (in_at heard 0 no_frame some)).0 heard
-        (λ frame i. (of_source frame i).1) is.answer
-        (record { payload = is.payload; reads = is.reads; id = is.id; small = is.small; step = is.step; re = is.re; front = []; back = []; waits = sym (append-nil heard) })
-
-    pub taken_listed : HasPair (the_list choice w) uid node
-    taken_listed = given_listed uid node (record {
-      whose = made_it.x;
-      was_made = made_it.was_made;
-      what = made_it.what;
-      answer = is.answer;
-      reads = made_it.reads;
-      own = is.its_uid;
-      gives = is.its_node;
-      some = is.some;
-    })
-
   pub held_listed : (a : ℕ) (uid : List ℕ) (node : ℕ) → Holds w a uid node → HasPair (the_list choice w) uid node
   held_listed a uid node is = subst (λ (u : List ℕ). HasPair (the_list choice w) u node) is.its_uid
       (given_listed is.device.asking.uid node ((shows.asking a is.device is.there).held node is.its_node))
@@ -141,25 +97,17 @@ pub record HoldingLaws : Type 0 where
   pub safe : InEveryRun IsSafe
   pub sound : InEveryRun Invariants
   pub headline : (ids : List ℕ) (rows : List Row) → AreMembers ids → Lawful (cluster ids) rows → HasHeadline ids rows
-  pub frames : FrameLaws
 
 module _ (laws : HoldingLaws) (ids : List ℕ) (members : AreMembers ids) (choice : ℕ → Bool) where
-  had_at : (rows : List Row) → Lawful (cluster ids) rows → AgreesWithDisk choice (cluster ids) rows → (uid : List ℕ) (node : ℕ)
-      → MayHave (world_of ids rows) uid node → HasPair (the_list choice (world_of ids rows)) uid node
-  had_at rows lawful fits uid node has =
+  held_at : (rows : List Row) → Lawful (cluster ids) rows → AgreesWithDisk choice (cluster ids) rows → (a : ℕ) (uid : List ℕ) (node : ℕ)
+      → Holds (world_of ids rows) a uid node → HasPair (the_list choice (world_of ids rows)) uid node
+  held_at rows lawful fits =
       let is = laws.rows choice ids rows members lawful fits in
       let so_far = events choice (cluster ids) rows in
-      let made = transfers_of_rows (cluster ids) rows [] in
-      let w = world_of ids rows in
       let run = machine.run (initial_world ids) so_far in
-      let same = subst AreMembers (sym (ids_stay (cluster ids) rows)) members in
-      let mirror = mirrors choice made w run is.shows is.writable (laws.offers choice made w run same is.shows) in
-      let safe = laws.safe ids so_far is.lawful in
-      let sound = laws.sound ids so_far is.lawful in
-      elim has [
-        | inl (a, held) ↦ held_listed choice made w run is.shows mirror safe sound a uid node held
-        | inr given ↦ taken_listed choice made w run is.shows mirror safe sound laws.frames same uid node given
-      ]
+      let offers = laws.offers choice (transfers_of_rows (cluster ids) rows []) (world_of ids rows) run (subst AreMembers (sym (ids_stay (cluster ids) rows)) members) is.shows in
+      held_listed choice (transfers_of_rows (cluster ids) rows []) (world_of ids rows) run is.shows
+      (mirrors choice (transfers_of_rows (cluster ids) rows []) (world_of ids rows) run is.shows is.writable offers) (laws.safe ids so_far is.lawful) (laws.sound ids so_far is.lawful)
 
   -- the list at a moment gives nothing twice
   once_at : (rows : List Row) → Lawful (cluster ids) rows → AgreesWithDisk choice (cluster ids) rows → IsInjective (the_list choice (world_of ids rows))
@@ -176,18 +124,17 @@ module _ (laws : HoldingLaws) (ids : List ℕ) (members : AreMembers ids) (choic
     between : Headline choice now later
     between = (laws.headline ids (first ++ more) members lawful).holds first more [] choice (ap (λ (l : List Row). first ++ l) (sym (append-nil more))) fits
 
-    had_now : (uid : List ℕ) (node : ℕ) → MayHave now uid node → HasPair (the_list choice later) uid node
-    had_now uid node has = still_pair (the_list choice now) (the_list choice later) between.grows uid node
-        (had_at first (first_lawful (cluster ids) first more lawful) (first_fits choice (cluster ids) first more fits) uid node has)
-
-    had_later : (uid : List ℕ) (node : ℕ) → MayHave later uid node → HasPair (the_list choice later) uid node
-    had_later = had_at (first ++ more) lawful fits
+    held_now : (a : ℕ) (uid : List ℕ) (node : ℕ) → Holds now a uid node → HasPair (the_list choice later) uid node
+    held_now a uid node is = still_pair (the_list choice now) (the_list choice later) between.grows uid node
+        (held_at first (first_lawful (cluster ids) first more lawful) (first_fits choice (cluster ids) first more fits) a uid node is)
 
     pub allocatees : Allocatees choice now later
     allocatees = record {
-      held = had_now;
-      apart = λ uid other node x y. one_uid (the_list choice later) (once_at (first ++ more) lawful fits) uid other node (had_now uid node x) (had_later other node y);
-      same = λ uid node other x y. one_node (the_list choice later) (once_at (first ++ more) lawful fits) uid node other (had_now uid node x) (had_later uid other y);
+      held = held_now;
+      apart = λ a b uid other node x y. one_uid (the_list choice later) (once_at (first ++ more) lawful fits) uid other node (held_now a uid node x)
+          (held_at (first ++ more) lawful fits b other node y);
+      same = λ a b uid node other x y. one_node (the_list choice later) (once_at (first ++ more) lawful fits) uid node other (held_now a uid node x)
+          (held_at (first ++ more) lawful fits b uid other y);
     }
 
 pub has_allocatees : HoldingLaws → (ids : List ℕ) (rows : List Row) → AreMembers ids → Lawful (cluster ids) rows → HasAllocatees ids rows

@@ -186,16 +186,6 @@ offers_are_made laws choice made w run members shows n server answer listed runs
 
 module _ (laws : FrameLaws) (ids : List ℕ) (low : (n : ℕ) → In n ids → 1 ≤ n) (high : (n : ℕ) → In n ids → n ≤ 125)
     (made : List SentTransfer) (bag : List Message) (holds : HoldsOfMade made ids bag) (frame : Queued) (n : ℕ) (of : IsOfAllocation frame n) where
-  its_own : (m : ℕ) (piece : IsPiece made m frame) → let x = piece.whose in ident_of x.by x.offer.what x.offer.to ≡ of.ident
-  its_own m piece =
-      let x : SentTransfer = piece.whose in
-      let is : IsPieceOf x (as_it_comes frame) = piece_of laws made m frame piece (as_it_comes frame) refl refl refl in
-      some_is (ident_of x.by x.offer.what x.offer.to) of.ident
-      (sym (read_back laws ids low high made holds.transfers x piece.was_made) ∙ (ap (λ (k : ℕ). identifier_of k) (sym is.id) ∙ of.read))
-
-  its_maker : (m : ℕ) (piece : IsPiece made m frame) → piece.whose.by ≡ n
-  its_maker m piece = ap (λ (i : Ident). i.source) (its_own m piece) ∙ of.source
-
   -- a member's frame with the identifier of an Allocation is of an Allocation, of the node that the identifier names
   its_frame : (m : ℕ) → In m ids → IsPiece made m frame → In n ids × IsMadeBy made bag frame n
   its_frame m listed piece = (
@@ -215,18 +205,18 @@ module _ (laws : FrameLaws) (ids : List ℕ) (low : (n : ℕ) → In n ids → 1
       x : SentTransfer
       x = piece.whose
 
+      is : IsPieceOf x (as_it_comes frame)
+      is = piece_of laws made m frame piece (as_it_comes frame) refl refl refl
+
+      own : ident_of x.by x.offer.what x.offer.to ≡ of.ident
+      own = some_is (ident_of x.by x.offer.what x.offer.to) of.ident
+          (sym (read_back laws ids low high made holds.transfers x piece.was_made) ∙ (ap (λ (k : ℕ). identifier_of k) (sym is.id) ∙ of.read))
+
       by : x.by ≡ n
-      by = its_maker m piece
+      by = ap (λ (i : Ident). i.source) own ∙ of.source
 
       what : x.offer.what ≡ Alloc
-      what = one_what x.offer.what Alloc Broadcast 1 (ap (λ (i : Ident). i.kind) (its_own m piece) ∙ of.kind) refl (ap (λ (i : Ident). i.number) (its_own m piece) ∙ of.number) refl
-
-  -- so it is a piece of this node's
-  pub piece_on_bus : IsOnBus made ids frame → In n ids × IsPiece made n frame
-  piece_on_bus (inl (m, listed, piece)) =
-      let is : m ≡ n = sym piece.maker ∙ its_maker m piece in
-      (subst (λ (k : ℕ). In k ids) is listed, subst (λ (k : ℕ). IsPiece made k frame) is piece)
-  piece_on_bus (inr foreign) = absurd (cc (sym (forged_allocation ids of.ident of.kind of.number), ap (λ (o : Option Ident). is_forged ids o) (sym of.read), foreign))
+      what = one_what x.offer.what Alloc Broadcast 1 (ap (λ (i : Ident). i.kind) own ∙ of.kind) refl (ap (λ (i : Ident). i.number) own ∙ of.number) refl
 
   -- a frame of an Allocation on the bus is a member's: one from elsewhere is no such frame
   pub on_bus : IsOnBus made ids frame → In n ids × IsMadeBy made bag frame n

@@ -1,21 +1,15 @@
 -- What each step owes that members take in a list of rows.
 use Rattle.std.specs.Prelude.{⊤, ◌≡◌, ◌≢◌, ℕ, ◌+◌, ◌<◌, true, List, ◌∷◌, ◌++◌, max}
-use Rattle.can_frame.specs.declared.entry.Entry.{Entry}
 use Rattle.raft_core.specs.Times.{has_waited}
 use Rattle.raft_model.specs.Duty.{CommitDuty, TickDuty, WinDuty}
-use Rattle.raft_model.specs.Lists.{In}
 use Rattle.raft_model.specs.Moves.Elections.{term_limit}
-use Rattle.raft_model.specs.Moves.Move.{ProposeEntry}
 use Rattle.raft_model.specs.Server.Role.{Leader}
 use Rattle.replay_text.specs.declared.row.Row.{Row}
-use Rattle.replay_text.specs.declared.row.Row.TheVariants.{Rx as RxRow, Tick as TickRow}
-use Rattle.transfer_rx.specs.Reassembly.{Arrival}
-use Rattle.alloc_spec_laws.specs.Answering.{AnswersRequests}
-use Rattle.alloc_spec_laws.specs.FreeNodes.{GivesFreeNode}
+use Rattle.replay_text.specs.declared.row.Row.TheVariants.{Rx, Tick as TickRow}
 use Rattle.alloc_spec_laws.specs.Phases.{TellsDuly, when_committed, when_seen, when_told}
 use Rattle.alloc_spec.specs.Ending.{call_phase}
 use Rattle.alloc_spec.specs.Step.{Event, step}
-use Rattle.alloc_spec.specs.Step.Event.{Rx, Tick}
+use Rattle.alloc_spec.specs.Step.Event.{Tick}
 use Rattle.alloc_spec.specs.AllocatorState.{AllocatorState, knows_all}
 use Rattle.cluster_spec.specs.Cluster.{Cluster, receipt_of, tick_of, world_of}
 use Rattle.cluster_spec.specs.Members.{MemberStatus}
@@ -40,14 +34,6 @@ pub record DoesItsDuty (members : List ℕ) (t : AllocatorState) (number : ℕ) 
       → TickDuty t.raft_server (step t number event).step_state.allocator.raft_server
   -- whoever counts the votes of a quorum leads when the step is over
   pub win : WinDuty members (step t number event).step_state.allocator.raft_server
-  -- what it records when it takes a frame has a node ID that is none of a member, stands in no entry of its log, and of
-  -- which no NodeStatus was heard within 3,000 ms; and no node is online then that is neither known nor identified
-  pub give : (arrival : Arrival) (entry : Entry) → event ≡ Rx arrival
-      → In (ProposeEntry entry) (step t number event).step_state.moves
-      → GivesFreeNode t (max t.now arrival.moment) entry
-  -- whoever is asked answers: it offers a response to each request of GetNodeInfo, and to each of Raft of a node on its
-  -- list of members
-  pub answer : AnswersRequests t number event
 
 -- a stopped member takes no step, nor does one that failed
 abbrev pub DoDutyIn : List ℕ → ℕ → Event → MemberStatus → Type 0
@@ -57,7 +43,7 @@ DoDutyIn members number event (Failed failure) = ⊤
 
 abbrev pub IsDutiful : Cluster → Row → Type 0
 IsDutiful w (TickRow n ms word) = DoDutyIn w.ids (w.rows + 1) (tick_of ms word) (w.member n).status
-IsDutiful w (RxRow n k ms) = DoDutyIn w.ids (w.rows + 1) (receipt_of w k ms) (w.member n).status
+IsDutiful w (Rx n k ms) = DoDutyIn w.ids (w.rows + 1) (receipt_of w k ms) (w.member n).status
 IsDutiful w row = ⊤
 
 -- of a list of rows: each of them, in the world that it comes to

@@ -6,13 +6,11 @@ ghost use Rattle.cluster_agreement.specs.Allocatees.{HasAllocatees};
 ghost use Rattle.cluster_spec.specs.Cluster.{AreMembers, cluster};
 ghost use Rattle.cluster_spec.specs.Lawful.{Lawful};
 
-use crate::below::what_is_said_of_frames;
 use crate::headline::{offers_are_pairs, rows_are_shown, the_headline};
 use raft_model::laws::law_every_run;
 
-/// For every cluster and every list of lawful rows: what a device has is a pair of the headline's list, from then
-/// on. So two devices with different unique IDs never have the same node ID, at one moment or at two. A device is an
-/// allocatee of the rows, or any other that takes a node ID by the standard's rule alone, with whatever receiver.
+/// For every cluster and every list of lawful rows: what an allocatee holds is a pair of the headline's list, from
+/// then on. So two allocatees with different unique IDs never hold the same node ID, at one moment or at two.
 pub fn the_allocatees()
     ensures { (ids : List ℕ) (rows : List Row) → AreMembers ids → Lawful (cluster ids) rows →
         HasAllocatees ids rows }
@@ -21,5 +19,4 @@ pub fn the_allocatees()
     offers_are_pairs();
     rows_are_shown();
     the_headline();
-    what_is_said_of_frames();
 }

@@ -94,8 +94,7 @@ pub fn rows_are_safe()
 }
 
 /// Each step of a list of lawful rows does its duty: a leader commits as far as a quorum of the members lets
-/// it, and tells one place where there is room; who has waited stands for election; who counts a quorum leads; who is
-/// asked answers; and the node ID of a node that is heard is not given.
+/// it, and tells one place where there is room; who has waited stands for election; who counts a quorum leads.
 pub fn rows_are_dutiful()
     ensures { (ids : List ℕ) (rows : List Row) → AreMembers ids → Lawful (cluster ids) rows →
         AreDutiful ids rows }

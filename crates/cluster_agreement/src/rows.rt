@@ -34,7 +34,6 @@ use crate::below::{
     what_a_step_keeps, what_is_said_of_a_step, what_is_said_of_frames, what_is_said_of_messages,
 };
 use alloc_spec_laws::laws::{duty_of_a_step, moves_of_a_step, steps_stay_in_range};
-use alloc_spec_laws::nodes::{a_node_that_is_heard_keeps_its_id, who_is_asked_answers};
 use allocatee::laws::{
     a_node_id_is_given_for_good, its_frames_are_anonymous, sessions_of_a_step as sessions_at,
     what_is_fine_is_not_torn,
@@ -153,8 +152,8 @@ pub fn finished_steps_are_shown()
 }
 
 /// Each step of a member does its duty: a leader commits as far as the members of the cluster let it, and tells
-/// one place where there is room; who has waited stands for election; who counts a quorum leads, where that was so
-/// before; who is asked answers; and the node ID of a node that is heard is not given.
+/// one place where there is room; who has waited stands for election; and who counts a quorum leads, where that
+/// was so before.
 pub fn steps_are_dutiful()
     ensures { (choice : ℕ → Bool) (made : List SentTransfer) (w : Cluster) (run : World) →
         AreMembers w.ids → Shows choice made w run → Invariants run → IsRunWritable w.ids run →
@@ -162,13 +161,11 @@ pub fn steps_are_dutiful()
         MayHappen w.frames t event → IsOnTheBus event → WinDuty w.ids t.raft_server →
         DoesItsDuty w.ids t (w.rows + 1) event }
 {
-    a_node_that_is_heard_keeps_its_id();
     duty_of_a_step();
     what_a_step_keeps();
     what_is_said_of_a_step();
     what_is_said_of_frames();
     what_is_said_of_messages();
-    who_is_asked_answers();
 }
 
 /// A step that its disk cuts off is one event of the run, which may come: a stop within the move in which the

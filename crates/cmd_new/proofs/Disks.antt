@@ -14,7 +14,8 @@ pub blank : (mid new : Contents) (bytes : List ℕ) → HasBytes mid.seen 0 byte
     → ((i : ℕ) → i < image_size → slice_index bytes i ≡ 0) → IsSynced mid new → IsSound new → IsBlank new
 blank mid new bytes has size zeros synced sound = record {
   size = sound.current.size ∙ sound.size;
-  zeros = λ i low. ap (λ l. slice_index l i) synced.seen ∙ has i (rw size low) ∙ zeros i low;
+  zeros = λ i low. let same : i ≡ 0 + i = omega arith in
+      ap (λ l. slice_index l i) synced.seen ∙ ap (slice_index mid.seen) same ∙ has i (rw size low) ∙ zeros i low;
   stable = synced.stable ∙ sym synced.seen;
   settled = synced.settled;
 }

@@ -1,4 +1,5 @@
-ghost use Rattle.std.specs.Prelude.{◌≡◌, ◌≤◌, ◌<◌, ◌⊎◌, ℕ, length, IsSome, None, Some, true, OnOk, IfErr, slice_index_or};
+ghost use Rattle.std.specs.Prelude.{◌≡◌, ◌≤◌, ◌<◌, ◌⊎◌, ℕ, length, IsSome, None, Some, true, OnOk, IfErr, slice_index, slice_index_or};
+ghost use Rattle.disk_model.specs.Contents.{image_size};
 ghost use Rattle.outside.specs.Faults.{HasCause, Rose};
 ghost use Rattle.cmd_new.specs.Made.{FailsAt, HasLine, IsBlank, IsMade, IsMadeAt, IsWritten, MakesStores, line_of};
 
@@ -69,8 +70,9 @@ fn make_all<D: Disk>(disks: &mut [Option<D>]) -> Result<(), usize>
     ensures failed { IfErr result (λ place. FailsAt D.Disk disks.old disks.new place) }
 {
     for place in 0..disks.len() {
-        if make_place(&mut disks[place]).is_err() {
-            return Err(place);
+        match make_place(&mut disks[place]) {
+            Ok(()) => {}
+            Err(Failed) => return Err(place),
         }
     }
     Ok(())
@@ -97,6 +99,15 @@ fn make_store<D: Disk>(disk: &mut D) -> Result<(), Failed>
     ensures cause { HasCause (D.faults disk.old) (D.faults disk.new) result }
     ensures kept { OnOk result (D.faults disk.new ≡ D.faults disk.old) }
 {
-    disk.write(0, &[0; IMAGE])?;
-    disk.sync()
+    disk.write(0, &zeros())?;
+    disk.sync()?;
+    Ok(())
+}
+
+/// The image of a member that has stored nothing.
+fn zeros() -> [u8; IMAGE]
+    ensures size { length result ≡ image_size }
+    ensures zeros { (i : ℕ) → i < image_size → slice_index result i ≡ 0 }
+{
+    [0; IMAGE]
 }

@@ -1,5 +1,5 @@
 -- What a clock that sleeps while nothing comes makes of the clock below it.
-use Rattle.std.specs.Prelude.{◌≡◌, ◌⊎◌, ℕ, List, Option}
+use Rattle.std.specs.Prelude.{◌⊎◌, ℕ, List, Option}
 use Rattle.outside.specs.Contents.{WhereTold}
 use Rattle.outside.specs.Readings.{Reads}
 

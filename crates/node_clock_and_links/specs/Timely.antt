@@ -1,5 +1,5 @@
 -- What a link that lets no old frame pass makes of the link and the clock below it.
-use Rattle.std.specs.Prelude.{◌≡◌, ℕ, ◌+◌, ◌<◌, ◌⊎◌, ◌≤◌, zero, suc, nat_lt, min, ◌^◌, ⊤, List, Option, Result, Ok, Err, if◌then◌else◌}
+use Rattle.std.specs.Prelude.{◌≡◌, ℕ, ◌+◌, ◌<◌, ◌⊎◌, ◌≤◌, ⊤, List, Option, Result, Ok}
 use Rattle.outside.specs.Contents.{WhereTold}
 use Rattle.outside.specs.Readings.{Reads}
 use Rattle.outside.specs.Traffic.{Receives, Sends}
@@ -13,11 +13,12 @@ use Rattle.outside.specs.declared.received.Received.TheVariants.{Frame, Junk, No
 abbrev pub longest_wait : ℕ
 longest_wait = 4000
 
--- what is handed on of an item, now, where all that waited came after an earlier reading
-abbrev pub handed_on : (now after : ℕ) → Received → Received
-handed_on now after Nothing = Nothing
-handed_on now after Junk = Junk
-handed_on now after (Frame frame) = if nat_lt (after + longest_wait) now then Junk else Frame frame
+-- this is handed on of an item, now, where all that waited came after an earlier reading
+abbrev pub IsHandedOn : (now after : ℕ) → Received → Received → Type 0
+IsHandedOn now after Nothing handed = handed ≡ Nothing
+IsHandedOn now after Junk handed = handed ≡ Junk
+IsHandedOn now after (Frame frame) handed =
+    ((now ≤ after + longest_wait) × (handed ≡ Frame frame)) ⊎ ((after + longest_wait < now) × (handed ≡ Junk))
 
 -- after which reading all came that waits behind an item: where there is none, nothing waited at the call before
 abbrev pub waits_since : (before after : ℕ) → Received → ℕ
@@ -36,7 +37,7 @@ pub record Hears (coming_old coming : Option (List Received)) (before now after_
     : Type 0 where
   pub item : Received
   pub below : WhereTold (Receives {E = Failed} (Ok item)) coming_old coming
-  pub answer : handed ≡ handed_on now after_old item
+  pub answer : IsHandedOn now after_old item handed
   pub waits : after ≡ waits_since before after_old item
 
 -- the clock read this moment, and the frame went to the link below once, unless it may have waited too long

@@ -128,11 +128,18 @@ fn is_late(now: u64, after: u64) -> bool
 
 /// What is handed on of an item.
 fn handed_on(now: u64, after: u64, item: Received) -> Received
-    ensures { result ≡ timely.handed_on now after item }
+    ensures { timely.IsHandedOn now after item result }
 {
     match item {
-        Received::Frame(_) if is_late(now, after) => Received::Junk,
-        item => item,
+        Received::Nothing => Received::Nothing,
+        Received::Junk => Received::Junk,
+        Received::Frame(frame) => {
+            if is_late(now, after) {
+                Received::Junk
+            } else {
+                Received::Frame(frame)
+            }
+        }
     }
 }
 

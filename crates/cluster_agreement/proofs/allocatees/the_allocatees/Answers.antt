@@ -9,6 +9,5 @@ returns c =
       safe = c.law_every_run.ensures.safe;
       sound = c.law_every_run.ensures.invariants;
       headline = c.the_headline.ensures;
-      frames = c.what_is_said_of_frames.ensures;
     } in
     has_allocatees laws
