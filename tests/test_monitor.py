@@ -3,6 +3,7 @@ from __future__ import annotations
 
 import json
 import os
+import pathlib
 import pty
 import signal
 import socket
@@ -58,14 +59,11 @@ class Told(unittest.TestCase):
         return written
 
     def wait_for_it(self) -> None:
-        """Until it listens."""
-        end = time.monotonic() + 30
+        """Until it listens, as the system tells."""
+        end, port = time.monotonic() + 30, f":{self.base + buses.TOOL_PORTS[0]:04X} "
         while time.monotonic() < end:
-            with socket.socket(socket.AF_INET, socket.SOCK_DGRAM) as link:
-                try:
-                    link.bind(("127.0.0.1", self.base + buses.TOOL_PORTS[0]))
-                except OSError:
-                    return
+            if port in pathlib.Path("/proc/net/udp").read_text(encoding="ascii"):
+                return
             time.sleep(0.05)
         self.fail("it does not listen")
 

@@ -228,6 +228,18 @@ class WhatIsHeard(unittest.TestCase):
         self.assertIn("second-server", heard.names())
         self.assertIn(scene.Strange(10, "alloc"), heard.events)
 
+    def test_who_asks_for_votes_and_is_not_called_by_the_leader(self) -> None:
+        heard = Heard()
+        heard.take(0, 9, "voteq", bytes([5, 0, 0, 0]) + bytes(5), 1)
+        for second in range(4):
+            for member in (1, 2, 3, 9):
+                heard.status(second, member, second)
+            for to in (2, 3):
+                heard.take(second + 0.1, 1, "appq", bytes([7, 0, 0, 0]) + bytes(6), to)
+                heard.take(second + 0.2, to, "app", bytes([7, 0, 0, 0, 0x80]), 1)
+        self.assertEqual((heard.scene.members(), heard.scene.size()), ({1, 2, 3}, 3))
+        self.assertEqual(heard.names(), ["strange-member"])
+
     def test_a_lone_allocator_is_no_second_server(self) -> None:
         heard = Heard()
         heard.status(0, 1, 10)

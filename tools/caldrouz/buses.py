@@ -18,7 +18,7 @@ from . import table, wire
 LEAST_BASE, GREATEST_BASE = 1024, 65410
 # Tools listen at these ports, counted from the base: a member has none of them (1 to 117), nor the bridge (119).
 TOOL_PORTS = 118, 121, 122, 123, 124, 125
-BRIDGE_PORT = 119  # members that were told their list take frames of the bus from this port alone
+BRIDGE_PORT = 119  # from here members that were told their list take frames of any node
 ROOM = 1 << 20  # bytes that a socket is asked to keep
 FULL_FOR = 0.5  # seconds for which a full queue of an interface is tried again
 

@@ -123,7 +123,7 @@ def _strange_members(scene: Scene, members: Set[int], size: int) -> Iterator[Cau
             f"{_ids(members)} are {len(members)} members, in a cluster of {size}",
             "end the one that is none of this vehicle; a list that has it stays wrong until its member starts again",
         )
-    for node in sorted({node for (node, kind) in scene.strangers if kind in ("disc", "voteq", "appq")}):
+    for node in sorted(scene.strange()):
         yield Cause(
             "strange-member",
             f"Node {node} does what members do, and the members of this cluster of {size} are {_ids(members)}",

@@ -230,7 +230,8 @@ class Scene:
         self.log: Dict[int, wire.Entry] = {}  # by place, as leaders handed it on
         self.strangers: Dict[Tuple[int, str], float] = {}
         self._transfers = wire.Transfers()
-        self._peers: Set[int] = set()
+        self._led: Set[int] = set()  # leaders, and whom they call: all members
+        self._stood: Set[int] = set()  # who asks for votes, and who is asked: may be of another cluster
 
     # --- what is asked of it
 
@@ -246,7 +247,7 @@ class Scene:
         sizes = [listing.size for listing in self.listings.values()]
         if sizes:
             return max(sorted(set(sizes)), key=sizes.count)
-        return len(self._peers) or None
+        return len(self._led or self._stood) or None
 
     def members(self) -> Set[int]:
         """The nodes that are taken for members: those of the words, or those that do what only members do."""
@@ -255,9 +256,18 @@ class Scene:
         strange = {node for node, _ in self.strangers}
         listings = {node: listing for node, listing in self.listings.items() if node not in strange}
         listed = {node for listing in listings.values() for node in listing.known}
-        known = listed | set(listings) | self._peers
+        known = listed | set(listings) | (self._led or self._stood)
         named = {node for node, it in self.nodes.items() if it.identity and it.identity.name == ALLOCATOR_NAME}
         return known or named
+
+    def strange(self) -> Set[int]:
+        """The nodes that do what members do, and are none of those that are known."""
+        strange = {node for node, kind in self.strangers if kind in ("disc", "voteq", "appq")}
+        return strange | (self._stood - self.members() if self._all_called() else set())
+
+    def _all_called(self) -> bool:
+        """Whether a leader is known for so long that it has called each member."""
+        return self.lead is not None and self.now - self.lead.since > ALL_CALLED
 
     def is_online(self, node: int) -> bool:
         return node in self.nodes and self.nodes[node].here
@@ -361,8 +371,7 @@ class Scene:
         known, key = self.members(), (heading.source, heading.kind)
         sizes = [self.given_size or len(self.given)] if self.given or self.given_size else []
         size = max(sizes + [listing.size for listing in self.listings.values()], default=None)
-        all_called = self.lead is not None and self.now - self.lead.since > ALL_CALLED
-        if heading.source in known or not all_called and (size is None or len(known) < size):
+        if heading.source in known or not self._all_called() and (size is None or len(known) < size):
             return []
         is_new = key not in self.strangers
         if is_new and len(self.strangers) >= KEPT:
@@ -394,7 +403,7 @@ class Scene:
             return []
         events = self._strange(heading)
         if not events and (heading.source, heading.kind) not in self.strangers:
-            self._peers |= {heading.source, heading.destination}
+            self._stood |= {heading.source, heading.destination}
         election = Election(self.now, heading.source, wire.number(payload))
         is_new = not any(before[1:] == election[1:] for before in self.elections)
         if is_new:
@@ -412,7 +421,7 @@ class Scene:
             return []
         events = self._strange(heading)
         if not events and (heading.source, heading.kind) not in self.strangers:
-            self._peers |= {heading.source, heading.destination}
+            self._led |= {heading.source, heading.destination}
         term, place, commit = wire.number(payload), payload[8], payload[9]
         if len(payload) >= 31:
             place += 1

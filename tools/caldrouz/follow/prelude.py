@@ -19,12 +19,13 @@ from typing import Dict, Iterator, List, NamedTuple, Optional, Sequence, Tuple
 
 from .. import report, table, wire
 from ..stores import Store
-from .partner import Partner, Refused
+from .partner import Broken, Partner, Refused
 
 MOST_ELECTIONS = 20_000  # by which terms are raised
 MOST_TRIES = 8  # with other leaders
 EACH_NODE = 50  # milliseconds between two nodes: a member has sessions for some 80 of them at a time
 TERM_AND_NO_VOTE = 9  # the device call of an election before which the term is stored, and no vote
+LEAST_BYTES = {"appq": 10, "app": 5, "vote": 5}  # of the transfers that are looked into
 Entry = Tuple[int, str, int]  # term, unique ID, node ID
 
 
@@ -191,7 +192,8 @@ class Prelude:
         life = self.lives[member]
         while life.queued:
             sent = self.partner.row(f"send {member}")
-            assert isinstance(sent, report.Sent)
+            if not isinstance(sent, report.Sent):
+                raise Broken(f"the program says {sent} of a frame that waits")
             life.queued -= 1
             offer = self._join(sent)
             if offer is not None:
@@ -201,12 +203,15 @@ class Prelude:
 
     def _join(self, sent: report.Sent) -> Optional[Offer]:
         frame = sent.frame
-        payload, numbers = (b"", []) if frame.tail.starts else self._begun[frame.identifier]
+        nothing: Tuple[bytes, List[int]] = (b"", [])
+        payload, numbers = nothing if frame.tail.starts else self._begun.get(frame.identifier, nothing)
         payload, numbers = payload + frame.data[:-1], numbers + [sent.number]
         if not frame.tail.ends:
             self._begun[frame.identifier] = payload, numbers
             return None
         payload = payload if frame.tail.starts else payload[table.CRC_BYTES :]
+        if len(payload) < LEAST_BYTES.get(frame.heading.kind, 0):
+            raise Broken(f"the program sends {frame}, which ends nothing that a member says")
         return Offer(frame.heading, frame.tail.transfer_id, payload, numbers)
 
     def _tick(self, member: int, word: int = 0) -> List[Offer]:
@@ -224,7 +229,8 @@ class Prelude:
         identifier = wire.identifier_of(source, name, member if name == "info" else 0)
         for data in wire.cut(table.TRANSFERS[name].data_type, transfer_id, payload):
             told = self.partner.row(f"ext {identifier:08x} {data.hex()}")
-            assert isinstance(told, report.Outside)
+            if not isinstance(told, report.Outside):
+                raise Broken(f"the program says {told} of a frame from outside")
             self._step(member, f"rx {member} {told.number} {self.now}")
 
     def _stop_all(self) -> None:

@@ -76,7 +76,7 @@ def spans_in_words(run: runs.Run, lane: runs.Lane, rows_before: int) -> Iterator
             yield f"leads in term {term} from {moment} on"
         elif what == report.FOLLOWER and before == report.LEADER:
             yield f"follows from {moment} on"
-        elif what == "stopped":
+        elif what == "stopped" and row > rows_before + 1:
             yield f"stops at {moment}"
         elif what == report.FOLLOWER and before in ("never", "stopped"):
             yield f"opens at {moment}"
