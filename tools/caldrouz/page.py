@@ -1,13 +1,16 @@
-"""The page of a run: its facts as one JSON block, and the template that draws them. Not proved."""
+"""The page of a run: its facts as one JSON block, and what draws them. Not proved."""
 from __future__ import annotations
 
 import html
 import json
 import pkgutil
+import re
 from typing import Any, Dict
 
 from . import report
 from .runs import Run
+
+FIELD = re.compile("@([A-Z]+)@")
 
 
 def facts(run: Run, title: str) -> Dict[str, Any]:
@@ -74,21 +77,25 @@ def summary(run: Run) -> str:
     return ", ".join(parts) + "."
 
 
+def part(name: str) -> str:
+    """One of the files that a page is made of."""
+    data = pkgutil.get_data(__package__, name)
+    assert data is not None
+    return data.decode("utf-8")
+
+
 def page(run: Run, title: str) -> str:
-    template = pkgutil.get_data(__package__, "page.html")
-    assert template is not None
-    text = template.decode("utf-8")
     fields = {
-        "@TITLE@": html.escape(title),
-        "@SUMMARY@": html.escape(summary(run)),
-        "@END@": html.escape(run.end_words),
-        "@ENDKIND@": run.end,
+        "TITLE": html.escape(title),
+        "SUMMARY": html.escape(summary(run)),
+        "END": html.escape(run.end_words),
+        "ENDKIND": run.end,
+        "DATA": json.dumps(facts(run, title), separators=(",", ":")).replace("<", "\\u003c"),
+        "STYLE": part("page.css"),
+        "PICTURE": part("picture.html"),
+        "SCRIPT": part("picture.js"),
     }
-    for name, value in fields.items():
-        text = text.replace(name, value)
-    data = json.dumps(facts(run, title), separators=(",", ":")).replace("<", "\\u003c")
-    head, _, tail = text.partition("@DATA@")
-    return head + data + tail
+    return FIELD.sub(lambda field: fields[field[1]], part("view.html"))
 
 
 def read_facts(text: str) -> Any:

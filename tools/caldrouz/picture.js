@@ -1,128 +1,12 @@
-<!doctype html>
-<html lang="en">
-<meta charset="utf-8">
-<meta name="viewport" content="width=device-width, initial-scale=1">
-<title>@TITLE@</title>
-<style>
-:root {
-  color-scheme: light dark;
-  --paper: #fff; --ink: #1d2329; --soft: #5c6670; --rule: #d9dee3; --grid: #eceff2; --now: #c2410c; --row: #fff3c4;
-  --F: #d7e3f0; --C: #f5c451; --L: #74c07a; --stopped: #565d64; --failed: #d64545; --never: #f4f6f8; --wait: #e6dff5; --hold: #8fd0c5;
-  --gone: #565d64; --on-role: #1d2329; --on-dark: #fff;
-  --alloc: #1668d6; --disc: #7b5cc4; --vote: #c9650a; --app: #2b8a4b; --info: #85802a; --stat: #98a1aa; --bad: #d3302f; --commit: #1668d6;
-}
-@media (prefers-color-scheme: dark) {
-  :root {
-    --paper: #14181c; --ink: #e3e7ea; --soft: #98a3ad; --rule: #343c44; --grid: #232a30; --now: #ff9d5c; --row: #3d3514;
-    --F: #2d4257; --C: #8a6a12; --L: #2c7a3b; --stopped: #6e767d; --failed: #a83232; --never: #1c2227; --wait: #3c3357; --hold: #1f6b61;
-    --gone: #6e767d; --on-role: #f0f3f5; --on-dark: #fff;
-    --alloc: #6aa9ff; --disc: #b39df0; --vote: #f2a04e; --app: #6ccb86; --info: #c9c269; --stat: #7b858e; --bad: #ff6b66; --commit: #6aa9ff;
-  }
-}
-* { box-sizing: border-box; }
-body { margin: 0 auto; padding: 14px 18px 30px; font: 14px/1.45 system-ui, "DejaVu Sans", sans-serif; background: var(--paper); color: var(--ink); }
-h1 { font-size: 19px; margin: 0 0 2px; }
-h2 { font-size: 15px; margin: 18px 0 5px; }
-p { margin: 3px 0; }
-.soft { color: var(--soft); }
-#end { padding: 6px 10px; border-left: 4px solid var(--app); margin: 8px 0; background: var(--never); }
-#end.refused, #end.cut { border-color: var(--bad); }
-#tools { display: flex; flex-wrap: wrap; gap: 5px 14px; align-items: center; margin: 8px 0 6px; }
-#tools label { white-space: nowrap; }
-button, select, input[type=number] { font: inherit; color: inherit; background: var(--never); border: 1px solid var(--rule); border-radius: 4px; padding: 2px 9px; }
-button:hover { border-color: var(--soft); }
-:focus-visible { outline: 2px solid var(--now); outline-offset: 1px; }
-#strip { overflow-x: auto; border: 1px solid var(--rule); border-radius: 4px; }
-#strip svg { position: sticky; left: 0; display: block; }
-svg text { fill: var(--ink); font: 11px system-ui, "DejaVu Sans", sans-serif; }
-svg .small { font-size: 9.5px; fill: var(--soft); }
-svg .name { font-weight: 600; font-size: 12px; }
-svg .grid { stroke: var(--grid); }
-svg .line { stroke: var(--alloc); stroke-width: .7; }
-svg .now { stroke: var(--now); stroke-width: 1.4; }
-svg .side { fill: var(--paper); }
-svg rect.F { fill: var(--F); } svg rect.C { fill: var(--C); } svg rect.L { fill: var(--L); } svg rect.stopped { fill: var(--stopped); }
-svg rect.failed { fill: var(--failed); } svg rect.never { fill: var(--never); stroke: var(--rule); stroke-dasharray: 3 3; }
-svg rect.wait { fill: var(--wait); } svg rect.hold { fill: var(--hold); } svg rect.gone { fill: var(--gone); }
-svg text.in { fill: var(--on-role); } svg text.dark { fill: var(--on-dark); }
-svg .last { fill: none; stroke: var(--soft); stroke-width: 1; } svg .committed { fill: none; stroke: var(--commit); stroke-width: 2.2; }
-svg .arrow { stroke-width: 1.3; fill: none; } svg .arrow.took, svg .arrow.part, svg .arrow.unwanted { stroke-width: .8; opacity: .4; }
-svg .alloc { stroke: var(--alloc); } svg .disc { stroke: var(--disc); } svg .vote, svg .voteq { stroke: var(--vote); }
-svg .app, svg .appq { stroke: var(--app); } svg .info, svg .infoq { stroke: var(--info); } svg .stat, svg .other { stroke: var(--stat); }
-svg .dropped, svg .bad { stroke: var(--bad); stroke-dasharray: 4 3; } svg .lost { stroke: var(--bad); fill: var(--paper); }
-svg .unwanted { stroke: var(--stat); stroke-dasharray: 1 3; }
-svg .tip { stroke: none; } svg .tip.alloc { fill: var(--alloc); } svg .tip.disc { fill: var(--disc); } svg .tip.vote, svg .tip.voteq { fill: var(--vote); }
-svg .tip.app, svg .tip.appq { fill: var(--app); } svg .tip.info, svg .tip.infoq { fill: var(--info); } svg .tip.stat, svg .tip.other { fill: var(--stat); }
-svg .stopmark, svg .faultmark { fill: var(--bad); font-weight: 700; } svg .told { fill: var(--alloc); stroke: var(--paper); }
-svg .toldtext { fill: var(--alloc); font-weight: 700; stroke: var(--paper); stroke-width: 3px; paint-order: stroke; }
-svg .dot { fill: var(--commit); }
-#move { display: flex; flex-wrap: wrap; gap: 6px 8px; align-items: center; margin: 8px 0; }
-#slide { flex: 1 1 300px; accent-color: var(--now); }
-#row { width: 8em; }
-.wide { overflow-x: auto; }
-table { border-collapse: collapse; }
-td, th { border: 1px solid var(--rule); padding: 2px 9px; text-align: left; vertical-align: top; }
-th { background: var(--never); font-weight: 600; }
-td.n { text-align: right; font-variant-numeric: tabular-nums; }
-#near td, code { font-family: ui-monospace, "DejaVu Sans Mono", monospace; font-size: 12.5px; }
-#near td:nth-child(3), #near td:nth-child(4) { white-space: nowrap; }
-#near td:last-child { font: inherit; min-width: 300px; }
-#near tr.now td { background: var(--row); }
-#near td.n a { color: inherit; }
-td.F { background: var(--F); } td.C { background: var(--C); } td.L { background: var(--L); } td.stopped, td.gone { background: var(--stopped); color: var(--on-dark); }
-td.failed { background: var(--failed); color: var(--on-dark); } td.wait { background: var(--wait); } td.hold { background: var(--hold); }
-#legend { display: flex; flex-wrap: wrap; gap: 2px 14px; margin: 5px 0; font-size: 12.5px; color: var(--soft); }
-#legend svg { vertical-align: -3px; margin-right: 4px; }
-kbd { border: 1px solid var(--rule); border-radius: 3px; padding: 0 4px; font: 12px ui-monospace, monospace; background: var(--never); }
-@media print {
-  :root { color-scheme: light;
-    --paper: #fff; --ink: #000; --soft: #444; --rule: #bbb; --grid: #e4e4e4; --row: #fff3c4; --F: #d7e3f0; --C: #f5c451; --L: #74c07a;
-    --stopped: #565d64; --failed: #d64545; --never: #f4f6f8; --wait: #e6dff5; --hold: #8fd0c5; --on-role: #000;
-    --alloc: #1668d6; --disc: #7b5cc4; --vote: #c9650a; --app: #2b8a4b; --info: #85802a; --stat: #98a1aa; --bad: #d3302f; --commit: #1668d6; }
-  @page { size: landscape; margin: 10mm; }
-  body { padding: 0; font-size: 11px; print-color-adjust: exact; -webkit-print-color-adjust: exact; }
-  #tools, #move button, #slide, details, .screen { display: none; }
-  #strip { border: 0; overflow: hidden; }
-  h2, tr, #strip, #state, #near table { break-inside: avoid; }
-  h2 { break-after: avoid; }
-}
-</style>
-<h1>@TITLE@</h1>
-<p class="soft">@SUMMARY@</p>
-<p id="end" class="@ENDKIND@">@END@</p>
-<div id="tools">
-  <span><button id="less" title="key -">− wider view</button> <button id="more" title="key +">+ closer</button> <button id="fit" title="key 0">all</button></span>
-  <label>axis <select id="axis"><option value="row">by row</option><option value="time">by time</option></select></label>
-  <label><input type="checkbox" id="all"> all that was taken</label>
-  <label><input type="checkbox" id="dropped"> dropped</label>
-  <label><input type="checkbox" id="lost"> lost</label>
-  <label><input type="checkbox" id="devices" checked> devices</label>
-</div>
-<div id="strip" tabindex="0" role="group" aria-label="The lanes of the run; the table below tells each row in words"><div id="long"><svg id="picture" role="img" aria-label="@SUMMARY@"></svg></div></div>
-<div id="legend"></div>
-<div id="move">
-  <button id="back" title="key p">◀ event</button><button id="one_back" title="key ←">◀</button>
-  <input id="slide" type="range" aria-label="row">
-  <button id="one_on" title="key →">▶</button><button id="on" title="key n">event ▶</button>
-  <label>row <input id="row" type="number"></label>
-</div>
-<h2 id="state_head"></h2>
-<div class="wide" id="state" aria-live="polite"></div>
-<h2>The rows around it</h2>
-<div class="wide" id="near"></div>
-<div id="places"></div>
-<details><summary>Keys, and how to read the picture</summary>
-<p><kbd>←</kbd> <kbd>→</kbd> a row, with <kbd>Shift</kbd> ten; <kbd>n</kbd> <kbd>p</kbd> the next event, the one before; <kbd>Home</kbd> <kbd>End</kbd>; <kbd>+</kbd> <kbd>-</kbd> <kbd>0</kbd> closer, wider, all; <kbd>t</kbd> axis by row or by time; <kbd>a</kbd> all that was taken, <kbd>d</kbd> dropped, <kbd>l</kbd> lost. A click into the picture goes to that row.</p>
-<p>A lane is a member or a device. Its bar has the role and the term; below it are the entries of its log, the last one thin and the committed ones thick. An arrow goes from the row that put a frame on the bus to the row that received it. At first only those arrows are drawn that changed something: the receiver's role, term, log or list of members, or that it had something to answer. A dashed red arrow was dropped by its receiver; a stub with a ring is a frame that its receiver was never given. A diamond stands where a node ID is told. By time, a row stands at the greatest moment so far, and a pause of more than ten seconds is drawn as one second, with a gap in the axis.</p>
-<p>The page was made by <code>tools/view</code> out of a schedule and its report. It is not proved; what it shows beside the rows and their lines is derived from them.</p></details>
-<script type="application/json" id="facts">@DATA@</script>
-<script>
 "use strict";
-const facts = JSON.parse(document.getElementById("facts").textContent), $ = id => document.getElementById(id);
-const {first, last, lanes, rows, lines, moments} = facts, count = rows.length;
+/* Draws a run into the elements of picture.html: its lanes and frames, the state after a row and the rows around it, by the facts that
+   docs/SEEING.md lists. It is the picture of the pages of tools/view, and of the page that runs the program. Not proved. */
+const Picture = (() => {
+const $ = id => document.getElementById(id);
+let facts, first, last, lanes, rows, lines, moments, count, outside_used;
 const esc = text => String(text).replace(/[&<>"]/g, c => ({"&": "&amp;", "<": "&lt;", ">": "&gt;", '"': "&quot;"}[c]));
 const LEFT = 112, RIGHT = 44, TOP = 42, BAR = 26, GRAPH = 24, GAP = 30, LONG_PAUSE = 10000;
-let current = first, scale = 1, fitted = true, axis = "row", places_of = [], end_of_axis = 1, breaks = [], drawn = {y: []};
+let current = 0, scale = 1, fitted = true, axis = "row", places_of = [], end_of_axis = 1, breaks = [], drawn = {y: []};
 
 // --- the axis: where a row stands, from 0
 function set_axis() {
@@ -159,13 +43,13 @@ function state_at(lane, r) {
   while (low <= high) { const middle = (low + high) >> 1; if (list[middle][0] <= r) { found = list[middle]; low = middle + 1; } else high = middle - 1; }
   return found;
 }
-const role_words = what => facts.roles[what] || ({never: "not opened yet", wait: "waits for a node ID", hold: "holds a node ID", gone: "gone"}[what] || what);
+const short_name = lane => lane.kind === "device" || lane.kind === "heard" ? "… " + lane.name.slice(-10) : lane.name;
+const role_words = what => facts.roles[what] || ({never: "not there yet", wait: "waits for a node ID", hold: "holds a node ID", gone: "gone"}[what] || what);
 
 // --- the picture
 function shown_lanes() {
   return lanes.map((lane, i) => i).filter(i => lanes[i].kind === "member" || (lanes[i].kind === "outside" ? outside_used : $("devices").checked));
 }
-const outside_used = facts.arrows.some(a => a[2] === 0) || facts.lost.some(a => a[1] === 0) || rows.some(r => r.startsWith("ext"));
 function draw(whole) {
   const strip = $("strip"), scroll = whole ? 0 : strip.scrollLeft, w = whole ? 1040 : width();
   if (whole) { scale = (w - LEFT - RIGHT) / end_of_axis; }
@@ -201,6 +85,7 @@ function draw(whole) {
   }
   // the bars and the logs
   const peak = Math.max(1, ...lanes.flatMap(l => l.logs.map(g => g[1])));
+  const begun = new Set(facts.marks.filter(m => ["open", "stop", "fault"].includes(m[2])).map(m => `${m[0]} ${m[1]}`));
   for (const i of shown_lanes()) {
     const lane = lanes[i];
     if (lane.kind === "outside" || lane.kind === "heard") { out.push(`<line class="line" x1="${LEFT}" x2="${w}" y1="${middle(i)}" y2="${middle(i)}"/>`); continue; }
@@ -210,8 +95,9 @@ function draw(whole) {
       if (b < LEFT || a > w) return;
       const words = `${lane.name}, rows ${r} to ${until - 1}: ${role_words(what)}` + ("FCL".includes(what) ? `, term ${term}` : what === "hold" ? ` (${term})` : "");
       out.push(`<rect class="${what}" x="${a}" y="${y[i] + (tall === 15 ? 2 : 0)}" width="${Math.max(.6, b - a)}" height="${tall}"><title>${esc(words)}</title></rect>`);
-      const label = "FCL".includes(what) ? `${what} ${term}` : what === "hold" ? `holds ${term}` : {stopped: "stopped", failed: "failed", wait: "waits", never: "not opened", gone: ""}[what];
-      if (label && b - a > 7 * label.length + (what === "hold" ? 26 : 4)) out.push(`<text class="${what === "stopped" || what === "failed" ? "dark" : "in"}" x="${a + (what === "hold" ? 26 : 4)}" y="${y[i] + (tall === 15 ? 13 : 17)}">${label}</text>`);
+      const label = "FCL".includes(what) ? `${what} ${term}` : what === "hold" ? `holds ${term}` : {stopped: "stopped", failed: "failed", wait: "waits", never: lane.kind === "member" ? "not opened" : "not there", gone: ""}[what];
+      const beside = what === "hold" ? 40 : begun.has(`${r} ${i}`) ? 12 : 4; // what a mark at its start leaves free
+      if (label && b - a > 7 * label.length + beside) out.push(`<text class="${what === "stopped" || what === "failed" ? "dark" : "in"}" x="${a + beside}" y="${y[i] + (tall === 15 ? 13 : 17)}">${label}</text>`);
     });
     if (lane.kind !== "member") continue;
     const base = y[i] + BAR + GRAPH - 3, value = v => base - (GRAPH - 6) * v / peak;
@@ -261,8 +147,7 @@ function draw(whole) {
   out.push(`<rect class="side" x="0" y="0" width="${LEFT - 2}" height="${bottom}"/>`);
   for (const i of shown_lanes()) {
     const lane = lanes[i], device = lane.kind === "device" || lane.kind === "heard";
-    const name = device ? "… " + lane.name.slice(-10) : lane.name;
-    out.push(`<text class="${device ? "small" : "name"}" x="6" y="${y[i] + (lane.kind === "member" ? 17 : 13)}">${esc(name)}<title>${esc(device ? "the device " + lane.name : lane.name)}</title></text>`);
+    out.push(`<text class="${device ? "small" : "name"}" x="6" y="${y[i] + (lane.kind === "member" ? 17 : 13)}">${esc(short_name(lane))}<title>${esc(device ? "the device " + lane.name : lane.name)}</title></text>`);
     if (lane.kind === "member") out.push(`<text class="small" x="6" y="${y[i] + BAR + 15}">log, 0 to ${peak}</text>`);
   }
   const now = x(place(current));
@@ -298,7 +183,7 @@ function show(r, bring) {
     const [, what, term, entries, commit, queued, moment, known] = state_at(lane, current), is_device = lane.kind === "device";
     const cells = [is_device ? (term ? "ID " + term : "") : term, is_device ? "" : entries, is_device ? "" : commit, queued,
       what === "never" || what === "stopped" || what === "gone" ? "" : moment.toLocaleString("en") + " ms"];
-    text += `<tr><td>${esc(is_device ? "device " + lane.name : lane.name)}<td class="${what}">${esc(role_words(what))}` +
+    text += `<tr><td title="${esc(lane.name)}">${esc(short_name(lane))}<td class="${what}">${esc(role_words(what))}` +
       cells.map(cell => `<td class="n">${cell}`).join("") + `<td>${esc(known)}</tr>`;
   }
   $("state").innerHTML = text + "</table>";
@@ -308,7 +193,7 @@ function show(r, bring) {
     text += `<tr${i === current ? ' class="now" aria-current="true"' : ""}><td class="n"><a href="#${i}">${i}</a><td class="n">${moments[i - first].toLocaleString("en")}<td>${esc(rows[i - first])}<td>${esc(lines[i - first])}<td>${esc(says(i))}</tr>`;
   if (to === last && last === facts.total && facts.end !== "whole") text += `<tr><td colspan="5">${esc(facts.end_words)}</tr>`;
   $("near").innerHTML = text + "</table>";
-  history.replaceState(null, "", "#" + current);
+  picture.moved(current);
 }
 function event_from(r, by) {
   const list = facts.events;
@@ -334,7 +219,6 @@ function places() {
     facts.places.map(([at, node, uid, who]) => `<tr><td class="n">${at}<td class="n">${node || ""}<td><code>${node ? /^0+$/.test(uid) ? "none: the node ID is kept back" : uid : "a blank"}</code><td>${who.join(", ")}</tr>`).join("") + "</table></div>";
   $("places").innerHTML = text;
 }
-$("slide").min = $("row").min = first; $("slide").max = $("row").max = last;
 $("slide").oninput = () => show($("slide").value, true);
 $("row").onchange = () => show($("row").value, true);
 $("back").onclick = () => show(event_from(current, -1), true);
@@ -352,13 +236,17 @@ $("picture").onclick = e => {
 };
 let waits = false;
 $("strip").onscroll = () => { if (!waits) { waits = true; requestAnimationFrame(() => { waits = false; draw(); }); } };
-window.onresize = () => { if (fitted) fit(); draw(); };
-window.onhashchange = () => show(location.hash.slice(1), true);
-window.onbeforeprint = () => draw(true);
-window.onafterprint = () => { if (fitted) fit(); else scale = Math.max(scale, room() / end_of_axis); draw(); };
+for (const id of ["near", "places"]) $(id).onclick = e => {
+  const link = e.target.closest("a");
+  if (link) { e.preventDefault(); show(link.hash.slice(1), true); }
+};
+new ResizeObserver(() => { if (facts) { if (fitted) fit(); draw(); } }).observe($("strip"));
+window.addEventListener("beforeprint", () => { if (facts) draw(true); });
+window.addEventListener("afterprint", () => { if (facts) { if (fitted) fit(); else scale = Math.max(scale, room() / end_of_axis); draw(); } });
 const keys = {n: "on", p: "back", "+": "more", "=": "more", "-": "less", 0: "fit"}, boxes = {a: "all", d: "dropped", l: "lost"};
-document.onkeydown = e => {
-  if (e.ctrlKey || e.altKey || e.metaKey || (e.target.tagName === "INPUT" && e.target.type === "number") || e.target.tagName === "SELECT") return;
+const is_typed_into = at => ["SELECT", "TEXTAREA"].includes(at.tagName) || (at.tagName === "INPUT" && !["checkbox", "range"].includes(at.type));
+document.addEventListener("keydown", e => {
+  if (!facts || e.ctrlKey || e.altKey || e.metaKey || e.defaultPrevented || is_typed_into(e.target)) return;
   const step = e.shiftKey ? 10 : 1;
   if (e.key === "ArrowRight") show(current + step, true);
   else if (e.key === "ArrowLeft") show(current - step, true);
@@ -369,8 +257,26 @@ document.onkeydown = e => {
   else if (e.key === "t") { $("axis").value = axis === "row" ? "time" : "row"; $("axis").onchange(); }
   else return;
   e.preventDefault();
+});
+
+// --- what the page calls
+const picture = {
+  /* Draws these facts, at this row. */
+  open(given, row) {
+    facts = given; ({first, last, lanes, rows, lines, moments} = given); count = rows.length;
+    outside_used = facts.arrows.some(a => a[2] === 0) || facts.lost.some(a => a[1] === 0) || rows.some(r => r.startsWith("ext"));
+    $("slide").min = $("row").min = first; $("slide").max = $("row").max = last;
+    $("picture").setAttribute("aria-label", $("summary").textContent);
+    if (lanes.filter(l => l.kind === "device" || l.kind === "heard").length > 16) $("devices").checked = false;
+    legend(); places(); set_axis(); if (fitted) fit(); else scale = Math.max(scale, room() / end_of_axis); show(row || first, true);
+  },
+  show,
+  draw,
+  /* Is called with the row that is looked at, whenever it was chosen. */
+  moved() {},
+  get facts() { return facts; },
+  get row() { return current; },
+  get axis() { return axis; },
 };
-if (lanes.filter(l => l.kind === "device" || l.kind === "heard").length > 16) $("devices").checked = false;
-legend(); places(); set_axis(); fit(); show(location.hash.slice(1) || first, true);
-</script>
-</html>
+return picture;
+})();
