@@ -36,7 +36,7 @@ IMAGES = (".png", ".jpg", ".svg")
 
 def documents() -> List[pathlib.Path]:
     found = [ROOT / f"{name}.md" for name in ("README", "CONTRIBUTING", "SECURITY", "CHANGELOG")]
-    for folder in ("docs", "examples", "bench", "tools"):
+    for folder in ("docs", "examples", "bench", "tools", "web"):
         found += sorted((ROOT / folder).rglob("*.md"))
     return [path for path in found if path.is_file()]
 
@@ -65,7 +65,7 @@ def files(folder: str) -> Iterator[pathlib.Path]:
 def source_words() -> Set[str]:
     """The words of all sources, and the names of their folders and files. What is said in comments does not count."""
     words = set(ELSEWHERE)
-    for folder in ("crates", "include", "examples", "bench", "tools", "packaging", "tests", "docs", ".ci"):
+    for folder in ("crates", "include", "examples", "bench", "tools", "web", "packaging", "tests", "docs", ".ci"):
         for path in files(folder):
             words.update(word for part in path.relative_to(ROOT).parts for word in WORD.findall(part))
             if folder not in ("tests", "docs") and path.suffix not in (".md", *IMAGES):

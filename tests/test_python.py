@@ -1,4 +1,4 @@
-"""Checks of all Python of tools/, tests/ and bench/: types by mypy, rules by flake8 or ruff, where installed."""
+"""Checks of all Python of tools/, tests/, bench/ and web/: types by mypy, rules by flake8 or ruff, where installed."""
 from __future__ import annotations
 
 import shutil
@@ -7,7 +7,7 @@ from typing import List
 
 from support import ROOT, Ended
 
-FOLDERS = "tools", "tests", "bench"
+FOLDERS = "tools", "tests", "bench", "web"
 
 
 def sources() -> List[str]:
