@@ -1,3 +1,4 @@
+pub mod Among
 pub mod Coming
 pub mod Ending
 pub mod Entries

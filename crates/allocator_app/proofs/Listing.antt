@@ -161,15 +161,3 @@ no_number [] [] part parts none bytes e = cc
 no_number [] (id ∷ ids) part parts none bytes e = none id (bytes id (inl refl)) cc
 no_number (n ∷ own) [] part parts none bytes e = cc
 no_number (n ∷ own) (id ∷ ids) part parts none bytes e = no_number own ids part parts none (λ n here. bytes n (inr here)) cc
-
--- and one too many
-pub no_room : (own ids : List ℕ) (part : List ℕ) (parts : List (List ℕ)) → 5 ≤ length own → length ids ≤ 5 → map decimal own ++ part ∷ parts ≡ map decimal ids → ⊥
-no_room [] ids part parts full few e = omega (arith, full)
-no_room (n ∷ own) [] part parts full few e = cc
-no_room (n ∷ own) (id ∷ ids) part parts full few e = fits own ids part parts (omega (arith, full, few)) cc
-  where
-    fits : (own ids : List ℕ) (part : List ℕ) (parts : List (List ℕ)) → length ids ≤ length own → map decimal own ++ part ∷ parts ≡ map decimal ids → ⊥
-    fits [] [] part parts few e = cc
-    fits [] (id ∷ ids) part parts few e = omega (arith, few)
-    fits (n ∷ own) [] part parts few e = cc
-    fits (n ∷ own) (id ∷ ids) part parts few e = fits own ids part parts (omega (arith, few)) cc

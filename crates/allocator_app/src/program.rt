@@ -56,13 +56,13 @@ use store_audit::audit_stores;
 /// (`Rounds` and `Counts` of `cmd_soak`).
 ///
 /// `node <members> <base> <turns> <id>..` runs these members of a cluster, which are told its size or a list
-/// of its members, over the links and the disks that are handed in, one of each for a member, in their order, and writes what the last 256 steps told. Each
-/// disk is there again at the end (`RunsNodes` of `cmd_node`). `LinkFault` and `DiskFault` come only where
-/// the link or the disk of that node failed, and `Damaged` only where the store of that node is damaged,
-/// first at that key, and those before it are not, if these disks tell what they hold. Then one line is
-/// written, and with `Damaged` no frame came or went. But for `WriteFault` no link and no disk counted a
-/// fault that the status does not name. Where nothing fails it comes to `Done` or `Damaged`, unless there is
-/// not enough memory to begin with.
+/// of its members, over the links and the disks that are handed in, one of each for a member, in their order,
+/// and writes what the last 256 steps told. Each disk is there again at the end (`RunsNodes` of `cmd_node`).
+/// `LinkFault` and `DiskFault` come only where the link or the disk of that node failed, and `Damaged` only
+/// where the store of that node is damaged, first at that key, and those before it are not, if these disks
+/// tell what they hold. Then one line is written, and with `Damaged` no frame came or went. But for
+/// `WriteFault` no link and no disk counted a fault that the status does not name. Where nothing fails it
+/// comes to `Done` or `Damaged`, unless there is not enough memory to begin with.
 ///
 /// Where links, disks and the clock tell what they have: with `Done` what was sent, written and stored is
 /// exactly what the members do over what came on the links and what the clock read (`WholeRun` of
@@ -81,11 +81,11 @@ use store_audit::audit_stores;
 /// `cmd_bus_logs`), and `convert <format> <format> <lines>` writes the log in the other form or the same
 /// (`Converts`). `decode <name> <part> <hex>` writes the numbers of a payload under the part of a type that the
 /// text of the source describes (`Decodes` of `cmd_decode`); it is `NoPart` where the text has no such part, and
-/// `NoValue` where the payload has no reading. `new`, `audit`, `watch`, `convert` and `decode` take no memory, and come to
-/// the end that their input has unless something fails.
+/// `NoValue` where the payload has no reading. `new`, `audit`, `watch`, `convert` and `decode` take no memory,
+/// and come to the end that their input has unless something fails.
 ///
-/// Links are handed in for `node` alone, and disks for `node`, `new` and `audit`; with other words or objects the status
-/// is `Usage`. With `Usage` and `Memory` nothing is touched.
+/// Links are handed in for `node` alone, and disks for `node`, `new` and `audit`; with other words or objects
+/// the status is `Usage`. With `Usage` and `Memory` nothing is touched.
 ///
 /// The promise (`KeepsPromise`) holds along the rows of a report that no fault ended, of a soak and of such a
 /// trace. After each row what each allocator has committed is a prefix of one list, which only grows and never

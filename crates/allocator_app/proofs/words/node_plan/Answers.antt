@@ -1,4 +1,4 @@
-use Rattle.std.proofs.Common.{◌∷◌, ◌-◌, ap, sym, subst, ◌∙◌, string_bytes, decimal, codes, map, take, drop, length}
+use Rattle.std.proofs.Common.{◌∷◌, ◌-◌, ap, refl, sym, subst, ◌∙◌, string_bytes, decimal, codes, map, take, drop, length}
 use Rattle.std.proofs.lemmas.Bool.{true≢false}
 use Rattle.allocator_app.specs.Told.{AreAmong, Spells}
 use Rattle.allocator_app.proofs.Listing.{same_told}
@@ -29,6 +29,13 @@ returns-clause-some c =
       members = c.in_ok-ids.ensures.members;
       among = subst (AreAmong c.in_ok-told.told) c.deref.ensures.0 (c.has_room_for.ensures.0 c.if-not-has_room_for.false);
     }
+
+pub returns-in_err-told-clause-none : goal.returns-in_err-told-clause-none
+returns-in_err-told-clause-none c = λ none told base turns ids asks.
+    let words = c.args.words.now in
+    let same = sym (from_four string_bytes words c.mode-item.result c.told-item.result c.base-item.result c.turns-item.result c.in-len4-up.len_at_least
+    c.mode-item.is c.told-item.is c.base-item.is c.turns-item.is) ∙ asks.spelled in
+    c.in_err-told.ensures.none refl told asks.cluster (subst (Spells told) (sym (c.as_bytes.ensures.value ∙ second_of_four same)) asks.spells)
 
 pub returns-then-not-has_room_for-clause-none : goal.returns-then-not-has_room_for-clause-none
 returns-then-not-has_room_for-clause-none c = λ none told base turns ids asks.
