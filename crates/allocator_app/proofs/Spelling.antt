@@ -101,9 +101,6 @@ second_of_four e = cc
 pub after_four : {a b c d x y z w : List ℕ} {l m : List (List ℕ)} → a ∷ b ∷ c ∷ d ∷ l ≡ x ∷ y ∷ z ∷ w ∷ m → l ≡ m
 after_four e = cc
 
-pub one_size : (a b : ℕ) → a ≤ 5 → b ≤ 5 → decimal a ≡ decimal b → a ≡ b
-one_size a b low most e = decimal_injective a b (omega (arith, low)) (omega (arith, most)) e
-
 -- one number more
 pub bytes_more : (xs : List ℕ) (x : ℕ) → ((i : ℕ) → i < length xs → slice_index xs i < 256) → x < 256 → (i : ℕ) → i < length (xs ++ x ∷ []) →
     slice_index (xs ++ x ∷ []) i < 256
