@@ -216,6 +216,16 @@ class OneAtATime(Case):
         self.assertEqual(len(self.raw.sent), 1, "what waited for longer than 0.5 s is dropped")
         self.assertEqual(self.counts("to_bus", "too_old"), [1, 1])
 
+    def test_an_echo_that_waits_in_the_socket_is_in_time(self) -> None:
+        """This process did not run for a while: the frame was out long before."""
+        self.says(1, datagram(NODE_STATUS_OF_1))
+        self.turn()
+        time.sleep(0.55)
+        self.raw.echoes()
+        with redirect_stderr(self.errors):
+            self.bridge.give_to_bus()
+        self.assertEqual(self.errors.getvalue(), "")
+
     def frees(self, what: Callable[[], None]) -> None:
         for _ in range(2):
             self.says(1, datagram(NODE_STATUS_OF_1))
