@@ -397,7 +397,10 @@ class SerialLine(Case):
             self.bus.unsent, self.bus.since = b"BC0\r", since
             self.says(1, datagram(NODE_STATUS_OF_1, b"\x0b\xc0"))
             self.turn()
-            self.assertEqual(os.read(self.adapter, 64), rest + b"T1001550120BC0\r")
+            wanted, written = rest + b"T1001550120BC0\r", b""
+            while len(written) < len(wanted):
+                written += os.read(self.adapter, 64)
+            self.assertEqual(written, wanted)
 
     def test_an_adapter_that_goes_away_ends_the_bridge(self) -> None:
         os.close(self.adapter)
