@@ -216,6 +216,16 @@ class OneAtATime(Case):
         self.assertEqual(len(self.raw.sent), 1, "what waited for longer than 0.5 s is dropped")
         self.assertEqual(self.counts("to_bus", "too_old"), [1, 1])
 
+    def test_an_echo_that_waits_in_the_socket_is_in_time(self) -> None:
+        """This process did not run for a while: the frame was out long before."""
+        self.says(1, datagram(NODE_STATUS_OF_1))
+        self.turn()
+        time.sleep(0.55)
+        self.raw.echoes()
+        with redirect_stderr(self.errors):
+            self.bridge.give_to_bus()
+        self.assertEqual(self.errors.getvalue(), "")
+
     def frees(self, what: Callable[[], None]) -> None:
         for _ in range(2):
             self.says(1, datagram(NODE_STATUS_OF_1))
@@ -387,7 +397,10 @@ class SerialLine(Case):
             self.bus.unsent, self.bus.since = b"BC0\r", since
             self.says(1, datagram(NODE_STATUS_OF_1, b"\x0b\xc0"))
             self.turn()
-            self.assertEqual(os.read(self.adapter, 64), rest + b"T1001550120BC0\r")
+            wanted, written = rest + b"T1001550120BC0\r", b""
+            while len(written) < len(wanted):
+                written += os.read(self.adapter, 64)
+            self.assertEqual(written, wanted)
 
     def test_an_adapter_that_goes_away_ends_the_bridge(self) -> None:
         os.close(self.adapter)
