@@ -2,6 +2,7 @@
 use Rattle.std.proofs.Common.{◌≡◌, ℕ, List, [], ◌∷◌, Option, Some, refl, subst, arith}
 use Rattle.std.specs.Prelude.{codes}
 use Rattle.std.specs.Fmt.{digits}
+use Rattle.dsdl_text.specs.declared.line.Line.{Line}
 use Rattle.dsdl_text.specs.declared.profile.TheConstants.{PROFILE}
 use Rattle.dsdl_text.specs.Layout.{Layout}
 use Rattle.dsdl_text.specs.Sections.{part_named}
