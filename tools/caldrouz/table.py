@@ -61,7 +61,10 @@ DATAGRAM_MOST_DATA = 8  # The most data bytes of a frame.
 LAST = 125  # The highest node ID that has a port.
 
 # How long a frame may wait in a link, in ms (node_clock_and_links)
-LONGEST_WAIT = 4000
+LONGEST_WAIT = 1000
+
+# How long a frame may be on its way, in ms (allocator)
+LONGEST_HOLD = 3500
 
 # An image of a store (disk_model)
 IMAGE = 8844  # The size of a disk in bytes.

@@ -14,9 +14,6 @@ from typing import Collection, Dict, List, NamedTuple, Optional, Tuple
 
 from . import logs, table, wire
 
-# How long a frame may be on its way: it may wait in two links of members, and for 0.5 s in each of two bridges; half a
-# second is for the bus itself.
-HOLD = 2 * table.LONGEST_WAIT + 1500  # milliseconds
 AT_ONCE = 50  # milliseconds within which the same frame is one that came twice
 
 NAMES = {name: f"{kind.data_type.name} {kind.kind}" for name, kind in table.TRANSFERS.items()}

@@ -2,8 +2,9 @@
 //!
 //! The source is standard input, the sink is standard output, the clock is the system's, and the exit
 //! code is that of the status. For the words of `node` each member has its link over UDP, and its disk
-//! in the file `alloc-<id>.store`. Where the members are told a list of them, links are strict, and a missing
-//! file is refused; where they are told a number, a missing file is made. The words of `new` have the disks
+//! in the file `alloc-<id>.store`. Where the members are told a list of them, links are strict, a missing
+//! file is refused, and a process whose members ran before waits until no frame of the time before is on its
+//! way; where they are told a number, a missing file is made, and nothing waits. The words of `new` have the disks
 //! alone, in files that are made for them: where one is there already, or `run` does not come to its end, none
 //! of those that were made stays. Those of `audit` have the disks alone, in files that are there, and only
 //! read them. Where one of these cannot be opened the exit code is 12. A standard stream that is closed
@@ -12,7 +13,7 @@
 #![tactic(auto)]
 
 use allocator_app::{Plan, Status, Told, plan, run};
-use disk_model::FileDisk;
+use disk_model::{Disk, FileDisk, IMAGE};
 use node_clock_and_links::{PacedClock, TimelyLink};
 use outside::{StdClock, StdSink, StdSource};
 use std::alloc::{AllocError, Global};
@@ -21,7 +22,8 @@ use std::fs::File;
 use std::io::ErrorKind;
 use std::process::ExitCode;
 use std::rt::Files;
-use std::{env, fs};
+use std::time::Duration;
+use std::{env, fs, thread};
 use udp_link::UdpLink;
 
 /// The exit code where a link or a disk was not opened.
@@ -29,6 +31,11 @@ const NOT_OPENED: u8 = 12;
 
 /// The descriptors of the standard streams are those below this.
 const STREAMS: usize = 3;
+
+/// The longest that a frame is on its way from one process to another, in milliseconds: 1,000 in the link of
+/// each, 500 in the bridge of each, and 500 on the bus. A process counts its transfer IDs from 0, as the one
+/// before it did.
+const LONGEST_HOLD: u64 = 3500;
 
 fn main(rt: HostRuntime) -> ExitCode {
     let arguments = match env::args(&rt) {
@@ -127,6 +134,16 @@ fn main(rt: HostRuntime) -> ExitCode {
         }
         _ => {}
     }
+    let is_told_all = matches!(
+        &asked,
+        Some(Plan::Node {
+            told: Told::Members(_),
+            ..
+        })
+    );
+    if is_told_all && disks.iter_mut().flatten().any(was_written) {
+        thread::sleep(&rt, Duration::from_millis(LONGEST_HOLD));
+    }
     let mut source = StdSource::new(rt.stdin());
     let mut sink = StdSink::new(rt.stdout());
     let mut clock = PacedClock::new(StdClock::new(&rt), &rt, links.len(), &idle);
@@ -143,6 +160,12 @@ fn main(rt: HostRuntime) -> ExitCode {
         take_away(&rt, &made);
     }
     ExitCode::from(status.code())
+}
+
+/// Whether a member ran on this disk before: it is not all zeros, or cannot be read.
+fn was_written(disk: &mut FileDisk) -> bool {
+    let mut image = [0; IMAGE];
+    disk.read(0, &mut image).is_err() || image.iter().any(|byte| *byte != 0)
 }
 
 /// Takes these files away, as far as they can be.

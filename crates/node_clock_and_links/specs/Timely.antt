@@ -11,7 +11,7 @@ use Rattle.outside.specs.declared.received.Received.TheVariants.{Frame, Junk, No
 
 -- the longest that a frame may have waited, in milliseconds
 abbrev pub longest_wait : ℕ
-longest_wait = 4000
+longest_wait = 1000
 
 -- this is handed on of an item, now, where all that waited came after an earlier reading
 abbrev pub IsHandedOn : (now after : ℕ) → Received → Received → Type 0

@@ -13,7 +13,7 @@ use std::cell::Cell;
 
 /// The longest that a frame may have waited in the process, in milliseconds: in the link below, and again
 /// from there to the bus.
-const LONGEST_WAIT: u64 = 4000;
+const LONGEST_WAIT: u64 = 1000;
 
 /// A link over another one that lets no old frame pass. What may have waited too long in the link below is
 /// junk, and what may have waited too long to be sent is not sent, as where the process was stopped or its

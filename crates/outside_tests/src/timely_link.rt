@@ -43,7 +43,7 @@ fn a_frame_that_waited_in_the_link_below_is_junk(rt: HostRuntime) {
     let idle = Cell::new(0);
     let below = MemoryLink::new(&items, None);
     // The first reading is that of the beginning.
-    let clock = MemoryClock::new(&[1000, 1000, 5000, 5001, 5001, 5001, 9001]);
+    let clock = MemoryClock::new(&[4000, 4000, 5000, 5001, 5001, 5001, 6001]);
     let mut link = TimelyLink::new(below, clock, &idle);
     assert_eq!(rt; link.recv(), Ok(Received::Nothing));
     assert_eq!(rt; idle.get(), 1);
@@ -60,7 +60,7 @@ fn a_frame_that_waited_to_be_sent_is_not_sent(rt: HostRuntime) {
     let sent = Cell::new(0);
     let idle = Cell::new(0);
     let below = Counts { sent: &sent };
-    let clock = MemoryClock::new(&[0, 4000, 4001, 4001, 4002, 4100, 4200, 8100]);
+    let clock = MemoryClock::new(&[0, 1000, 1001, 1001, 1002, 1100, 1200, 2100]);
     let mut link = TimelyLink::new(below, clock, &idle);
     assert_eq!(rt; link.send(&FRAME), Ok(()));
     assert_eq!(rt; sent.get(), 1);
