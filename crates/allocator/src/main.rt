@@ -2,7 +2,8 @@
 //!
 //! The source is standard input, the sink is standard output, the clock is the system's, and the exit
 //! code is that of the status. For the words of `node` each member has its link over UDP, and its disk
-//! in the file `alloc-<id>.store`. Where the members are told a list of them, links are strict, a missing
+//! in the file `alloc-<id>.store`. The words of `can` are those of `node` without a base: standard input is
+//! a raw CAN socket then (`can_link`), and the links of all members are on it. Where the members are told a list of them, links are strict, a missing
 //! file is refused, and a process whose members ran before waits until no frame of the time before is on its
 //! way; where they are told a number, a missing file is made, and nothing waits. The words of `new` have the disks
 //! alone, in files that are made for them: where one is there already, or `run` does not come to its end, none
@@ -13,11 +14,12 @@
 #![tactic(auto)]
 
 use allocator_app::{Plan, Status, Told, plan, run};
+use can_link::{CanBus, CanLink};
 use disk_model::{Disk, FileDisk, IMAGE};
 use node_clock_and_links::{PacedClock, TimelyLink};
-use outside::{StdClock, StdSink, StdSource};
+use outside::{Link, StdClock, StdSink, StdSource};
 use std::alloc::{AllocError, Global};
-use std::cell::Cell;
+use std::cell::{Cell, RefCell};
 use std::fs::File;
 use std::io::ErrorKind;
 use std::process::ExitCode;
@@ -31,6 +33,9 @@ const NOT_OPENED: u8 = 12;
 
 /// The descriptors of the standard streams are those below this.
 const STREAMS: usize = 3;
+
+/// The descriptor of the socket for the words of `can`.
+const SOCKET: i32 = 0;
 
 /// The longest that a frame is on its way from one process to another, in milliseconds: 1,000 in the link of
 /// each, 500 in the bridge of each, and 500 on the bus. A process counts its transfer IDs from 0, as the one
@@ -51,9 +56,18 @@ fn main(rt: HostRuntime) -> ExitCode {
             return ExitCode::from(Status::Memory.code());
         }
     }
+    let is_on_can = words.first().is_some_and(|word| word.as_str() == "can");
+    if is_on_can {
+        let Ok(of_node) = words_of_node(rt.alloc(), &words) else {
+            return ExitCode::from(Status::Memory.code());
+        };
+        words = of_node;
+    }
     let mut streams = Vec::new(rt.alloc());
     let idle = Cell::new(0);
-    let mut links = Vec::new(rt.alloc());
+    let bus = RefCell::new(CanBus::new(SOCKET));
+    let mut on_can = Vec::new(rt.alloc());
+    let mut over_udp = Vec::new(rt.alloc());
     let mut disks = Vec::new(rt.alloc());
     let mut made = Vec::new(rt.alloc());
     let asked = plan(&words);
@@ -79,14 +93,24 @@ fn main(rt: HostRuntime) -> ExitCode {
                 ..
             },
         ) => {
-            for id in ids.as_slice() {
-                let opened = match told {
-                    Told::Size(_) => UdpLink::open(&rt, *base, *id),
-                    Told::Members(_) => UdpLink::open_strict(&rt, *base, *id, ids),
+            for (place, id) in ids.as_slice().iter().enumerate() {
+                let clock = StdClock::new(&rt);
+                let is_full = if is_on_can {
+                    let link = CanLink::new(&bus, place);
+                    on_can.push(TimelyLink::new(link, clock, &idle)).is_err()
+                } else {
+                    let opened = match told {
+                        Told::Size(_) => UdpLink::open(&rt, *base, *id),
+                        Told::Members(_) => UdpLink::open_strict(&rt, *base, *id, ids),
+                    };
+                    let Ok(link) = opened else {
+                        return ExitCode::from(NOT_OPENED);
+                    };
+                    over_udp.push(TimelyLink::new(link, clock, &idle)).is_err()
                 };
-                let Ok(link) = opened else {
-                    return ExitCode::from(NOT_OPENED);
-                };
+                if is_full {
+                    return ExitCode::from(Status::Memory.code());
+                }
                 let Ok(path) = store_of(rt.alloc(), *id) else {
                     return ExitCode::from(Status::Memory.code());
                 };
@@ -97,8 +121,7 @@ fn main(rt: HostRuntime) -> ExitCode {
                 let Ok(disk) = opened else {
                     return ExitCode::from(NOT_OPENED);
                 };
-                let link = TimelyLink::new(link, StdClock::new(&rt), &idle);
-                if links.push(link).is_err() || disks.push(Some(disk)).is_err() {
+                if disks.push(Some(disk)).is_err() {
                     return ExitCode::from(Status::Memory.code());
                 }
             }
@@ -144,22 +167,51 @@ fn main(rt: HostRuntime) -> ExitCode {
     if is_told_all && disks.iter_mut().flatten().any(was_written) {
         thread::sleep(&rt, Duration::from_millis(LONGEST_HOLD));
     }
-    let mut source = StdSource::new(rt.stdin());
-    let mut sink = StdSink::new(rt.stdout());
-    let mut clock = PacedClock::new(StdClock::new(&rt), &rt, links.len(), &idle);
-    let status = run(
-        rt.alloc(),
-        &words,
-        &mut source,
-        &mut sink,
-        links.as_mut_slice(),
-        disks.as_mut_slice(),
-        &mut clock,
-    );
+    let status = if is_on_can {
+        follow(&rt, &words, &mut on_can, &mut disks, &idle)
+    } else {
+        follow(&rt, &words, &mut over_udp, &mut disks, &idle)
+    };
     if status != Status::Done {
         take_away(&rt, &made);
     }
     ExitCode::from(status.code())
+}
+
+/// Does what the words say with these links and disks, and the standard streams. The clock sleeps where no link
+/// has anything.
+fn follow<L: Link>(
+    rt: &HostRuntime,
+    words: &[String],
+    links: &mut [L],
+    disks: &mut [Option<FileDisk>],
+    idle: &Cell<usize>,
+) -> Status {
+    let mut source = StdSource::new(rt.stdin());
+    let mut sink = StdSink::new(rt.stdout());
+    let mut clock = PacedClock::new(StdClock::new(rt), rt, links.len(), idle);
+    run(
+        rt.alloc(),
+        words,
+        &mut source,
+        &mut sink,
+        links,
+        disks,
+        &mut clock,
+    )
+}
+
+/// The words of `node` that ask for what these words of `can` do. They have a base, which says nothing here.
+fn words_of_node(alloc: Global, words: &[String]) -> Result<Vec<String>, AllocError> {
+    let mut of_node = Vec::new(alloc);
+    of_node.push(format!(in alloc; "node")?)?;
+    for (place, word) in words.iter().enumerate().skip(1) {
+        of_node.push(word.clone()?)?;
+        if place == 1 {
+            of_node.push(format!(in alloc; "1024")?)?;
+        }
+    }
+    Ok(of_node)
 }
 
 /// Whether a member ran on this disk before: it is not all zeros, or cannot be read.
