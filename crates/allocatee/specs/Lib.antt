@@ -4,3 +4,4 @@ pub mod Asking
 pub mod Given
 pub mod Judging
 pub mod Stands
+pub mod Times

@@ -9,7 +9,8 @@
 //! does what that definition says, for every state of it that the allocatee stands for (`Stands`);
 //! [`Allocatee::judge`] is `Judging`.
 //!
-//! The rules are A to E of an allocatee in `uavcan.protocol.dynamic_node_id.Allocation`, of UAVCAN v0.
+//! The rules are A to E of an allocatee in `uavcan.protocol.dynamic_node_id.Allocation`, of UAVCAN v0. [`laws`] and
+//! [`times`] say what they are for: how a device comes to a node ID, and when it asks.
 #![tactic(auto)]
 
 mod allocatee;
@@ -18,6 +19,7 @@ mod event;
 pub mod laws;
 mod rows;
 mod timer;
+pub mod times;
 
 pub use allocatee::Allocatee;
 pub use event::{AEvent, AOutcome};
