@@ -8,6 +8,7 @@ pub mod Electing
 pub mod Faults
 pub mod Giving
 pub mod Nodes
+pub mod Learning
 pub mod Noting
 pub mod Parts
 pub mod Peers

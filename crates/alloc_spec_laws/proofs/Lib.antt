@@ -31,6 +31,7 @@ pub mod StepMoves
 pub mod StepDuties
 pub mod Commits
 pub mod MemberLists
+pub mod ToldMembers
 pub mod StepMessages
 pub mod FreeNodes
 pub mod Answering

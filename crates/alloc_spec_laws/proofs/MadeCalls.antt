@@ -10,7 +10,8 @@ use Rattle.raft_model.specs.Moves.{Move, memory_after}
 use Rattle.raft_model.specs.Server.{Memory, RaftServer, Store}
 use Rattle.alloc_spec.specs.StepState.{StepState, with_transfer, with_moves, with_allocator}
 use Rattle.alloc_spec.specs.Step.{Event, after_pop, step}
-use Rattle.alloc_spec.specs.AllocatorState.{AllocatorState, members_of, opening}
+use Rattle.alloc_spec.specs.AllocatorState.{AllocatorState, members_of}
+use Rattle.alloc_spec.specs.Rules.{Rules, opening_by}
 use Rattle.alloc_spec.specs.Transfers.{Offer, has_room, id_of}
 use Rattle.alloc_spec_laws.specs.Calls.{CallsAreMade, IsCalled, KeepsCalls, StaysPending}
 use Rattle.alloc_spec_laws.proofs.CalledPeers.{AreQuiet, quiet_calls}
@@ -174,8 +175,8 @@ kept_keeping number event = record {
 pub step_keeps_calls : (t : AllocatorState) (number : ℕ) (event : Event) → KeepsCalls t → KeepsCalls (step t number event).step_state.allocator
 step_keeps_calls t number event h = step_keeps number event Kept (λ d. ⊤) (kept_keeping number event) t (λ arrival is d e. tt) h
 
-pub opening_keeps_calls : (me size : ℕ) (store : Store) (now word : ℕ) → KeepsCalls (opening me size store now word)
-opening_keeps_calls me size store now word peer = refl
+pub opening_keeps_calls : (me : ℕ) (rules : Rules) (store : Store) (now word : ℕ) → KeepsCalls (opening_by me rules store now word)
+opening_keeps_calls me rules store now word peer = refl
 
 pub popped_keeps_calls : (t : AllocatorState) → KeepsCalls t → KeepsCalls (after_pop t)
 popped_keeps_calls t h = h

@@ -23,7 +23,8 @@ use Rattle.transfer_rx.specs.Sound.{IsDelivered}
 use Rattle.alloc_spec.specs.Ending.{commit_phase, tell_phase}
 use Rattle.alloc_spec.specs.StepState.{StepState, with_transfer}
 use Rattle.alloc_spec.specs.Step.{Event, begin_phase, event_phase, moment_of, after_pop, step}
-use Rattle.alloc_spec.specs.AllocatorState.{AllocatorState, opening, start_of}
+use Rattle.alloc_spec.specs.AllocatorState.{AllocatorState, start_of}
+use Rattle.alloc_spec.specs.Rules.{Rules, opening_by}
 use Rattle.alloc_spec.specs.Transfers.{Ids, Offer, first_ids, id_after, has_room, id_of, ids_after, kind_of}
 use Rattle.alloc_spec.specs.Outbox.{counted_if}
 use Rattle.alloc_spec_laws.specs.Sound.{AreIds, IsDestination, IsInRange, IsOnTheBus, IsSound}
@@ -276,8 +277,8 @@ module _ (in_the_table : (id : ℕ) (ident : Ident) → id < 2 ^ 29 → identifi
     ids = (step_in_range t number event h.ids bus).ids;
   }
 
-pub opening_sound : (me size : ℕ) (store : Store) (now word : ℕ) → size ≤ 5 → IsSound (opening me size store now word)
-opening_sound me size store now word small = record { size = small; ids = first_are }
+pub opening_sound : (me : ℕ) (rules : Rules) (store : Store) (now word : ℕ) → rules.size ≤ 5 → IsSound (opening_by me rules store now word)
+opening_sound me rules store now word small = record { size = small; ids = first_are }
 
 pub popped_sound : (t : AllocatorState) → IsSound t → IsSound (after_pop t)
 popped_sound t h = record { size = h.size; ids = h.ids }

@@ -11,7 +11,8 @@ use Rattle.raft_model.specs.Moves.Move.{ProposeEntry}
 use Rattle.raft_model.specs.Server.{Store}
 use Rattle.alloc_spec.specs.StepState.{StepState}
 use Rattle.alloc_spec.specs.Step.{Event, step}
-use Rattle.alloc_spec.specs.AllocatorState.{AllocatorState, opening}
+use Rattle.alloc_spec.specs.AllocatorState.{AllocatorState}
+use Rattle.alloc_spec.specs.Rules.{Rules, opening_by}
 use Rattle.alloc_spec_laws.specs.Proposals.{HasUids, RecordsUids}
 use Rattle.alloc_spec_laws.proofs.CalledPeers.{quiet_proposals}
 use Rattle.alloc_spec_laws.proofs.Choices.{either, eq_true, tell}
@@ -110,5 +111,5 @@ step_records t number event has =
     step_keeps number event Records (λ d. ⊤) (records_keeping number event) t (λ arrival is d e. tt)
     (record { watch = has; uids = λ entry i. absurd i })
 
-pub opening_has : (me size : ℕ) (store : Store) (now word : ℕ) → HasUids (opening me size store now word).watch
-opening_has me size store now word node uid moment i = absurd i
+pub opening_has : (me : ℕ) (rules : Rules) (store : Store) (now word : ℕ) → HasUids (opening_by me rules store now word).watch
+opening_has me rules store now word node uid moment i = absurd i

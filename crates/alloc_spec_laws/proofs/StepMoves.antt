@@ -18,7 +18,8 @@ use Rattle.alloc_spec.specs.Accepted.{setting_for}
 use Rattle.alloc_spec.specs.StepState.{StepState, message_made, initial_state}
 use Rattle.alloc_spec.specs.Step.{Event, all_nodes, at_moment, at_step, begin_phase, event_phase, moment_of, after_pop, step, with_answer, with_sessions}
 use Rattle.alloc_spec.specs.Step.Event.{Rx, Tick}
-use Rattle.alloc_spec.specs.AllocatorState.{AllocatorState, members_of, opening}
+use Rattle.alloc_spec.specs.AllocatorState.{AllocatorState, members_of}
+use Rattle.alloc_spec.specs.Rules.{Rules, opening_by}
 use Rattle.alloc_spec.specs.Transfers.{Offer, message_of}
 use Rattle.alloc_spec_laws.specs.Coming.{AnswerFrom, Begins, IsOfTheMachine, KeepsOrder, MayStep, SaysFrom}
 use Rattle.alloc_spec_laws.specs.LawsBelow.{Laws}
@@ -131,8 +132,8 @@ module _ (laws : Laws) where
         calls = s.0.own;
       }
 
-pub opening_keeps : (laws : Laws) (me size : ℕ) (store : Store) (now word : ℕ) → KeepsOrder (opening me size store now word)
-opening_keeps laws me size store now word = record { counting = λ counts. absurd (counts refl); fit = laws.opens_fit me store; calls = own_none me }
+pub opening_keeps : (laws : Laws) (me : ℕ) (rules : Rules) (store : Store) (now word : ℕ) → KeepsOrder (opening_by me rules store now word)
+opening_keeps laws me rules store now word = record { counting = λ counts. absurd (counts refl); fit = laws.opens_fit me store; calls = own_none me }
 
 pub popped_keeps : (t : AllocatorState) → KeepsOrder t → KeepsOrder (after_pop t)
 popped_keeps t h = record { counting = h.counting; fit = h.fit; calls = h.calls }
