@@ -14,20 +14,26 @@ ghost use Rattle.alloc_spec.specs.StepState.{with_response_to, with_transfer};
 ghost use Rattle.alloc_spec.specs.Step.{at_sessions, begin_phase};
 ghost use Rattle.transfer_rx.specs.Sessions.{Session};
 ghost use Rattle.alloc_spec.specs.AllocatorState.{AllocatorState, may_propose, members_of, opening, recorded_at, status_of};
+ghost use Rattle.alloc_spec.specs.Rules.{with_told};
 ghost use Rattle.alloc_spec.specs.Transfers.{pair_in, has_room, ident_of};
 ghost use Rattle.transfer_rx.specs.Told.{delivery_of};
 
 use crate::puts::puts_go_on;
 use alloc_exchange::Exchange;
 use alloc_spec::{Offered, Outbox};
+use arrayvec::ArrayVec;
 use can_frame::{Role, Uid, What, is_same_uid};
 use cluster_discovery::Cluster;
+use cluster_discovery::laws::a_complete_list_stays;
 use disk_model::Disk;
-use dsdl_codec::{NodeStatus, Payload};
+use dsdl_codec::{Discovery, NodeStatus, Payload};
 use node_discovery::Watch;
 use raft_core::Raft;
 use raft_log::Durable;
 use transfer_rx::Transfer;
+
+/// No node has this ID, and it joins no list of members.
+const NOBODY: u8 = 0;
 
 /// A member of the cluster, without its receiver: what is done with whole transfers and with time.
 /// Moments are milliseconds.
@@ -108,6 +114,32 @@ impl<D: Disk> Member<D> {
         self.opened_at = now;
         self.latest = now;
         self.status_at = now;
+    }
+
+    /// Tells it all members of its cluster. They are learnt as from a Discovery of nobody's, to which nothing is
+    /// owed; an empty list changes nothing.
+    pub fn learn(&mut self, nodes: &[u8])
+        requires ready { IsReady self.old }
+        requires few { length nodes.now ≤ 5 }
+        ensures stands { (t : AllocatorState) → StandsFor self.old t →
+            StandsFor self.new (with_told nodes.now t) }
+        ensures rest { self.new ≡ record self.old { cluster = self.new.cluster } }
+        ensures ready { IsReady self.new }
+    {
+        a_complete_list_stays();
+        if nodes.is_empty() {
+            return;
+        }
+        match ArrayVec::try_from(nodes) {
+            Ok(known) => {
+                let message = Discovery {
+                    size: self.size,
+                    known,
+                };
+                self.cluster.heard(NOBODY, &message);
+            }
+            Err(_) => unreachable!(),
+        }
     }
 
     /// How each step begins: time goes on, never back, and old calls are given up.

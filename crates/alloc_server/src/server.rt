@@ -25,6 +25,7 @@ ghost use Rattle.transfer_rx.specs.Memory.{ReceiverFitsInMemory};
 ghost use Rattle.alloc_spec.specs.Step.{after_pop};
 ghost use Rattle.alloc_spec.specs.Step as steps;
 ghost use Rattle.alloc_spec.specs.AllocatorState.{AllocatorState, entry_of, opening, view_of};
+ghost use Rattle.alloc_spec.specs.Rules.{with_told};
 
 use crate::take::take;
 use alloc_handlers::Member;
@@ -233,6 +234,21 @@ impl<D: Disk, F: Copy> Server<D, F> {
         self.receiver.reset(me);
         self.fault = None;
         Ok(())
+    }
+
+    /// Tells a server that is open all members of its cluster: so it has heard them before its first step, where
+    /// it is told at its opening. An empty list changes nothing, nor does a server that is closed or has failed.
+    pub fn learn(&mut self, nodes: &[u8])
+        requires few { length nodes.now ≤ 5 }
+        ensures stands { (t : AllocatorState) → IsAt self.old t → IsAt self.new (with_told nodes.now t) }
+        ensures accepts { closure_in self.new ≡ closure_in self.old }
+        ensures durable { durable_at self.new ≡ durable_at self.old }
+        ensures fault { fault_at self.new ≡ fault_at self.old }
+        ensures queued { waiting self.new ≡ waiting self.old }
+    {
+        if self.fault.is_none() {
+            self.member.learn(nodes);
+        }
     }
 
     /// What `step` does, with a closure that is handed in.

@@ -6,6 +6,7 @@ pub mod Extends
 pub mod StepState
 pub mod Judging
 pub mod Outbox
+pub mod Rules
 pub mod Services
 pub mod Step
 pub mod Tick

@@ -1,7 +1,8 @@
 //! Laws of a step that ends, each the contract of a function that does nothing.
 
-ghost use Rattle.std.specs.Prelude.{Some, ◌≡◌, ◌≢◌, ◌⊎◌, ◌<◌, ◌≤◌, ℕ, true, List, length, max};
+ghost use Rattle.std.specs.Prelude.{Some, false, ◌≡◌, ◌≢◌, ◌⊎◌, ◌<◌, ◌≤◌, ℕ, true, List, length, max};
 ghost use Rattle.can_frame.specs.declared.step.What.TheVariants.{Disc};
+ghost use Rattle.cluster_discovery.specs.Members.{is_due};
 ghost use Rattle.dsdl_codec.specs.Discovery.{discovery_bytes, discovery_of};
 ghost use Rattle.dsdl_codec.specs.declared.discovery.Discovery.{Discovery};
 ghost use Rattle.raft_core.specs.Times.{has_waited};
@@ -28,7 +29,8 @@ ghost use Rattle.alloc_spec.specs.StepState.{pairs};
 ghost use Rattle.alloc_spec.specs.Step.{Event, after_pop, step};
 ghost use Rattle.alloc_spec.specs.Step.Event.{Tick};
 ghost use Rattle.alloc_spec.specs.Tick.{discovery_of as own_discovery};
-ghost use Rattle.alloc_spec.specs.AllocatorState.{AllocatorState, knows_all, members_of, opening};
+ghost use Rattle.alloc_spec.specs.AllocatorState.{AllocatorState, knows_all, members_of, start_of};
+ghost use Rattle.alloc_spec.specs.Rules.{IsToldAll, Rules, opening_by};
 ghost use Rattle.alloc_spec.specs.Transfers.{Given, Offer};
 
 use can_frame::laws::{identifiers_both_ways, logs_stay_injective};
@@ -52,8 +54,8 @@ pub fn transfers_of_a_step_are_apart()
 /// transfers of a sound server have transfer IDs below 32, and a node as their destination, or 0
 /// for messages. Its own node ID and the size of its cluster never change.
 pub fn steps_stay_in_range()
-    ensures opening { (me size : ℕ) (store : Store) (now word : ℕ) → size ≤ 5 →
-        IsSound (opening me size store now word) }
+    ensures opening { (me : ℕ) (rules : Rules) (store : Store) (now word : ℕ) → rules.size ≤ 5 →
+        IsSound (opening_by me rules store now word) }
     ensures step { FromSound (λ step_state. IsSound step_state.allocator) }
     ensures popped { (t : AllocatorState) → IsSound t → IsSound (after_pop t) }
     ensures transfers { FromSound (λ step_state. (offer : Offer) → In offer step_state.offers →
@@ -96,8 +98,8 @@ pub fn calls_of_a_step()
         CallsAreMade number t (step t number event).step_state }
     ensures kept { (t : AllocatorState) (number : ℕ) (event : Event) → KeepsCalls t →
         KeepsCalls (step t number event).step_state.allocator }
-    ensures opening { (me size : ℕ) (store : Store) (now word : ℕ) →
-        KeepsCalls (opening me size store now word) }
+    ensures opening { (me : ℕ) (rules : Rules) (store : Store) (now word : ℕ) →
+        KeepsCalls (opening_by me rules store now word) }
     ensures popped { (t : AllocatorState) → KeepsCalls t → KeepsCalls (after_pop t) }
 {}
 
@@ -111,17 +113,25 @@ pub fn moves_of_a_step()
         Begins t local_state → IsOfTheMachine members t.me number bag local_state (step t number event).step_state) }
     ensures keeps { WhereItMayStep (λ members bag t number event.
         KeepsOrder (step t number event).step_state.allocator) }
-    ensures opening { (me size : ℕ) (store : Store) (now word : ℕ) →
-        KeepsOrder (opening me size store now word) }
+    ensures opening { (me : ℕ) (rules : Rules) (store : Store) (now word : ℕ) →
+        KeepsOrder (opening_by me rules store now word) }
     ensures popped { (t : AllocatorState) → KeepsOrder t → KeepsOrder (after_pop t) }
 {
     laws_below();
 }
 
-/// The list of members after a step: who is new on it was named by the Discovery that the step was
+/// The list of members at an opening has the member itself and whom it is told alone; one that is told all
+/// knows all, and owes no Discovery at any moment, so that it sends none of its own accord. After a step: who is new on it was named by the Discovery that the step was
 /// delivered, who was on it stays, and a list that is complete does not change. A Discovery that a
 /// step offers has the size of the cluster and the list as it was before the step.
 pub fn members_of_a_step()
+    ensures opening { (me : ℕ) (rules : Rules) (store : Store) (now word node : ℕ) →
+        In node (members_of (opening_by me rules store now word)) → (node ≡ me) ⊎ In node rules.told }
+    ensures all { (me : ℕ) (rules : Rules) (store : Store) (now word : ℕ) → 1 ≤ me → IsToldAll me rules →
+        knows_all (opening_by me rules store now word) ≡ true }
+    ensures quiet { (me : ℕ) (rules : Rules) (store : Store) (now word moment : ℕ) → 1 ≤ me →
+        IsToldAll me rules → let t = opening_by me rules store now word in
+        is_due (start_of t) t.heard moment ≡ false }
     ensures named { (t : AllocatorState) (number : ℕ) (event : Event) (node : ℕ) →
         In node (members_of (step t number event).step_state.allocator) →
         In node (members_of t) ⊎ IsNamed t number event node }
@@ -150,8 +160,8 @@ pub fn proposals_of_a_step()
         RecordsUids (step t number event).step_state }
     ensures keeps { (t : AllocatorState) (number : ℕ) (event : Event) → HasUids t.watch →
         HasUids (step t number event).step_state.allocator.watch }
-    ensures opening { (me size : ℕ) (store : Store) (now word : ℕ) →
-        HasUids (opening me size store now word).watch }
+    ensures opening { (me : ℕ) (rules : Rules) (store : Store) (now word : ℕ) →
+        HasUids (opening_by me rules store now word).watch }
     ensures popped { (t : AllocatorState) → HasUids t.watch → HasUids (after_pop t).watch }
 {}
 
