@@ -1,4 +1,4 @@
-ghost use Rattle.std.specs.Prelude.{◌≡◌, ◌≤◌, ◌↔◌, ◌⊎◌, ℕ, Bool, List, Some, length, map, string_bytes, IsTrue};
+ghost use Rattle.std.specs.Prelude.{◌≡◌, ◌≤◌, ◌↔◌, ◌⊎◌, ℕ, Bool, List, [], Some, length, map, string_bytes, IsTrue};
 ghost use Rattle.cmd_decode.specs.Ends.{Decodes};
 ghost use Rattle.cmd_bus_logs.specs.Converted.{Converts};
 ghost use Rattle.cmd_bus_logs.specs.Watched.{Watches};

@@ -179,4 +179,8 @@ one_row same_frame (ASend a) (ASend a') line x y =
 one_row same_frame (AEnd a) (AEnd a') line x y =
     let same = sym x.spelled ∙ y.spelled in
     ap AEnd (one_number a a' (omega (arith, x.fields)) (omega (arith, y.fields)) (cc same))
+one_row same_frame (Open n false ms word) b line x y = let letters = ap first_letters (one_name (Open n false ms word) b line x.spelled y.spelled) in absurd (omega arith)
+one_row same_frame (Open n true ms word) b line x y = let letters = ap first_letters (one_name (Open n true ms word) b line x.spelled y.spelled) in absurd (omega arith)
+one_row same_frame a (Open n false ms word) line x y = let letters = ap first_letters (one_name a (Open n false ms word) line x.spelled y.spelled) in absurd (omega arith)
+one_row same_frame a (Open n true ms word) line x y = let letters = ap first_letters (one_name a (Open n true ms word) line x.spelled y.spelled) in absurd (omega arith)
 one_row same_frame a b line x y = let letters = ap first_letters (one_name a b line x.spelled y.spelled) in absurd (omega arith)
