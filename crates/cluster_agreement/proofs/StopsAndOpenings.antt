@@ -259,7 +259,7 @@ module _ (laws : DiskLaws) (opening_laws : OpeningLaws)
     abbrev up_member : Member
     up_member = record (w.member n) { status = Up (opening_by n (rules_of w.ids told) (store_of (opening_on disk).store) ms word); disk = opening_on disk }
 
-    is_up : after_opening_by n (rules_of w.ids told) ms word (w.member n) ≡ up_member
+    is_up : after_opening n (rules_of w.ids told) ms word (w.member n) ≡ up_member
     is_up = ap (λ (b : Bool). if b then up_member else after_failed_opening (w.member n) (opening_on disk)) opens
 
     pub may_open : MayOccur run (Opens n)
@@ -305,7 +305,7 @@ module _ (laws : DiskLaws) (opening_laws : OpeningLaws)
     finds : AlwaysFinds (opening_on disk) (run.server n).store
     finds = cut_finds laws disk (run.server n).store (down_finds run n disk down)
 
-    is_unopened : after_opening_by n (rules_of w.ids told) ms word (w.member n) ≡ after_failed_opening (w.member n) (opening_on disk)
+    is_unopened : after_opening n (rules_of w.ids told) ms word (w.member n) ≡ after_failed_opening (w.member n) (opening_on disk)
     is_unopened = ap (λ (b : Bool). if b then record (w.member n) { status = Up (opening_by n (rules_of w.ids told) (store_of (opening_on disk).store) ms word); disk = opening_on disk }
         else after_failed_opening (w.member n) (opening_on disk)) fails
 
