@@ -4,6 +4,7 @@ use Rattle.disk_model.specs.declared.disk.Disk.{Ghosts}
 use Rattle.outside.specs.declared.received.RawFrame.{RawFrame}
 use Rattle.outside.specs.declared.received.Received.{Received}
 use Rattle.cmd_base.specs.declared.status.Status.{Status}
+use Rattle.alloc_spec.specs.Rules.{Rules}
 use Rattle.cluster_spec.specs.Cluster.{AreMembers, cluster}
 use Rattle.cmd_base.specs.declared.status.Status.TheVariants.{Done, Usage, BadRow, Unlawful, ReadFault, WriteFault, Memory, Limit, LinkFault, DiskFault, Damaged, Differ, NoPart, NoValue}
 use Rattle.cmd_node.specs.CutRun.{IsCutAtOpening, IsCutAtTurn, KeepsImages, KeepsOrOpens}
@@ -17,21 +18,21 @@ use Rattle.allocator_app.specs.Nodes.{IsCutInTraces, IsDoneInTraces, RunsInTrace
 use Rattle.allocator_app.specs.Promise.{KeepsPromise}
 
 module _ {L D : Type 0} (coming : L → Option (List Received)) (sent : L → Option (List RawFrame)) (link_faults : L → ℕ) (disk : Ghosts D)
-    (size turns : ℕ) (mine : List ℕ) (links_old links : List L) (disks_old disks : List (Option D)) (readings_old readings : Option (List ℕ))
+    (rules : Rules) (turns : ℕ) (mine : List ℕ) (links_old links : List L) (disks_old disks : List (Option D)) (readings_old readings : Option (List ℕ))
     (faults_old faults : ℕ) (before now : Option (List ℕ)) (status : Status) where
   abbrev Ended : Status → Type 0
-  Ended = LeavesWith coming sent link_faults disk size turns mine links_old links disks_old disks readings_old readings before now
+  Ended = LeavesWith coming sent link_faults disk rules turns mine links_old links disks_old disks readings_old readings before now
 
-  module _ (done : (ids mine : List ℕ) (before during : List Event) (size turns : ℕ) (given : Given) (links : List L) (disks : List (Option D)) (readings : Option (List ℕ)) →
-      IsRunIn ids before during size mine given (Turning turns 0) → LeavesAll coming sent disk links disks readings (length mine) (after_turns size turns mine given) →
+  module _ (done : (ids mine : List ℕ) (before during : List Event) (rules : Rules) (turns : ℕ) (given : Given) (links : List L) (disks : List (Option D)) (readings : Option (List ℕ)) →
+      IsRunIn ids before during rules mine given (Turning turns 0) → LeavesAll coming sent disk links disks readings (length mine) (after_turns rules turns mine given) →
       let w = world_after ids before in LeavesAsTold sent disk links disks mine given w (world_after ids (before ++ during)) (all_rows during w))
-      (cut : (ids mine : List ℕ) (before during : List Event) (size taken place : ℕ) (given : Given) (links : List L) (disks : List (Option D)) (readings : Option (List ℕ)) →
-      place < length mine → IsRunIn ids before during size mine given (Turning taken place) → let all = together_at size mine given taken place in
+      (cut : (ids mine : List ℕ) (before during : List Event) (rules : Rules) (taken place : ℕ) (given : Given) (links : List L) (disks : List (Option D)) (readings : Option (List ℕ)) →
+      place < length mine → IsRunIn ids before during rules mine given (Turning taken place) → let all = together_at rules mine given taken place in
       IsCutAtTurn coming sent disk links disks readings (length mine) all place → let w = world_after ids before in
       IsCutAsTold coming sent disk links disks mine given w (world_after ids (before ++ during)) (all_rows during w) all place)
       (promise : (ids : List ℕ) (trace : List Event) → AreMembers ids → MayAllHappen trace (cluster ids) → KeepsPromise ids (all_rows trace (cluster ids))) where
     cut_in_traces : (given : Given) (id : ℕ) → Tell coming sent disk links_old disks_old readings_old given →
-        IsCutInTurn coming sent link_faults disk size turns mine links_old links disks_old disks readings_old readings id → IsCutInTraces coming sent disk links disks size mine given id
+        IsCutInTurn coming sent link_faults disk rules turns mine links_old links disks_old disks readings_old readings id → IsCutInTraces coming sent disk links disks rules mine given id
     cut_in_traces given id tell is =
         let left = is.left given tell in
         let turn = left.turn in record {
@@ -39,7 +40,7 @@ module _ {L D : Type 0} (coming : L → Option (List Received)) (sent : L → Op
           place = turn.place;
           within = turn.within;
           id_is = turn.named;
-          told = λ ids first rest stands. cut ids mine first rest size left.taken turn.place given links disks readings turn.within stands turn.cut;
+          told = λ ids first rest stands. cut ids mine first rest rules left.taken turn.place given links disks readings turn.within stands turn.cut;
           promise = λ ids first rest stands. promise ids (first ++ rest) stands.members stands.may;
         }
 
@@ -58,14 +59,14 @@ module _ {L D : Type 0} (coming : L → Option (List Received)) (sent : L → Op
       others = o.others;
     }
 
-    done_in_traces : (given : Given) → Tell coming sent disk links_old disks_old readings_old given → IsDone coming sent link_faults disk size turns mine links_old links disks_old disks readings_old readings → IsDoneInTraces coming sent disk links disks size mine given turns
+    done_in_traces : (given : Given) → Tell coming sent disk links_old disks_old readings_old given → IsDone coming sent link_faults disk rules turns mine links_old links disks_old disks readings_old readings → IsDoneInTraces coming sent disk links disks rules mine given turns
     done_in_traces given tell is = record {
-      told = λ ids first rest stands. done ids mine first rest size turns given links disks readings stands (is.left given tell);
+      told = λ ids first rest stands. done ids mine first rest rules turns given links disks readings stands (is.left given tell);
       promise = λ ids first rest stands. promise ids (first ++ rest) stands.members stands.may;
     }
 
-    by_end : (given : Given) → Tell coming sent disk links_old disks_old readings_old given → (ended : Status) → IsEnd coming sent link_faults disk size turns mine links_old links disks_old disks readings_old readings ended →
-        IsDoneInTraces coming sent disk links disks size mine given turns ⊎ ((id : ℕ) × (AtOpening id ⊎ IsCutInTraces coming sent disk links disks size mine given id))
+    by_end : (given : Given) → Tell coming sent disk links_old disks_old readings_old given → (ended : Status) → IsEnd coming sent link_faults disk rules turns mine links_old links disks_old disks readings_old readings ended →
+        IsDoneInTraces coming sent disk links disks rules mine given turns ⊎ ((id : ℕ) × (AtOpening id ⊎ IsCutInTraces coming sent disk links disks rules mine given id))
     by_end given tell Done end = inl (done_in_traces given tell end)
     by_end given tell (LinkFault id) end = inr (id, inr (cut_in_traces given id tell end.1))
     by_end given tell (DiskFault id) end = inr (
@@ -87,12 +88,12 @@ module _ {L D : Type 0} (coming : L → Option (List Received)) (sent : L → Op
     by_end given tell NoPart end = absurd end
     by_end given tell NoValue end = absurd end
 
-    pub in_traces : RunsNodes coming sent link_faults disk size turns mine links_old links disks_old disks readings_old readings faults_old faults before now status →
-        RunsInTraces coming sent link_faults disk size turns mine links_old links disks_old disks readings_old readings faults_old faults before now status
+    pub in_traces : RunsNodes coming sent link_faults disk rules turns mine links_old links disks_old disks readings_old readings faults_old faults before now status →
+        RunsInTraces coming sent link_faults disk rules turns mine links_old links disks_old disks readings_old readings faults_old faults before now status
     in_traces runs = record {
       runs = runs;
       done = λ given tell over. let left = subst Ended over runs.leaves in record {
-        told = λ ids first rest stands. done ids mine first rest size turns given links disks readings stands (left.end.left given tell);
+        told = λ ids first rest stands. done ids mine first rest rules turns given links disks readings stands (left.end.left given tell);
         promise = λ ids first rest stands. promise ids (first ++ rest) stands.members stands.may;
       };
       cut = λ given id tell ends. elim ends [

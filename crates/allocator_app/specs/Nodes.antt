@@ -5,6 +5,7 @@ use Rattle.outside.specs.declared.received.RawFrame.{RawFrame}
 use Rattle.outside.specs.declared.received.Received.{Received}
 use Rattle.cmd_base.specs.declared.status.Status.{Status}
 use Rattle.cmd_base.specs.declared.status.Status.TheVariants.{Done, WriteFault}
+use Rattle.alloc_spec.specs.Rules.{Rules}
 use Rattle.cmd_node.specs.CutRun.{EndsAt, IsCutAtOpening, KeepsOrOpens}
 use Rattle.cmd_node.specs.Nodes.{RunsNodes}
 use Rattle.cmd_node.specs.Opening.{Given}
@@ -18,16 +19,16 @@ use Rattle.allocator_app.specs.Promise.{KeepsPromise}
 -- ---- the traces of a cluster in which the run of these members stands, which went on to a point
 
 module _ {L D : Type 0} (coming : L → Option (List Received)) (sent : L → Option (List RawFrame)) (disk : Ghosts D)
-    (links : List L) (disks : List (Option D)) (size : ℕ) (mine : List ℕ) (given : Given) where
+    (links : List L) (disks : List (Option D)) (rules : Rules) (mine : List ℕ) (given : Given) where
   -- the promise holds along the rows of each of them
   abbrev pub KeepsInTraces : Point → Type 0
-  KeepsInTraces to = (ids : List ℕ) (before during : List Event) → IsRunIn ids before during size mine given to →
+  KeepsInTraces to = (ids : List ℕ) (before during : List Event) → IsRunIn ids before during rules mine given to →
       KeepsPromise ids (all_rows (before ++ during) (cluster ids))
 
   -- The run came to its end: in each trace what was sent and is stored is what the world of its rows says
   pub record IsDoneInTraces (turns : ℕ) : Type 0 where
     pub told : (ids : List ℕ) (before during : List Event) →
-        IsRunIn ids before during size mine given (Turning turns 0) → let w = world_after ids before in
+        IsRunIn ids before during rules mine given (Turning turns 0) → let w = world_after ids before in
         LeavesAsTold sent disk links disks mine given w (world_after ids (before ++ during)) (all_rows during w)
     pub promise : KeepsInTraces (Turning turns 0)
 
@@ -39,26 +40,26 @@ module _ {L D : Type 0} (coming : L → Option (List Received)) (sent : L → Op
     pub within : place < length mine
     pub id_is : slice_index mine place ≡ id
     pub told : (ids : List ℕ) (before during : List Event) →
-        IsRunIn ids before during size mine given (Turning taken place) → let w = world_after ids before in
+        IsRunIn ids before during rules mine given (Turning taken place) → let w = world_after ids before in
         IsCutAsTold coming sent disk links disks mine given w (world_after ids (before ++ during)) (all_rows during w)
-        (together_at size mine given taken place) place
+        (together_at rules mine given taken place) place
     pub promise : KeepsInTraces (Turning taken place)
 
 -- what it leaves and writes; and, where links, disks and the clock tell what they have, what it is in the traces of a
 -- cluster. A run that was cut off at an opening touched no link; one whose output failed is one of the three
 pub record RunsInTraces {L D : Type 0} (coming : L → Option (List Received)) (sent : L → Option (List RawFrame))
-    (link_faults : L → ℕ) (disk : Ghosts D) (size turns : ℕ) (ids : List ℕ) (links_old links : List L)
+    (link_faults : L → ℕ) (disk : Ghosts D) (rules : Rules) (turns : ℕ) (ids : List ℕ) (links_old links : List L)
     (disks_old disks : List (Option D)) (readings_old readings : Option (List ℕ)) (faults_old faults : ℕ)
     (before now : Option (List ℕ)) (status : Status) : Type 0 where
-  pub runs : RunsNodes coming sent link_faults disk size turns ids links_old links disks_old disks readings_old readings
+  pub runs : RunsNodes coming sent link_faults disk rules turns ids links_old links disks_old disks readings_old readings
       faults_old faults before now status
   pub done : (given : Given) → Tell coming sent disk links_old disks_old readings_old given → status ≡ Done →
-      IsDoneInTraces coming sent disk links disks size ids given turns
+      IsDoneInTraces coming sent disk links disks rules ids given turns
   pub cut : (given : Given) (id : ℕ) → Tell coming sent disk links_old disks_old readings_old given →
       EndsAt id status →
       IsCutAtOpening disk ids links_old links disks_old disks readings_old readings (KeepsOrOpens disk) id
-      ⊎ IsCutInTraces coming sent disk links disks size ids given id
+      ⊎ IsCutInTraces coming sent disk links disks rules ids given id
   pub broken : (given : Given) → Tell coming sent disk links_old disks_old readings_old given → status ≡ WriteFault →
-      IsDoneInTraces coming sent disk links disks size ids given turns
+      IsDoneInTraces coming sent disk links disks rules ids given turns
       ⊎ ((id : ℕ) × (IsCutAtOpening disk ids links_old links disks_old disks readings_old readings (KeepsOrOpens disk) id
-      ⊎ IsCutInTraces coming sent disk links disks size ids given id))
+      ⊎ IsCutInTraces coming sent disk links disks rules ids given id))

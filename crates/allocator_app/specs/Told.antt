@@ -1,6 +1,7 @@
 -- What the members of a cluster are told of it, as a word spells it.
 use Rattle.std.specs.Prelude.{◌≡◌, ◌≤◌, ◌==◌, ℕ, List, [], ◌∷◌, decimal, length, map, slice_index, EachIndex}
 use Rattle.std.specs.List.{Contains, slice_split}
+use Rattle.alloc_spec.specs.Rules.{Rules, rules_by}
 use Rattle.cluster_spec.specs.Cluster.{AreMembers}
 use Rattle.allocator_app.specs.declared.told.Told.{Told}
 use Rattle.allocator_app.specs.declared.told.Told.TheVariants.{Size, Members}
@@ -9,6 +10,15 @@ use Rattle.allocator_app.specs.declared.told.Told.TheVariants.{Size, Members}
 abbrev pub size_of : Told → ℕ
 size_of (Size size) = size
 size_of (Members members) = length members.items
+
+-- the members that are told; none where their number alone is
+abbrev pub list_of : Told → List ℕ
+list_of (Size size) = []
+list_of (Members members) = members.items
+
+-- the rules by which a member is opened that is told this
+abbrev pub rules_of : Told → Rules
+rules_of told = rules_by (size_of told) (list_of told)
 
 -- 1 to 5 members, which have different node IDs where these are told
 abbrev pub IsCluster : Told → Type 0

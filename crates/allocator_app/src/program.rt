@@ -18,7 +18,7 @@ ghost use Rattle.allocator_app.specs.Report.{IsBegun, IsReport, IsToTheEnd};
 ghost use Rattle.allocator_app.specs.Rows.{IsTold, Replays};
 ghost use Rattle.allocator_app.specs.Soaking.{Soaks};
 ghost use Rattle.allocator_app.specs.Words.{AreAbsent, AreGiven, AreNone, ArePresent, AreStored, Asks, HasObjects, Reads, UsesDisks, UsesLinks};
-ghost use Rattle.allocator_app.specs.Told.{size_of};
+ghost use Rattle.allocator_app.specs.Told.{rules_of};
 ghost use Rattle.allocator_app.specs.Words.{IsAsked, IsAudit, IsConvert, IsDecode, IsNew, IsNode, IsReplay, IsSoak, IsSound, IsWatch};
 ghost use Rattle.allocator_app.specs.declared.told.Told.{Told};
 
@@ -156,7 +156,7 @@ pub fn run<S: Source, K: Sink, L: Link, D: Disk, C: Clock>(
     // which the run stands it is what the world of the trace says, along whose rows the promise holds.
     ensures nodes { (told : Told) (base turns : ℕ) (ids : List ℕ) →
         IsNode told base turns ids (map string_bytes words.now) →
-        (result ≡ Status.Usage) ⊎ RunsInTraces L.coming L.sent L.faults D.Disk (size_of told) turns ids
+        (result ≡ Status.Usage) ⊎ RunsInTraces L.coming L.sent L.faults D.Disk (rules_of told) turns ids
         links.old links.new disks.old disks.new (C.readings clock.old) (C.readings clock.new)
         (K.faults sink.old) (K.faults sink.new) (K.written sink.old) (K.written sink.new) result }
     // Stores that are made: what is written, and that each disk has zeros then, all of them stable.
@@ -285,7 +285,7 @@ fn follow<S: Source, K: Sink, L: Link, D: Disk, C: Clock>(
             turns,
             ids,
             ..
-        } => node(alloc, told.size(), turns, &ids, sink, links, disks, clock),
+        } => node(alloc, told.size(), told.list(), turns, &ids, sink, links, disks, clock),
         Plan::Soak { seed, rounds, size } => soak(alloc, seed, rounds, size, sink),
         Plan::New { ids } => make_stores(&ids, disks, sink),
         Plan::Audit { ids } => audit_stores(&ids, disks, sink),

@@ -2,7 +2,7 @@ ghost use Rattle.std.specs.Prelude.{◌≡◌, ◌≤◌, ◌<◌, ◌↔◌, �
 ghost use Rattle.std.specs.List.{Contains, position_or_len};
 ghost use Rattle.raft_model.specs.Lists.{In};
 ghost use Rattle.allocator_app.specs.declared.told.Told.{Told};
-ghost use Rattle.allocator_app.specs.Told.{AreAmong, IsCluster, Spells, commas, list_parts, size_of};
+ghost use Rattle.allocator_app.specs.Told.{AreAmong, IsCluster, Spells, commas, list_of, list_parts, size_of};
 
 use crate::words::number_within;
 use arrayvec::ArrayVec;
@@ -28,6 +28,17 @@ impl Told {
         match self {
             Told::Size(size) => *size,
             Told::Members(members) => members.len() as u8,
+        }
+    }
+
+    /// The node IDs of the members, where these are told; else none.
+    pub fn list(&self) -> &[u8]
+        ensures list { result.now ≡ list_of self.now }
+        ensures size { length result.now ≤ size_of self.now }
+    {
+        match self {
+            Told::Size(_) => &[],
+            Told::Members(members) => members.as_slice(),
         }
     }
 

@@ -152,7 +152,7 @@ module _ {F : Type 0} (world : Members F) (c : Cluster) (stands : StandsFor worl
   -- the logs after the row are well formed
   pub offers_own : (row : Row) → ((n : ℕ) → In n (effect_of c row).ids → AreFormed ((effect_of c row).member n).status) → cause c row ≡ None
       → OffersItsOwn c row
-  offers_own (Open n ms word) formed lawful = tt
+  offers_own (Open n told ms word) formed lawful = tt
   offers_own (Tick n ms word) formed lawful =
       let listed = in_if c.ids n (listed_by (is_member c.ids n) _ lawful) in own_at n (tick_of ms word) listed (formed n listed)
   offers_own (Rx n k ms) formed lawful =

@@ -1,5 +1,5 @@
 -- A member after an opening.
-use Rattle.std.proofs.Common.{◌≡◌, ℕ, Bool, true, false, length, refl, sym, ap, subst, ◌∙◌}
+use Rattle.std.proofs.Common.{◌≡◌, ℕ, List, Bool, true, false, length, refl, sym, ap, subst, ◌∙◌}
 use Rattle.std.specs.Prelude.{if◌then◌else◌}
 use Rattle.disk_model.specs.declared.disk.Disk.{Ghosts}
 use Rattle.disk_model.specs.declared.memory.MemoryDisk.{MemoryDisk}
@@ -8,13 +8,15 @@ use Rattle.kv_store.specs.declared.fault.OpenFault.{OpenFault}
 use Rattle.kv_store.specs.declared.fault.OpenFault.TheVariants.{Fault as DiskFault, Damaged}
 use Rattle.kv_store.specs.KeyDisk.{KeyDisk, restarted_on}
 use Rattle.raft_core.specs.StoredPuts.{store_of}
+use Rattle.raft_log.specs.declared.durable.Durable.{Durable}
 use Rattle.raft_log.specs.DurableViews.{durable_state}
 use Rattle.raft_log.specs.KeyDisk.{IsKeyDisk, is_open_on, opening_on}
 use Rattle.raft_log.specs.Stored.{Stored}
 use Rattle.alloc_spec.specs.declared.event.View.{View}
-use Rattle.alloc_spec.specs.AllocatorState.{opening}
+use Rattle.alloc_spec.specs.Rules.{Rules, opening_by, rules_by}
 use Rattle.alloc_server.specs.declared.server.Server.{Server}
 use Rattle.alloc_server.specs.Server.{StandsFor, durable_of}
+use Rattle.cluster_spec.specs.Cluster.{rules_of}
 use Rattle.cluster_spec.specs.Members.{Member as MemberState, MemberStatus, after_opening, is_running, stopped_with}
 use Rattle.cluster_spec.specs.Members.MemberStatus.{Down, Up, Failed}
 use Rattle.cluster_spec.specs.Report.{line_of_failure, line_of_opening, line_of_stored}
@@ -26,8 +28,12 @@ use Rattle.bus_world.specs.declared.place.Place.{Place}
 
 -- ---- an opening that succeeded
 
-module _ {F : Type 0} {ghosts : Ghosts MemoryDisk} (server : Server MemoryDisk F ghosts) (id size now word : ℕ) (key_disk : KeyDisk Stored)
-    (open_on : is_open_on key_disk ≡ true) (on : IsKeyDisk (durable_of server) (opening_on key_disk)) where
+-- a server that was opened, and the same one when it was told its members, which its store does not know
+module _ {F : Type 0} {ghosts : Ghosts MemoryDisk} (opened server : Server MemoryDisk F ghosts) (kept : durable_of server ≡ durable_of opened) (id : ℕ)
+    (key_disk : KeyDisk Stored) (open_on : is_open_on key_disk ≡ true) (on_opened : IsKeyDisk (durable_of opened) (opening_on key_disk)) where
+  on : IsKeyDisk (durable_of server) (opening_on key_disk)
+  on = subst (λ (durable : Durable MemoryDisk ghosts). IsKeyDisk durable (opening_on key_disk)) (sym kept) on_opened
+
   abbrev state : Stored
   state = durable_state (durable_of server)
 
@@ -41,9 +47,17 @@ module _ {F : Type 0} {ghosts : Ghosts MemoryDisk} (server : Server MemoryDisk F
       ∙ (ap (line_of_stored id) on.state
       ∙ sym (ap (λ (b : Bool). if b then line_of_stored id (opening_on key_disk).store else line_of_failure id (opening_on key_disk)) open_on)))))
 
-  pub is_up : StandsFor server (opening id size (store_of state) now word)
-      → IsUpOn server (opening id size (store_of (opening_on key_disk).store) now word) (opening_on key_disk)
-  is_up stands = record { stands = subst (λ (s : Stored). StandsFor server (opening id size (store_of s) now word)) on.state stands; keeps = on }
+  pub is_up : (rules : Rules) (now word : ℕ) → StandsFor server (opening_by id rules (store_of (durable_state (durable_of opened))) now word)
+      → IsUpOn server (opening_by id rules (store_of (opening_on key_disk).store) now word) (opening_on key_disk)
+  is_up rules now word stands = record {
+    stands = subst (λ (s : Stored). StandsFor server (opening_by id rules (store_of s) now word)) on_opened.state stands;
+    keeps = on;
+  }
+
+-- the rules by which a member is opened, from what is told it
+pub same_rules : (ids list : List ℕ) (size : ℕ) (told : Bool) → size ≡ length ids → list ≡ (rules_of ids told).told → rules_by size list ≡ rules_of ids told
+same_rules ids list size told counted listed =
+    ap (λ (n : ℕ). rules_by n list) counted ∙ ap (λ (l : List ℕ). rules_by (length ids) l) listed
 
 -- ---- the place and the pattern of a member after an opening
 
@@ -52,9 +66,9 @@ module _ {F : Type 0} (place : Place F) where
       → HasStatus place (if b then x else y).status (if b then x else y).disk
   choice_by b c x y is e = subst (λ (d : Bool). HasStatus place (if d then x else y).status (if d then x else y).disk) (sym e) is
 
-  module _ (x : MemberState) (id size now word : ℕ) where
-    pub opened_by : place.runs ≡ true → IsUpOn place.server (opening id size (store_of (opening_on x.disk).store) now word) (opening_on x.disk) → is_open_on x.disk ≡ true
-        → HasStatus place (after_opening id size now word x).status (after_opening id size now word x).disk
+  module _ (x : MemberState) (id : ℕ) (rules : Rules) (now word : ℕ) where
+    pub opened_by : place.runs ≡ true → IsUpOn place.server (opening_by id rules (store_of (opening_on x.disk).store) now word) (opening_on x.disk) → is_open_on x.disk ≡ true
+        → HasStatus place (after_opening id rules now word x).status (after_opening id rules now word x).disk
     opened_by runs is e = choice_by (is_open_on x.disk) true _ _ (record { runs = runs; server = is }) e
 
     down_by : (disk : KeyDisk Stored) → (b : Bool) → HasStatus place Down (if b then restarted_on x.pattern disk else disk) →
@@ -63,7 +77,7 @@ module _ {F : Type 0} (place : Place F) where
     down_by disk false is = is
 
     pub unopened_by : HasStatus place Down (if (opening_on x.disk).calls.stopped then restarted_on x.pattern (opening_on x.disk) else opening_on x.disk)
-        → is_open_on x.disk ≡ false → HasStatus place (after_opening id size now word x).status (after_opening id size now word x).disk
+        → is_open_on x.disk ≡ false → HasStatus place (after_opening id rules now word x).status (after_opening id rules now word x).disk
     unopened_by is e = choice_by (is_open_on x.disk) false _ _ (down_by (opening_on x.disk) ((opening_on x.disk).calls.stopped) is) e
 
 -- a member that does not run is on its disk
@@ -79,8 +93,8 @@ pattern_by true c x a d e p q r = p
 pattern_by false true x a d e p q r = q
 pattern_by false false x a d e p q r = r
 
-pub pattern_kept : (id size now word : ℕ) (x : MemberState) → (after_opening id size now word x).pattern ≡ x.pattern
-pattern_kept id size now word x = pattern_by (is_open_on x.disk) ((opening_on x.disk).calls.stopped) x _ _ _ refl refl refl
+pub pattern_kept : (id : ℕ) (rules : Rules) (now word : ℕ) (x : MemberState) → (after_opening id rules now word x).pattern ≡ x.pattern
+pattern_kept id rules now word x = pattern_by (is_open_on x.disk) ((opening_on x.disk).calls.stopped) x _ _ _ refl refl refl
 
 -- ---- an opening that failed
 

@@ -1,4 +1,4 @@
-ghost use Rattle.std.specs.Prelude.{◌≡◌, ◌≤◌, ◌<◌, ℕ, true, false, IsNone, option_map, if◌then◌else◌};
+ghost use Rattle.std.specs.Prelude.{◌≡◌, ◌≤◌, ◌<◌, ℕ, true, false, length, IsNone, option_map, if◌then◌else◌};
 ghost use Rattle.kv_store.specs.KeyDisk.{KeyDisk, restarted_on};
 ghost use Rattle.raft_log.specs.Stored.{Stored};
 ghost use Rattle.transfer_rx.specs.Acceptance.{AnswersByRows};
@@ -6,6 +6,7 @@ ghost use Rattle.transfer_rx.specs.Memory.{ReceiverFitsInMemory};
 ghost use Rattle.transfer_rx.specs.Reassembly.{arrival_of};
 ghost use Rattle.transfer_tx.specs.Views.{queued_of};
 ghost use Rattle.alloc_spec.specs.Accepted as accepted;
+ghost use Rattle.alloc_spec.specs.Rules.{rules_by};
 ghost use Rattle.alloc_server.specs.Server.{event_of};
 ghost use Rattle.cluster_spec.specs.Lawful.{arrival_refusal, cause_of_judgement};
 ghost use Rattle.cluster_spec.specs.Members.{Member as MemberState, after_sending, with_stop_armed, with_failure_armed, fresh_member, is_running, next_frame, after_opening as opened_member, member_after_step as stepped_member, stopped_with};
@@ -81,15 +82,17 @@ impl<F: Fn(Kind, u16) -> Option<u64> + Copy> Member<F> {
         self.place.runs
     }
 
-    /// Opens a member that is stopped, in a cluster of this size.
-    pub fn open(&mut self, size: u8, moment: u64, word: u32) -> Told
+    /// Opens a member that is stopped, in a cluster of this size. It is told who the members are, where `told`
+    /// has them.
+    pub fn open(&mut self, size: u8, told: &[u8], moment: u64, word: u32) -> Told
         requires some { 1 ≤ size }
         requires five { size ≤ 5 }
+        requires few { length told.now ≤ 5 }
         requires memory { ReceiverFitsInMemory F.row 160 128 }
         ensures told { (x : MemberState) → StandsFor self.old x → is_running x.status ≡ false →
             report_line_of result ≡ line_of_opening self.old.id x.disk }
         ensures stands { (x : MemberState) → StandsFor self.old x → is_running x.status ≡ false →
-            StandsFor self.new (opened_member self.old.id size moment word x) }
+            StandsFor self.new (opened_member self.old.id (rules_by size told.now) moment word x) }
         ensures id { self.new.id ≡ self.old.id }
         ensures accepts { closure_of self.new.place ≡ closure_of self.old.place }
     {
@@ -99,6 +102,7 @@ impl<F: Fn(Kind, u16) -> Option<u64> + Copy> Member<F> {
         let n = self.id;
         match self.place.server.reopen(n, size, moment, word) {
             Ok(()) => {
+                self.place.server.learn(told);
                 self.place.runs = true;
                 opened(n, self.place.server.view())
             }

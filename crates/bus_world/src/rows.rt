@@ -1,12 +1,15 @@
 //! The rows that are for one member.
 
-ghost use Rattle.std.specs.Prelude.{◌≡◌, ◌<◌, IfOk, IfErr, IsErr, OnOk};
+ghost use Rattle.std.specs.Prelude.{◌≡◌, ◌<◌, ◌≤◌, length, IfOk, IfErr, IsErr, OnOk};
 ghost use Rattle.replay_text.specs.declared.row.Row.TheVariants.{Open, Tick, Crash, Fault};
 ghost use Rattle.transfer_rx.specs.Acceptance.{AnswersByRows};
 ghost use Rattle.transfer_rx.specs.Memory.{ReceiverFitsInMemory};
 ghost use Rattle.alloc_spec.specs.Accepted as accepted;
+ghost use Rattle.bus_world.specs.Members.{ids_of};
 ghost use Rattle.bus_world.specs.Patterns.{IsFilled};
+ghost use Rattle.cluster_spec.specs.Cluster.{rules_of};
 
+use crate::member::Member;
 use crate::members::Members;
 use alloc_server::Event;
 use arrayvec::ArrayVec;
@@ -19,18 +22,26 @@ use transfer_rx::AcceptRow;
 impl<F: Fn(Kind, u16) -> Option<u64> + Copy> Members<F> {
     ghost use Rattle.bus_world.specs.MemberRows.{Keeps, Leaves, Refuses, Tells};
 
-    /// A stopped member opens.
-    pub(crate) fn open(&mut self, n: u8, moment: u64, word: u32) -> Result<Told, Unlawful>
+    /// A stopped member opens. Where `told`, it is told who the members are.
+    pub(crate) fn open(
+        &mut self,
+        n: u8,
+        told: bool,
+        moment: u64,
+        word: u32,
+    ) -> Result<Told, Unlawful>
         requires memory { ReceiverFitsInMemory F.row 160 128 }
-        ensures refused { IfErr result (Refuses self.old (Open n moment word)) }
-        ensures told { IfOk result (Tells self.old (Open n moment word)) }
-        ensures leaves { OnOk result (Leaves self.old self.new (Open n moment word)) }
+        ensures refused { IfErr result (Refuses self.old (Open n told moment word)) }
+        ensures told { IfOk result (Tells self.old (Open n told moment word)) }
+        ensures leaves { OnOk result (Leaves self.old self.new (Open n told moment word)) }
         ensures unchanged { IsErr result → self.new ≡ self.old }
         ensures keeps { Keeps self.old self.new }
     {
-        let size = self.members.as_slice().len() as u8;
+        let members = self.members.as_slice();
+        let size = members.len() as u8;
+        let list = told_ids(members, told);
         match self.stopped(n) {
-            Ok(place) => Ok(self.members[place].open(size, moment, word)),
+            Ok(place) => Ok(self.members[place].open(size, &list, moment, word)),
             Err(why) => Err(why),
         }
     }
@@ -88,6 +99,32 @@ impl<F: Fn(Kind, u16) -> Option<u64> + Copy> Members<F> {
             Err(why) => Err(why),
         }
     }
+}
+
+/// Whom a member is told: all of these members, in their order, or nobody.
+fn told_ids<F>(members: &[Member<F>], told: bool) -> ArrayVec<u8, 5>
+    requires { length members.now ≤ 5 }
+    ensures told { result.items ≡ (rules_of (ids_of members.now) told).told }
+    ensures few { length result.items ≤ 5 }
+{
+    if told {
+        ids_of(members)
+    } else {
+        ArrayVec::new()
+    }
+}
+
+/// The node IDs of these members, in their order.
+fn ids_of<F>(members: &[Member<F>]) -> ArrayVec<u8, 5>
+    requires { length members.now ≤ 5 }
+    ensures ids { result.items ≡ ids_of members.now }
+    ensures few { length result.items ≤ 5 }
+{
+    let mut ids = ArrayVec::new();
+    for member in members {
+        ids.push(member.id);
+    }
+    ids
 }
 
 /// The rows that the receiver of a server or an allocatee is handed.

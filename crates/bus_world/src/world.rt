@@ -192,7 +192,7 @@ impl<F: Fn(Kind, u16) -> Option<u64> + Copy, G: Fn(Kind, u16) -> Option<u64> + C
         ensures keeps { Keeps self.old self.new }
     {
         match row {
-            Row::Open { n, ms, word } => self.members.open(*n, *ms, *word),
+            Row::Open { n, told, ms, word } => self.members.open(*n, *told, *ms, *word),
             Row::Tick { n, ms, word } => self.members.tick(*n, *ms, *word),
             Row::Rx { n, k, ms } => self.members.receive(*n, *k, *ms),
             Row::Send { n } => self.members.send(*n),

@@ -7,7 +7,7 @@ use Rattle.replay_text.specs.declared.row.Row.TheVariants.{Open, Tick, Rx, Send,
 -- a pattern of bytes has one at least, and a node ID that is preferred is below 128
 abbrev pub HasPattern : Row → Type 0
 HasPattern (Crash n calls pattern) = IsUsable pattern
-HasPattern (Open n ms word) = ⊤
+HasPattern (Open n told ms word) = ⊤
 HasPattern (Tick n ms word) = ⊤
 HasPattern (Rx n k ms) = ⊤
 HasPattern (Send n) = ⊤

@@ -64,6 +64,7 @@ fn is_filled(row: &Row) -> bool
         } => is_usable(pattern),
         Row::Open {
             n: _,
+            told: _,
             ms: _,
             word: _,
         } => true,
@@ -123,7 +124,12 @@ pub(crate) fn open_again<
 {
     match told {
         Told::Stopped { n } => {
-            let _opened = give(world, &Row::Open { n: *n, ms, word: 0 });
+            let _opened = give(world, &Row::Open {
+                n: *n,
+                told: false,
+                ms,
+                word: 0,
+            });
             true
         }
         Told::Failed { n } => {
@@ -135,7 +141,12 @@ pub(crate) fn open_again<
                     pattern: Pattern::Old,
                 },
             );
-            let _opened = give(world, &Row::Open { n: *n, ms, word: 0 });
+            let _opened = give(world, &Row::Open {
+                n: *n,
+                told: false,
+                ms,
+                word: 0,
+            });
             true
         }
         _ => false,

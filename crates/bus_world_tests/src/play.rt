@@ -137,7 +137,12 @@ fn arm_at<F: Fn(Kind, u16) -> Option<u64> + Copy, G: Fn(Kind, u16) -> Option<u64
 
 fn moment_of(row: &Row) -> u64 {
     match row {
-        Row::Open { n: _, ms, word: _ } => *ms,
+        Row::Open {
+            n: _,
+            told: _,
+            ms,
+            word: _,
+        } => *ms,
         Row::Tick { n: _, ms, word: _ } => *ms,
         Row::Rx { n: _, k: _, ms } => *ms,
         _ => 0,

@@ -45,7 +45,7 @@ events_joined choice w (row ∷ rows) more = ap (λ (l : List Event). row_events
     ∙ sym (append_assoc (row_events choice w row) (events choice (after_row w row) rows) (events choice (after_rows (after_row w row) rows) more))
 
 pub same_ids : (w : Cluster) (row : Row) → (after_row w row).ids ≡ w.ids
-same_ids w (Open n ms word) = refl
+same_ids w (Open n told ms word) = refl
 same_ids w (Tick n ms word) = refl
 same_ids w (Rx n k ms) = refl
 same_ids w (Send n) = refl

@@ -13,7 +13,8 @@ use Rattle.replay_text.specs.declared.row.Row.{Row}
 use Rattle.replay_text.specs.declared.row.Row.TheVariants.{AEnd, AOpen, ARx, ASend, ATick, Crash, Ext, Fault, Open, Rx, Send, Tick}
 use Rattle.alloc_spec.specs.StepState.{StepState}
 use Rattle.alloc_spec.specs.Step.{Event, step}
-use Rattle.alloc_spec.specs.AllocatorState.{AllocatorState, opening}
+use Rattle.alloc_spec.specs.AllocatorState.{AllocatorState}
+use Rattle.alloc_spec.specs.Rules.{Rules, opening_by}
 use Rattle.cluster_spec.specs.Cluster.{Cluster, after_rows, cluster, after_row, receipt_of, tick_of}
 use Rattle.cluster_spec.specs.Members.{MemberStatus, Member, after_sending, with_stop_armed, after_crash, after_cut_off, with_failure_armed, after_opening, puts_of, member_after_step, stopped_with, after_failed_opening, after_writing}
 use Rattle.cluster_spec.specs.Members.MemberStatus.{Down, Failed, Up}
@@ -29,7 +30,7 @@ failed_in w m = failed_at (w.member m).status
 
 -- the member that a row is for; a frame from outside is for none, nor is a row of an allocatee
 abbrev node_of : Row → ℕ
-node_of (Open n ms word) = n
+node_of (Open n told ms word) = n
 node_of (Tick n ms word) = n
 node_of (Rx n k ms) = n
 node_of (Send n) = n
@@ -47,13 +48,13 @@ node_of (AEnd a) = 0
 abbrev Changes : ℕ → Option ℕ → Member → Type 0
 Changes row before x = (failed_at x.status ≡ before) ⊎ ((failed_at x.status ≡ None) ⊎ (failed_at x.status ≡ Some row))
 
-opened_is_none : (n size moment word : ℕ) (x : Member) → failed_at (after_opening n size moment word x).status ≡ None
-opened_is_none n size moment word x = by (is_open_on x.disk) where
+opened_is_none : (n : ℕ) (rules : Rules) (moment word : ℕ) (x : Member) → failed_at (after_opening n rules moment word x).status ≡ None
+opened_is_none n rules moment word x = by (is_open_on x.disk) where
   unopened_is : (b : Bool) → failed_at (if b then stopped_with x.pattern (opening_on x.disk) x else record x { status = Down; disk = opening_on x.disk }).status ≡ None
   unopened_is true = refl
   unopened_is false = refl
 
-  by : (b : Bool) → failed_at (if b then record x { status = Up (opening n size (store_of (opening_on x.disk).store) moment word); disk = opening_on x.disk }
+  by : (b : Bool) → failed_at (if b then record x { status = Up (opening_by n rules (store_of (opening_on x.disk).store) moment word); disk = opening_on x.disk }
       else after_failed_opening x (opening_on x.disk)).status ≡ None
   by true = refl
   by false = unopened_is (opening_on x.disk).calls.stopped
@@ -101,7 +102,7 @@ module _ (w : Cluster) where
   changes_to n x is = subst (Changes (w.rows + 1) (failed_in w n)) (sym (at_here w.member n n x refl)) is
 
   changes_at : (row : Row) → ChangesAt row
-  changes_at (Open n ms word) = changes_to n _ (inr (inl (opened_is_none n _ ms word (w.member n))))
+  changes_at (Open n told ms word) = changes_to n _ (inr (inl (opened_is_none n _ ms word (w.member n))))
   changes_at (Tick n ms word) = changes_to n _ (stepped_changes (w.rows + 1) (tick_of ms word) (w.member n).status (w.member n))
   changes_at (Rx n k ms) = changes_to n _ (stepped_changes (w.rows + 1) (receipt_of w k ms) (w.member n).status (w.member n))
   changes_at (Send n) = changes_to n (record (w.member n) { status = after_sending (w.member n).status }) (inl (sent_is_same (w.member n).status))
@@ -115,7 +116,7 @@ module _ (w : Cluster) where
   changes_at (AEnd a) = inl refl
 
   stays_at : (row : Row) (m : ℕ) → m ≢ node_of row → failed_in (after_row w row) m ≡ failed_in w m
-  stays_at (Open n ms word) m apart = ap (λ (x : Member). failed_at x.status) (at_other w.member n m _ apart)
+  stays_at (Open n told ms word) m apart = ap (λ (x : Member). failed_at x.status) (at_other w.member n m _ apart)
   stays_at (Tick n ms word) m apart = ap (λ (x : Member). failed_at x.status) (at_other w.member n m _ apart)
   stays_at (Rx n k ms) m apart = ap (λ (x : Member). failed_at x.status) (at_other w.member n m _ apart)
   stays_at (Send n) m apart = ap (λ (x : Member). failed_at x.status) (at_other w.member n m _ apart)

@@ -54,11 +54,11 @@ pub record RowLaws : Type 0 where
       → (n : ℕ) (pattern : Pattern) → In n w.ids → (failure : Failure) → (w.member n).status ≡ Failed failure
       → RowAgreesWithDisk choice w (Crash n 0 pattern) → Shows choice made (after_row w (Crash n 0 pattern)) run
   pub opened : (choice : ℕ → Bool) (made : List SentTransfer) (w : Cluster) (run : machine.World) → AreMembers w.ids → Shows choice made w run
-      → IsRunWritable w.ids run → (n ms word : ℕ) → In n w.ids → (w.member n).status ≡ Down → is_open_on (w.member n).disk ≡ true
-      → MayOccur run (Opens n) × IsRunWritable w.ids (after run (Opens n)) × Shows choice made (after_row w (Open n ms word)) (after run (Opens n))
+      → IsRunWritable w.ids run → (n : ℕ) (told : Bool) (ms word : ℕ) → In n w.ids → (w.member n).status ≡ Down → is_open_on (w.member n).disk ≡ true
+      → MayOccur run (Opens n) × IsRunWritable w.ids (after run (Opens n)) × Shows choice made (after_row w (Open n told ms word)) (after run (Opens n))
   pub not_opened : (choice : ℕ → Bool) (made : List SentTransfer) (w : Cluster) (run : machine.World) → AreMembers w.ids → Shows choice made w run
-      → (n ms word : ℕ) → In n w.ids → (w.member n).status ≡ Down → is_open_on (w.member n).disk ≡ false
-      → Shows choice made (after_row w (Open n ms word)) run
+      → (n : ℕ) (told : Bool) (ms word : ℕ) → In n w.ids → (w.member n).status ≡ Down → is_open_on (w.member n).disk ≡ false
+      → Shows choice made (after_row w (Open n told ms word)) run
   pub finished : (choice : ℕ → Bool) (made : List SentTransfer) (w : Cluster) (run : machine.World) → AreMembers w.ids → Shows choice made w run
       → Invariants run → IsRunWritable w.ids run → (n : ℕ) (t : AllocatorState) (event : Event) → In n w.ids → (w.member n).status ≡ Up t
       → MayHappen w.frames t event → IsOnTheBus event → let number = w.rows + 1 in let step_state = (step t number event).step_state in
@@ -166,11 +166,11 @@ module _ (laws : RowLaws) (choice : ℕ → Bool) (made : List SentTransfer) (w 
 
     -- ---- an opening
 
-    open_row : (ms word : ℕ) → x.status ≡ Down → (b : Bool) → is_open_on x.disk ≡ b
-        → Continues choice made (after_row w (Open n ms word)) run (if b then Opens n ∷ [] else [])
-    open_row ms word down true opens = let r = laws.opened choice made w run members shows written n ms word listed down opens in
+    open_row : (told : Bool) (ms word : ℕ) → x.status ≡ Down → (b : Bool) → is_open_on x.disk ≡ b
+        → Continues choice made (after_row w (Open n told ms word)) run (if b then Opens n ∷ [] else [])
+    open_row told ms word down true opens = let r = laws.opened choice made w run members shows written n told ms word listed down opens in
         record { lawful = (r.0, tt); shows = r.2; writable = r.1 }
-    open_row ms word down false fails = quiet (after_row w (Open n ms word)) (laws.not_opened choice made w run members shows n ms word listed down fails)
+    open_row told ms word down false fails = quiet (after_row w (Open n told ms word)) (laws.not_opened choice made w run members shows n told ms word listed down fails)
 
     -- ---- a stop at once
 
@@ -216,8 +216,8 @@ module _ (laws : RowLaws) (choice : ℕ → Bool) (made : List SentTransfer) (w 
           stop_row n (is_one w n first.0) pattern fits (w.member n).status refl (is_up (w.member n).status first.1)
 
   pub row_shown : (row : Row) → cause w row ≡ None → RowAgreesWithDisk choice w row → Goes row
-  row_shown (Open n ms word) lawful fits = let first = past_first (no_node w n) (already_running w n) lawful in
-      open_row n (is_one w n first.0) ms word (is_down (w.member n).status first.1) (is_open_on (w.member n).disk) refl
+  row_shown (Open n told ms word) lawful fits = let first = past_first (no_node w n) (already_running w n) lawful in
+      open_row n (is_one w n first.0) told ms word (is_down (w.member n).status first.1) (is_open_on (w.member n).disk) refl
   row_shown (Tick n ms word) lawful fits = tick_row n ms word lawful
   row_shown (Rx n k ms) lawful fits = rx_row n k ms lawful
   row_shown (Send n) lawful fits = quiet (after_row w (Send n)) (laws.sent choice made w run members shows n lawful)

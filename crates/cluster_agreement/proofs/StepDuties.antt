@@ -68,7 +68,7 @@ module _ (laws : DutyLaws) (choice : ℕ → Bool) (made : List SentTransfer) (w
   in_row (Tick n ms word) lawful = let first = past_first (no_node w n) (not_running w n) lawful in
       in_status n (tick_of ms word) (is_one w n first.0) tt (λ t runs. may_tick w t ms word) (w.member n).status refl
   in_row (Rx n k ms) lawful = received n k ms lawful
-  in_row (Open n ms word) lawful = tt
+  in_row (Open n told ms word) lawful = tt
   in_row (Send n) lawful = tt
   in_row (Ext frame) lawful = tt
   in_row (Crash n calls pattern) lawful = tt

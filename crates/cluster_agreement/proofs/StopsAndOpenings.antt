@@ -1,5 +1,5 @@
 -- Stops between two steps, and openings.
-use Rattle.std.proofs.Common.{◌≡◌, ℕ, ◌+◌, ◌≤◌, Bool, true, false, List, [], ◌∷◌, length, take, refl, sym, ap, subst, ◌∙◌, arith, inl, inr, Option, Some, None}
+use Rattle.std.proofs.Common.{◌≡◌, ℕ, ◌+◌, ◌≤◌, Bool, true, false, List, [], ◌∷◌, length, take, refl, sym, ap, subst, ◌∙◌, arith, inl, inr, ◌⊎◌, Option, Some, None}
 use Rattle.std.specs.Prelude.{◌&&◌, if◌then◌else◌}
 use Rattle.disk_model.specs.Calls.{acts, after_call}
 use Rattle.kv_store.specs.KeyDisk.{Unsynced, KeyDisk, after_calls, is_opened, is_put, keeps, opened_on, put_on, restarted_on, settled_by, turned_to}
@@ -18,9 +18,10 @@ use Rattle.raft_model.specs.Server.{Memory, RaftServer, Store, memory_when_down}
 use Rattle.replay_text.specs.declared.row.Row.TheVariants.{Crash, Open}
 use Rattle.alloc_spec_laws.specs.Coming.{KeepsOrder}
 use Rattle.alloc_spec_laws.specs.Sound.{IsSound}
-use Rattle.alloc_spec.specs.AllocatorState.{AllocatorState, opening}
+use Rattle.alloc_spec.specs.AllocatorState.{AllocatorState, members_of}
+use Rattle.alloc_spec.specs.Rules.{Rules, opening_by}
 use Rattle.alloc_spec.specs.Transfers.{SentTransfer}
-use Rattle.cluster_spec.specs.Cluster.{Cluster, cluster, after_row}
+use Rattle.cluster_spec.specs.Cluster.{Cluster, cluster, after_row, rules_of}
 use Rattle.cluster_spec.specs.Members.{Failure, MemberStatus, Member, after_opening, stopped_with, after_failed_opening}
 use Rattle.cluster_spec.specs.Members.MemberStatus.{Down, Up, Failed}
 use Rattle.cluster_spec.specs.Choices.{CrashAgreesWithDisk, chosen_store}
@@ -230,10 +231,21 @@ module _ (laws : DiskLaws) (disk : KeyDisk Stored) where
 
 -- ---- rows that open
 
-module _ (laws : DiskLaws) (fit : (me size : ℕ) (store : Store) (now word : ℕ) → KeepsOrder (opening me size store now word))
-    (sound : (me size : ℕ) (store : Store) (now word : ℕ) → size ≤ 5 → IsSound (opening me size store now word))
+-- whom a member of these is told is one of them
+told_among : (ids : List ℕ) (told : Bool) (node : ℕ) → In node (rules_of ids told).told → In node ids
+told_among ids true node there = there
+told_among ids false node there = absurd there
+
+-- what is known of an opening, as the laws of a step say it
+pub record OpeningLaws : Type 0 where
+  pub order : (me : ℕ) (rules : Rules) (store : Store) (now word : ℕ) → KeepsOrder (opening_by me rules store now word)
+  pub sound : (me : ℕ) (rules : Rules) (store : Store) (now word : ℕ) → rules.size ≤ 5 → IsSound (opening_by me rules store now word)
+  pub members : (me : ℕ) (rules : Rules) (store : Store) (now word node : ℕ) → In node (members_of (opening_by me rules store now word))
+      → (node ≡ me) ⊎ In node rules.told
+
+module _ (laws : DiskLaws) (opening_laws : OpeningLaws)
     (choice : ℕ → Bool) (made : List SentTransfer) (w : Cluster) (few : length w.ids ≤ 5) (run : machine.World) (shows : Shows choice made w run)
-    (n ms word : ℕ) (listed : In n w.ids) (stopped : (w.member n).status ≡ Down) where
+    (n : ℕ) (told : Bool) (ms word : ℕ) (listed : In n w.ids) (stopped : (w.member n).status ≡ Down) where
   down : ShowsDown run n (w.member n).disk
   down = subst (λ (status : MemberStatus). ShowsMember choice made w.ids w.frames run n status (w.member n).disk) stopped (shows.lives n listed)
 
@@ -245,15 +257,15 @@ module _ (laws : DiskLaws) (fit : (me size : ℕ) (store : Store) (now word : �
     opened_raft_server = record { store = (run.server n).store; memory = server.memory_when_opened }
 
     abbrev up_member : Member
-    up_member = record (w.member n) { status = Up (opening n (length w.ids) (store_of (opening_on disk).store) ms word); disk = opening_on disk }
+    up_member = record (w.member n) { status = Up (opening_by n (rules_of w.ids told) (store_of (opening_on disk).store) ms word); disk = opening_on disk }
 
-    is_up : after_opening n (length w.ids) ms word (w.member n) ≡ up_member
+    is_up : after_opening n (rules_of w.ids told) ms word (w.member n) ≡ up_member
     is_up = ap (λ (b : Bool). if b then up_member else after_failed_opening (w.member n) (opening_on disk)) opens
 
     pub may_open : MayOccur run (Opens n)
     may_open = (subst (λ (ids : List ℕ). In n ids) (sym shows.members) listed, ap (λ (m : Memory). m.up) down.down)
 
-    here : ShowsUp made w.ids w.frames (after run (Opens n)) n (opening n (length w.ids) (store_of (opening_on disk).store) ms word) (opening_on disk)
+    here : ShowsUp made w.ids w.frames (after run (Opens n)) n (opening_by n (rules_of w.ids told) (store_of (opening_on disk).store) ms word) (opening_on disk)
     here = record {
       runs = record {
         me = refl;
@@ -263,19 +275,20 @@ module _ (laws : DiskLaws) (fit : (me size : ℕ) (store : Store) (now word : �
         up = refl;
         stored = refl;
         nothing_unsynced = opened_firm laws disk opens;
-        sound = sound n (length w.ids) (store_of (opening_on disk).store) ms word few;
-        order = fit n (length w.ids) (store_of (opening_on disk).store) ms word;
+        sound = opening_laws.sound n (rules_of w.ids told) (store_of (opening_on disk).store) ms word few;
+        order = opening_laws.order n (rules_of w.ids told) (store_of (opening_on disk).store) ms word;
         uids = λ node uid moment there. absurd there;
       };
       works = record {
         queue = λ frame there. absurd there;
         heard = record { arrivals = []; come = λ arrival there. absurd there; kept = λ k d h. absurd (omega (arith, h)) };
         called = λ peer request there. absurd (cc (there));
-        among = λ peer there. elim there [ inl one ↦ subst (λ (k : ℕ). In k w.ids) (sym one) listed | inr none ↦ absurd none ];
+        among = λ peer there. elim (opening_laws.members n (rules_of w.ids told) (store_of (opening_on disk).store) ms word peer there)
+            [ inl one ↦ subst (λ (k : ℕ). In k w.ids) (sym one) listed | inr named ↦ told_among w.ids told peer named ];
       };
     }
 
-    pub open_shown : Shows choice made (after_row w (Open n ms word)) (after run (Opens n))
+    pub open_shown : Shows choice made (after_row w (Open n told ms word)) (after run (Opens n))
     open_shown = subst (λ (x : Member). Shows choice made (record w { member = at w.member n x; rows = w.rows + 1 }) (after run (Opens n))) (sym is_up) (record {
       members = shows.members;
       steps = omega (arith, shows.steps);
@@ -292,8 +305,8 @@ module _ (laws : DiskLaws) (fit : (me size : ℕ) (store : Store) (now word : �
     finds : AlwaysFinds (opening_on disk) (run.server n).store
     finds = cut_finds laws disk (run.server n).store (down_finds run n disk down)
 
-    is_unopened : after_opening n (length w.ids) ms word (w.member n) ≡ after_failed_opening (w.member n) (opening_on disk)
-    is_unopened = ap (λ (b : Bool). if b then record (w.member n) { status = Up (opening n (length w.ids) (store_of (opening_on disk).store) ms word); disk = opening_on disk }
+    is_unopened : after_opening n (rules_of w.ids told) ms word (w.member n) ≡ after_failed_opening (w.member n) (opening_on disk)
+    is_unopened = ap (λ (b : Bool). if b then record (w.member n) { status = Up (opening_by n (rules_of w.ids told) (store_of (opening_on disk).store) ms word); disk = opening_on disk }
         else after_failed_opening (w.member n) (opening_on disk)) fails
 
     still_down : (b : Bool) → let x = if b then stopped_with (w.member n).pattern (opening_on disk) (w.member n) else record (w.member n) { status = Down; disk = opening_on disk } in
@@ -301,7 +314,7 @@ module _ (laws : DiskLaws) (fit : (me size : ℕ) (store : Store) (now word : �
     still_down true = restarted_down run n (opening_on disk) (w.member n).pattern down.down (finds (w.member n).pattern)
     still_down false = down_from run n (opening_on disk) down.down finds
 
-    pub not_opened_shown : Shows choice made (after_row w (Open n ms word)) run
+    pub not_opened_shown : Shows choice made (after_row w (Open n told ms word)) run
     not_opened_shown = subst (λ (x : Member). Shows choice made (record w { member = at w.member n x; rows = w.rows + 1 }) run) (sym is_unopened) (record {
       members = shows.members;
       steps = omega (arith, shows.steps);

@@ -33,7 +33,9 @@ ghost use Rattle.cluster_spec.specs.Refinement.{cut_events, transfers_of_row, tr
 use crate::below::{
     what_a_step_keeps, what_is_said_of_a_step, what_is_said_of_frames, what_is_said_of_messages,
 };
-use alloc_spec_laws::laws::{duty_of_a_step, moves_of_a_step, steps_stay_in_range};
+use alloc_spec_laws::laws::{
+    duty_of_a_step, members_of_a_step, moves_of_a_step, steps_stay_in_range,
+};
 use alloc_spec_laws::nodes::{a_node_that_is_heard_keeps_its_id, who_is_asked_answers};
 use allocatee::laws::{
     a_node_id_is_given_for_good, its_frames_are_anonymous, sessions_of_a_step as sessions_at,
@@ -116,16 +118,17 @@ pub fn stops_are_shown()
 /// disk cuts it, is none.
 pub fn openings_are_shown()
     ensures opened { (choice : ℕ → Bool) (made : List SentTransfer) (w : Cluster) (run : World) →
-        AreMembers w.ids → Shows choice made w run → IsRunWritable w.ids run → (n ms word : ℕ) →
+        AreMembers w.ids → Shows choice made w run → IsRunWritable w.ids run → (n : ℕ) (told : Bool) (ms word : ℕ) →
         In n w.ids → (w.member n).status ≡ Down → is_open_on (w.member n).disk ≡ true →
         MayOccur run (Opens n) × IsRunWritable w.ids (after run (Opens n)) ×
-        Shows choice made (after_row w (Open n ms word)) (after run (Opens n)) }
+        Shows choice made (after_row w (Open n told ms word)) (after run (Opens n)) }
     ensures failed { (choice : ℕ → Bool) (made : List SentTransfer) (w : Cluster) (run : World) →
-        AreMembers w.ids → Shows choice made w run → (n ms word : ℕ) → In n w.ids →
+        AreMembers w.ids → Shows choice made w run → (n : ℕ) (told : Bool) (ms word : ℕ) → In n w.ids →
         (w.member n).status ≡ Down → is_open_on (w.member n).disk ≡ false →
-        Shows choice made (after_row w (Open n ms word)) run }
+        Shows choice made (after_row w (Open n told ms word)) run }
 {
     an_opening_keeps_the_store();
+    members_of_a_step();
     moves_of_a_step();
     steps_stay_in_range();
     the_disk_by_states();

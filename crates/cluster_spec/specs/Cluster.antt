@@ -1,6 +1,6 @@
 -- The world of a list of rows: the members of a cluster, the allocatees that are there, and the frames of their bus. A
 -- row that is taken is the next event; its number is that of the step that it may be.
-use Rattle.std.specs.Prelude.{ℕ, ◌≤◌, ◌+◌, ◌-◌, ◌==◌, Bool, List, [], ◌∷◌, ◌++◌, length, slice_index_or, Option, Some, None}
+use Rattle.std.specs.Prelude.{ℕ, ◌≤◌, ◌+◌, ◌-◌, ◌==◌, Bool, List, [], ◌∷◌, ◌++◌, length, slice_index_or, Option, Some, None, if◌then◌else◌}
 use Rattle.raft_model.specs.Lists.{In, any, at}
 use Rattle.raft_model.specs.Members.{HasNoneTwice}
 use Rattle.replay_text.specs.declared.row.Row.{Row}
@@ -9,6 +9,7 @@ use Rattle.allocatee.specs.Allocatee.{Device, opening}
 use Rattle.allocatee.specs.Allocatee as device
 use Rattle.transfer_rx.specs.Reassembly.{Arrival}
 use Rattle.transfer_tx.specs.Queue.{Queued}
+use Rattle.alloc_spec.specs.Rules.{Rules, rules_by}
 use Rattle.alloc_spec.specs.Step.{Event}
 use Rattle.cluster_spec.specs.Allocatees.{after_sending_from, next_from, device_after_step}
 use Rattle.cluster_spec.specs.Members.{Member, after_sending, after_crash, with_failure_armed, fresh_member, next_frame, after_opening, member_after_step}
@@ -62,6 +63,10 @@ abbrev pub in_list : Option Queued → List Queued
 in_list None = []
 in_list (Some frame) = frame ∷ []
 
+-- by which rules a member of these is opened: it is told how many they are, or also which
+abbrev pub rules_of : List ℕ → Bool → Rules
+rules_of ids told = rules_by (length ids) (if told then ids else [])
+
 -- ---- rows
 
 -- the world with this at a member's place
@@ -111,7 +116,7 @@ with_send_from w a = record (with_allocatee w a (after_sending_from (w.allocatee
 
 -- what a lawful row leaves, but for the count of rows
 abbrev pub effect_of : Cluster → Row → Cluster
-effect_of w (Open n ms word) = with_member w n (after_opening n (length w.ids) ms word (w.member n))
+effect_of w (Open n told ms word) = with_member w n (after_opening n (rules_of w.ids told) ms word (w.member n))
 effect_of w (Tick n ms word) = with_step w n (tick_of ms word)
 effect_of w (Rx n k ms) = with_step w n (receipt_of w k ms)
 effect_of w (Send n) = with_send w n

@@ -121,7 +121,7 @@ no_stop w n calls = if calls == 0 then not_running w n else None
 
 -- why a row is refused; None where it is lawful
 abbrev pub cause : Cluster → Row → Option Unlawful
-cause w (Open n ms word) = or_else (no_node w n) (already_running w n)
+cause w (Open n told ms word) = or_else (no_node w n) (already_running w n)
 cause w (Tick n ms word) = or_else (no_node w n) (not_running w n)
 cause w (Rx n k ms) = or_else (no_node w n) (or_else (not_running w n)
     (or_else (no_such_frame w k) (arrival_refusal (w.member n).status (arrival_at (frame_at w.frames k) ms))))

@@ -15,7 +15,8 @@ use Rattle.raft_model.specs.Server.{Store, put_all}
 use Rattle.transfer_tx.specs.Queue.{Queued, next_out}
 use Rattle.alloc_spec.specs.StepState.{StepState}
 use Rattle.alloc_spec.specs.Step.{Event, after_pop, step}
-use Rattle.alloc_spec.specs.AllocatorState.{AllocatorState, opening}
+use Rattle.alloc_spec.specs.AllocatorState.{AllocatorState}
+use Rattle.alloc_spec.specs.Rules.{Rules, opening_by}
 
 -- A step that failed, as it is known until its member stops: its row, the server before it, what it set out to do,
 -- and how many of its puts are done for sure. Whether the next one is, a stop finds.
@@ -76,12 +77,12 @@ abbrev pub after_failed_opening : Member → KeyDisk Stored → Member
 after_failed_opening x disk =
     if disk.calls.stopped then stopped_with x.pattern disk x else record x { status = Down; disk = disk }
 
--- as node n of a cluster of this size
-abbrev pub after_opening : ℕ → ℕ → ℕ → ℕ → Member → Member
-after_opening n size moment word x =
+-- as node n, by these rules
+abbrev pub after_opening : ℕ → Rules → ℕ → ℕ → Member → Member
+after_opening n rules moment word x =
     if is_open_on x.disk
     then record x {
-      status = Up (opening n size (store_of (opening_on x.disk).store) moment word);
+      status = Up (opening_by n rules (store_of (opening_on x.disk).store) moment word);
       disk = opening_on x.disk;
     }
     else after_failed_opening x (opening_on x.disk)

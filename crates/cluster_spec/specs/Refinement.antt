@@ -73,7 +73,7 @@ stop_events m row (Failed failure) = []
 
 -- an opening that succeeded opens; what sends, comes from outside, or arms a disk shows nothing, nor does an allocatee
 abbrev pub row_events : (ℕ → Bool) → Cluster → Row → List RunEvent
-row_events choice w (Open n ms word) = if is_open_on (w.member n).disk then Opens n ∷ [] else []
+row_events choice w (Open n told ms word) = if is_open_on (w.member n).disk then Opens n ∷ [] else []
 row_events choice w (Tick n ms word) =
     step_events choice w.ids n (w.rows + 1) (tick_of ms word) (w.member n).status (w.member n)
 row_events choice w (Rx n k ms) =

@@ -78,7 +78,7 @@ line_of_putting a k (Some frame) = HasPut a k frame.id frame.bytes
 
 -- what a lawful row tells
 abbrev pub line_of_row : Cluster → Row → ReportLine
-line_of_row w (Open n ms word) = line_of_opening n (w.member n).disk
+line_of_row w (Open n told ms word) = line_of_opening n (w.member n).disk
 line_of_row w (Tick n ms word) = line_of_step n (w.rows + 1) (tick_of ms word) (w.member n).status (w.member n)
 line_of_row w (Rx n k ms) = line_of_step n (w.rows + 1) (receipt_of w k ms) (w.member n).status (w.member n)
 line_of_row w (Send n) = line_of_sending n (length w.frames + 1) (next_frame (w.member n).status)

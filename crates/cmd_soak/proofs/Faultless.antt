@@ -15,7 +15,8 @@ use Rattle.replay_text.specs.declared.row.Row.{Row}
 use Rattle.replay_text.specs.declared.row.Row.TheVariants.{Open, Tick, Rx, Send, Ext, Crash, Fault, AOpen, ATick, ARx, ASend, AEnd}
 use Rattle.alloc_spec.specs.StepState.{StepState}
 use Rattle.alloc_spec.specs.Step.{Event, step}
-use Rattle.alloc_spec.specs.AllocatorState.{AllocatorState, opening}
+use Rattle.alloc_spec.specs.AllocatorState.{AllocatorState}
+use Rattle.alloc_spec.specs.Rules.{Rules, opening_by}
 use Rattle.cluster_spec.specs.Cluster.{Cluster, after_rows, cluster, is_member, after_row, receipt_of, tick_of, world_of}
 use Rattle.cluster_spec.specs.Members.{MemberStatus, Member, after_sending, with_stop_armed, after_crash, after_cut_off, is_running, after_opening, puts_of, member_after_step, stopped_with, after_failed_opening, after_writing}
 use Rattle.cluster_spec.specs.Members.MemberStatus.{Down, Up, Failed}
@@ -166,11 +167,11 @@ record IsFaultless (x : Member) : Type 0 where
 stopped_faultless : (pattern : Pattern) (disk : KeyDisk Stored) (x : Member) → IsFaultless (stopped_with pattern disk x)
 stopped_faultless pattern disk x = record { unset = refl; works = tt }
 
-opened_faultless : (n size moment word : ℕ) (x : Member) → IsFaultless x → IsFaultless (after_opening n size moment word x)
-opened_faultless n size moment word x is =
+opened_faultless : (n : ℕ) (rules : Rules) (moment word : ℕ) (x : Member) → IsFaultless x → IsFaultless (after_opening n rules moment word x)
+opened_faultless n rules moment word x is =
     let disk = opening_on x.disk in
     let unset = unset_opening x.disk is.unset in
-    let up : Member = record x { status = Up (opening n size (store_of disk.store) moment word); disk = disk } in
+    let up : Member = record x { status = Up (opening_by n rules (store_of disk.store) moment word); disk = disk } in
     let down : Member = record x { status = Down; disk = disk } in
     let is_up : IsFaultless up = record { unset = unset; works = tt } in
     let is_down : IsFaultless down = record { unset = unset; works = tt } in
@@ -211,7 +212,7 @@ at_one : (members : ℕ → Member) (n : ℕ) (x : Member) → ((m : ℕ) → Is
 at_one members n x all is m = pick IsFaultless (m == n) x (members m) is (all m)
 
 next_faultless : (w : Cluster) (row : Row) → is_fault row ≡ false → AllFaultless w → AllFaultless (after_row w row)
-next_faultless w (Open n ms word) e all = at_one w.member n _ all (opened_faultless n _ ms word (w.member n) (all n))
+next_faultless w (Open n told ms word) e all = at_one w.member n _ all (opened_faultless n _ ms word (w.member n) (all n))
 next_faultless w (Tick n ms word) e all = at_one w.member n _ all (stepped_faultless _ (tick_of ms word) (w.member n).status (w.member n) (all n))
 next_faultless w (Rx n k ms) e all = at_one w.member n _ all (stepped_faultless _ (receipt_of w k ms) (w.member n).status (w.member n) (all n))
 next_faultless w (Send n) e all = at_one w.member n _ all (record { unset = (all n).unset; works = sent_works (w.member n).status (all n).works })
@@ -231,7 +232,7 @@ rows_faultless w (row ∷ rows) none all = rows_faultless (after_row w row) rows
 -- ---- what a member shows
 
 next_ids : (w : Cluster) (row : Row) → (after_row w row).ids ≡ w.ids
-next_ids w (Open n ms word) = refl
+next_ids w (Open n told ms word) = refl
 next_ids w (Tick n ms word) = refl
 next_ids w (Rx n k ms) = refl
 next_ids w (Send n) = refl

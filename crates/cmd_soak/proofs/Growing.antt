@@ -62,7 +62,7 @@ only_drawn s = drawn_first 0 0 s (draws s) (grows_not (draws s))
 
 -- how many frames a row puts on the bus at the most
 abbrev pub frames_of : Row → ℕ
-frames_of (Open n ms word) = 0
+frames_of (Open n told ms word) = 0
 frames_of (Tick n ms word) = 0
 frames_of (Rx n k ms) = 0
 frames_of (Send n) = 1
@@ -83,7 +83,7 @@ one_frame : (frames more : List Queued) → length more ≤ 1 → length (frames
 one_frame frames more h = omega (arith, length-append frames more)
 
 next_frames : (w : Cluster) (row : Row) → length (after_row w row).frames ≤ length w.frames + frames_of row
-next_frames w (Open n ms word) = omega arith
+next_frames w (Open n told ms word) = omega arith
 next_frames w (Tick n ms word) = omega arith
 next_frames w (Rx n k ms) = omega arith
 next_frames w (Send n) = one_frame w.frames (in_list (next_frame (w.member n).status)) (one_at_most (next_frame (w.member n).status))
@@ -143,7 +143,7 @@ asks_in_time_grows round s =
 pub opens_grows : (n : ℕ) (s : Soak) → Grows 0 1 s (opens n s)
 unfolding opens
 opens_grows n s =
-    let row = Open n s.moment (word s) in
+    let row = Open n false s.moment (word s) in
     either 0 1 s s (gives row (draws s)) (shows n s) (grows_more 0 0 0 1 s s (omega arith) (omega arith) (grows_not s))
     (drawn_first 0 1 s (gives row (draws s)) (gives_grows row (draws s)))
 

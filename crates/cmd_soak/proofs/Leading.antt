@@ -79,7 +79,7 @@ module _ (ids : List ℕ) where
   opens_led : (n : ℕ) (s : Soak) → IsLed ids s → IsLed ids (opens n s)
   unfolding opens
   opens_led n s led =
-      let row = Open n s.moment (word s) in
+      let row = Open n false s.moment (word s) in
       either (shows n s) s (gives row (draws s)) led (gives_led row (draws s) refl (drawn_led s led))
 
   ticks_led : (n : ℕ) (s : Soak) → IsLed ids s → IsLed ids (ticks n s)

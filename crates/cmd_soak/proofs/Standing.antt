@@ -175,14 +175,14 @@ module _ {F G : Type 0} where
 
   pub opens_not : (new : Soaking F G) (n : ℕ) (s : Soak) → shows n s ≡ true → StandsFor new s → StandsFor new (opens n s)
   unfolding opens
-  opens_not new n s e is = in_then (StandsFor new) (shows n s) s (gives (Open n s.moment (word s)) (draws s)) e is
+  opens_not new n s e is = in_then (StandsFor new) (shows n s) s (gives (Open n false s.moment (word s)) (draws s)) e is
 
   pub opens_now : (new : Soaking F G) (n : ℕ) (s : Soak) (ms w : ℕ) → shows n s ≡ false → ms ≡ s.moment → w ≡ word s →
-      StandsFor new (gives (Open n ms w) (draws s)) → StandsFor new (opens n s)
+      StandsFor new (gives (Open n false ms w) (draws s)) → StandsFor new (opens n s)
   unfolding opens
   opens_now new n s ms w e f h is =
-      in_else (StandsFor new) (shows n s) s (gives (Open n s.moment (word s)) (draws s)) e
-      (subst (λ m. StandsFor new (gives (Open n m (word s)) (draws s))) f (subst (λ v. StandsFor new (gives (Open n ms v) (draws s))) h is))
+      in_else (StandsFor new) (shows n s) s (gives (Open n false s.moment (word s)) (draws s)) e
+      (subst (λ m. StandsFor new (gives (Open n false m (word s)) (draws s))) f (subst (λ v. StandsFor new (gives (Open n false ms v) (draws s))) h is))
 
   pub ticks_not : (new : Soaking F G) (n : ℕ) (s : Soak) → shows n s ≡ false → StandsFor new s → StandsFor new (ticks n s)
   unfolding ticks

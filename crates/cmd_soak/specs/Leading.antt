@@ -8,7 +8,7 @@ use Rattle.cmd_soak.specs.Rounds.{Soak}
 
 -- none of the rows lets a call of a disk fail
 abbrev pub is_fault : Row → Bool
-is_fault (Open n ms word) = false
+is_fault (Open n told ms word) = false
 is_fault (Tick n ms word) = false
 is_fault (Rx n k ms) = false
 is_fault (Send n) = false

@@ -1,5 +1,5 @@
 -- The rounds of a soak: the rows that a seed makes, and what they leave. A row that is refused changes nothing.
-use Rattle.std.specs.Prelude.{ℕ, zero, suc, ◌+◌, ◌-◌, ◌*◌, ◌/◌, ◌%◌, ◌==◌, Bool, List, [], ◌∷◌, ◌++◌, length, take, is_some, if◌then◌else◌}
+use Rattle.std.specs.Prelude.{false, ℕ, zero, suc, ◌+◌, ◌-◌, ◌*◌, ◌/◌, ◌%◌, ◌==◌, Bool, List, [], ◌∷◌, ◌++◌, length, take, is_some, if◌then◌else◌}
 use Rattle.outside.specs.declared.pattern.Pattern.TheVariants.{Bytes}
 use Rattle.cmd_base.specs.Draws.{next_state, word_at}
 use Rattle.replay_text.specs.declared.row.Row.{Row}
@@ -88,7 +88,7 @@ abbrev pub shows : ℕ → Soak → Bool
 shows n s = is_some (view_at s.world n)
 
 unfoldable pub opens : ℕ → Soak → Soak
-opens n s = if shows n s then s else gives (Open n s.moment (word s)) (draws s)
+opens n s = if shows n s then s else gives (Open n false s.moment (word s)) (draws s)
 
 unfoldable pub ticks : ℕ → Soak → Soak
 ticks n s = if shows n s then gives (Tick n s.moment (word s)) (draws s) else s

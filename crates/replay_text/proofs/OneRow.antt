@@ -1,6 +1,6 @@
 -- Words are those of one row at most.
 use Rattle.std.proofs.Common.{◌≡◌, ◌<◌, ◌^◌, ◌+◌, ◌*◌, ℕ, List, ◌∷◌, length, get_or, refl, sym, ap, ◌∙◌, arith}
-use Rattle.std.specs.Prelude.{codes}
+use Rattle.std.specs.Prelude.{true, false, codes}
 use Rattle.std.specs.Fmt.{decimal}
 use Rattle.std.specs.Int.{from_be_bytes, w32}
 use Rattle.std.proofs.lemmas.Fmt.{decimal_injective}
@@ -64,7 +64,8 @@ one_pattern (Bytes xs) New word x y = absurd (odd_word xs.items word (ap length 
 
 -- the name of a row
 abbrev name_of : Row → List ℕ
-name_of (Open n ms word) = codes "open"
+name_of (Open n false ms word) = codes "open"
+name_of (Open n true ms word) = codes "copen"
 name_of (Tick n ms word) = codes "tick"
 name_of (Rx n k ms) = codes "rx"
 name_of (Send n) = codes "send"
@@ -79,7 +80,8 @@ name_of (AEnd a) = codes "aend"
 
 -- stands first
 name_first : (row : Row) (line : List (List ℕ)) → Spells row line → (more : List (List ℕ)) × (line ≡ name_of row ∷ more)
-name_first (Open n ms word) line spelt = (_, spelt)
+name_first (Open n false ms word) line spelt = (_, spelt)
+name_first (Open n true ms word) line spelt = (_, spelt)
 name_first (Tick n ms word) line spelt = (_, spelt)
 name_first (Rx n k ms) line spelt = (_, spelt)
 name_first (Send n) line spelt = (_, spelt)
@@ -99,7 +101,13 @@ one_name a b line x y =
     cc
 
 pub one_row : FramesAreTheirParts → (a b : Row) (line : List (List ℕ)) → ReadsWords a line → ReadsWords b line → a ≡ b
-one_row same_frame (Open n ms word) (Open n' ms' word') line x y =
+one_row same_frame (Open n false ms word) (Open n' false ms' word') line x y =
+    let same = sym x.spelled ∙ y.spelled in
+    let e : n ≡ n' = one_number n n' (omega (arith, x.fields)) (omega (arith, y.fields)) (cc same) in
+    let f : ms ≡ ms' = one_number ms ms' (omega (arith, x.fields)) (omega (arith, y.fields)) (cc same) in
+    let g : word ≡ word' = one_number word word' (omega (arith, x.fields)) (omega (arith, y.fields)) (cc same) in
+    cc
+one_row same_frame (Open n true ms word) (Open n' true ms' word') line x y =
     let same = sym x.spelled ∙ y.spelled in
     let e : n ≡ n' = one_number n n' (omega (arith, x.fields)) (omega (arith, y.fields)) (cc same) in
     let f : ms ≡ ms' = one_number ms ms' (omega (arith, x.fields)) (omega (arith, y.fields)) (cc same) in
@@ -171,4 +179,8 @@ one_row same_frame (ASend a) (ASend a') line x y =
 one_row same_frame (AEnd a) (AEnd a') line x y =
     let same = sym x.spelled ∙ y.spelled in
     ap AEnd (one_number a a' (omega (arith, x.fields)) (omega (arith, y.fields)) (cc same))
+one_row same_frame (Open n false ms word) b line x y = let letters = ap first_letters (one_name (Open n false ms word) b line x.spelled y.spelled) in absurd (omega arith)
+one_row same_frame (Open n true ms word) b line x y = let letters = ap first_letters (one_name (Open n true ms word) b line x.spelled y.spelled) in absurd (omega arith)
+one_row same_frame a (Open n false ms word) line x y = let letters = ap first_letters (one_name a (Open n false ms word) line x.spelled y.spelled) in absurd (omega arith)
+one_row same_frame a (Open n true ms word) line x y = let letters = ap first_letters (one_name a (Open n true ms word) line x.spelled y.spelled) in absurd (omega arith)
 one_row same_frame a b line x y = let letters = ap first_letters (one_name a b line x.spelled y.spelled) in absurd (omega arith)

@@ -1,7 +1,7 @@
 -- What the words of a row say of its line.
 use Rattle.std.proofs.Common.{◌≡◌, ◌≢◌, ◌<◌, ◌≤◌, ◌+◌, ◌^◌, ℕ, zero, suc, List, [], ◌∷◌, length, refl, arith, length-append}
 use Rattle.std.specs.List.{All, join_with_byte}
-use Rattle.std.specs.Prelude.{codes}
+use Rattle.std.specs.Prelude.{true, false, codes}
 use Rattle.std.specs.Fmt.{decimal}
 use Rattle.std.proofs.lemmas.Fmt.{length-decimal-le}
 use Rattle.std.proofs.lemmas.List.Elements.{All-cons, All-nil, All-weaker}
@@ -38,8 +38,10 @@ visible-pattern (Bytes bytes) word spelt = visible-hex bytes.items word spelt
 
 -- no word of a row has a space or a line feed in it
 visible-row : (row : Row) (line : List (List ℕ)) → IsRow row → Spells row line → AreVisible line
-visible-row (Open n ms word) line fields spelt = rw spelt
+visible-row (Open n false ms word) line fields spelt = rw spelt
     (four (codes "open") _ _ _ (visible-literal (codes "open") refl) (visible-decimal n (omega arith)) (visible-decimal ms (omega arith)) (visible-decimal word (omega arith)))
+visible-row (Open n true ms word) line fields spelt = rw spelt
+    (four (codes "copen") _ _ _ (visible-literal (codes "copen") refl) (visible-decimal n (omega arith)) (visible-decimal ms (omega arith)) (visible-decimal word (omega arith)))
 visible-row (Tick n ms word) line fields spelt = rw spelt
     (four (codes "tick") _ _ _ (visible-literal (codes "tick") refl) (visible-decimal n (omega arith)) (visible-decimal ms (omega arith)) (visible-decimal word (omega arith)))
 visible-row (Rx n k ms) line fields spelt = rw spelt
@@ -101,8 +103,10 @@ length-pattern New word fits spelt = rw spelt (omega arith)
 length-pattern (Bytes bytes) word fits spelt = let sized = (length-decoded word bytes.items spelt).0 in let short = fits.short in omega arith
 
 short_words : (row : Row) (line : List (List ℕ)) → IsRow row → Spells row line → length (join_with_byte 32 line) ≤ 74
-short_words (Open n ms word) line fields spelt = rw spelt
+short_words (Open n false ms word) line fields spelt = rw spelt
     (omega (arith, length-four (codes "open") (decimal n) (decimal ms) (decimal word), node n fields.0, moment ms fields.1, number word fields.2))
+short_words (Open n true ms word) line fields spelt = rw spelt
+    (omega (arith, length-four (codes "copen") (decimal n) (decimal ms) (decimal word), node n fields.0, moment ms fields.1, number word fields.2))
 short_words (Tick n ms word) line fields spelt = rw spelt
     (omega (arith, length-four (codes "tick") (decimal n) (decimal ms) (decimal word), node n fields.0, moment ms fields.1, number word fields.2))
 short_words (Rx n k ms) line fields spelt = rw spelt
@@ -153,7 +157,8 @@ pattern-word (Bytes bytes) fits = decode_of-encode_lower bytes.items fits.each
 
 -- a row is spelled by its words
 spells-row_words : (row : Row) → IsRow row → Spells row (row_words row)
-spells-row_words (Open n ms word) fields = refl
+spells-row_words (Open n false ms word) fields = refl
+spells-row_words (Open n true ms word) fields = refl
 spells-row_words (Tick n ms word) fields = refl
 spells-row_words (Rx n k ms) fields = refl
 spells-row_words (Send n) fields = refl
@@ -174,7 +179,8 @@ spells-row_words (AEnd a) fields = refl
 
 -- which are those of its text
 words-row_text : (row : Row) → AreVisible (row_words row) → words (row_text row) ≡ row_words row
-words-row_text (Open n ms word) visible = words-joined _ _ visible
+words-row_text (Open n false ms word) visible = words-joined _ _ visible
+words-row_text (Open n true ms word) visible = words-joined _ _ visible
 words-row_text (Tick n ms word) visible = words-joined _ _ visible
 words-row_text (Rx n k ms) visible = words-joined _ _ visible
 words-row_text (Send n) visible = words-joined _ _ visible

@@ -1,5 +1,5 @@
 -- Rows of a schedule. A line is a row's words with single spaces: its name, and its fields in order.
-use Rattle.std.specs.Prelude.{⊤, ◌≡◌, ◌<◌, ◌≤◌, ◌^◌, ℕ, List, [], ◌∷◌, length, codes, decimal}
+use Rattle.std.specs.Prelude.{⊤, true, false, ◌≡◌, ◌<◌, ◌≤◌, ◌^◌, ℕ, List, [], ◌∷◌, length, codes, decimal}
 use Rattle.std.specs.List.{join_with_byte}
 use Rattle.hex.specs.Hex.{IsBytes, encode_lower}
 use Rattle.outside.specs.declared.pattern.Pattern.{Pattern}
@@ -34,7 +34,7 @@ pub record IsUid (uid : List ℕ) : Type 0 where
 
 -- the fields of a row are in their ranges (the identifier and the size of a frame always are)
 abbrev pub IsRow : Row → Type 0
-IsRow (Open n ms word) = (n < 256) × (ms ≤ last_moment) × (word < 2 ^ 32)
+IsRow (Open n told ms word) = (n < 256) × (ms ≤ last_moment) × (word < 2 ^ 32)
 IsRow (Tick n ms word) = (n < 256) × (ms ≤ last_moment) × (word < 2 ^ 32)
 IsRow (Rx n k ms) = (n < 256) × (k < 2 ^ 32) × (ms ≤ last_moment)
 IsRow (Send n) = n < 256
@@ -48,9 +48,9 @@ IsRow (ARx a k ms word) = (a < 256) × (k < 2 ^ 32) × (ms ≤ last_moment) × (
 IsRow (ASend a) = a < 256
 IsRow (AEnd a) = a < 256
 
--- the row of an allocatee; each other row is a member's, or a frame from outside
+-- the row of an allocatee
 abbrev pub IsOfAllocatee : Row → Type 0
-IsOfAllocatee (Open n ms word) = ⊥
+IsOfAllocatee (Open n told ms word) = ⊥
 IsOfAllocatee (Tick n ms word) = ⊥
 IsOfAllocatee (Rx n k ms) = ⊥
 IsOfAllocatee (Send n) = ⊥
@@ -59,7 +59,9 @@ IsOfAllocatee (Crash n calls pattern) = ⊥
 IsOfAllocatee (Fault n call) = ⊥
 IsOfAllocatee row = ⊤
 
+-- each other row but `copen`
 abbrev pub IsOfCluster : Row → Type 0
+IsOfCluster (Open n true ms word) = ⊥
 IsOfCluster (AOpen a uid pref ms word) = ⊥
 IsOfCluster (ATick a ms word) = ⊥
 IsOfCluster (ARx a k ms word) = ⊥
@@ -74,7 +76,8 @@ SpellsPattern (Bytes bytes) word = IsHex bytes.items word
 
 -- the words that spell a row: hexadecimal digits may be of either case, and all else has one spelling
 abbrev pub Spells : Row → List (List ℕ) → Type 0
-Spells (Open n ms word) line = line ≡ codes "open" ∷ decimal n ∷ decimal ms ∷ decimal word ∷ []
+Spells (Open n false ms word) line = line ≡ codes "open" ∷ decimal n ∷ decimal ms ∷ decimal word ∷ []
+Spells (Open n true ms word) line = line ≡ codes "copen" ∷ decimal n ∷ decimal ms ∷ decimal word ∷ []
 Spells (Tick n ms word) line = line ≡ codes "tick" ∷ decimal n ∷ decimal ms ∷ decimal word ∷ []
 Spells (Rx n k ms) line = line ≡ codes "rx" ∷ decimal n ∷ decimal k ∷ decimal ms ∷ []
 Spells (Send n) line = line ≡ codes "send" ∷ decimal n ∷ []
@@ -108,7 +111,8 @@ pattern_word (Bytes bytes) = encode_lower bytes.items
 
 -- the words of a row with hexadecimal digits in lower case
 abbrev pub row_words : Row → List (List ℕ)
-row_words (Open n ms word) = codes "open" ∷ decimal n ∷ decimal ms ∷ decimal word ∷ []
+row_words (Open n false ms word) = codes "open" ∷ decimal n ∷ decimal ms ∷ decimal word ∷ []
+row_words (Open n true ms word) = codes "copen" ∷ decimal n ∷ decimal ms ∷ decimal word ∷ []
 row_words (Tick n ms word) = codes "tick" ∷ decimal n ∷ decimal ms ∷ decimal word ∷ []
 row_words (Rx n k ms) = codes "rx" ∷ decimal n ∷ decimal k ∷ decimal ms ∷ []
 row_words (Send n) = codes "send" ∷ decimal n ∷ []

@@ -5,9 +5,11 @@ use outside::Pattern;
 /// milliseconds, 0 to 10^15. Frames on the bus are numbered from 1.
 #[derive(Debug, Drop, PartialEq, Eq)]
 pub enum Row {
-    /// A stopped node starts, with a random word.
+    /// A stopped node starts, with a random word. It is told how many members its cluster has, and where `told`
+    /// also which.
     Open {
         n: u8,
+        told: bool,
         ms: u64,
         word: u32,
     },

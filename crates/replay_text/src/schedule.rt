@@ -43,12 +43,14 @@ pub fn read_row(line: &[u8]) -> Option<Row>
     // The names of rows of allocatees begin with an a, and no other name does.
     if name.first() == Some(&b'a') {
         read_allocatee_row(name, fields)
+    } else if name == b"copen".as_slice() {
+        read_copen(fields)
     } else {
         read_cluster_row(name, fields)
     }
 }
 
-/// A row of a member, or a frame from outside.
+/// A row of a member, but for `copen`, or a frame from outside.
 fn read_cluster_row(name: &[u8], fields: &[u8]) -> Option<Row>
     ensures found { IfSome result (λ row. ReadsWords row (name.now ∷ words fields.now)) }
     ensures only { (row : RowValue) → IsOfCluster row → ReadsWords row (name.now ∷ words fields.now) →
@@ -87,7 +89,26 @@ fn read_open(fields: &[u8]) -> Option<Row>
         result ≡ Some row }
 {
     let (n, ms, word) = read_turn(fields)?;
-    Some(Row::Open { n, ms, word })
+    Some(Row::Open {
+        n,
+        told: false,
+        ms,
+        word,
+    })
+}
+
+fn read_copen(fields: &[u8]) -> Option<Row>
+    ensures found { IfSome result (λ row. ReadsWords row (codes "copen" ∷ words fields.now)) }
+    ensures only { (row : RowValue) → ReadsWords row (codes "copen" ∷ words fields.now) →
+        result ≡ Some row }
+{
+    let (n, ms, word) = read_turn(fields)?;
+    Some(Row::Open {
+        n,
+        told: true,
+        ms,
+        word,
+    })
 }
 
 fn read_tick(fields: &[u8]) -> Option<Row>
@@ -99,7 +120,7 @@ fn read_tick(fields: &[u8]) -> Option<Row>
     Some(Row::Tick { n, ms, word })
 }
 
-/// The fields of `open` and `tick`: a node, a moment and a random word.
+/// The fields of `open`, `copen` and `tick`: a node, a moment and a random word.
 fn read_turn(fields: &[u8]) -> Option<(u8, u64, u32)>
     ensures found { IfSome result (λ turn. (turn.1 ≤ last_moment)
         × (words fields.now ≡ decimal turn.0 ∷ decimal turn.1 ∷ decimal turn.2 ∷ [])) }

@@ -53,8 +53,18 @@ fn a_row_of_each_kind(rt: HostRuntime) -> Result<(), Fail> {
             b"open 255 1000000000000000 4294967295".as_slice(),
             Row::Open {
                 n: 255,
+                told: false,
                 ms: 1_000_000_000_000_000,
                 word: 4_294_967_295,
+            },
+        ),
+        (
+            b"copen 0 0 1",
+            Row::Open {
+                n: 0,
+                told: true,
+                ms: 0,
+                word: 1,
             },
         ),
         (

@@ -1,4 +1,4 @@
-use Rattle.cluster_agreement.proofs.StopsAndOpenings.{DiskLaws, may_open, not_opened_shown, open_shown}
+use Rattle.cluster_agreement.proofs.StopsAndOpenings.{DiskLaws, OpeningLaws, may_open, not_opened_shown, open_shown}
 use Rattle.cluster_agreement.proofs.StillWritable.{opened_written}
 use Rattle.cluster_agreement.proofs.rows.openings_are_shown.Goals as goal
 
@@ -9,13 +9,16 @@ returns c =
       found_again = c.the_disk_by_states.ensures.found_again;
       keeps_store = c.an_opening_keeps_the_store.ensures;
     } in
-    let order = c.moves_of_a_step.ensures.opening in
-    let sound = c.steps_stay_in_range.ensures.opening in record {
-      opened = λ choice made w run members shows written n ms word listed stopped opens. (
-        may_open disk order sound choice made w members.five run shows n ms word listed stopped opens,
+    let opening : OpeningLaws = record {
+      order = c.moves_of_a_step.ensures.opening;
+      sound = c.steps_stay_in_range.ensures.opening;
+      members = c.members_of_a_step.ensures.opening;
+    } in record {
+      opened = λ choice made w run members shows written n told ms word listed stopped opens. (
+        may_open disk opening choice made w members.five run shows n told ms word listed stopped opens,
         opened_written w.ids run n written,
-        open_shown disk order sound choice made w members.five run shows n ms word listed stopped opens,
+        open_shown disk opening choice made w members.five run shows n told ms word listed stopped opens,
       );
-      failed = λ choice made w run members shows n ms word listed stopped fails.
-          not_opened_shown disk order sound choice made w members.five run shows n ms word listed stopped fails;
+      failed = λ choice made w run members shows n told ms word listed stopped fails.
+          not_opened_shown disk opening choice made w members.five run shows n told ms word listed stopped fails;
     }

@@ -4,6 +4,7 @@ use Rattle.disk_model.specs.Memory.{memory_contents}
 use Rattle.kv_store.specs.KeyDisk.{restarted_on}
 use Rattle.outside.specs.declared.pattern.Pattern.{Pattern}
 use Rattle.raft_log.specs.KeyDisk.{opening_on}
+use Rattle.alloc_spec.specs.Rules.{rules_by}
 use Rattle.alloc_server.specs.Server.{disk_of, durable_of}
 use Rattle.cluster_spec.specs.Members.MemberStatus.{Down}
 use Rattle.cluster_spec.specs.ReportLine.{report_line_of}
@@ -13,22 +14,22 @@ use Rattle.bus_world.proofs.member.Member.open.Goals as goal
 
 pub returns-in-Ok-clause-told : goal.returns-in-Ok-clause-told
 returns-in-Ok-clause-told g c = λ x stands stopped.
-    let server = c.reopen.new.self in
     let down = stopped_on c.args.self.now.place x.status x.disk stands.status stopped in
-    let opened = c.a_member_on_the_disk_by_states.ensures.opened (disk_of c.args.self.now.place.server) (durable_of server) x.disk down.server.on
+    let opened = c.a_member_on_the_disk_by_states.ensures.opened (disk_of c.args.self.now.place.server) (durable_of c.reopen.new.self) x.disk down.server.on
     c.in-Ok.ensures.opens c.in-Ok.ensures.stands.works in
-    c.opened.ensures ∙ opened_told server c.args.self.now.id c.args.size c.args.moment c.args.word x.disk opened.0 opened.1 c.view.result
+    c.opened.ensures ∙ opened_told c.reopen.new.self c.learn.new.self c.learn.ensures.durable c.args.self.now.id x.disk opened.0 opened.1 c.view.result
     c.view.ensures.term c.view.ensures.vote c.view.ensures.last c.view.ensures.commit
 
 pub returns-in-Ok-clause-stands : goal.returns-in-Ok-clause-stands
 returns-in-Ok-clause-stands g c = λ x stands stopped.
-    let id : ℕ = c.args.self.now.id in let server = c.reopen.new.self in
+    let id : ℕ = c.args.self.now.id in let rules = rules_by c.args.size c.args.told.now in
     let down = stopped_on c.args.self.now.place x.status x.disk stands.status stopped in
-    let opened = c.a_member_on_the_disk_by_states.ensures.opened (disk_of c.args.self.now.place.server) (durable_of server) x.disk down.server.on
+    let opened = c.a_member_on_the_disk_by_states.ensures.opened (disk_of c.args.self.now.place.server) (durable_of c.reopen.new.self) x.disk down.server.on
     c.in-Ok.ensures.opens c.in-Ok.ensures.stands.works in record {
-      status = opened_by (record { server = server; runs = _ }) x id c.args.size c.args.moment c.args.word refl
-          (is_up server id c.args.size c.args.moment c.args.word x.disk opened.0 opened.1 c.in-Ok.ensures.stands) opened.0;
-      pattern = stands.pattern ∙ sym (pattern_kept id c.args.size c.args.moment c.args.word x);
+      status = opened_by (record { server = c.learn.new.self; runs = _ }) x id rules c.args.moment c.args.word refl
+          (is_up c.reopen.new.self c.learn.new.self c.learn.ensures.durable id x.disk opened.0 opened.1 rules c.args.moment c.args.word
+          (c.learn.ensures.stands _ c.in-Ok.ensures.stands)) opened.0;
+      pattern = stands.pattern ∙ sym (pattern_kept id rules c.args.moment c.args.word x);
     }
 
 pub returns-in-Err-clause-told : goal.returns-in-Err-clause-told
@@ -50,8 +51,8 @@ returns-in-Err-clause-stands g c = λ x stands stopped.
     (not_damaged _ c.in-Err.field-0 c.in-Err.ensures.failed (λ key e.
     c.an_image_stands_for_one_state.ensures.either (memory_contents (disk_of old)).seen x.disk.store key
     (c.the_disk_by_states.ensures.found (disk_of old) x.disk down.server.on).0 (c.in-Err.ensures.damaged key e refl))) in record {
-      status = unopened_by c.stay_stopped.new.self.place x id c.args.size c.args.moment c.args.word
+      status = unopened_by c.stay_stopped.new.self.place x id (rules_by c.args.size c.args.told.now) c.args.moment c.args.word
           (subst (λ (p : Pattern). HasStatus c.stay_stopped.new.self.place Down (if (opening_on x.disk).calls.stopped then restarted_on p (opening_on x.disk) else opening_on x.disk)) stands.pattern
           (c.stay_stopped.ensures.status (opening_on x.disk) (record { runs = down.runs; server = record { closed = c.in-Err.ensures.closed refl; on = not_opened.1 } }))) not_opened.0;
-      pattern = c.stay_stopped.ensures.pattern ∙ (stands.pattern ∙ sym (pattern_kept id c.args.size c.args.moment c.args.word x));
+      pattern = c.stay_stopped.ensures.pattern ∙ (stands.pattern ∙ sym (pattern_kept id (rules_by c.args.size c.args.told.now) c.args.moment c.args.word x));
     }

@@ -3,9 +3,12 @@ use Rattle.std.proofs.lemmas.List.{length-map}
 use Rattle.bus_world.specs.Stands.{StandsFor}
 use Rattle.cluster_spec.specs.ReportLine.{report_line_of}
 use Rattle.bus_world.specs.declared.member.Member.{Member}
-use Rattle.cluster_spec.specs.Cluster.{is_member}
+use Rattle.alloc_spec.specs.Rules.{Rules}
+use Rattle.cluster_spec.specs.Cluster.{is_member, rules_of}
 use Rattle.cluster_spec.specs.Members.{is_running, after_opening}
 use Rattle.cluster_spec.specs.Report.{line_of_opening}
+use Rattle.bus_world.specs.Members.{ids_of}
+use Rattle.bus_world.proofs.Opening.{same_rules}
 use Rattle.bus_world.proofs.Finding.{alike_there, set_alike, set_few, set_some, its_id, set_holds, stands_there, stopped_from}
 use Rattle.bus_world.proofs.members.Members.open.Goals as goal
 
@@ -27,11 +30,14 @@ returns-in-Ok-clause-leaves g c = λ w stands.
     let here = subst (λ (m : Member g.row.F.Denot). StandsFor m (w.member n)) (sym c.index_mut.ensures.value)
     (stands_there xs bus w stands.holds n c.in-Ok.place c.in-Ok.ensures.place m) in
     let id = ap (λ (m : Member g.row.F.Denot). m.id) c.index_mut.ensures.value ∙ its_id xs bus w stands.holds n c.in-Ok.place c.in-Ok.ensures.place m in
-    let size : length c.as_slice.result.now ≡ length w.ids = ap (λ (l : List (Member g.row.F.Denot)). length l) c.as_slice.ensures.value ∙ (sym (length-map xs (λ (m : Member g.row.F.Denot). m.id)) ∙ ap (λ (ids : List ℕ). length ids) stands.holds.ids) in
+    let same : ids_of xs ≡ w.ids = stands.holds.ids in
+    let size : length c.as_slice.result.now ≡ length w.ids = ap (λ (l : List (Member g.row.F.Denot)). length l) c.as_slice.ensures.value ∙ (sym (length-map xs (λ (m : Member g.row.F.Denot). m.id)) ∙ ap (λ (ids : List ℕ). length ids) same) in
+    let list = c.told_ids.ensures.told ∙ ap (λ (l : List (Member g.row.F.Denot)). (rules_of (ids_of l) c.args.told).told) c.as_slice.ensures.value ∙ ap (λ (ids : List ℕ). (rules_of ids c.args.told).told) same in
+    let rules = same_rules w.ids c.told_ids.result.items (length c.as_slice.result.now) c.args.told size list in
     set_holds xs bus w stands.holds n c.in-Ok.place c.in-Ok.ensures.place c.open.new.self
-    (after_opening n (length w.ids) c.args.moment c.args.word (w.member n)) (c.open.ensures.id ∙ id)
-    (subst (λ (k : ℕ). StandsFor c.open.new.self (after_opening k (length w.ids) c.args.moment c.args.word (w.member n))) id
-    (subst (λ (k : ℕ). StandsFor c.open.new.self (after_opening m.id k c.args.moment c.args.word (w.member n))) size
+    (after_opening n (rules_of w.ids c.args.told) c.args.moment c.args.word (w.member n)) (c.open.ensures.id ∙ id)
+    (subst (λ (k : ℕ). StandsFor c.open.new.self (after_opening k (rules_of w.ids c.args.told) c.args.moment c.args.word (w.member n))) id
+    (subst (λ (r : Rules). StandsFor c.open.new.self (after_opening m.id r c.args.moment c.args.word (w.member n))) rules
     (c.open.ensures.stands (w.member n) here (stopped_from (is_member w.ids n) (is_running (w.member n).status) (c.in-Ok.ensures.lawful w stands)))))
 
 pub invariant_of-self-clause-alike : goal.invariant_of-self-clause-alike

@@ -15,15 +15,15 @@ come-requires-clause-preferred g c = c.requires.preferred _ _ c.in-AOpen.pref _ 
 
 pub returns-in-Open-clause-refused : goal.returns-in-Open-clause-refused
 returns-in-Open-clause-refused g c =
-    subst (λ (r : Row). IfErr c.«open».result (Refuses c.args.self.now r)) (sym c.in-Open.is) (refuses_too c.args.self.now (Open c.in-Open.n c.in-Open.ms c.in-Open.word) c.«open».result c.«open».ensures.refused)
+    subst (λ (r : Row). IfErr c.«open».result (Refuses c.args.self.now r)) (sym c.in-Open.is) (refuses_too c.args.self.now (Open c.in-Open.n c.in-Open.told c.in-Open.ms c.in-Open.word) c.«open».result c.«open».ensures.refused)
 
 pub returns-in-Open-clause-told : goal.returns-in-Open-clause-told
 returns-in-Open-clause-told g c =
-    subst (λ (r : Row). IfOk c.«open».result (Tells c.args.self.now r)) (sym c.in-Open.is) (tells_too c.args.self.now (Open c.in-Open.n c.in-Open.ms c.in-Open.word) c.«open».result c.«open».ensures.told)
+    subst (λ (r : Row). IfOk c.«open».result (Tells c.args.self.now r)) (sym c.in-Open.is) (tells_too c.args.self.now (Open c.in-Open.n c.in-Open.told c.in-Open.ms c.in-Open.word) c.«open».result c.«open».ensures.told)
 
 pub returns-in-Open-clause-leaves : goal.returns-in-Open-clause-leaves
 returns-in-Open-clause-leaves g c =
-    subst (λ (r : Row). OnOk c.«open».result (LeavesThem c.args.self.now c.«open».new.self r)) (sym c.in-Open.is) (leaves_too c.args.self.now c.«open».new.self (Open c.in-Open.n c.in-Open.ms c.in-Open.word) (λ w. refl) c.«open».result c.«open».ensures.leaves)
+    subst (λ (r : Row). OnOk c.«open».result (LeavesThem c.args.self.now c.«open».new.self r)) (sym c.in-Open.is) (leaves_too c.args.self.now c.«open».new.self (Open c.in-Open.n c.in-Open.told c.in-Open.ms c.in-Open.word) (λ w. refl) c.«open».result c.«open».ensures.leaves)
 
 pub returns-in-Tick-clause-refused : goal.returns-in-Tick-clause-refused
 returns-in-Tick-clause-refused g c =
