@@ -32,10 +32,11 @@ const Facts = (() => {
   };
   const ROLES = {F: "follower", C: "candidate", L: "leader"};
   const ROW_LENGTHS = {
-    open: 4, tick: 4, send: 2, rx: 4, ext: 3, crash: 4, fault: 3, aopen: 6, atick: 4, arx: 5, asend: 2, aend: 2,
+    open: 4, copen: 4, tick: 4, send: 2, rx: 4, ext: 3, crash: 4, fault: 3, aopen: 6, atick: 4, arx: 5, asend: 2, aend: 2,
   };
-  const MOMENTS = {open: 2, tick: 2, rx: 3, aopen: 4, atick: 2, arx: 3};
-  const OF_MEMBERS = ["open", "tick", "send", "rx", "crash", "fault"];
+  const MOMENTS = {open: 2, copen: 2, tick: 2, rx: 3, aopen: 4, atick: 2, arx: 3};
+  const OPENINGS = ["open", "copen"]; // of a member that is told how many there are, and of one that is told who they are
+  const OF_MEMBERS = [...OPENINGS, "tick", "send", "rx", "crash", "fault"];
   const PUTS_A_FRAME = ["send", "ext", "asend"];
 
   /* A schedule and a report that are not of one run, or cannot be read. */
@@ -221,7 +222,7 @@ const Facts = (() => {
   class Lane {
     constructor(kind, key, name) {
       Object.assign(this, {kind, key, name, mode: "never", role: "F", term: 0, last: 0, commit: 0});
-      Object.assign(this, {queued: 0, moment: 0, known: [], holds: 0, spans: [], logs: [], changes: []});
+      Object.assign(this, {queued: 0, moment: 0, known: [], is_told: false, holds: 0, spans: [], logs: [], changes: []});
     }
     what() {
       return this.mode === "run" ? this.role : this.mode;
@@ -235,7 +236,7 @@ const Facts = (() => {
       keep(this.spans, this.what(), this.term);
       keep(this.logs, this.last, this.commit);
       const {term, last, commit, queued, moment} = this;
-      keep(this.changes, this.what(), term, last, commit, queued, moment, this.known.join(" "));
+      keep(this.changes, this.what(), term, last, commit, queued, moment, this.is_told ? "all" : this.known.join(" "));
     }
   }
 
@@ -352,24 +353,24 @@ const Facts = (() => {
         this.draw(number, this.frame(row[2]), lane, lane.mode === "failed" ? "unwanted" : "changed");
       }
       if (row[0] in MOMENTS && what !== "fault") {
-        lane.moment = row[0] === "open" ? this.now : Math.max(lane.moment, this.now);
+        lane.moment = OPENINGS.includes(row[0]) ? this.now : Math.max(lane.moment, this.now);
       }
       if (row[0] === "send") {
         this.now = lane.moment;
         lane.queued = Math.max(0, lane.queued - 1);
         said = this.put(number, lane, int(line[3]), line[4], line[5]);
       } else if (what === "open") {
-        Object.assign(lane, {mode: "run", role: "F", queued: 0, known: [lane.key]});
+        Object.assign(lane, {mode: "run", role: "F", queued: 0, known: [lane.key], is_told: row[0] === "copen"});
         Object.assign(lane, {term: int(line[3]), last: int(line[5]), commit: int(line[6])});
         const vote = line[4] !== "0" ? `, its vote is for ${line[4]}` : "";
         said = `${lane.name} opens: term ${lane.term}${vote}, ${lane.last} entries, ${lane.commit} committed`;
         this.mark(number, lane, "open");
       } else if (what === "stop") {
-        Object.assign(lane, {mode: "stopped", queued: 0, known: []});
+        Object.assign(lane, {mode: "stopped", queued: 0, known: [], is_told: false});
         said = `${lane.name} stops` + (row[0] === "crash" ? "" : ` inside its ${row[0]}`);
         this.mark(number, lane, "stop");
       } else if (what === "fault") {
-        if (row[0] === "open") {
+        if (OPENINGS.includes(row[0])) {
           this.mark(number, lane, "fault");
         } else if (lane.mode !== "failed") {
           Object.assign(lane, {mode: "failed", queued: 0});
@@ -424,7 +425,7 @@ const Facts = (() => {
     /* A list that a member heard is joined to its own, as far as the cluster's size goes. */
     hear(lane, frame) {
       const size = frame.payload[0];
-      if (frame.heading.source === lane.key) return;
+      if (frame.heading.source === lane.key || lane.is_told) return;
       for (const node of [frame.heading.source, ...frame.payload.slice(1)]) {
         const is_new = !lane.known.includes(node) && 1 <= node && node <= 125;
         if (is_new && lane.known.length < size) lane.known = [...lane.known, node];

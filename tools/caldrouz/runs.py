@@ -55,6 +55,7 @@ class Lane:
         self.last = self.commit = self.queued = 0
         self.moment, self.holds = 0, 0
         self.known: List[int] = []
+        self.is_told = False  # who the members are
         self.wins = 0  # how often it began to lead
         self.spans = Changes(window)  # what, term
         self.logs = Changes(window)  # last, commit
@@ -74,7 +75,7 @@ class Lane:
         if self.spans.note(row, what, self.term):
             self.wins += what == report.LEADER
         self.logs.note(row, self.last, self.commit)
-        known = " ".join(map(str, self.known))
+        known = "all" if self.is_told else " ".join(map(str, self.known))
         self.states.note(row, what, self.term, self.last, self.commit, self.queued, self.moment, known)
 
 
@@ -323,23 +324,24 @@ class _Reader:
             seen = "unwanted" if lane.mode == "failed" else "changed"  # it ended in this step, or had failed before
             self._draw(number, self.run.frames[row.frame], lane, seen)
         if row.moment is not None and what != "fault":
-            lane.moment = self.now if row.name == "open" else max(lane.moment, self.now)
+            lane.moment = self.now if row.name in report.OPENINGS else max(lane.moment, self.now)
         if isinstance(event, report.Step):
             return self._step(number, row, event, lane)
         if isinstance(event, report.Opening):
-            lane.mode, lane.role, lane.queued, lane.known = "run", report.FOLLOWER, 0, [lane.node]
+            lane.mode, lane.role, lane.queued = "run", report.FOLLOWER, 0
+            lane.known, lane.is_told = [lane.node], row.name == "copen"
             lane.term, lane.last, lane.commit = event.term, event.last, event.commit
             vote = f", its vote is for {event.vote}" if event.vote else ""
             self._mark(number, lane, "open")
             return f"{lane.name} opens: term {lane.term}{vote}, {lane.last} entries, {lane.commit} committed"
         if what == "stop":
-            lane.mode, lane.queued, lane.known = "stopped", 0, []
+            lane.mode, lane.queued, lane.known, lane.is_told = "stopped", 0, [], False
             self._mark(number, lane, "stop")
             return f"{lane.name} stops" + ("" if row.name == "crash" else f" inside its {row.name}")
         if what == "fault":
-            if row.name == "open" or lane.mode != "failed":
+            if row.name in report.OPENINGS or lane.mode != "failed":
                 self._mark(number, lane, "fault")
-            if row.name != "open":
+            if row.name not in report.OPENINGS:
                 lane.mode, lane.queued = "failed", 0
             return f"{lane.name}: its disk failed"
         if what == "armed":
@@ -441,7 +443,7 @@ def _hear(lane: Lane, frame: BusFrame) -> None:
     if not frame.payload:
         raise ValueError
     size = frame.payload[0]
-    if frame.heading.source != lane.node:
+    if frame.heading.source != lane.node and not lane.is_told:
         for node in [frame.heading.source, *frame.payload[1:]]:
             if node not in lane.known and 1 <= node <= 125 and len(lane.known) < size:
                 lane.known = lane.known + [node]

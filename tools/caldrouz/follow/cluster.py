@@ -116,7 +116,7 @@ class Cluster:
         """A member opens, for the spell at this place of the log."""
         spell = self.recording.spells[node][place]
         opened, row = self.moment(spell.opened), len(self.partner.rows)
-        event = self.partner.row(f"open {node} {opened} {LONGEST_WORD}")
+        event = self.partner.row(f"{self.recording.opening} {node} {opened} {LONGEST_WORD}")
         if not isinstance(event, Opening):
             raise Conflict(f"the run has {event} there")
         self.members[node] = Member(node, spell, opened, event.term, row, len(self.bus))

@@ -6,6 +6,7 @@ later than its clock the log shows a frame; between them the least of the neighb
 from __future__ import annotations
 
 import bisect
+import functools
 from typing import Dict, Iterator, List, Optional, Tuple
 
 from .. import logs, wire
@@ -121,6 +122,12 @@ class Recording:
     def begins_late(self) -> bool:
         """Whether the log has not the first frames of a member."""
         return any(spells[0].late_start for spells in self.spells.values() if spells)
+
+    @functools.cached_property
+    def opening(self) -> str:
+        """The row that opens a member: who is told the members does not look for them."""
+        looks = any(frame.heading.kind == "disc" and frame.heading.source in self.members for frame in self.frames)
+        return "open" if looks or self.begins_late or len(self.members) == 1 else "copen"
 
     def _spells(self, member: int) -> List[Spell]:
         mine = [frame for frame in self.frames if frame.heading.source == member]
