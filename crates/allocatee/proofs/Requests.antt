@@ -32,7 +32,7 @@ both false b e = absurd (cc (e))
 
 -- ---- a request is one frame
 
-one_piece : (signature id : ℕ) (payload : List ℕ) → length payload ≤ 7 → frames_of signature id payload ≡ record { bytes = payload; tail = tail_at id 0 true } ∷ []
+pub one_piece : (signature id : ℕ) (payload : List ℕ) → length payload ≤ 7 → frames_of signature id payload ≡ record { bytes = payload; tail = tail_at id 0 true } ∷ []
 unfolding frames_of
 one_piece signature id payload short =
     ap (λ (bytes : List ℕ). cut id 0 ((length bytes - 1) / 7) bytes) whole

@@ -6,7 +6,7 @@ use Rattle.allocatee.specs.declared.timer.FollowUp.{FollowUp}
 use Rattle.allocatee.specs.Allocatee.{Device, Event, step}
 use Rattle.allocatee.specs.Allocatee.Event.{Tick}
 use Rattle.allocatee.specs.Asking.{Asking, due, has_passed}
-use Rattle.allocatee.specs.Times.{AreQuiet, Asks, AsksFirst, FollowsUp, Happening, IsQuiet, Opening, TakesAllocation, WasAnswered, after_all, after_one, clock, opened}
+use Rattle.allocatee.specs.Times.{Asks, AsksFirst, FollowsUp, Happening, IsQuiet, LeaveTimer, LeavesTimer, Opening, TakesAllocation, WasAnswered, after_all, after_one, clock, opened}
 use Rattle.allocatee.specs.Times.Happening.{Sends, Steps}
 use Rattle.allocatee.proofs.Requests.{le_from, le_is, lt_from, stages_apart, stays_apart}
 use Rattle.allocatee.proofs.Steps.{AsksAnew, AsksOn, begun_at, effect, no_offer, no_tick}
@@ -170,12 +170,33 @@ quiet_same d (Steps number event) q = elim (effect d number event) [
   ]
 ]
 
-all_same : (d : Device) (since : List Happening) → AreQuiet d since → IsSame d (after_all d since)
-all_same d [] q = record { request = refl; follow_up = refl; holds = refl }
-all_same d (last ∷ earlier) q =
-    let one = quiet_same (after_all d earlier) last q.0 in
-    let rest = all_same d earlier q.1 in
-    record { request = one.request ∙ rest.request; follow_up = one.follow_up ∙ rest.follow_up; holds = one.holds ∙ rest.holds }
+-- a follow-up leaves the request timer alone
+pub record KeepsTimer (d after : Device) : Type 0 where
+  pub request : after.asking.request ≡ d.asking.request
+  pub holds : after.asking.holds ≡ d.asking.holds
+
+timer_same : (d : Device) (h : Happening) → LeavesTimer d h → KeepsTimer d (after_one d h)
+timer_same d Sends q = record { request = refl; holds = refl }
+timer_same d (Steps number event) q = elim (effect d number event) [
+  | inl z ↦ record { request = ap (λ (a : Asking). a.request) z.same; holds = ap (λ (a : Asking). a.holds) z.same }
+  | inr y ↦ elim y [
+    | inl z ↦ absurd (q.0 z.taken)
+    | inr x ↦ elim x [
+      | inl z ↦ elim q.1 [
+        | inl none ↦ absurd (z.offered none)
+        | inr asked ↦ let on = is_on asked.0 d number event asked.1 in absurd (none-some on.known (sym z.none ∙ on.due))
+      ]
+      | inr z ↦ record { request = z.offer.request; holds = z.offer.holds }
+    ]
+  ]
+]
+
+timers_same : (d : Device) (since : List Happening) → LeaveTimer d since → KeepsTimer d (after_all d since)
+timers_same d [] q = record { request = refl; holds = refl }
+timers_same d (last ∷ earlier) q =
+    let one = timer_same (after_all d earlier) last q.0 in
+    let rest = timers_same d earlier q.1 in
+    record { request = one.request ∙ rest.request; holds = one.holds ∙ rest.holds }
 
 pub record IsBounded (d : Device) : Type 0 where
   pub since : d.asking.request.since ≤ clock d
@@ -225,11 +246,11 @@ asks_now d number now word free few passed = elim (effect d number (Tick now wor
 ]
 
 pub asks_in_time : (o : Opening) (before since : List Happening) (number now word : ℕ) → let from = after_all (opened o) before in let d = after_all from since in
-    AreQuiet from since → d.asking.holds ≡ None → length d.asking.queue < 8 → clock from + 1000 ≤ clock (step d number (Tick now word)).device
+    LeaveTimer from since → d.asking.holds ≡ None → length d.asking.queue < 8 → clock from + 1000 ≤ clock (step d number (Tick now word)).device
     → AsksFirst d number (Tick now word) ⊎ ((known : ℕ) × FollowsUp known d number (Tick now word))
-asks_in_time o before since number now word quiet free few late =
+asks_in_time o before since number now word left free few late =
     let from : Device = after_all (opened o) before in
-    let same = all_same from since quiet in
+    let same = timers_same from since left in
     let b = bounded o before in
     asks_now (after_all from since) number now word free few
     (omega (arith, b.since, b.most, late, ap (λ timer. timer.since) same.request, ap (λ timer. timer.length) same.request))

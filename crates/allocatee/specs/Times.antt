@@ -87,10 +87,6 @@ abbrev pub IsQuiet : Device → Happening → Type 0
 IsQuiet d (Steps number event) = ((step d number event).sent ≡ []) × (TakesAllocation d event → ⊥)
 IsQuiet d Sends = ⊤
 
-abbrev pub AreQuiet : Device → List Happening → Type 0
-AreQuiet d [] = ⊤
-AreQuiet d (last ∷ earlier) = IsQuiet (after_all d earlier) last × AreQuiet d earlier
-
 -- a step at this moment takes an answer with so many bytes
 abbrev pub IsAnswer : Device → Happening → ℕ → ℕ → Type 0
 IsAnswer d (Steps number event) known moment =
@@ -102,3 +98,15 @@ abbrev pub WasAnswered : Device → List Happening → ℕ → ℕ → Type 0
 WasAnswered d [] known moment = ⊥
 WasAnswered d (last ∷ earlier) known moment = IsAnswer (after_all d earlier) last known moment
     ⊎ (IsQuiet (after_all d earlier) last × WasAnswered d earlier known moment)
+
+-- ---- its request timer
+
+-- it completes no Allocation, and offers nothing but a follow-up
+abbrev pub LeavesTimer : Device → Happening → Type 0
+LeavesTimer d (Steps number event) =
+    (TakesAllocation d event → ⊥) × (((step d number event).sent ≡ []) ⊎ ((part : List ℕ) × Asks false part d number event))
+LeavesTimer d Sends = ⊤
+
+abbrev pub LeaveTimer : Device → List Happening → Type 0
+LeaveTimer d [] = ⊤
+LeaveTimer d (last ∷ earlier) = LeavesTimer (after_all d earlier) last × LeaveTimer d earlier

@@ -2,7 +2,7 @@
 
 ghost use Rattle.std.specs.Prelude.{◌≡◌, ◌⊎◌, ℕ, ◌+◌, ◌<◌, ◌≤◌, List, None, length, false, true};
 ghost use Rattle.allocatee.specs.Allocatee.{Device, Event, Tick, step};
-ghost use Rattle.allocatee.specs.Times.{AreQuiet, Asks, AsksFirst, FollowsUp, Happening, Opening, TakesAllocation, WasAnswered, after_all, clock, opened};
+ghost use Rattle.allocatee.specs.Times.{Asks, AsksFirst, FollowsUp, Happening, LeaveTimer, Opening, TakesAllocation, WasAnswered, after_all, clock, opened};
 
 /// A request of the first stage comes 600 ms at the least after its opening, after any Allocation that it took, and
 /// after any other request of the first stage.
@@ -20,13 +20,13 @@ pub fn first_stages_are_600_ms_apart()
         clock between + 600 ≤ clock (step (after_all between since) later again).device }
 {}
 
-/// Where it took no Allocation and offered nothing for 1,000 ms, it asks when it reads its clock, as long as it holds
-/// no node ID and its queue has room: a follow-up where the last Allocation was an answer to it, and else a request
-/// of the first stage.
+/// Where it took no Allocation and offered no request of the first stage for 1,000 ms, it asks when it reads its
+/// clock, as long as it holds no node ID and its queue has room: a request of the first stage, or a follow-up that is
+/// due.
 pub fn it_asks_within_1000_ms()
     ensures { (o : Opening) (before since : List Happening) (number now word : ℕ) →
         let from = after_all (opened o) before in let d = after_all from since in
-        AreQuiet from since → d.asking.holds ≡ None → length d.asking.queue < 8 →
+        LeaveTimer from since → d.asking.holds ≡ None → length d.asking.queue < 8 →
         clock from + 1000 ≤ clock (step d number (Tick now word)).device →
         AsksFirst d number (Tick now word) ⊎ ((known : ℕ) × FollowsUp known d number (Tick now word)) }
 {}

@@ -7,3 +7,4 @@ pub mod Sizes
 pub mod Alike
 pub mod Taking
 pub mod OneLine
+pub mod Inverse

@@ -12,11 +12,11 @@ use Rattle.dsdl_text.specs.Numbers.{◌>>=◌, Gives, Reading, behind, bits_of, 
 abbrev pub then : Reading → (List Bool → Reading) → Reading
 then first next = first >>= λ x. next x.1 >>= λ y. Some (x.0 ++ y.0, y.1)
 
-abbrev numbers_read : Reading → List ℕ
+abbrev pub numbers_read : Reading → List ℕ
 numbers_read None = []
 numbers_read (Some x) = x.0
 
-abbrev bits_left : Reading → List Bool
+abbrev pub bits_left : Reading → List Bool
 bits_left None = []
 bits_left (Some x) = x.1
 

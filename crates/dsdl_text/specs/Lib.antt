@@ -1,8 +1,9 @@
 pub mod Layout
 pub mod Lines
 pub mod Numbers
+pub mod Reader
 pub mod Sections
 pub mod Sizes
 pub mod Text
 pub mod Words
-pub mod Reader
+pub mod Writing

@@ -6,7 +6,8 @@
 //!
 //! [`TextReader`] reads a text line by line. `specs/Lines.antt` says which bytes read as which [`Line`],
 //! `specs/Text.antt` what a line makes of the text so far, and which [`LineFault`] it has. A type's layout
-//! (`specs/Layout.antt`) is a tree; `specs/Numbers.antt` gives the numbers of a payload under a layout.
+//! (`specs/Layout.antt`) is a tree; `specs/Numbers.antt` gives the numbers of a payload under a layout,
+//! and `specs/Writing.antt` says which bits numbers have there.
 //! [`Texts::find`] finds a part of a type by its name, and [`Texts::decode`] answers exactly the numbers.
 #![tactic(auto)]
 
