@@ -59,6 +59,7 @@ fn main(rt: HostRuntime) -> ExitCode {
     let status = node(
         rt.alloc(),
         size,
+        &[],
         turns,
         &ids,
         &mut sink,

@@ -8,6 +8,7 @@ use Rattle.raft_core.specs.StoredPuts.{PutWithOrigin}
 use Rattle.raft_model.specs.Server.{Store}
 use Rattle.alloc_server.specs.Server.{StandsFor}
 use Rattle.alloc_spec.specs.AllocatorState.{AllocatorState}
+use Rattle.alloc_spec.specs.Rules.{Rules}
 use Rattle.cmd_node.specs.CutRun.{AreCutTurns, HoldsStoreInPart, IsCutRound}
 use Rattle.cmd_node.specs.Ends.{fault_id}
 use Rattle.cmd_node.specs.Opening.{Given, together_at_opening, readings_after}
@@ -42,7 +43,7 @@ module _ {D F : Type 0} {disk : Ghosts D} {L : Type 0} (coming : L → Option (L
       (PutsAt runners) (λ place. IsOf runners place (fault_id fault)) turns all
 
 module _ {D F : Type 0} {disk : Ghosts D} {L : Type 0} (coming : L → Option (List Received))
-    (sent : L → Option (List RawFrame)) (size turns : ℕ) (ids : List ℕ) (runners : List (Runner D F disk))
+    (sent : L → Option (List RawFrame)) (rules : Rules) (turns : ℕ) (ids : List ℕ) (runners : List (Runner D F disk))
     (links_old links : List L) (disks_old disks : List (Option D)) (readings_old readings : Option (List ℕ))
     (fault : Fault) where
   -- a run was cut off at the opening of the next one: those so far were opened, its disk is back, and no link was
@@ -66,7 +67,7 @@ module _ {D F : Type 0} {disk : Ghosts D} {L : Type 0} (coming : L → Option (L
     pub telling : (given : Given) → Tell coming sent disk links_old disks_old readings_old given →
         AreTelling runners
     pub cut : (given : Given) → Tell coming sent disk links_old disks_old readings_old given →
-        AreCutAfterTurns coming sent runners links readings turns (together_at_opening size ids given) fault
+        AreCutAfterTurns coming sent runners links readings turns (together_at_opening rules ids given) fault
 
   -- a run was cut off, at an opening or in a turn
   abbrev pub IsCut : Type 0

@@ -10,6 +10,7 @@ use Rattle.outside.specs.declared.received.Received.{Received}
 use Rattle.cmd_base.specs.Output.{WritesFront}
 use Rattle.cmd_base.specs.declared.status.Status.{Status}
 use Rattle.cmd_base.specs.declared.status.Status.TheVariants.{Damaged, DiskFault, Done, LinkFault, Memory, WriteFault}
+use Rattle.alloc_spec.specs.Rules.{Rules}
 use Rattle.cmd_node.specs.CutRun.{AreCutTurns, HoldsAt, HoldsPartAt, IsCutAtOpening, KeepsImages, KeepsOrOpens}
 use Rattle.cmd_node.specs.Opening.{Given, together_at_opening}
 use Rattle.cmd_node.specs.Report.{line_of, report}
@@ -17,9 +18,9 @@ use Rattle.cmd_node.specs.Status.{AreWhole, DisksTell, HasRisen, IsDamagedDisk, 
 use Rattle.cmd_node.specs.Status.{OthersStay}
 use Rattle.cmd_node.specs.WholeRun.{LeavesAll, Tell, after_turns}
 
--- The members with these IDs, of a cluster of a size, take so many turns on these links and disks and this clock.
+-- The members with these IDs, opened by these rules, take so many turns on these links and disks and this clock.
 module _ {L D : Type 0} (coming : L → Option (List Received)) (sent : L → Option (List RawFrame))
-    (link_faults : L → ℕ) (disk : Ghosts D) (size turns : ℕ) (ids : List ℕ) (links_old links : List L)
+    (link_faults : L → ℕ) (disk : Ghosts D) (rules : Rules) (turns : ℕ) (ids : List ℕ) (links_old links : List L)
     (disks_old disks : List (Option D)) (readings_old readings : Option (List ℕ)) where
   -- this holds of the counts of faults, before and now, of the link or the disk at a place
   abbrev pub OfLinks : ℕ → (ℕ → ℕ → Type 0) → Type 0
@@ -36,14 +37,14 @@ module _ {L D : Type 0} (coming : L → Option (List Received)) (sent : L → Op
   pub record IsDone : Type 0 where
     pub whole : AreWhole disk ids disks_old
     pub left : (given : Given) → Tells given →
-        LeavesAll coming sent disk links disks readings (length ids) (after_turns size turns ids given)
+        LeavesAll coming sent disk links disks readings (length ids) (after_turns rules turns ids given)
 
   -- all were opened, and the run ended in a turn of the node with this ID
   pub record IsCutInTurn (id : ℕ) : Type 0 where
     pub whole : AreWhole disk ids disks_old
     pub left : (given : Given) → Tells given → AreCutTurns coming sent links readings (length ids)
         (HoldsAt disk disks) (HoldsPartAt disk disks) (λ place. slice_index ids place ≡ id) turns
-        (together_at_opening size ids given)
+        (together_at_opening rules ids given)
 
   -- why a run ends with this status, and what it leaves on links, disks and clock
   abbrev pub IsEnd : Status → Type 0
@@ -59,7 +60,7 @@ module _ {L D : Type 0} (coming : L → Option (List Received)) (sent : L → Op
   -- the text that such a run writes, of which this holds: the report, or one line
   abbrev pub IsWritten : (List ℕ → Type 0) → Status → Type 0
   IsWritten Wrote Done =
-      (given : Given) → Tells given → Wrote (report turns (after_turns size turns ids given).lines)
+      (given : Given) → Tells given → Wrote (report turns (after_turns rules turns ids given).lines)
   IsWritten Wrote status = Wrote (line_of status)
 
   -- what a run leaves that ends so; what each link was sent is a prefix of what it is sent in a run to its end
@@ -69,7 +70,7 @@ module _ {L D : Type 0} (coming : L → Option (List Received)) (sent : L → Op
     pub quiet_disks : OthersStay OfDisks ids (λ id. status ≡ DiskFault id)
     pub begins : (given : Given) → Tells given → (i : ℕ) (link : L) → i < length ids →
         (frames : List RawFrame) × (sent (slice_index_or links i link) ≡ Some frames) ×
-        IsPrefix frames ((after_turns size turns ids given).running i).sent
+        IsPrefix frames ((after_turns rules turns ids given).running i).sent
     pub written : IsWritten Wrote status
 
   -- Without memory nothing was touched. Where the sink failed, all is left as by a run that ends otherwise, and a front

@@ -6,7 +6,7 @@ use Rattle.outside.specs.Readings.{next_reading, readings_behind}
 use Rattle.cmd_base.specs.Draws.{next_state, word_at}
 use Rattle.raft_core.specs.StoredPuts.{store_of}
 use Rattle.raft_log.specs.Stored.{Stored}
-use Rattle.alloc_spec.specs.AllocatorState.{opening}
+use Rattle.alloc_spec.specs.Rules.{Rules, opening_by}
 use Rattle.cmd_node.specs.Turn.{Running}
 use Rattle.cmd_node.specs.Turns.{Together}
 
@@ -24,20 +24,20 @@ readings_after zero readings = readings
 readings_after (suc count) readings = readings_behind (readings_after count readings)
 
 -- the generator of an allocator's words stands at its node ID before the first
-abbrev pub opened_at : ℕ → List ℕ → Given → ℕ → Running
-opened_at size ids given place = let id = slice_index ids place in let state = next_state id in record {
+abbrev pub opened_at : Rules → List ℕ → Given → ℕ → Running
+opened_at rules ids given place = let id = slice_index ids place in let state = next_state id in record {
   id = id;
-  allocator = opening id size (store_of (given.stored place))
+  allocator = opening_by id rules (store_of (given.stored place))
       (next_reading (readings_after place given.readings)) (word_at state);
   draws = state;
   coming = given.coming place;
   sent = given.sent place;
 }
 
--- the allocators of these nodes, of a cluster of a size, opened and before their first turn
-abbrev pub together_at_opening : ℕ → List ℕ → Given → Together
-together_at_opening size ids given = record {
-  running = opened_at size ids given;
+-- the allocators of these nodes, opened by these rules and before their first turn
+abbrev pub together_at_opening : Rules → List ℕ → Given → Together
+together_at_opening rules ids given = record {
+  running = opened_at rules ids given;
   readings = readings_after (length ids) given.readings;
   lines = [];
 }

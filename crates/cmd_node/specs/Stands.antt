@@ -9,7 +9,8 @@ use Rattle.cmd_base.specs.Draws.{next_state, word_at}
 use Rattle.raft_core.specs.StoredPuts.{store_of}
 use Rattle.raft_log.specs.DurableViews.{durable_state}
 use Rattle.raft_log.specs.Opening.{OpensTo}
-use Rattle.alloc_spec.specs.AllocatorState.{AllocatorState, opening}
+use Rattle.alloc_spec.specs.AllocatorState.{AllocatorState}
+use Rattle.alloc_spec.specs.Rules.{Rules, opening_by}
 use Rattle.alloc_server.specs.Server.{StandsFor, accepts, disk_of, durable_of, fault_of}
 use Rattle.cmd_node.specs.Opening.{readings_after}
 use Rattle.cmd_node.specs.Turn.{Running, Turning}
@@ -37,7 +38,7 @@ module _ {D F : Type 0} {disk : Ghosts D} where
   AreStanding runners = (i : ℕ) (runner : Runner D F disk) → i < length runners
       → IsStanding (slice_index_or runners i runner)
 
-  -- a disk was taken and opened, in a cluster of a size, for a node ID
+  -- a disk was taken and opened, for a node ID
   pub record IsOpened (runner : Runner D F disk) (before : Option D) (id : ℕ) : Type 0 where
     pub id_is : runner.id ≡ id
     pub draws : runner.draws ≡ next_state id
@@ -48,9 +49,9 @@ module _ {D F : Type 0} {disk : Ghosts D} where
     pub standing : IsStanding runner
 
   -- at this moment, with its first word and with what it has stored
-  abbrev pub IsOpenedAt : ℕ → Runner D F disk → ℕ → Type 0
-  IsOpenedAt size runner moment = StandsFor runner.server
-      (opening runner.id size (store_of (durable_state (durable_of runner.server)))
+  abbrev pub IsOpenedAt : Rules → Runner D F disk → ℕ → Type 0
+  IsOpenedAt rules runner moment = StandsFor runner.server
+      (opening_by runner.id rules (store_of (durable_state (durable_of runner.server)))
       moment (word_at runner.draws))
 
   -- the first of these nodes were opened, each on the disk at its place
@@ -59,9 +60,9 @@ module _ {D F : Type 0} {disk : Ghosts D} where
       → IsOpened (slice_index_or runners i runner) (slice_index_or disks i None) (slice_index ids i)
 
   -- each at the next reading
-  abbrev pub AreOpenedAt : ℕ → List (Runner D F disk) → List ℕ → Type 0
-  AreOpenedAt size runners readings = (i : ℕ) (runner : Runner D F disk) → i < length runners
-      → IsOpenedAt size (slice_index_or runners i runner) (next_reading (readings_after i readings))
+  abbrev pub AreOpenedAt : Rules → List (Runner D F disk) → List ℕ → Type 0
+  AreOpenedAt rules runners readings = (i : ℕ) (runner : Runner D F disk) → i < length runners
+      → IsOpenedAt rules (slice_index_or runners i runner) (next_reading (readings_after i readings))
 
   -- a runner is this one, on a link that tells these items and frames
   pub record IsRunning (runner : Runner D F disk) (coming : Option (List Received))

@@ -7,12 +7,13 @@ use Rattle.raft_core.specs.StoredPuts.{store_of}
 use Rattle.raft_log.specs.Rules.{AlwaysStandsForState, StandsForState}
 use Rattle.raft_log.specs.Stored.{Stored}
 use Rattle.raft_model.specs.Server.{Store}
+use Rattle.alloc_spec.specs.Rules.{Rules}
 use Rattle.cmd_node.specs.Opening.{Given, together_at_opening}
 use Rattle.cmd_node.specs.Turns.{Together, all_turns}
 
--- the allocators of these nodes, of a cluster of a size, after all their turns
-abbrev pub after_turns : ℕ → ℕ → List ℕ → Given → Together
-after_turns size turns ids given = all_turns (length ids) turns (together_at_opening size ids given)
+-- the allocators of these nodes, opened by these rules, after all their turns
+abbrev pub after_turns : Rules → ℕ → List ℕ → Given → Together
+after_turns rules turns ids given = all_turns (length ids) turns (together_at_opening rules ids given)
 
 -- the disk tells what it holds, and it stands for a state
 pub record TellsState {D : Type 0} (disk : Ghosts D) (before : D) (state : Stored) : Type 0 where

@@ -7,6 +7,7 @@ ghost use Rattle.alloc_spec.specs.Accepted as accepted;
 ghost use Rattle.transfer_rx.specs.Acceptance.{AnswersByRows, first_signature};
 ghost use Rattle.transfer_rx.specs.Memory.{ReceiverFitsInMemory};
 ghost use Rattle.cluster_spec.specs.Cluster.{AreMembers};
+ghost use Rattle.alloc_spec.specs.Rules.{rules_by};
 ghost use Rattle.cmd_node.specs.Cut.{IsCut};
 ghost use Rattle.cmd_node.specs.Opening.{Given};
 ghost use Rattle.cmd_node.specs.Ends.{end_status, fault_status};
@@ -31,8 +32,9 @@ use raft_log::laws::{a_state_is_durable, an_image_stands_for_one_state, an_openi
 use std::alloc::Global;
 
 /// Runs the allocators of these nodes, of a cluster of `size` members: each on the disk and the link at
-/// its place. Each is opened, takes `turns` turns, and is stopped; its disk is put back. The report goes
-/// to the sink at the end.
+/// its place. Each is told how many members there are, and who they are, where `told` has them. It is
+/// opened, takes `turns` turns, and is stopped; its disk is put back. The report goes to the sink at the
+/// end.
 ///
 /// `LinkFault`, `DiskFault` and `WriteFault` come only where the link or the disk of that node, or the
 /// sink, counted a fault; `Damaged` where the store of that node is damaged, first at that key, before
@@ -45,6 +47,7 @@ use std::alloc::Global;
 pub fn node<K: Sink, L: Link, D: Disk, C: Clock>(
     alloc: Global,
     size: u8,
+    told: &[u8],
     turns: u64,
     ids: &[u8],
     sink: &mut K,
@@ -54,6 +57,7 @@ pub fn node<K: Sink, L: Link, D: Disk, C: Clock>(
 ) -> Status
     requires some { 1 ≤ size }
     requires five { size ≤ 5 }
+    requires few { length told.now ≤ 5 }
     requires turns { turns ≤ 1000000000 }
     requires members { AreMembers ids.now }
     requires links { length links.old ≡ length ids.now }
@@ -65,7 +69,7 @@ pub fn node<K: Sink, L: Link, D: Disk, C: Clock>(
         Rose (K.faults sink.old) (K.faults sink.new) }
     ensures kept { (result ≡ Status.WriteFault) ⊎ (K.faults sink.new ≡ K.faults sink.old) }
     // What it leaves and writes, by its status.
-    ensures runs { RunsNodes L.coming L.sent L.faults D.Disk size turns ids.now links.old links.new
+    ensures runs { RunsNodes L.coming L.sent L.faults D.Disk (rules_by size told.now) turns ids.now links.old links.new
         disks.old disks.new (C.readings clock.old) (C.readings clock.new) (K.faults sink.old)
         (K.faults sink.new) (K.written sink.old) (K.written sink.new) result }
 {
@@ -81,6 +85,7 @@ pub fn node<K: Sink, L: Link, D: Disk, C: Clock>(
     };
     let ended = run_all(
         size,
+        told,
         turns,
         ids,
         &mut runners,
@@ -103,6 +108,7 @@ fn accept(kind: Kind, number: u16) -> Option<u64>
 /// Opens the servers of all nodes, and lets them take their turns.
 fn run_all<F: Fn(Kind, u16) -> Option<u64> + Copy, L: Link, D: Disk, C: Clock>(
     size: u8,
+    told: &[u8],
     turns: u64,
     ids: &[u8],
     runners: &mut Runners<D, F>,
@@ -116,6 +122,7 @@ fn run_all<F: Fn(Kind, u16) -> Option<u64> + Copy, L: Link, D: Disk, C: Clock>(
     requires answers { AnswersByRows (F.post (accepts runners.old)) accepted.rows }
     requires some { 1 ≤ size }
     requires five { size ≤ 5 }
+    requires few { length told.now ≤ 5 }
     requires turns { turns ≤ 1000000000 }
     requires members { AreMembers ids.now }
     requires links { length links.old ≡ length ids.now }
@@ -129,8 +136,8 @@ fn run_all<F: Fn(Kind, u16) -> Option<u64> + Copy, L: Link, D: Disk, C: Clock>(
     ensures all { OnOk result (length (runners_of runners.new) ≡ length ids.now) }
     ensures stands { OnOk result ((given : Given) → Tell L.coming L.sent D.Disk links.old disks.old
         (C.readings clock.old) given → Stand L.coming L.sent (runners_of runners.new) links.new
-        (C.readings clock.new) steps.new (after_turns size turns ids.now given)) }
-    ensures cut { IfErr result (IsCut L.coming L.sent size turns ids.now (runners_of runners.new)
+        (C.readings clock.new) steps.new (after_turns (rules_by size told.now) turns ids.now given)) }
+    ensures cut { IfErr result (IsCut L.coming L.sent (rules_by size told.now) turns ids.now (runners_of runners.new)
         links.old links.new disks.old disks.new (C.readings clock.old) (C.readings clock.new)) }
     ensures tells { OnOk result ((given : Given) → Tell L.coming L.sent D.Disk links.old disks.old
         (C.readings clock.old) given → AreTelling (runners_of runners.new)) }
@@ -140,7 +147,7 @@ fn run_all<F: Fn(Kind, u16) -> Option<u64> + Copy, L: Link, D: Disk, C: Clock>(
     calls_that_succeed_count_no_fault::<D>();
     an_image_stands_for_one_state();
     an_opening_goes_on();
-    match runners.open_all(size, ids, disks, clock) {
+    match runners.open_all(size, told, ids, disks, clock) {
         Ok(()) => runners.take_turns(turns, links, clock, steps),
         Err(fault) => Err(fault),
     }

@@ -1,6 +1,6 @@
 //! One allocator that runs.
 
-ghost use Rattle.std.specs.Prelude.{◌≡◌, ◌<◌, ◌≤◌, ◌+◌, ℕ, List, Option, Some, None};
+ghost use Rattle.std.specs.Prelude.{length, ◌≡◌, ◌<◌, ◌≤◌, ◌+◌, ℕ, List, Option, Some, None};
 ghost use Rattle.std.specs.Prelude.{IfOk, IfErr, OnOk, OnErr, true};
 ghost use Rattle.disk_model.specs.Contents.{AddsNoImage};
 ghost use Rattle.disk_model.specs.Device.{Makes};
@@ -16,7 +16,7 @@ ghost use Rattle.raft_log.specs.DurableViews.{durable_state};
 ghost use Rattle.raft_log.specs.Opening.{FailsToOpen, OpensTo};
 ghost use Rattle.raft_log.specs.Rules.{IsDamagedAt};
 ghost use Rattle.alloc_spec.specs.Accepted as accepted;
-ghost use Rattle.alloc_spec.specs.AllocatorState.{opening};
+ghost use Rattle.alloc_spec.specs.Rules.{opening_by, rules_by};
 ghost use Rattle.transfer_rx.specs.Acceptance.{AnswersByRows};
 ghost use Rattle.transfer_rx.specs.Memory.{ReceiverFitsInMemory};
 ghost use Rattle.replay_text.specs.Report.{told_line};
@@ -56,10 +56,11 @@ impl<D: Disk, F: Fn(Kind, u16) -> Option<u64> + Copy> Runner<D, F> {
     ghost use Rattle.cmd_node.specs.Steps.{steps_made};
 
     /// Opens the server of the node `id`, in a cluster of `size` members, at a moment and with its first
-    /// word.
+    /// word; it is told who they are, where `told` has them.
     pub fn open(
         id: u8,
         size: u8,
+        told: &[u8],
         disk: D,
         accept: F,
         now: u64,
@@ -68,11 +69,12 @@ impl<D: Disk, F: Fn(Kind, u16) -> Option<u64> + Copy> Runner<D, F> {
         requires most { id ≤ 125 }
         requires some { 1 ≤ size }
         requires five { size ≤ 5 }
+        requires few { length told.now ≤ 5 }
         requires memory { ReceiverFitsInMemory F.row 160 128 }
         requires callable { F.IsAlwaysCallable accept }
         requires answers { AnswersByRows (F.post accept) accepted.rows }
-        ensures stands { IfOk result (λ runner. StandsFor runner.server (opening id size (store_of
-            (durable_state (durable_of runner.server))) now (word_at (next_state id)))) }
+        ensures stands { IfOk result (λ runner. StandsFor runner.server (opening_by id (rules_by size told.now)
+            (store_of (durable_state (durable_of runner.server))) now (word_at (next_state id)))) }
         ensures id { IfOk result (λ runner. runner.id ≡ id) }
         ensures draws { IfOk result (λ runner. runner.draws ≡ next_state id) }
         ensures accepts { IfOk result (λ runner. closure_of runner ≡ accept) }
@@ -97,7 +99,10 @@ impl<D: Disk, F: Fn(Kind, u16) -> Option<u64> + Copy> Runner<D, F> {
         let mut draws = Draws::new(u64::from(id));
         let word = draws.word();
         match Server::open(id, size, disk, accept_rows(), accept, now, word) {
-            Ok(server) => Ok(Runner { id, server, draws }),
+            Ok(mut server) => {
+                server.learn(told);
+                Ok(Runner { id, server, draws })
+            }
             Err(refused) => Err(refused),
         }
     }

@@ -7,6 +7,7 @@ ghost use Rattle.alloc_spec.specs.Accepted as accepted;
 ghost use Rattle.transfer_rx.specs.Acceptance.{AnswersByRows};
 ghost use Rattle.transfer_rx.specs.Memory.{ReceiverFitsInMemory};
 ghost use Rattle.cluster_spec.specs.Cluster.{AreMembers};
+ghost use Rattle.alloc_spec.specs.Rules.{rules_by};
 ghost use Rattle.cmd_node.specs.Ends.{refusal_of};
 ghost use Rattle.cmd_node.specs.Opening.{readings_after};
 ghost use Rattle.cmd_node.specs.Stands.{closure_of};
@@ -66,11 +67,13 @@ impl<D: Disk, F: Fn(Kind, u16) -> Option<u64> + Copy> Runners<D, F> {
         list.destroy_empty();
     }
 
-    /// Takes the disk of each of these nodes and opens its server, in order. A disk that is refused is
+    /// Takes the disk of each of these nodes and opens its server, in order. Each is told how many members its
+    /// cluster has, and who they are, where `told` has them. A disk that is refused is
     /// put back, and those behind it stay where they are.
     pub fn open_all<C: Clock>(
         &mut self,
         size: u8,
+        told: &[u8],
         ids: &[u8],
         disks: &mut [Option<D>],
         clock: &mut C,
@@ -80,6 +83,7 @@ impl<D: Disk, F: Fn(Kind, u16) -> Option<u64> + Copy> Runners<D, F> {
         requires answers { AnswersByRows (F.post (accepts self.old)) accepted.rows }
         requires some { 1 ≤ size }
         requires five { size ≤ 5 }
+        requires few_told { length told.now ≤ 5 }
         requires members { AreMembers ids.now }
         requires each { length disks.old ≡ length ids.now }
         requires present { (i : ℕ) → i < length ids.now →
@@ -94,7 +98,7 @@ impl<D: Disk, F: Fn(Kind, u16) -> Option<u64> + Copy> Runners<D, F> {
             slice_index_or disks.new i None ≡ slice_index_or disks.old i None }
         ensures moments { (readings : List ℕ) → C.readings clock.old ≡ Some readings → OnOk result (
             (C.readings clock.new ≡ Some (readings_after (length ids.now) readings)) ×
-            AreOpenedAt size (runners_of self.new) readings) }
+            AreOpenedAt (rules_by size told.now) (runners_of self.new) readings) }
         ensures clock { OnErr result ((readings : List ℕ) → C.readings clock.old ≡ Some readings →
             C.readings clock.new ≡ Some (readings_after (suc (length (runners_of self.new))) readings)) }
         ensures accepts { accepts self.new ≡ accepts self.old }
@@ -102,7 +106,7 @@ impl<D: Disk, F: Fn(Kind, u16) -> Option<u64> + Copy> Runners<D, F> {
     {
         for place in 0..ids.len() {
             let now = clock.now();
-            match self.open_next(size, ids[place], &mut disks[place], now) {
+            match self.open_next(size, told, ids[place], &mut disks[place], now) {
                 Ok(()) => {}
                 Err(fault) => return Err(fault),
             }
@@ -111,19 +115,27 @@ impl<D: Disk, F: Fn(Kind, u16) -> Option<u64> + Copy> Runners<D, F> {
     }
 
     /// Takes the disk at a place and opens the server of a node. Where it is refused it is put back.
-    fn open_next(&mut self, size: u8, id: u8, place: &mut Option<D>, now: u64) -> Result<(), Fault>
+    fn open_next(
+        &mut self,
+        size: u8,
+        told: &[u8],
+        id: u8,
+        place: &mut Option<D>,
+        now: u64,
+    ) -> Result<(), Fault>
         requires memory { ReceiverFitsInMemory F.row 160 128 }
         requires callable { F.IsAlwaysCallable (accepts self.old) }
         requires answers { AnswersByRows (F.post (accepts self.old)) accepted.rows }
         requires some { 1 ≤ size }
         requires five { size ≤ 5 }
+        requires few_told { length told.now ≤ 5 }
         requires least { 1 ≤ id }
         requires most { id ≤ 125 }
         requires present { IsSome place.old }
         requires few { length (runners_of self.old) < 5 }
         ensures opened { OnOk result ((runner : Runner D F D.Disk) ×
             (runners_of self.new ≡ runners_of self.old ++ runner ∷ []) ×
-            IsOpened runner place.old id × IsOpenedAt size runner now) }
+            IsOpened runner place.old id × IsOpenedAt (rules_by size told.now) runner now) }
         ensures taken { OnOk result (place.new ≡ None) }
         ensures stays { OnErr result (runners_of self.new ≡ runners_of self.old) }
         ensures put_back { OnErr result (IsSome place.new) }
@@ -134,7 +146,7 @@ impl<D: Disk, F: Fn(Kind, u16) -> Option<u64> + Copy> Runners<D, F> {
         let Some(disk) = place.take() else {
             unreachable!()
         };
-        match Runner::open(id, size, disk, self.accept, now) {
+        match Runner::open(id, size, told, disk, self.accept, now) {
             Ok(runner) => {
                 self.push(runner);
                 Ok(())
