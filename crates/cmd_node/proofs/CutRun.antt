@@ -13,6 +13,7 @@ use Rattle.raft_log.specs.Opening.{FailsToOpen, IsReadAs}
 use Rattle.raft_log.specs.Rules.{AlwaysStandsForState, StandsForState}
 use Rattle.raft_log.specs.Stored.{Stored, after_puts, opening_puts}
 use Rattle.alloc_server.specs.Server.{durable_of, fault_of}
+use Rattle.alloc_spec.specs.Rules.{Rules}
 use Rattle.cmd_node.specs.Cut.{IsCut, IsCutOpening, IsCutTurning, PutsAt}
 use Rattle.cmd_node.specs.CutRun.{AreCutTurns, HoldsAt, HoldsPartAt, HoldsStoreInPart, IsCutAtOpening, KeepsOrOpens}
 use Rattle.cmd_node.specs.Ends.{fault_id}
@@ -60,11 +61,11 @@ module _ {D F : Type 0} {disk : Ghosts D}
         store_is = opened_store one_state reads_same before (durable_of runner.server) state (one.opens before was) held;
       })
 
-  module _ {L : Type 0} (coming : L → Option (List Received)) (sent : L → Option (List RawFrame)) (size turns : ℕ) (links_old links : List L)
+  module _ {L : Type 0} (coming : L → Option (List Received)) (sent : L → Option (List RawFrame)) (rules : Rules) (turns : ℕ) (links_old links : List L)
       (readings_old readings : Option (List ℕ)) (fault : Fault) where
     -- of the one that was refused, what its cause says
     pub at_opening : (Holds : D → D → Type 0) → ((before after : D) → disk.tells before ≡ true → HasCause disk before after (slice_index ids (length runners)) fault → Holds before after) →
-        IsCutOpening coming sent size turns ids runners links_old links disks_old disks readings_old readings fault →
+        IsCutOpening coming sent rules turns ids runners links_old links disks_old disks readings_old readings fault →
         IsCutAtOpening disk ids links_old links disks_old last readings_old readings Holds (fault_id fault)
     at_opening Holds by_cause cut = record {
       place = length runners;
@@ -81,18 +82,18 @@ module _ {D F : Type 0} {disk : Ghosts D}
       others = λ i high. stopped.others i (omega (arith, high)) ∙ cut.behind i high;
     }
 
-    pub in_turns : (cut : IsCutTurning coming sent size turns ids runners links_old links disks_old disks readings_old readings fault) (given : Given) →
+    pub in_turns : (cut : IsCutTurning coming sent rules turns ids runners links_old links disks_old disks readings_old readings fault) (given : Given) →
         Tell coming sent disk links_old disks_old readings_old given →
-        AreCutTurns coming sent links readings (length ids) (HoldsAt disk last) (HoldsPartAt disk last) (λ place. slice_index ids place ≡ fault_id fault) turns (together_at_opening size ids given)
+        AreCutTurns coming sent links readings (length ids) (HoldsAt disk last) (HoldsPartAt disk last) (λ place. slice_index ids place ≡ fault_id fault) turns (together_at_opening rules ids given)
     in_turns cut given tell =
         let telling = cut.telling given tell in
         let turning = cut.cut given tell in
         let turn = turning.turn in
         let place = turn.place in
-        let before = first_turns place (all_turns (length runners) turning.taken (together_at_opening size ids given)) in
+        let before = first_turns place (all_turns (length runners) turning.taken (together_at_opening rules ids given)) in
         let store = (before.running place).allocator.raft_server.store in
         let here = an_item runners place turn.within in
-        subst (λ n. AreCutTurns coming sent links readings n (HoldsAt disk last) (HoldsPartAt disk last) (λ k. slice_index ids k ≡ fault_id fault) turns (together_at_opening size ids given)) cut.all (record {
+        subst (λ n. AreCutTurns coming sent links readings n (HoldsAt disk last) (HoldsPartAt disk last) (λ k. slice_index ids k ≡ fault_id fault) turns (together_at_opening rules ids given)) cut.all (record {
           taken = turning.taken;
           fewer = turning.fewer;
           turn = record {
@@ -116,12 +117,12 @@ module _ {D F : Type 0} {disk : Ghosts D}
 
     -- what each link was sent by then
     pub cut_begins_so : (given : Given) → Tell coming sent disk links_old disks_old readings_old given → length links_old ≡ length ids →
-        IsCut coming sent size turns ids runners links_old links disks_old disks readings_old readings fault → (i : ℕ) (link : L) → i < length ids →
-        (frames : List RawFrame) × (sent (slice_index_or links i link) ≡ Some frames) × IsPrefix frames ((after_turns size turns ids given).running i).sent
+        IsCut coming sent rules turns ids runners links_old links disks_old disks readings_old readings fault → (i : ℕ) (link : L) → i < length ids →
+        (frames : List RawFrame) × (sent (slice_index_or links i link) ≡ Some frames) × IsPrefix frames ((after_turns rules turns ids given).running i).sent
     cut_begins_so given tell each (inl opening) i link low =
-        (given.sent i, ap (λ l. sent (slice_index_or l i link)) opening.untouched ∙ tell.sent_is i link (omega (arith, each, low)), all_begin (length ids) turns (together_at_opening size ids given) i)
+        (given.sent i, ap (λ l. sent (slice_index_or l i link)) opening.untouched ∙ tell.sent_is i link (omega (arith, each, low)), all_begin (length ids) turns (together_at_opening rules ids given) i)
     cut_begins_so given tell each (inr turning) i link low =
         let cut = in_turns turning given tell in
         let turn = cut.turn in
-        let before = first_turns turn.place (all_turns (length ids) cut.taken (together_at_opening size ids given)) in
-        ((before.running i).sent, turn.cut.sent_is i link low, cut_begins (length ids) cut.taken turns turn.place (together_at_opening size ids given) i turn.within cut.fewer)
+        let before = first_turns turn.place (all_turns (length ids) cut.taken (together_at_opening rules ids given)) in
+        ((before.running i).sent, turn.cut.sent_is i link low, cut_begins (length ids) cut.taken turns turn.place (together_at_opening rules ids given) i turn.within cut.fewer)

@@ -11,6 +11,7 @@ use Rattle.raft_log.specs.DurableViews.{durable_disk, durable_fault, durable_sta
 use Rattle.raft_log.specs.Opening.{IsReadAs}
 use Rattle.raft_log.specs.Rules.{AlwaysStandsForState, StandsForState}
 use Rattle.raft_log.specs.Stored.{Stored, after_puts, opening_puts}
+use Rattle.alloc_spec.specs.Rules.{Rules}
 use Rattle.cmd_base.specs.declared.status.Status.TheVariants.{Memory, WriteFault}
 use Rattle.cmd_node.specs.Cut.{IsCut, IsCutTurning}
 use Rattle.cmd_node.specs.CutRun.{KeepsImages, KeepsOrOpens}
@@ -48,7 +49,7 @@ no_write_fault (Err (Disk id)) is = cc (is)
 no_write_fault (Err (Damaged id key)) is = cc (is)
 
 module _ {D F L : Type 0} {disk : Ghosts D} (coming : L → Option (List Received)) (sent : L → Option (List RawFrame)) (faults : L → ℕ)
-    (size turns : ℕ) (ids : List ℕ) (links_old : List L) (disks_old : List (Option D)) (readings_old : Option (List ℕ)) (each : length links_old ≡ length ids)
+    (rules : Rules) (turns : ℕ) (ids : List ℕ) (links_old : List L) (disks_old : List (Option D)) (readings_old : Option (List ℕ)) (each : length links_old ≡ length ids)
     (durable : (store : Durable D disk) → durable_fault store ≡ None → disk.tells (durable_disk store) ≡ true →
     AlwaysStandsForState (disk.contents (durable_disk store)) (durable_state store))
     (one_state : (image : List ℕ) (a b : Stored) → StandsForState image a → StandsForState image b → a ≡ b)
@@ -56,11 +57,11 @@ module _ {D F L : Type 0} {disk : Ghosts D} (coming : L → Option (List Receive
     (runners : List (Runner D F disk)) (links : List L) (disks last : List (Option D)) (readings : Option (List ℕ)) (steps : LastSteps)
     (stopped : AreStopped runners disks last) where
   in_turn : (fault : Fault) → ((i : ℕ) (before : D) → i < length runners → slice_index_or disks_old i None ≡ Some before → IsWhole disk before) →
-      IsCutTurning coming sent size turns ids runners links_old links disks_old disks readings_old readings fault →
-      IsCutInTurn coming sent faults disk size turns ids links_old links disks_old last readings_old readings (fault_id fault)
+      IsCutTurning coming sent rules turns ids runners links_old links disks_old disks readings_old readings fault →
+      IsCutInTurn coming sent faults disk rules turns ids links_old links disks_old last readings_old readings (fault_id fault)
   in_turn fault whole cut = record {
     whole = λ i before low was. whole i before (let all = cut.all in omega (arith, all, low)) was;
-    left = in_turns durable one_state reads_same ids runners disks_old disks last stopped coming sent size turns links_old links readings_old readings fault cut;
+    left = in_turns durable one_state reads_same ids runners disks_old disks last stopped coming sent rules turns links_old links readings_old readings fault cut;
   }
 
   -- what is known of a run that ended so
@@ -69,17 +70,17 @@ module _ {D F L : Type 0} {disk : Ghosts D} (coming : L → Option (List Receive
 
   abbrev Standing : Result ⊤ Fault → Type 0
   Standing ended = OnOk ended ((given : Given) → Tell coming sent disk links_old disks_old readings_old given →
-      Stand coming sent runners links readings steps (after_turns size turns ids given))
+      Stand coming sent runners links readings steps (after_turns rules turns ids given))
 
   abbrev WasCut : Result ⊤ Fault → Type 0
-  WasCut ended = IfErr ended (IsCut coming sent size turns ids runners links_old links disks_old disks readings_old readings)
+  WasCut ended = IfErr ended (IsCut coming sent rules turns ids runners links_old links disks_old disks readings_old readings)
 
   ends : (ended : Result ⊤ Fault) → HasRun faults ids disks_old disks links_old links runners ended → OnOk ended (length runners ≡ length ids) → Standing ended →
       OnOk ended (Told (AreTelling runners)) → WasCut ended →
-      IsEnd coming sent faults disk size turns ids links_old links disks_old last readings_old readings (end_status ended)
+      IsEnd coming sent faults disk rules turns ids links_old links disks_old last readings_old readings (end_status ended)
   ends (Ok done) run all stands tells cut = record {
     whole = λ i before low was. run.whole i before (omega (arith, all, low)) was;
-    left = λ given tell. leaves_all coming sent durable runners links_old links disks last readings steps (length ids) (after_turns size turns ids given)
+    left = λ given tell. leaves_all coming sent durable runners links_old links disks last readings steps (length ids) (after_turns rules turns ids given)
         all each (stands given tell) (tells given tell) stopped;
   }
   ends (Err (Link node)) run all stands tells cut = (
@@ -92,7 +93,7 @@ module _ {D F L : Type 0} {disk : Ghosts D} (coming : L → Option (List Receive
   ends (Err (Disk node)) run all stands tells cut = (
     run.failed last stopped,
     elim cut [
-      | inl opening ↦ inl (at_opening durable one_state reads_same ids runners disks_old disks last stopped coming sent size turns links_old links readings_old readings (Disk node)
+      | inl opening ↦ inl (at_opening durable one_state reads_same ids runners disks_old disks last stopped coming sent rules turns links_old links readings_old readings (Disk node)
           (KeepsOrOpens disk) (λ before after told why. unopened before after told why.2) opening)
       | inr turn ↦ inr (in_turn (Disk node) run.whole turn)
     ],
@@ -100,7 +101,7 @@ module _ {D F L : Type 0} {disk : Ghosts D} (coming : L → Option (List Receive
   ends (Err (Damaged node key)) run all stands tells cut = (
     run.failed.0,
     elim cut [
-      | inl opening ↦ at_opening durable one_state reads_same ids runners disks_old disks last stopped coming sent size turns links_old links readings_old readings (Damaged node key)
+      | inl opening ↦ at_opening durable one_state reads_same ids runners disks_old disks last stopped coming sent rules turns links_old links readings_old readings (Damaged node key)
           (KeepsImages disk) (λ before after told why. why.2 told) opening
       | inr turn ↦ absurd (let same = turn.all in let fewer = run.failed.1 in omega (arith, same, fewer))
     ],
@@ -108,18 +109,18 @@ module _ {D F L : Type 0} {disk : Ghosts D} (coming : L → Option (List Receive
 
   begins : (ended : Result ⊤ Fault) → OnOk ended (length runners ≡ length ids) → Standing ended → WasCut ended →
       (given : Given) → Tell coming sent disk links_old disks_old readings_old given → (i : ℕ) (link : L) → i < length ids →
-      (frames : List RawFrame) × (sent (slice_index_or links i link) ≡ Some frames) × IsPrefix frames ((after_turns size turns ids given).running i).sent
+      (frames : List RawFrame) × (sent (slice_index_or links i link) ≡ Some frames) × IsPrefix frames ((after_turns rules turns ids given).running i).sent
   begins (Ok done) all stands cut given tell i link low =
-      let whole_run = after_turns size turns ids given in
+      let whole_run = after_turns rules turns ids given in
       let within : i < length runners = omega (arith, all, low) in
       ((whole_run.running i).sent, ((stands given tell).each i (an_item runners i within) link within).sent_is, all_begin (length ids) 0 whole_run i)
   begins (Err fault) all stands cut given tell i link low =
-      cut_begins_so durable one_state reads_same ids runners disks_old disks last stopped coming sent size turns links_old links readings_old readings fault given tell each cut i link low
+      cut_begins_so durable one_state reads_same ids runners disks_old disks last stopped coming sent rules turns links_old links readings_old readings fault given tell each cut i link low
 
   pub written : (Wrote : List ℕ → Type 0) (ended : Result ⊤ Fault) → Standing ended → OnOk ended ((lines : List (List ℕ)) → Keeps steps lines → Wrote (report turns lines)) →
       IfErr ended (λ fault. Wrote (line_of (fault_status fault))) →
-      IsWritten coming sent faults disk size turns ids links_old links disks_old last readings_old readings Wrote (end_status ended)
-  written Wrote (Ok done) stands by_report by_line = λ given tell. by_report (after_turns size turns ids given).lines (stands given tell).lines
+      IsWritten coming sent faults disk rules turns ids links_old links disks_old last readings_old readings Wrote (end_status ended)
+  written Wrote (Ok done) stands by_report by_line = λ given tell. by_report (after_turns rules turns ids given).lines (stands given tell).lines
   written Wrote (Err (Link id)) stands by_report by_line = by_line
   written Wrote (Err (Disk id)) stands by_report by_line = by_line
   written Wrote (Err (Damaged id key)) stands by_report by_line = by_line
@@ -127,7 +128,7 @@ module _ {D F L : Type 0} {disk : Ghosts D} (coming : L → Option (List Receive
   pub leaves : (Wrote : List ℕ → Type 0) (ended : Result ⊤ Fault) → HasRun faults ids disks_old disks links_old links runners ended → OnOk ended (length runners ≡ length ids) →
       Standing ended → OnOk ended (Told (AreTelling runners)) → WasCut ended → RunQuietly faults ids disks_old disks links_old links runners ended →
       OnOk ended ((lines : List (List ℕ)) → Keeps steps lines → Wrote (report turns lines)) → IfErr ended (λ fault. Wrote (line_of (fault_status fault))) →
-      Leaves coming sent faults disk size turns ids links_old links disks_old last readings_old readings Wrote (end_status ended)
+      Leaves coming sent faults disk rules turns ids links_old links disks_old last readings_old readings Wrote (end_status ended)
   leaves Wrote ended run all stands tells cut quiet by_report by_line =
       let still = stopped_run disk faults ids disks_old disks runners last links_old links ended (end_status ended) (λ id e. ap end_status e) (λ id e. ap end_status e) stopped quiet in record {
         end = ends ended run all stands tells cut;
@@ -137,11 +138,11 @@ module _ {D F L : Type 0} {disk : Ghosts D} (coming : L → Option (List Receive
         written = written Wrote ended stands by_report by_line;
       }
 
-module _ {D L : Type 0} (coming : L → Option (List Received)) (sent : L → Option (List RawFrame)) (faults : L → ℕ) (disk : Ghosts D) (size turns : ℕ) (ids : List ℕ) where
+module _ {D L : Type 0} (coming : L → Option (List Received)) (sent : L → Option (List RawFrame)) (faults : L → ℕ) (disk : Ghosts D) (rules : Rules) (turns : ℕ) (ids : List ℕ) where
   -- the sink took what such a run writes
   pub as_ended : (links_old links : List L) (disks_old disks : List (Option D)) (readings_old readings before now : Option (List ℕ)) (ended : Result ⊤ Fault) →
-      Leaves coming sent faults disk size turns ids links_old links disks_old disks readings_old readings (Appends before now) (end_status ended) →
-      LeavesWith coming sent faults disk size turns ids links_old links disks_old disks readings_old readings before now (end_status ended)
+      Leaves coming sent faults disk rules turns ids links_old links disks_old disks readings_old readings (Appends before now) (end_status ended) →
+      LeavesWith coming sent faults disk rules turns ids links_old links disks_old disks readings_old readings before now (end_status ended)
   as_ended links_old links disks_old disks readings_old readings before now (Ok done) left = left
   as_ended links_old links disks_old disks readings_old readings before now (Err (Link id)) left = left
   as_ended links_old links disks_old disks readings_old readings before now (Err (Disk id)) left = left
@@ -150,7 +151,7 @@ module _ {D L : Type 0} (coming : L → Option (List Received)) (sent : L → Op
   -- nothing was touched
   pub without_memory : (links : List L) (disks : List (Option D)) (readings : Option (List ℕ)) (sink_faults : ℕ) (written : Option (List ℕ)) →
       ((i : ℕ) → i < length ids → IsSome (slice_index_or disks i None)) →
-      RunsNodes coming sent faults disk size turns ids links links disks disks readings readings sink_faults sink_faults written written Memory
+      RunsNodes coming sent faults disk rules turns ids links links disks disks readings readings sink_faults sink_faults written written Memory
   without_memory links disks readings sink_faults written there = record {
     places = refl;
     put_back = there;

@@ -13,7 +13,7 @@ use Rattle.raft_log.specs.DurableViews.{durable_disk, durable_fault, durable_sta
 use Rattle.raft_log.specs.Opening.{IsReadAs, OpensTo}
 use Rattle.raft_log.specs.Rules.{AlwaysStandsForState, StandsForState}
 use Rattle.raft_log.specs.Stored.{Stored, after_puts, opening_puts}
-use Rattle.alloc_spec.specs.AllocatorState.{opening}
+use Rattle.alloc_spec.specs.Rules.{Rules, opening_by}
 use Rattle.alloc_server.specs.Server.{StandsFor, durable_of}
 use Rattle.cmd_node.specs.Opening.{Given, together_at_opening, readings_after}
 use Rattle.cmd_node.specs.Run.{AreStopped, AreTelling}
@@ -46,13 +46,13 @@ module _ {D : Type 0} {disk : Ghosts D} (one_state : (image : List ℕ) (a b : S
       ∙ same_store (after_puts (take (length puts) puts) found) found (same found (length puts))
       ∙ ap store_of (one_state (disk.contents before).seen found state (opens.finds.state told.tells) told.stands)
 
-  module _ {F L : Type 0} (coming : L → Option (List Received)) (sent : L → Option (List RawFrame)) (size : ℕ) (ids : List ℕ)
+  module _ {F L : Type 0} (coming : L → Option (List Received)) (sent : L → Option (List RawFrame)) (rules : Rules) (ids : List ℕ)
       (runners : List (Runner D F disk)) (links : List L) (disks : List (Option D)) (readings : Option (List ℕ)) (given : Given)
       (are : AreOpened runners disks ids) (count : length runners ≡ length ids) (there : (i : ℕ) → i < length ids → IsSome (slice_index_or disks i None))
       (tell : Tell coming sent disk links disks readings given) where
     -- the allocators are those that are opened on what was handed in
     pub all_opened : (after : Option (List ℕ)) (steps : LastSteps) → length links ≡ length ids → after ≡ Some (readings_after (length ids) given.readings) →
-        AreOpenedAt size runners given.readings → Keeps steps [] → Stand coming sent runners links after steps (together_at_opening size ids given)
+        AreOpenedAt rules runners given.readings → Keeps steps [] → Stand coming sent runners links after steps (together_at_opening rules ids given)
     all_opened after steps each read at none = record {
       each = λ i r l low.
           let one = are i r low in
@@ -65,9 +65,9 @@ module _ {D : Type 0} {disk : Ghosts D} (one_state : (image : List ℕ) (a b : S
           let within : i < length links = omega (arith, count, each, low) in
           record {
             id = one.id_is;
-            server = subst (λ n. StandsFor server (opening n size (store_of (given.stored i)) moment (word_at (next_state node)))) one.id_is
-                (subst (λ s. StandsFor server (opening id size s moment (word_at (next_state node)))) store
-                (subst (λ w. StandsFor server (opening id size (store_of (durable_state (durable_of server))) moment (word_at w))) one.draws (at i r low)));
+            server = subst (λ n. StandsFor server (opening_by n rules (store_of (given.stored i)) moment (word_at (next_state node)))) one.id_is
+                (subst (λ s. StandsFor server (opening_by id rules s moment (word_at (next_state node)))) store
+                (subst (λ w. StandsFor server (opening_by id rules (store_of (durable_state (durable_of server))) moment (word_at w))) one.draws (at i r low)));
             draws = one.draws;
             coming_is = tell.coming_is i l within;
             sent_is = tell.sent_is i l within;

@@ -7,6 +7,7 @@ use Rattle.raft_core.specs.StoredPuts.{store_of}
 use Rattle.raft_log.specs.Rules.{AlwaysStandsForState, StandsForState}
 use Rattle.raft_log.specs.Stored.{Stored}
 use Rattle.raft_model.specs.Server.{Store}
+use Rattle.alloc_spec.specs.Rules.{Rules}
 use Rattle.cmd_node.specs.Opening.{Given, together_at_opening}
 use Rattle.cmd_node.specs.Turns.{Together, all_turns}
 

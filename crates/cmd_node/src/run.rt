@@ -32,8 +32,9 @@ use raft_log::laws::{a_state_is_durable, an_image_stands_for_one_state, an_openi
 use std::alloc::Global;
 
 /// Runs the allocators of these nodes, of a cluster of `size` members: each on the disk and the link at
-/// its place. Each is told how many members there are, and who they are, where `told` has them. It is opened, takes `turns` turns, and is stopped; its disk is put back. The report goes
-/// to the sink at the end.
+/// its place. Each is told how many members there are, and who they are, where `told` has them. It is
+/// opened, takes `turns` turns, and is stopped; its disk is put back. The report goes to the sink at the
+/// end.
 ///
 /// `LinkFault`, `DiskFault` and `WriteFault` come only where the link or the disk of that node, or the
 /// sink, counted a fault; `Damaged` where the store of that node is damaged, first at that key, before

@@ -1,5 +1,6 @@
 use Rattle.std.proofs.Common.{◌<◌, length, refl, inl, inr, ◌∙◌, subst, arith}
 use Rattle.std.specs.Prelude.{None, slice_index_or}
+use Rattle.alloc_spec.specs.Rules.{rules_by}
 use Rattle.cmd_node.specs.Opening.{Given, together_at_opening as opened_of}
 use Rattle.cmd_node.specs.Runners.{runners_of}
 use Rattle.cmd_node.specs.Stands.{Stand}
@@ -48,10 +49,11 @@ pub returns-in-Ok : goal.returns-in-Ok
 returns-in-Ok g c =
     let opened = c.in-Ok.ensures in
     let turned = c.take_turns.ensures in
+    let rules = rules_by c.args.size c.args.told.now in
     let count = turned.nodes.count ∙ opened.all in
     let stand = λ (given : Given) (tell : Tell g.L.Link.coming g.L.Link.sent g.D.Disk c.args.links.now c.args.disks.now (g.C.Clock.readings c.args.clock.now) given).
     let moments = opened.moments given.readings tell.readings_are in
-    all_opened c.an_image_stands_for_one_state.ensures.state c.an_opening_goes_on.ensures.same g.L.Link.coming g.L.Link.sent c.args.size c.args.ids.now
+    all_opened c.an_image_stands_for_one_state.ensures.state c.an_opening_goes_on.ensures.same g.L.Link.coming g.L.Link.sent rules c.args.ids.now
     (runners_of c.open_all.new.self) c.args.links.now c.args.disks.now (g.C.Clock.readings c.args.clock.now) given opened.opened opened.all c.requires.present tell
     (g.C.Clock.readings c.open_all.new.clock) c.args.steps.now c.requires.links moments.0 moments.1 c.requires.keeps in
     let telling = λ (given : Given) (tell : Tell g.L.Link.coming g.L.Link.sent g.D.Disk c.args.links.now c.args.disks.now (g.C.Clock.readings c.args.clock.now) given).
@@ -69,7 +71,7 @@ returns-in-Ok g c =
       };
       all = on_ok_always c.take_turns.result count;
       stands = on_ok c.take_turns.result (λ goes given tell.
-          let all = opened_of c.args.size c.args.ids.now given in
+          let all = opened_of rules c.args.ids.now given in
           subst (λ n. Stand g.L.Link.coming g.L.Link.sent (runners_of c.take_turns.new.self) c.take_turns.new.links (g.C.Clock.readings c.take_turns.new.clock) c.take_turns.new.steps
           (all_turns n c.args.turns all)) opened.all (goes all (stand given tell))) turned.turned;
       cut = if_err c.take_turns.result (λ fault goes. inr (record {
@@ -79,7 +81,7 @@ returns-in-Ok g c =
             let first : i < length (runners_of c.open_all.new.self) = omega (arith, same, low) in
             (turned.nodes.each i r r first).id ∙ (opened.opened i r first).id_is;
         telling = telling;
-        cut = λ given tell. goes (opened_of c.args.size c.args.ids.now given) (stand given tell);
+        cut = λ given tell. goes (opened_of rules c.args.ids.now given) (stand given tell);
       })) turned.cut;
       tells = on_ok_always c.take_turns.result telling;
       quiet = turned_run g.D.Disk g.L.Link.faults c.calls_that_succeed_count_no_fault.ensures c.args.ids.now c.args.disks.now c.open_all.new.disks _ opened.opened _

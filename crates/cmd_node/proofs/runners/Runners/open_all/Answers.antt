@@ -2,6 +2,7 @@ use Rattle.std.proofs.Common.{◌≡◌, suc, ◌+◌, ◌<◌, ◌∷◌, [], l
 use Rattle.std.proofs.lemmas.List.{get_or-set_other, get_or-set_same, get_or_read}
 use Rattle.std.specs.Prelude.{Option, Some, None, IsSome, slice_index, slice_index_or, slice_set}
 use Rattle.outside.specs.Readings.{next_reading}
+use Rattle.alloc_spec.specs.Rules.{rules_by}
 use Rattle.cmd_node.specs.Opening.{readings_after}
 use Rattle.cmd_node.specs.Runners.{runners_of}
 use Rattle.cmd_node.specs.Stands.{AreOpened, AreOpenedAt, IsOpened, IsOpenedAt}
@@ -64,14 +65,15 @@ loop-place-preserved g c =
       places = length-set disks place c.open_next.new.place ∙ so_far.places;
       behind = λ i high. get_or-set_other disks place i c.open_next.new.place None (omega (arith, high)) ∙ so_far.behind i (omega (arith, high));
       moments = λ readings told.
+          let rules = rules_by c.args.size c.args.told.now in
           let far = so_far.moments readings told in
           let read = reads c.now-now.result (g.C.Clock.readings c.loop-place.clock) (g.C.Clock.readings c.now-now.new.self) (readings_after place readings) c.now-now.ensures far.0 in
           let next : suc place ≡ place + 1 = omega arith in (
             read.1 ∙ ap (λ n. Some (readings_after n readings)) next,
-            subst (λ l. AreOpenedAt c.args.size l readings) (sym done.1)
-                (all_pushed (λ j r. IsOpenedAt c.args.size r (next_reading (readings_after j readings))) before done.0 far.1
-                (subst (λ n. IsOpenedAt c.args.size done.0 (next_reading (readings_after n readings))) (sym so_far.count)
-                (subst (λ m. IsOpenedAt c.args.size done.0 m) read.0 done.3))),
+            subst (λ l. AreOpenedAt rules l readings) (sym done.1)
+                (all_pushed (λ j r. IsOpenedAt rules r (next_reading (readings_after j readings))) before done.0 far.1
+                (subst (λ n. IsOpenedAt rules done.0 (next_reading (readings_after n readings))) (sym so_far.count)
+                (subst (λ m. IsOpenedAt rules done.0 m) read.0 done.3))),
           );
     }
 

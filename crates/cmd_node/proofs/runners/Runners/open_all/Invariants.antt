@@ -1,5 +1,6 @@
 use Rattle.std.proofs.Common.{◌≡◌, ◌≤◌, ℕ, List, length}
 use Rattle.std.specs.Prelude.{Some, None, slice_index_or}
+use Rattle.alloc_spec.specs.Rules.{rules_by}
 use Rattle.cmd_node.specs.Opening.{readings_after}
 use Rattle.cmd_node.specs.Runners.{accepts, runners_of}
 use Rattle.cmd_node.specs.Stands.{AreOpened, AreOpenedAt}
@@ -14,5 +15,5 @@ invariant-loop-place g l = let told = g.C.Clock.readings in record {
   places : length l.disks ≡ length l.fn.disks;
   behind : (i : ℕ) → l.place ≤ i → slice_index_or l.disks i None ≡ slice_index_or l.fn.disks i None;
   moments : (readings : List ℕ) → told l.fn.clock ≡ Some readings →
-      (told l.clock ≡ Some (readings_after l.place readings)) × AreOpenedAt l.size (runners_of l.self) readings;
+      (told l.clock ≡ Some (readings_after l.place readings)) × AreOpenedAt (rules_by l.size l.told) (runners_of l.self) readings;
 }

@@ -3,7 +3,7 @@ use Rattle.cmd_base.specs.Draws.{next_state, word_at}
 use Rattle.raft_core.specs.StoredPuts.{store_of}
 use Rattle.raft_log.specs.DurableViews.{durable_state}
 use Rattle.raft_log.specs.Opening.{OpensTo}
-use Rattle.alloc_spec.specs.AllocatorState.{opening}
+use Rattle.alloc_spec.specs.Rules.{opening_by, rules_by}
 use Rattle.alloc_server.specs.Server.{StandsFor, durable_of}
 use Rattle.cmd_node.specs.Stands.{runner_disk}
 use Rattle.cmd_node.proofs.Opened.{is_refused, one_disk}
@@ -12,6 +12,7 @@ use Rattle.cmd_node.proofs.runners.Runners.open_next.Goals as goal
 pub returns-in-Ok-clause-opened : goal.returns-in-Ok-clause-opened
 returns-in-Ok-clause-opened g c =
     let runner = c.in-Ok.runner in
+    let rules = rules_by c.args.size c.args.told.now in
     let store = store_of (durable_state (durable_of runner.server)) in
     let same = one_disk c.in-Some.disk in (
       runner,
@@ -23,10 +24,10 @@ returns-in-Ok-clause-opened g c =
         later = λ taken is. subst (λ d. g.D.Disk.faults d ≤ g.D.Disk.faults (runner_disk runner)) (same taken c.args.place.now c.in-Some.ensures.value is) c.in-Ok.ensures.later;
         tells = λ taken is. subst (λ d. g.D.Disk.tells (runner_disk runner) ≡ g.D.Disk.tells d) (same taken c.args.place.now c.in-Some.ensures.value is) c.in-Ok.ensures.tells;
         works = c.in-Ok.ensures.works;
-        standing = (opening c.args.id c.args.size store c.args.now (word_at (next_state c.args.id)), c.in-Ok.ensures.stands);
+        standing = (opening_by c.args.id rules store c.args.now (word_at (next_state c.args.id)), c.in-Ok.ensures.stands);
       },
-      subst (λ n. StandsFor runner.server (opening n c.args.size store c.args.now (word_at runner.draws))) (sym c.in-Ok.ensures.id)
-          (subst (λ s. StandsFor runner.server (opening c.args.id c.args.size store c.args.now (word_at s))) (sym c.in-Ok.ensures.draws) c.in-Ok.ensures.stands),
+      subst (λ n. StandsFor runner.server (opening_by n rules store c.args.now (word_at runner.draws))) (sym c.in-Ok.ensures.id)
+          (subst (λ s. StandsFor runner.server (opening_by c.args.id rules store c.args.now (word_at s))) (sym c.in-Ok.ensures.draws) c.in-Ok.ensures.stands),
     )
 
 pub returns-in-Err-clause-refused : goal.returns-in-Err-clause-refused
