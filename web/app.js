@@ -116,6 +116,7 @@ const MODES = {
 };
 const ROWS = [
   ["open n ms word", "member n starts; the word draws its wait for an election"],
+  ["copen n ms word", "the same, and it is told who the members are"],
   ["tick n ms word", "member n reads its clock"],
   ["send n", "member n puts its next frame on the bus"],
   ["rx n k ms", "member n receives frame k"],

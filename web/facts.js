@@ -32,10 +32,11 @@ const Facts = (() => {
   };
   const ROLES = {F: "follower", C: "candidate", L: "leader"};
   const ROW_LENGTHS = {
-    open: 4, tick: 4, send: 2, rx: 4, ext: 3, crash: 4, fault: 3, aopen: 6, atick: 4, arx: 5, asend: 2, aend: 2,
+    open: 4, copen: 4, tick: 4, send: 2, rx: 4, ext: 3, crash: 4, fault: 3, aopen: 6, atick: 4, arx: 5, asend: 2, aend: 2,
   };
-  const MOMENTS = {open: 2, tick: 2, rx: 3, aopen: 4, atick: 2, arx: 3};
-  const OF_MEMBERS = ["open", "tick", "send", "rx", "crash", "fault"];
+  const MOMENTS = {open: 2, copen: 2, tick: 2, rx: 3, aopen: 4, atick: 2, arx: 3};
+  const OPENINGS = ["open", "copen"];
+  const OF_MEMBERS = [...OPENINGS, "tick", "send", "rx", "crash", "fault"];
   const PUTS_A_FRAME = ["send", "ext", "asend"];
 
   /* A schedule and a report that are not of one run, or cannot be read. */
@@ -352,7 +353,7 @@ const Facts = (() => {
         this.draw(number, this.frame(row[2]), lane, lane.mode === "failed" ? "unwanted" : "changed");
       }
       if (row[0] in MOMENTS && what !== "fault") {
-        lane.moment = row[0] === "open" ? this.now : Math.max(lane.moment, this.now);
+        lane.moment = OPENINGS.includes(row[0]) ? this.now : Math.max(lane.moment, this.now);
       }
       if (row[0] === "send") {
         this.now = lane.moment;
@@ -369,7 +370,7 @@ const Facts = (() => {
         said = `${lane.name} stops` + (row[0] === "crash" ? "" : ` inside its ${row[0]}`);
         this.mark(number, lane, "stop");
       } else if (what === "fault") {
-        if (row[0] === "open") {
+        if (OPENINGS.includes(row[0])) {
           this.mark(number, lane, "fault");
         } else if (lane.mode !== "failed") {
           Object.assign(lane, {mode: "failed", queued: 0});

@@ -43,6 +43,7 @@ ROLES = {FOLLOWER: "follower", CANDIDATE: "candidate", LEADER: "leader"}
 
 _LENGTHS = {
     "open": 4,
+    "copen": 4,
     "tick": 4,
     "send": 2,
     "rx": 4,
@@ -55,7 +56,7 @@ _LENGTHS = {
     "asend": 2,
     "aend": 2,
 }
-_MOMENTS = {"open": 2, "tick": 2, "rx": 3, "aopen": 4, "atick": 2, "arx": 3}
+_MOMENTS = {"open": 2, "copen": 2, "tick": 2, "rx": 3, "aopen": 4, "atick": 2, "arx": 3}
 _NUMBER = re.compile(r"0|[1-9][0-9]{0,18}", re.A)
 _DATA = re.compile(r"(?:[0-9a-fA-F]{2}){1,8}", re.A)
 _IDENTIFIER = re.compile(r"[01][0-9a-fA-F]{7}", re.A)

@@ -12,6 +12,9 @@ class Mismatch(Exception):
     """A schedule and a report that are not of one run, or cannot be read."""
 
 
+OPENINGS = ("open", "copen")
+
+
 class Window(NamedTuple):
     """The rows of which all is kept, from the first to the last."""
 
@@ -323,7 +326,7 @@ class _Reader:
             seen = "unwanted" if lane.mode == "failed" else "changed"  # it ended in this step, or had failed before
             self._draw(number, self.run.frames[row.frame], lane, seen)
         if row.moment is not None and what != "fault":
-            lane.moment = self.now if row.name == "open" else max(lane.moment, self.now)
+            lane.moment = self.now if row.name in OPENINGS else max(lane.moment, self.now)
         if isinstance(event, report.Step):
             return self._step(number, row, event, lane)
         if isinstance(event, report.Opening):
@@ -337,9 +340,9 @@ class _Reader:
             self._mark(number, lane, "stop")
             return f"{lane.name} stops" + ("" if row.name == "crash" else f" inside its {row.name}")
         if what == "fault":
-            if row.name == "open" or lane.mode != "failed":
+            if row.name in OPENINGS or lane.mode != "failed":
                 self._mark(number, lane, "fault")
-            if row.name != "open":
+            if row.name not in OPENINGS:
                 lane.mode, lane.queued = "failed", 0
             return f"{lane.name}: its disk failed"
         if what == "armed":
