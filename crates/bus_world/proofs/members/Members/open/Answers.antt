@@ -31,9 +31,9 @@ returns-in-Ok-clause-leaves g c = λ w stands.
     (stands_there xs bus w stands.holds n c.in-Ok.place c.in-Ok.ensures.place m) in
     let id = ap (λ (m : Member g.row.F.Denot). m.id) c.index_mut.ensures.value ∙ its_id xs bus w stands.holds n c.in-Ok.place c.in-Ok.ensures.place m in
     let same : ids_of xs ≡ w.ids = stands.holds.ids in
-    let size : length c.as_slice.result.now ≡ length w.ids = ap (λ (l : List (Member g.row.F.Denot)). length l) c.as_slice.ensures.value ∙ (sym (length-map xs (λ (m : Member g.row.F.Denot). m.id)) ∙ ap (λ (ids : List ℕ). length ids) same) in
-    let list = c.told_ids.ensures.told ∙ ap (λ (l : List (Member g.row.F.Denot)). (rules_of (ids_of l) c.args.told).told) c.as_slice.ensures.value ∙ ap (λ (ids : List ℕ). (rules_of ids c.args.told).told) same in
-    let rules = same_rules w.ids c.told_ids.result.items (length c.as_slice.result.now) c.args.told size list in
+    let size : length c.as_slice-members.result.now ≡ length w.ids = ap (λ (l : List (Member g.row.F.Denot)). length l) c.as_slice-members.ensures.value ∙ (sym (length-map xs (λ (m : Member g.row.F.Denot). m.id)) ∙ ap (λ (ids : List ℕ). length ids) same) in
+    let list = c.deref.ensures.0 ∙ c.told_ids-list.ensures.told ∙ ap (λ (l : List (Member g.row.F.Denot)). (rules_of (ids_of l) c.args.told).told) c.as_slice-members.ensures.value ∙ ap (λ (ids : List ℕ). (rules_of ids c.args.told).told) same in
+    let rules = same_rules w.ids c.deref.result.now (length c.as_slice-members.result.now) c.args.told size list in
     set_holds xs bus w stands.holds n c.in-Ok.place c.in-Ok.ensures.place c.open.new.self
     (after_opening n (rules_of w.ids c.args.told) c.args.moment c.args.word (w.member n)) (c.open.ensures.id ∙ id)
     (subst (λ (k : ℕ). StandsFor c.open.new.self (after_opening k (rules_of w.ids c.args.told) c.args.moment c.args.word (w.member n))) id
