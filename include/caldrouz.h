@@ -44,7 +44,7 @@ extern "C" {
 
 /* Milliseconds. A frame that may have waited longer, in a queue of the caller or of the driver, before it is heard or
  * before it is sent, is dropped: by then its transfer ID may be in use again. */
-#define CALDROUZ_LONGEST_WAIT 4000
+#define CALDROUZ_LONGEST_WAIT 1000
 
 /* what a call may answer */
 enum caldrouz_status {
