@@ -1,6 +1,6 @@
 -- A trace that meets the premises. A member hears a frame of the other one, is killed in a turn behind its first put,
 -- and is opened again by a process that gets what the kill left.
-use Rattle.std.specs.Prelude.{ℕ, List, [], ◌∷◌}
+use Rattle.std.specs.Prelude.{ℕ, false, List, [], ◌∷◌}
 use Rattle.outside.specs.declared.received.Received.TheVariants.{Frame}
 use Rattle.cmd_base.specs.Draws.{next_state, word_at}
 use Rattle.cmd_node.specs.Frames.{raw_of}
@@ -15,7 +15,7 @@ two = 1 ∷ 2 ∷ []
 -- Member 1 sends two frames. Member 2 takes the second one, from which it knows both members; its election is due when
 -- it is killed.
 abbrev pub first_events : List Event
-first_events = Opens 1 0 (word_at (next_state 1)) ∷ Opens 2 0 (word_at (next_state 2))
+first_events = Opens 1 false 0 (word_at (next_state 1)) ∷ Opens 2 false 0 (word_at (next_state 2))
     ∷ Turns 1 1000 (word_at (next_state (next_state 1))) Silence
     ∷ Turns 1 1010 (word_at (next_state (next_state (next_state 1)))) Silence
     ∷ Turns 2 1020 (word_at (next_state (next_state 2))) (WasSent 2)
@@ -24,7 +24,7 @@ first_events = Opens 1 0 (word_at (next_state 1)) ∷ Opens 2 0 (word_at (next_s
 -- a new process opens it, and it takes a turn in which that frame comes once more
 abbrev pub later_events : List Event
 later_events =
-    Opens 2 9100 (word_at (next_state 2)) ∷ Turns 2 9200 (word_at (next_state (next_state 2))) (WasSent 2) ∷ []
+    Opens 2 false 9100 (word_at (next_state 2)) ∷ Turns 2 9200 (word_at (next_state (next_state 2))) (WasSent 2) ∷ []
 
 abbrev pub world_by_then : Cluster
 world_by_then = world_after two first_events

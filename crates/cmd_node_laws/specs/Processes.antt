@@ -5,6 +5,7 @@ use Rattle.outside.specs.Readings.{next_reading}
 use Rattle.outside.specs.Traffic.{next_item}
 use Rattle.cmd_base.specs.Draws.{next_state, word_at}
 use Rattle.raft_core.specs.StoredPuts.{store_of}
+use Rattle.alloc_spec.specs.Rules.{Rules, tells}
 use Rattle.cluster_spec.specs.Cluster.{Cluster, after_rows, is_member}
 use Rattle.cluster_spec.specs.Members.MemberStatus.{Down}
 use Rattle.cmd_node.specs.Opening.{Given, together_at_opening, opened_at, readings_after}
@@ -30,7 +31,7 @@ place_of (Turning taken place) = place
 
 -- the member of an event; one of an allocatee is of no member
 abbrev pub whose : Event → Option ℕ
-whose (Opens n moment word) = Some n
+whose (Opens n told moment word) = Some n
 whose (Turns n moment word came) = Some n
 whose (Stops n) = Some n
 whose (IsKilled n moment word came puts) = Some n
@@ -51,19 +52,19 @@ pub record TakesTurn (w : Cluster) (n moment word : ℕ) (came : Came) (all : To
   pub word_is : word ≡ word_at (next_state (all.running place).draws)
   pub carries : Carries w.frames (next_item (all.running place).coming) came
 
--- of a process that runs these members, of a cluster of so many, with what was handed in
-module _ (size : ℕ) (mine : List ℕ) (given : Given) where
+-- of a process that opens these members by these rules, with what was handed in
+module _ (rules : Rules) (mine : List ℕ) (given : Given) where
   -- the members of the process, when all have taken so many turns, and those before the place one more
   abbrev pub together_at : ℕ → ℕ → Together
-  together_at taken place = first_turns place (all_turns (length mine) taken (together_at_opening size mine given))
+  together_at taken place = first_turns place (all_turns (length mine) taken (together_at_opening rules mine given))
 
   abbrev pub running_at : Point → ℕ → Running
-  running_at (Opening place) i = opened_at size mine given i
+  running_at (Opening place) i = opened_at rules mine given i
   running_at (Turning taken place) i = (together_at taken place).running i
 
   -- the event is what it does next
   abbrev pub ComesNext : Cluster → Event → Point → Type 0
-  ComesNext w (Opens n moment word) (Opening place) = (n ≡ slice_index mine place)
+  ComesNext w (Opens n told moment word) (Opening place) = (n ≡ slice_index mine place) × (told ≡ tells rules)
       × (moment ≡ next_reading (readings_after place given.readings)) × (word ≡ word_at (next_state n))
   ComesNext w (Turns n moment word came) (Turning taken place) =
       (n ≡ slice_index mine place) × TakesTurn w n moment word came (together_at taken place) place
@@ -84,7 +85,7 @@ module _ (size : ℕ) (mine : List ℕ) (given : Given) where
   -- what the world has of the member at a place
   abbrev pub StandsAt : Cluster → Point → ℕ → Type 0
   StandsAt w (Opening place) i =
-      (i < place → IsMirrored w (opened_at size mine given i)) × (place ≤ i → IsWaiting w i)
+      (i < place → IsMirrored w (opened_at rules mine given i)) × (place ≤ i → IsWaiting w i)
   StandsAt w (Turning taken place) i = IsMirrored w ((together_at taken place).running i)
 
   abbrev pub StandAt : Cluster → Point → Type 0

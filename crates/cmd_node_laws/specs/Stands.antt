@@ -13,7 +13,8 @@ use Rattle.raft_log.specs.Stored.{Stored}
 use Rattle.raft_model.specs.Lists.{In}
 use Rattle.raft_model.specs.Members.{HasNoneTwice}
 use Rattle.replay_text.specs.declared.row.Row.{Row}
-use Rattle.cluster_spec.specs.Cluster.{AreMembers, Cluster, after_rows, cluster}
+use Rattle.alloc_spec.specs.Rules.{Rules, tells}
+use Rattle.cluster_spec.specs.Cluster.{AreMembers, Cluster, after_rows, cluster, rules_of}
 use Rattle.cluster_spec.specs.Members.MemberStatus.{Down}
 use Rattle.cmd_node.specs.Opening.{Given}
 use Rattle.cmd_node.specs.Turn.{Running}
@@ -29,11 +30,11 @@ world_after ids trace = after_rows (cluster ids) (all_rows trace (cluster ids))
 
 -- A process went from one point to another, and the world from one to another. The member at a place is in the world
 -- what it is in the process, and its link was sent what the member of the world sent.
-pub record IsFollowed (size : ℕ) (mine : List ℕ) (given : Given) (w v : Cluster) (from to : Point)
+pub record IsFollowed (rules : Rules) (mine : List ℕ) (given : Given) (w v : Cluster) (from to : Point)
     (sent : ℕ → List RawFrame) (i : ℕ) : Type 0 where
-  pub stands : StandsAt size mine given v to i
-  pub frames : (running_at size mine given to i).sent
-      ≡ (running_at size mine given from i).sent ++ sent (slice_index mine i)
+  pub stands : StandsAt rules mine given v to i
+  pub frames : (running_at rules mine given to i).sent
+      ≡ (running_at rules mine given from i).sent ++ sent (slice_index mine i)
 
 -- a member is stopped, with what an image stands for
 pub record IsFound (image : List ℕ) (w : Cluster) (n : ℕ) : Type 0 where
@@ -46,16 +47,17 @@ pub record IsFound (image : List ℕ) (w : Cluster) (n : ℕ) : Type 0 where
 
 -- The run of these members stands in the trace of a cluster: some events came before it, and some while it went on to a
 -- point. Its members were stopped when it began, and had stored what was handed in.
-pub record IsRunIn (ids : List ℕ) (before during : List Event) (size : ℕ) (mine : List ℕ) (given : Given) (to : Point)
+pub record IsRunIn (ids : List ℕ) (before during : List Event) (rules : Rules) (mine : List ℕ) (given : Given) (to : Point)
     : Type 0 where
   pub members : AreMembers ids
-  pub size_is : size ≡ length ids
+  -- they were told how many members there are, or also who
+  pub rules_are : rules ≡ rules_of ids (tells rules)
   pub some : 1 ≤ length mine
   pub once : HasNoneTwice mine
   pub among : (n : ℕ) → In n mine → In n ids
   pub may : MayAllHappen (before ++ during) (cluster ids)
-  pub waiting : (i : ℕ) → i < length mine → IsWaiting size mine given (world_after ids before) i
-  pub goes : GoesOn size mine given (world_after ids before) during (Opening 0) to
+  pub waiting : (i : ℕ) → i < length mine → IsWaiting rules mine given (world_after ids before) i
+  pub goes : GoesOn rules mine given (world_after ids before) during (Opening 0) to
 
 -- Each link was sent, behind what it was sent before, what these rows send of its member; and whatever a stop leaves of
 -- each disk stands for what the member has stored in the world.

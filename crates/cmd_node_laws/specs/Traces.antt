@@ -24,8 +24,8 @@ pub data Came : Type 0 where
   IsForeign : (frame : Frame) → Came
 
 pub data Event : Type 0 where
-  -- the process of a member opens it
-  Opens : (n moment word : ℕ) → Event
+  -- the process of a member opens it, and may have told it the list of members
+  Opens : (n : ℕ) (told : Bool) (moment word : ℕ) → Event
   -- a member takes a turn to its end
   Turns : (n moment word : ℕ) (came : Came) → Event
   -- a member stops between two turns: its process ended, or was killed
@@ -76,7 +76,7 @@ while_running n rows w = if is_running (w.member n).status then rows w else []
 -- A put is four calls of a disk. A stop in place of call 4 * puts + 1, counted over both steps of the turn, leaves the
 -- first `puts` of its puts done and no other.
 abbrev pub rows_of : Event → RowsFrom
-rows_of (Opens n moment word) w = Open n moment word ∷ []
+rows_of (Opens n told moment word) w = Open n told moment word ∷ []
 rows_of (Turns n moment word came) w =
     rows_then (λ w. Tick n moment word ∷ []) (rows_then (came_rows n moment came) (out_rows n)) w
 rows_of (Stops n) w = Crash n 0 Old ∷ []
@@ -106,7 +106,7 @@ pub record MayTurn (n : ℕ) (w : Cluster) : Type 0 where
   pub runs : is_running (w.member n).status ≡ true
 
 abbrev pub MayHappen : Event → Cluster → Type 0
-MayHappen (Opens n moment word) w = (is_member w.ids n ≡ true) × (is_running (w.member n).status ≡ false)
+MayHappen (Opens n told moment word) w = (is_member w.ids n ≡ true) × (is_running (w.member n).status ≡ false)
 MayHappen (Turns n moment word came) w = MayTurn n w × MayOccur n moment came (after_row w (Tick n moment word))
 MayHappen (Stops n) w = MayTurn n w
 MayHappen (IsKilled n moment word came puts) w =

@@ -10,7 +10,8 @@ ghost use Rattle.raft_model.specs.Members.{HasNoneTwice};
 ghost use Rattle.cluster_agreement.specs.Allocatees.{HasAllocatees};
 ghost use Rattle.cluster_agreement.specs.Headline.{HasHeadline};
 ghost use Rattle.cluster_agreement.specs.Safe.{AreSafe};
-ghost use Rattle.cluster_spec.specs.Cluster.{AreMembers, Cluster, after_rows, cluster};
+ghost use Rattle.alloc_spec.specs.Rules.{Rules, rules_by, tells};
+ghost use Rattle.cluster_spec.specs.Cluster.{AreMembers, Cluster, after_rows, cluster, rules_of};
 ghost use Rattle.cluster_spec.specs.Lawful.{Lawful};
 ghost use Rattle.cmd_node.specs.CutRun.{IsCutAtTurn};
 ghost use Rattle.cmd_node.specs.Opening.{Given};
@@ -57,11 +58,11 @@ pub fn traces_are_lawful()
 /// in the process, but for marks and the numbers of steps, and its link was sent what the member of
 /// the world sent.
 pub fn processes_are_followed()
-    ensures { (mine : List ℕ) (given : Given) (w : Cluster) (trace : List Event)
-        (from to : Point) → HasNoneTwice mine → AreCalm w → place_of from < length mine →
-        MayAllHappen trace w → GoesOn (length w.ids) mine given w trace from to →
-        StandAt (length w.ids) mine given w from → (i : ℕ) → i < length mine →
-        IsFollowed (length w.ids) mine given w (after_rows w (all_rows trace w)) from to
+    ensures { (mine : List ℕ) (given : Given) (rules : Rules) (w : Cluster) (trace : List Event)
+        (from to : Point) → HasNoneTwice mine → rules ≡ rules_of w.ids (tells rules) →
+        AreCalm w → place_of from < length mine → MayAllHappen trace w → GoesOn rules mine given w trace from to →
+        StandAt rules mine given w from → (i : ℕ) → i < length mine →
+        IsFollowed rules mine given w (after_rows w (all_rows trace w)) from to
         (λ n. raw_by n w (all_rows trace w)) i }
 {
     an_opening_keeps_the_store();
@@ -95,17 +96,17 @@ pub fn kills_are_events()
 /// A run of `node` in a trace, to its end or cut off in a turn: what it leaves on links and disks is what
 /// its members of the world sent and have stored.
 pub fn runs_of_node_are_rows<L: Link, D: Disk>()
-    ensures done { (ids mine : List ℕ) (before during : List Event) (size turns : ℕ)
+    ensures done { (ids mine : List ℕ) (before during : List Event) (rules : Rules) (turns : ℕ)
         (given : Given) (links : List L) (disks : List (Option D)) (readings : Option (List ℕ)) →
-        IsRunIn ids before during size mine given (Turning turns 0) →
+        IsRunIn ids before during rules mine given (Turning turns 0) →
         LeavesAll L.coming L.sent D.Disk links disks readings (length mine)
-        (after_turns size turns mine given) → let w = world_after ids before in
+        (after_turns rules turns mine given) → let w = world_after ids before in
         LeavesAsTold L.sent D.Disk links disks mine given w (world_after ids (before ++ during))
         (all_rows during w) }
-    ensures cut { (ids mine : List ℕ) (before during : List Event) (size taken place : ℕ)
+    ensures cut { (ids mine : List ℕ) (before during : List Event) (rules : Rules) (taken place : ℕ)
         (given : Given) (links : List L) (disks : List (Option D)) (readings : Option (List ℕ)) →
-        place < length mine → IsRunIn ids before during size mine given (Turning taken place) →
-        let all = together_at size mine given taken place in
+        place < length mine → IsRunIn ids before during rules mine given (Turning taken place) →
+        let all = together_at rules mine given taken place in
         IsCutAtTurn L.coming L.sent D.Disk links disks readings (length mine) all place →
         let w = world_after ids before in
         IsCutAsTold L.coming L.sent D.Disk links disks mine given w
@@ -120,6 +121,6 @@ pub fn runs_of_node_are_rows<L: Link, D: Disk>()
 /// The premises can be met: in this trace a member hears the other one, is killed in a turn behind its first
 /// put, and is opened again by a new process, whose run stands in the trace.
 pub fn premises_can_be_met()
-    ensures run { IsRunIn two first_events later_events 2 (2 ∷ []) given_then (Turning 1 0) }
+    ensures run { IsRunIn two first_events later_events (rules_by 2 []) (2 ∷ []) given_then (Turning 1 0) }
     ensures killed { (world_by_then.member 2).disk.store.term ≡ 1 }
 {}
