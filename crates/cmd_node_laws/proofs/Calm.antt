@@ -9,7 +9,8 @@ use Rattle.raft_core.specs.StoredPuts.{store_of}
 use Rattle.raft_log.specs.KeyDisk.{are_put, is_open_on, opening_on, put_state_on, puts_on}
 use Rattle.raft_log.specs.Stored.{Put, Stored, after_puts, opening_puts}
 use Rattle.alloc_spec.specs.StepState.{StepState}
-use Rattle.alloc_spec.specs.AllocatorState.{AllocatorState, opening}
+use Rattle.alloc_spec.specs.AllocatorState.{AllocatorState}
+use Rattle.alloc_spec.specs.Rules.{Rules, opening_by}
 use Rattle.cluster_spec.specs.Members.{MemberStatus, Member, after_cut_off, puts_of, stopped_with, after_failed_opening, after_writing}
 use Rattle.cluster_spec.specs.Members as members
 use Rattle.cluster_spec.specs.Members.MemberStatus.{Down, Up}
@@ -65,9 +66,9 @@ step_calm x step_state calm =
 -- ---- an opening
 
 -- where nothing fails
-abbrev pub opened_member : ℕ → ℕ → ℕ → ℕ → Member → Member
-opened_member n size moment word x = record x {
-  status = Up (opening n size (store_of (opening_on x.disk).store) moment word);
+abbrev pub opened_member : ℕ → Rules → ℕ → ℕ → Member → Member
+opened_member n rules moment word x = record x {
+  status = Up (opening_by n rules (store_of (opening_on x.disk).store) moment word);
   disk = opening_on x.disk;
 }
 
@@ -79,12 +80,12 @@ opening_calm : (key_disk : KeyDisk Stored) (faults : ℕ) → key_disk.calls ≡
 opening_calm key_disk faults e f =
     subst (λ (s : KeyDisk Stored). (is_open_on s ≡ true) × HasPut (opening_puts key_disk.store) key_disk (opening_on s) faults) (sym (is_still key_disk faults e f)) (opening_still key_disk faults)
 
-pub opening_done : (n size moment word : ℕ) (x : Member) → IsCalm x → members.after_opening n size moment word x ≡ opened_member n size moment word x
-opening_done n size moment word x calm =
-    ap (λ (b : Bool). if b then opened_member n size moment word x else after_failed_opening x (opening_on x.disk)) (opening_calm x.disk x.disk.calls.faults calm.calls calm.nothing_unsynced).0
+pub opening_done : (n : ℕ) (rules : Rules) (moment word : ℕ) (x : Member) → IsCalm x → members.after_opening n rules moment word x ≡ opened_member n rules moment word x
+opening_done n rules moment word x calm =
+    ap (λ (b : Bool). if b then opened_member n rules moment word x else after_failed_opening x (opening_on x.disk)) (opening_calm x.disk x.disk.calls.faults calm.calls calm.nothing_unsynced).0
 
-pub opened_calm : (n size moment word : ℕ) (x : Member) → IsCalm x → IsCalm (opened_member n size moment word x)
-opened_calm n size moment word x calm =
+pub opened_calm : (n : ℕ) (rules : Rules) (moment word : ℕ) (x : Member) → IsCalm x → IsCalm (opened_member n rules moment word x)
+opened_calm n rules moment word x calm =
     let r = (opening_calm x.disk x.disk.calls.faults calm.calls calm.nothing_unsynced).1 in
     record { calls = own_faults (opening_on x.disk) x.disk.calls.faults r.calls; nothing_unsynced = r.nothing_unsynced; works = tt }
 

@@ -9,7 +9,7 @@ use Rattle.raft_core.specs.StoredPuts.{PutWithOrigin, store_of, stored_puts}
 use Rattle.raft_model.specs.Lists.{In}
 use Rattle.raft_model.specs.Members.{HasNoneTwice}
 use Rattle.replay_text.specs.declared.row.Row.{Row}
-use Rattle.cluster_spec.specs.Cluster.{AreMembers, Cluster, after_rows, cluster, is_member}
+use Rattle.cluster_spec.specs.Cluster.{AreMembers, Cluster, after_rows, cluster, is_member, rules_of}
 use Rattle.cluster_spec.specs.Members.{is_running}
 use Rattle.cmd_node.specs.Opening.{Given}
 use Rattle.cmd_node.specs.CutRun.{HoldsStoreInPart, IsCutAtTurn}
@@ -20,6 +20,7 @@ use Rattle.outside.specs.Readings.{next_reading}
 use Rattle.outside.specs.Traffic.{next_item}
 use Rattle.raft_log.specs.Rules.{StandsForState}
 use Rattle.raft_log.specs.Stored.{AfterSome, Stored}
+use Rattle.alloc_spec.specs.Rules.{Rules, tells}
 use Rattle.cmd_node.specs.WholeRun.{HoldsStore, LeavesAll, after_turns}
 use Rattle.cmd_node_laws.specs.Traces.{Came, Event, MayAllHappen, Silence, all_rows, rows_of}
 use Rattle.cmd_node_laws.specs.Mirrored.{AreCalm, Carries, IsMirrored, raw_by}
@@ -35,9 +36,9 @@ pub record FollowLaws : Type 0 where
       → store_of (w.member t.running.id).disk.store ≡ store_of state → AfterSome (StandsForState image) (stored_puts (turn_puts moment t) state) state
       → Carries w.frames (next_item t.running.coming) came → MayBeKilled w t.running moment came → IsFoundKilled image w t.running moment came
   pub calm : (ids : List ℕ) (trace : List Event) → MayAllHappen trace (cluster ids) → AreCalm (world_after ids trace)
-  pub followed : (mine : List ℕ) (given : Given) (w : Cluster) (trace : List Event) (from to : Point) → HasNoneTwice mine → AreCalm w → place_of from < length mine
-      → MayAllHappen trace w → GoesOn (length w.ids) mine given w trace from to → StandAt (length w.ids) mine given w from → (i : ℕ) → i < length mine
-      → IsFollowed (length w.ids) mine given w (after_rows w (all_rows trace w)) from to (λ n. raw_by n w (all_rows trace w)) i
+  pub followed : (mine : List ℕ) (given : Given) (rules : Rules) (w : Cluster) (trace : List Event) (from to : Point) → HasNoneTwice mine → rules ≡ rules_of w.ids (tells rules) → AreCalm w → place_of from < length mine
+      → MayAllHappen trace w → GoesOn rules mine given w trace from to → StandAt rules mine given w from → (i : ℕ) → i < length mine
+      → IsFollowed rules mine given w (after_rows w (all_rows trace w)) from to (λ n. raw_by n w (all_rows trace w)) i
   pub stored : (ids : List ℕ) (trace : List Event) (r : Running) → AreMembers ids → MayAllHappen trace (cluster ids) → In r.id ids
       → let w = world_after ids trace in IsMirrored w r → store_of (w.member r.id).disk.store ≡ r.allocator.raft_server.store
 
@@ -65,25 +66,23 @@ may_rest [] rest w may = may
 may_rest (event ∷ first) rest w may =
     subst (MayAllHappen rest) (sym (after_both w (rows_of event w) (all_rows first (after_rows w (rows_of event w))))) (may_rest first rest (after_rows w (rows_of event w)) may.1)
 
-module _ (laws : FollowLaws) (ids mine : List ℕ) (before during : List Event) (size : ℕ) (given : Given) (to : Point) (is : IsRunIn ids before during size mine given to) where
+module _ (laws : FollowLaws) (ids mine : List ℕ) (before during : List Event) (rules : Rules) (given : Given) (to : Point) (is : IsRunIn ids before during rules mine given to) where
   abbrev w : Cluster
   w = world_after ids before
 
   abbrev v : Cluster
   v = world_after ids (before ++ during)
 
-  size_is : length w.ids ≡ size
-  size_is = ap length (same_ids_of ids (all_rows before (cluster ids))) ∙ sym is.size_is
+  rules_are : rules ≡ rules_of w.ids (tells rules)
+  rules_are = is.rules_are ∙ ap (λ (list : List ℕ). rules_of list (tells rules)) (sym (same_ids_of ids (all_rows before (cluster ids))))
 
-  followed : (i : ℕ) → i < length mine → IsFollowed size mine given w v (at_point.Opening 0) to (λ n. raw_by n w (all_rows during w)) i
+  followed : (i : ℕ) → i < length mine → IsFollowed rules mine given w v (at_point.Opening 0) to (λ n. raw_by n w (all_rows during w)) i
   followed i low =
-      subst (λ (u : Cluster). IsFollowed size mine given w u (at_point.Opening 0) to (λ n. raw_by n w (all_rows during w)) i) (sym (world_both ids before during))
-      (subst (λ (count : ℕ). GoesOn count mine given w during (at_point.Opening 0) to → StandAt count mine given w (at_point.Opening 0)
-      → IsFollowed count mine given w (after_rows w (all_rows during w)) (at_point.Opening 0) to (λ n. raw_by n w (all_rows during w)) i) size_is
-      (λ goes stand. laws.followed mine given w during (at_point.Opening 0) to is.once (laws.calm ids before (may_first before during (cluster ids) is.may)) (let h : 0 < length mine = omega (arith, is.some) in h)
-      (may_rest before during (cluster ids) is.may) goes stand i low) is.goes stands)
+      subst (λ (u : Cluster). IsFollowed rules mine given w u (at_point.Opening 0) to (λ n. raw_by n w (all_rows during w)) i) (sym (world_both ids before during))
+      (laws.followed mine given rules w during (at_point.Opening 0) to is.once rules_are (laws.calm ids before (may_first before during (cluster ids) is.may)) (let h : 0 < length mine = omega (arith, is.some) in h)
+      (may_rest before during (cluster ids) is.may) is.goes stands i low)
     where
-      stands : StandAt size mine given w (at_point.Opening 0)
+      stands : StandAt rules mine given w (at_point.Opening 0)
       stands i h = (λ e. absurd (omega (arith, e)), λ e. is.waiting i h)
 
   -- what a member that is in a turn has stored
@@ -114,34 +113,34 @@ is_listed (id ∷ ids) n (inr rest) = either (id == n) (is_listed ids n rest)
     either false e = e
 
 module _ (laws : FollowLaws) {L D : Type 0} (coming : L → Option (List Received)) (sent : L → Option (List RawFrame)) (disk : Ghosts D) where
-  pub left_as_told : (ids mine : List ℕ) (before during : List Event) (size turns : ℕ) (given : Given) (links : List L) (disks : List (Option D)) (readings : Option (List ℕ))
-      → IsRunIn ids before during size mine given (at_point.Turning turns 0) → LeavesAll coming sent disk links disks readings (length mine) (after_turns size turns mine given)
+  pub left_as_told : (ids mine : List ℕ) (before during : List Event) (rules : Rules) (turns : ℕ) (given : Given) (links : List L) (disks : List (Option D)) (readings : Option (List ℕ))
+      → IsRunIn ids before during rules mine given (at_point.Turning turns 0) → LeavesAll coming sent disk links disks readings (length mine) (after_turns rules turns mine given)
       → let w = world_after ids before in LeavesAsTold sent disk links disks mine given w (world_after ids (before ++ during)) (all_rows during w)
-  left_as_told ids mine before during size turns given links disks readings is left = record {
+  left_as_told ids mine before during rules turns given links disks readings is left = record {
     sent_is = λ i link low. left.sent_is i link low ∙ ap (λ (l : List RawFrame). some l) (follow i low).frames;
-    stored_is = λ i after low there. subst (HoldsStore disk after) (stored_there laws ids mine before during size given to is (now i) i low (same_id i) (follow i low).stands) (left.stored_is i after low there);
+    stored_is = λ i after low there. subst (HoldsStore disk after) (stored_there laws ids mine before during rules given to is (now i) i low (same_id i) (follow i low).stands) (left.stored_is i after low there);
   }
     where
       to : Point
       to = at_point.Turning turns 0
 
       now : ℕ → Running
-      now i = (after_turns size turns mine given).running i
+      now i = (after_turns rules turns mine given).running i
 
       some : List RawFrame → Option (List RawFrame)
       some l = Some l
 
-      follow : (i : ℕ) → i < length mine → IsFollowed size mine given (world_after ids before) (world_after ids (before ++ during)) (at_point.Opening 0) to (λ n. raw_by n (world_after ids before) (all_rows during (world_after ids before))) i
-      follow i low = followed laws ids mine before during size given to is i low
+      follow : (i : ℕ) → i < length mine → IsFollowed rules mine given (world_after ids before) (world_after ids (before ++ during)) (at_point.Opening 0) to (λ n. raw_by n (world_after ids before) (all_rows during (world_after ids before))) i
+      follow i low = followed laws ids mine before during rules given to is i low
 
       same_id : (i : ℕ) → (now i).id ≡ slice_index mine i
-      same_id i = ids_of mine given size turns i
+      same_id i = ids_of mine given rules turns i
 
-  pub cut_as_told : (ids mine : List ℕ) (before during : List Event) (size taken place : ℕ) (given : Given) (links : List L) (disks : List (Option D)) (readings : Option (List ℕ))
-      → place < length mine → IsRunIn ids before during size mine given (at_point.Turning taken place) → let all = together_at size mine given taken place in
+  pub cut_as_told : (ids mine : List ℕ) (before during : List Event) (rules : Rules) (taken place : ℕ) (given : Given) (links : List L) (disks : List (Option D)) (readings : Option (List ℕ))
+      → place < length mine → IsRunIn ids before during rules mine given (at_point.Turning taken place) → let all = together_at rules mine given taken place in
       IsCutAtTurn coming sent disk links disks readings (length mine) all place
       → let w = world_after ids before in IsCutAsTold coming sent disk links disks mine given w (world_after ids (before ++ during)) (all_rows during w) all place
-  cut_as_told ids mine before during size taken place given links disks readings within is left = record {
+  cut_as_told ids mine before during rules taken place given links disks readings within is left = record {
     sent_is = λ i link low. left.sent_is i link low ∙ ap (λ (l : List RawFrame). some l) (follow i low).frames;
     stored_is = λ i after low apart there. subst (HoldsStore disk after) (stored_now i low) (left.stored_is i low apart after there);
     killed = λ link after image there leaves. elim (left.own_is link) [
@@ -159,7 +158,7 @@ module _ (laws : FollowLaws) {L D : Type 0} (coming : L → Option (List Receive
       to = at_point.Turning taken place
 
       all : Together
-      all = together_at size mine given taken place
+      all = together_at rules mine given taken place
 
       v : Cluster
       v = world_after ids (before ++ during)
@@ -167,14 +166,14 @@ module _ (laws : FollowLaws) {L D : Type 0} (coming : L → Option (List Receive
       some : List RawFrame → Option (List RawFrame)
       some l = Some l
 
-      follow : (i : ℕ) → i < length mine → IsFollowed size mine given (world_after ids before) v (at_point.Opening 0) to (λ n. raw_by n (world_after ids before) (all_rows during (world_after ids before))) i
-      follow i low = followed laws ids mine before during size given to is i low
+      follow : (i : ℕ) → i < length mine → IsFollowed rules mine given (world_after ids before) v (at_point.Opening 0) to (λ n. raw_by n (world_after ids before) (all_rows during (world_after ids before))) i
+      follow i low = followed laws ids mine before during rules given to is i low
 
       same_id : (i : ℕ) → (all.running i).id ≡ slice_index mine i
-      same_id i = ids_then mine given size taken place i
+      same_id i = ids_then mine given rules taken place i
 
       stored_now : (i : ℕ) → i < length mine → (all.running i).allocator.raft_server.store ≡ store_of (v.member (slice_index mine i)).disk.store
-      stored_now i low = stored_there laws ids mine before during size given to is (all.running i) i low (same_id i) (follow i low).stands
+      stored_now i low = stored_there laws ids mine before during rules given to is (all.running i) i low (same_id i) (follow i low).stands
 
       t : Turn
       t = turning_at place all

@@ -83,8 +83,8 @@ module _ (deliveries : (setting : Setting) (sessions : List Session) (arrival : 
       arm_lawful_one = arm_lawful n w puts runs.member
 
   pub event_fine : (event : Event) (w : Cluster) → AreCalm w → MayHappen event w → AreFine w (rows_of event w)
-  event_fine (Opens n moment word) w calm may =
-      record { lawful = (open_lawful w n moment word may.0 may.1, tt); calm = subst AreCalm (sym (open_world w n moment word calm)) (open_leaves w n moment word calm) }
+  event_fine (Opens n told moment word) w calm may =
+      record { lawful = (open_lawful w n told moment word may.0 may.1, tt); calm = subst AreCalm (sym (open_world w n told moment word calm)) (open_leaves w n told moment word calm) }
   event_fine (Turns n moment word came) w calm may =
       let is = runs_it n w calm may.0 in
       let goes = turn_goes deliveries n w moment word came is.0 calm is.1 may.1 in

@@ -17,7 +17,7 @@ use Rattle.cmd_node_laws.specs.Processes.{whose}
 
 -- the row is of this member, or of no member
 abbrev IsAt : Option ℕ → Row → Type 0
-IsAt whom (Open m ms word) = Some m ≡ whom
+IsAt whom (Open m told ms word) = Some m ≡ whom
 IsAt whom (Tick m ms word) = Some m ≡ whom
 IsAt whom (Rx m k ms) = Some m ≡ whom
 IsAt whom (Send m) = Some m ≡ whom
@@ -43,7 +43,7 @@ module _ (whom : Option ℕ) (m : ℕ) (apart : Some m ≡ whom → ⊥) where
   other k e f = apart (ap (λ (j : ℕ). Some j) f ∙ e)
 
   row_member : (w : Cluster) (row : Row) → IsAt whom row → (after_row w row).member m ≡ w.member m
-  row_member w (Open k ms word) is = at_other w.member k m _ (other k is)
+  row_member w (Open k told ms word) is = at_other w.member k m _ (other k is)
   row_member w (Tick k ms word) is = at_other w.member k m _ (other k is)
   row_member w (Rx k frame ms) is = at_other w.member k m _ (other k is)
   row_member w (Send k) is = at_other w.member k m _ (other k is)
@@ -57,7 +57,7 @@ module _ (whom : Option ℕ) (m : ℕ) (apart : Some m ≡ whom → ⊥) where
   row_member w (AEnd a) is = refl
 
   row_sent : (w : Cluster) (row : Row) → IsAt whom row → sent_in m w row ≡ []
-  row_sent w (Open k ms word) is = refl
+  row_sent w (Open k told ms word) is = refl
   row_sent w (Tick k ms word) is = refl
   row_sent w (Rx k frame ms) is = refl
   row_sent w (Send k) is = elim (eqb_tells k m) [
@@ -97,7 +97,7 @@ if_at n true rows is = is
 if_at n false rows is = tt
 
 allocatee_at : (row : Row) → is_of_allocatee row ≡ true → AreAt None (row ∷ [])
-allocatee_at (Open n ms word) is = never is
+allocatee_at (Open n told ms word) is = never is
 allocatee_at (Tick n ms word) is = never is
 allocatee_at (Rx n k ms) is = never is
 allocatee_at (Send n) is = never is
@@ -111,7 +111,7 @@ allocatee_at (ASend a) is = (tt, tt)
 allocatee_at (AEnd a) is = (tt, tt)
 
 event_at : (event : Event) (w : Cluster) → MayHappen event w → AreAt (whose event) (rows_of event w)
-event_at (Opens n moment word) w may = (refl, tt)
+event_at (Opens n told moment word) w may = (refl, tt)
 event_at (Turns n moment word came) w may = (refl, both_at (Some n) (came_rows n moment came w1) (out_rows n w2) (came_at n moment came w1) (send_at n (next_frame (w2.member n).status)))
   where
     w1 : Cluster

@@ -1,5 +1,5 @@
 -- What each row of a trace leaves, in a world where nothing is set to fail.
-use Rattle.std.proofs.Common.{◌≡◌, ℕ, ◌+◌, ◌≤◌, true, false, List, [], ◌∷◌, ◌++◌, length, refl, ap, ◌∙◌, arith, None, Some}
+use Rattle.std.proofs.Common.{◌≡◌, ℕ, ◌+◌, ◌≤◌, Bool, true, false, List, [], ◌∷◌, ◌++◌, length, refl, ap, ◌∙◌, arith, None, Some}
 use Rattle.std.specs.Prelude.{◌-◌, ◌==◌, ◌||◌, nat_lt, not}
 use Rattle.std.proofs.lemmas.List.{get_or_at, length-append}
 use Rattle.can_frame.specs.declared.frame.Frame.{Frame}
@@ -11,7 +11,7 @@ use Rattle.alloc_spec.specs.StepState.{StepState}
 use Rattle.alloc_spec.specs.Step.{Event, after_pop, step}
 use Rattle.alloc_spec.specs.AllocatorState.{AllocatorState}
 use Rattle.cluster_spec.specs.declared.unlawful.Unlawful.TheVariants.{Forged, NoFrame, NoNode, Running, Stopped}
-use Rattle.cluster_spec.specs.Cluster.{Cluster, arrival_at, frame_at, from_outside, in_list, is_member, after_row, no_frame, with_member}
+use Rattle.cluster_spec.specs.Cluster.{Cluster, arrival_at, frame_at, from_outside, in_list, is_member, after_row, no_frame, rules_of, with_member}
 use Rattle.cluster_spec.specs.Lawful.{because, cause, is_forged, arrival_refusal, no_such_frame, nothing_to_send, or_else}
 use Rattle.cluster_spec.specs.Members.{MemberStatus, Member, after_sending, is_running, next_frame, member_after_step, stopped_with}
 use Rattle.cluster_spec.specs.Members.MemberStatus.{Down, Failed, Up}
@@ -114,18 +114,18 @@ ext_there w frame = ap (because NoFrame) (none (length w.frames + 1) (length (w.
 
 -- ---- an opening
 
-pub open_lawful : (w : Cluster) (n moment word : ℕ) → is_member w.ids n ≡ true → is_running (w.member n).status ≡ false → cause w (Open n moment word) ≡ None
-open_lawful w n moment word member down = λ i. or_else (because NoNode (not (member i))) (because Running (down i))
+pub open_lawful : (w : Cluster) (n : ℕ) (told : Bool) (moment word : ℕ) → is_member w.ids n ≡ true → is_running (w.member n).status ≡ false → cause w (Open n told moment word) ≡ None
+open_lawful w n told moment word member down = λ i. or_else (because NoNode (not (member i))) (because Running (down i))
 
-abbrev pub after_open : Cluster → ℕ → ℕ → ℕ → Cluster
-after_open w n moment word = record (with_member w n (opened_member n (length w.ids) moment word (w.member n))) { rows = w.rows + 1 }
+abbrev pub after_open : Cluster → ℕ → Bool → ℕ → ℕ → Cluster
+after_open w n told moment word = record (with_member w n (opened_member n (rules_of w.ids told) moment word (w.member n))) { rows = w.rows + 1 }
 
-pub open_world : (w : Cluster) (n moment word : ℕ) → AreCalm w → after_row w (Open n moment word) ≡ after_open w n moment word
-open_world w n moment word calm = ap (λ (x : Member). record (with_member w n x) { rows = w.rows + 1 }) (opening_done n (length w.ids) moment word (w.member n) (calm n))
+pub open_world : (w : Cluster) (n : ℕ) (told : Bool) (moment word : ℕ) → AreCalm w → after_row w (Open n told moment word) ≡ after_open w n told moment word
+open_world w n told moment word calm = ap (λ (x : Member). record (with_member w n x) { rows = w.rows + 1 }) (opening_done n (rules_of w.ids told) moment word (w.member n) (calm n))
 
-pub open_leaves : (w : Cluster) (n moment word : ℕ) → AreCalm w → AreCalm (after_open w n moment word)
-open_leaves w n moment word calm =
-    calm_with w n (opened_member n (length w.ids) moment word (w.member n)) calm (opened_calm n (length w.ids) moment word (w.member n) (calm n))
+pub open_leaves : (w : Cluster) (n : ℕ) (told : Bool) (moment word : ℕ) → AreCalm w → AreCalm (after_open w n told moment word)
+open_leaves w n told moment word calm =
+    calm_with w n (opened_member n (rules_of w.ids told) moment word (w.member n)) calm (opened_calm n (rules_of w.ids told) moment word (w.member n) (calm n))
 
 -- ---- a stop
 

@@ -18,8 +18,8 @@ use Rattle.transfer_rx.specs.Sessions.{Session}
 use Rattle.transfer_rx.specs.Sound.{IsDelivered}
 use Rattle.transfer_tx.specs.Queue.{Queued, next_out}
 use Rattle.alloc_spec.specs.Step.{Event as StepEvent}
-use Rattle.alloc_spec.specs.AllocatorState.{opening}
-use Rattle.cluster_spec.specs.Cluster.{Cluster, after_rows, is_member, after_row}
+use Rattle.alloc_spec.specs.Rules.{Rules, opening_by, tells}
+use Rattle.cluster_spec.specs.Cluster.{Cluster, after_rows, is_member, after_row, rules_of}
 use Rattle.cluster_spec.specs.Members.{Member}
 use Rattle.cluster_spec.specs.Members.MemberStatus.{Up}
 use Rattle.cmd_node.specs.Frames.{event_in}
@@ -67,12 +67,12 @@ ids_first mine all (suc places) is i = elim (eqb_tells i places) [
   | inr apart ↦ ap (λ (r : Running). r.id) (at_other (first_turns places all).running places i _ apart.1) ∙ ids_first mine all places is i
 ]
 
-pub ids_of : (mine : List ℕ) (given : Given) (size turns i : ℕ) → ((all_turns (length mine) turns (together_at_opening size mine given)).running i).id ≡ slice_index mine i
-ids_of mine given size zero i = refl
-ids_of mine given size (suc turns) i = ids_first mine (all_turns (length mine) turns (together_at_opening size mine given)) (length mine) (ids_of mine given size turns) i
+pub ids_of : (mine : List ℕ) (given : Given) (rules : Rules) (turns i : ℕ) → ((all_turns (length mine) turns (together_at_opening rules mine given)).running i).id ≡ slice_index mine i
+ids_of mine given rules zero i = refl
+ids_of mine given rules (suc turns) i = ids_first mine (all_turns (length mine) turns (together_at_opening rules mine given)) (length mine) (ids_of mine given rules turns) i
 
-pub ids_then : (mine : List ℕ) (given : Given) (size taken place i : ℕ) → ((together_at size mine given taken place).running i).id ≡ slice_index mine i
-ids_then mine given size taken place i = ids_first mine (all_turns (length mine) taken (together_at_opening size mine given)) place (ids_of mine given size taken) i
+pub ids_then : (mine : List ℕ) (given : Given) (rules : Rules) (taken place i : ℕ) → ((together_at rules mine given taken place).running i).id ≡ slice_index mine i
+ids_then mine given rules taken place i = ids_first mine (all_turns (length mine) taken (together_at_opening rules mine given)) place (ids_of mine given rules taken) i
 
 -- ---- members
 
@@ -99,29 +99,29 @@ module _ (marks : MarkLaws)
   abbrev count : ℕ
   count = length mine
 
-  module _ (size : ℕ) where
-    ids_at : (taken place i : ℕ) → ((together_at size mine given taken place).running i).id ≡ slice_index mine i
-    ids_at taken place i = ids_first mine (all_turns count taken (together_at_opening size mine given)) place (ids_of mine given size taken) i
+  module _ (rules : Rules) where
+    ids_at : (taken place i : ℕ) → ((together_at rules mine given taken place).running i).id ≡ slice_index mine i
+    ids_at taken place i = ids_first mine (all_turns count taken (together_at_opening rules mine given)) place (ids_of mine given rules taken) i
 
     -- ---- what happens at others
 
     abbrev Stands : Cluster → Point → ℕ → Type 0
-    Stands w point i = StandsAt size mine given w point i
+    Stands w point i = StandsAt rules mine given w point i
 
     still_mirrored : (w v : Cluster) (r : Running) → v.member r.id ≡ w.member r.id → IsMirrored w r → IsMirrored v r
     still_mirrored w v r e is = record { server = is.server; runs = ap (λ (x : Member). x.status) e ∙ is.runs; same = is.same }
 
     still_stands : (w v : Cluster) (point : Point) (i : ℕ) → v.member (slice_index mine i) ≡ w.member (slice_index mine i) → Stands w point i → Stands v point i
     still_stands w v (at_point.Opening place) i e is = (
-      λ low. still_mirrored w v (opened_at size mine given i) e (is.0 low),
+      λ low. still_mirrored w v (opened_at rules mine given i) e (is.0 low),
       λ high. record { down = ap (λ (x : Member). x.status) e ∙ (is.1 high).down; stored = ap (λ (x : Member). store_of x.disk.store) e ∙ (is.1 high).stored },
     )
     still_stands w v (at_point.Turning taken place) i e is =
-        still_mirrored w v ((together_at size mine given taken place).running i)
+        still_mirrored w v ((together_at rules mine given taken place).running i)
         (subst (λ (n : ℕ). v.member n ≡ w.member n) (sym (ids_at taken place i)) e) is
 
     abbrev pub Follows : Cluster → Cluster → Point → Point → (ℕ → List RawFrame) → ℕ → Type 0
-    Follows w v from to sent i = IsFollowed size mine given w v from to sent i
+    Follows w v from to sent i = IsFollowed rules mine given w v from to sent i
 
     abbrev after : Cluster → Event → Cluster
     after w event = after_rows w (rows_of event w)
@@ -133,8 +133,8 @@ module _ (marks : MarkLaws)
         → Follows w (after w event) point point (sent_then w event) i
     untouched w event point i may apart is = record {
       stands = still_stands w (after w event) point i (others_stay event w (slice_index mine i) may apart) is;
-      frames = sym (ap (λ (l : List RawFrame). (running_at size mine given point i).sent ++ l) (others_send event w (slice_index mine i) may apart)
-          ∙ append-nil (running_at size mine given point i).sent);
+      frames = sym (ap (λ (l : List RawFrame). (running_at rules mine given point i).sent ++ l) (others_send event w (slice_index mine i) may apart)
+          ∙ append-nil (running_at rules mine given point i).sent);
     }
 
     -- ---- its own
@@ -143,18 +143,18 @@ module _ (marks : MarkLaws)
     Own w event from = (i : ℕ) → i < count → Follows w (after w event) from (next_point count from) (sent_then w event) i
 
     -- the one at a place is opened, and then the others are as they were
-    opened_here : (w : Cluster) → AreCalm w → size ≡ length w.ids → (place moment word : ℕ) → IsWaiting size mine given w place
-        → ((after_row w (Open (slice_index mine place) moment word)).member (slice_index mine place)).status ≡ Up (opening (slice_index mine place) size (store_of (given.stored place)) moment word)
-    opened_here w calm is_size place moment word waits =
-        ap (λ (v : Cluster). (v.member id).status) (open_world w id moment word calm)
-        ∙ ap (λ (x : Member). x.status) (own_is w id (opened_member id (length w.ids) moment word (w.member id)))
-        ∙ (λ i. Up (opening id (back i) (stored i) moment word))
+    opened_here : (w : Cluster) → AreCalm w → rules ≡ rules_of w.ids (tells rules) → (place moment word : ℕ) → IsWaiting rules mine given w place
+        → ((after_row w (Open (slice_index mine place) (tells rules) moment word)).member (slice_index mine place)).status ≡ Up (opening_by (slice_index mine place) rules (store_of (given.stored place)) moment word)
+    opened_here w calm by_rules place moment word waits =
+        ap (λ (v : Cluster). (v.member id).status) (open_world w id (tells rules) moment word calm)
+        ∙ ap (λ (x : Member). x.status) (own_is w id (opened_member id (rules_of w.ids (tells rules)) moment word (w.member id)))
+        ∙ (λ i. Up (opening_by id (back i) (stored i) moment word))
       where
         id : ℕ
         id = slice_index mine place
 
-        back : length w.ids ≡ size
-        back = sym is_size
+        back : rules_of w.ids (tells rules) ≡ rules
+        back = sym by_rules
 
         disk_puts : List Put
         disk_puts = opening_puts (w.member id).disk.store
@@ -171,10 +171,10 @@ module _ (marks : MarkLaws)
       | inr apart ↦ subst (λ (c : Bool). P (if c then a else b)) (sym apart.0) (g apart.1)
     ]
 
-    opens_own : (w : Cluster) → AreCalm w → size ≡ length w.ids → (place : ℕ) → place < count
-        → let id = slice_index mine place in let event = Opens id (next_reading (readings_after place given.readings)) (word_at (next_state id)) in
-        MayHappen event w → StandAt size mine given w (at_point.Opening place) → Own w event (at_point.Opening place)
-    opens_own w calm is_size place within may all i low =
+    opens_own : (w : Cluster) → AreCalm w → rules ≡ rules_of w.ids (tells rules) → (place : ℕ) → place < count
+        → let id = slice_index mine place in let event = Opens id (tells rules) (next_reading (readings_after place given.readings)) (word_at (next_state id)) in
+        MayHappen event w → StandAt rules mine given w (at_point.Opening place) → Own w event (at_point.Opening place)
+    opens_own w calm by_rules place within may all i low =
         by_number (λ (p : Point). Follows w v (at_point.Opening place) p (sent_then w event) i) (at_point.Turning 0 0) (at_point.Opening (suc place)) (suc place)
         (λ e. record { stands = later.0 (omega (arith, e)); frames = sym (append-nil (given.sent i)) })
         (λ e. record { stands = later; frames = sym (append-nil (given.sent i)) })
@@ -183,15 +183,15 @@ module _ (marks : MarkLaws)
         id = slice_index mine place
 
         event : Event
-        event = Opens id (next_reading (readings_after place given.readings)) (word_at (next_state id))
+        event = Opens id (tells rules) (next_reading (readings_after place given.readings)) (word_at (next_state id))
 
         v : Cluster
         v = after w event
 
-        here : i ≡ place → IsMirrored v (opened_at size mine given i)
-        here e = subst (λ (j : ℕ). IsMirrored v (opened_at size mine given j)) (sym e) (record {
-          server = (opened_at size mine given place).allocator;
-          runs = opened_here w calm is_size place (next_reading (readings_after place given.readings)) (word_at (next_state id)) ((all place within).1 (omega arith));
+        here : i ≡ place → IsMirrored v (opened_at rules mine given i)
+        here e = subst (λ (j : ℕ). IsMirrored v (opened_at rules mine given j)) (sym e) (record {
+          server = (opened_at rules mine given place).allocator;
+          runs = opened_here w calm by_rules place (next_reading (readings_after place given.readings)) (word_at (next_state id)) ((all place within).1 (omega arith));
           same = refl;
         })
 
@@ -205,9 +205,9 @@ module _ (marks : MarkLaws)
         ]
 
     turns_own : (w : Cluster) → AreCalm w → (taken place : ℕ) (came : Came) → place < count
-        → let id = slice_index mine place in let all = together_at size mine given taken place in let event = Turns id (next_reading all.readings) (word_at (next_state (all.running place).draws)) came in
+        → let id = slice_index mine place in let all = together_at rules mine given taken place in let event = Turns id (next_reading all.readings) (word_at (next_state (all.running place).draws)) came in
         MayHappen event w → Carries w.frames (next_item (all.running place).coming) came
-        → StandAt size mine given w (at_point.Turning taken place) → Own w event (at_point.Turning taken place)
+        → StandAt rules mine given w (at_point.Turning taken place) → Own w event (at_point.Turning taken place)
     turns_own w calm taken place came within may carries stand i low =
         by_number (λ (p : Point). Follows w v (at_point.Turning taken place) p (sent_then w event) i) (at_point.Turning (suc taken) 0) (at_point.Turning taken (suc place)) (suc place)
         (λ e. let r = subst To (ap (λ (places : ℕ). (first_turns places base).running i) e) later in record { stands = r.0; frames = r.1 })
@@ -217,7 +217,7 @@ module _ (marks : MarkLaws)
         id = slice_index mine place
 
         base : Together
-        base = all_turns count taken (together_at_opening size mine given)
+        base = all_turns count taken (together_at_opening rules mine given)
 
         all : Together
         all = first_turns place base
@@ -265,33 +265,33 @@ module _ (marks : MarkLaws)
 
     -- ---- whatever comes next
 
-    next_own : (w : Cluster) → AreCalm w → size ≡ length w.ids → (event : Event) (from : Point) → place_of from < count → MayHappen event w
-        → ComesNext size mine given w event from → StandAt size mine given w from → Own w event from
-    next_own w calm is_size (Opens n moment word) (at_point.Opening place) within may after_row stand =
-        subst (λ (h : Event). Own w h (at_point.Opening place)) (sym same) (opens_own w calm is_size place within (subst (λ (h : Event). MayHappen h w) same may) stand)
+    next_own : (w : Cluster) → AreCalm w → rules ≡ rules_of w.ids (tells rules) → (event : Event) (from : Point) → place_of from < count → MayHappen event w
+        → ComesNext rules mine given w event from → StandAt rules mine given w from → Own w event from
+    next_own w calm by_rules (Opens n told moment word) (at_point.Opening place) within may after_row stand =
+        subst (λ (h : Event). Own w h (at_point.Opening place)) (sym same) (opens_own w calm by_rules place within (subst (λ (h : Event). MayHappen h w) same may) stand)
       where
         word_is : word ≡ word_at (next_state (slice_index mine place))
-        word_is = after_row.2 ∙ ap (λ (m : ℕ). word_at (next_state m)) after_row.0
+        word_is = after_row.3 ∙ ap (λ (m : ℕ). word_at (next_state m)) after_row.0
 
-        same : Opens n moment word ≡ Opens (slice_index mine place) (next_reading (readings_after place given.readings)) (word_at (next_state (slice_index mine place)))
-        same = λ i. Opens (after_row.0 i) (after_row.1 i) (word_is i)
-    next_own w calm is_size (Turns n moment word came) (at_point.Turning taken place) within may after_row stand =
+        same : Opens n told moment word ≡ Opens (slice_index mine place) (tells rules) (next_reading (readings_after place given.readings)) (word_at (next_state (slice_index mine place)))
+        same = λ i. Opens (after_row.0 i) (after_row.1 i) (after_row.2 i) (word_is i)
+    next_own w calm by_rules (Turns n moment word came) (at_point.Turning taken place) within may after_row stand =
         subst (λ (h : Event). Own w h (at_point.Turning taken place)) (sym same)
         (turns_own w calm taken place came within (subst (λ (h : Event). MayHappen h w) same may) after_row.1.carries stand)
       where
         all : Together
-        all = together_at size mine given taken place
+        all = together_at rules mine given taken place
 
         same : Turns n moment word came ≡ Turns (slice_index mine place) (next_reading all.readings) (word_at (next_state (all.running place).draws)) came
         same = λ i. Turns (after_row.0 i) (after_row.1.moment_is i) (after_row.1.word_is i) came
-    next_own w calm is_size (Opens n moment word) (at_point.Turning taken place) within may after_row stand = absurd after_row
-    next_own w calm is_size (Turns n moment word came) (at_point.Opening place) within may after_row stand = absurd after_row
-    next_own w calm is_size (Stops n) (at_point.Opening place) within may after_row stand = absurd after_row
-    next_own w calm is_size (Stops n) (at_point.Turning taken place) within may after_row stand = absurd after_row
-    next_own w calm is_size (IsKilled n moment word came puts) (at_point.Opening place) within may after_row stand = absurd after_row
-    next_own w calm is_size (IsKilled n moment word came puts) (at_point.Turning taken place) within may after_row stand = absurd after_row
-    next_own w calm is_size (OfAllocatee row) (at_point.Opening place) within may after_row stand = absurd after_row
-    next_own w calm is_size (OfAllocatee row) (at_point.Turning taken place) within may after_row stand = absurd after_row
+    next_own w calm by_rules (Opens n told moment word) (at_point.Turning taken place) within may after_row stand = absurd after_row
+    next_own w calm by_rules (Turns n moment word came) (at_point.Opening place) within may after_row stand = absurd after_row
+    next_own w calm by_rules (Stops n) (at_point.Opening place) within may after_row stand = absurd after_row
+    next_own w calm by_rules (Stops n) (at_point.Turning taken place) within may after_row stand = absurd after_row
+    next_own w calm by_rules (IsKilled n moment word came puts) (at_point.Opening place) within may after_row stand = absurd after_row
+    next_own w calm by_rules (IsKilled n moment word came puts) (at_point.Turning taken place) within may after_row stand = absurd after_row
+    next_own w calm by_rules (OfAllocatee row) (at_point.Opening place) within may after_row stand = absurd after_row
+    next_own w calm by_rules (OfAllocatee row) (at_point.Turning taken place) within may after_row stand = absurd after_row
 
     not_last : (place : ℕ) → place ≤ count → (place ≡ count → ⊥) → place < count
     not_last place h n = let apart : place ≢ count = n in omega (arith, h)
@@ -302,24 +302,24 @@ module _ (marks : MarkLaws)
     next_within (at_point.Turning taken place) h =
         by_number (λ (p : Point). place_of p < count) (at_point.Turning (suc taken) 0) (at_point.Turning taken (suc place)) (suc place) (λ e. omega (arith, h)) (λ e. not_last (suc place) h e)
 
-    same_size : (w : Cluster) (rows : List Row) → (after_rows w rows).ids ≡ w.ids
-    same_size w [] = refl
-    same_size w (row ∷ rows) = same_size (after_row w row) rows ∙ same_ids w row
+    rows_keep_ids : (w : Cluster) (rows : List Row) → (after_rows w rows).ids ≡ w.ids
+    rows_keep_ids w [] = refl
+    rows_keep_ids w (row ∷ rows) = rows_keep_ids (after_row w row) rows ∙ same_ids w row
 
     joined : (w v u : Cluster) (from mid to : Point) (first rest : ℕ → List RawFrame) (i : ℕ) → Follows w v from mid first i → Follows v u mid to rest i
         → Follows w u from to (λ n. first n ++ rest n) i
     joined w v u from mid to first rest i a b = record {
       stands = b.stands;
-      frames = b.frames ∙ ap (λ (l : List RawFrame). l ++ rest (slice_index mine i)) a.frames ∙ append_assoc (running_at size mine given from i).sent (first (slice_index mine i)) (rest (slice_index mine i));
+      frames = b.frames ∙ ap (λ (l : List RawFrame). l ++ rest (slice_index mine i)) a.frames ∙ append_assoc (running_at rules mine given from i).sent (first (slice_index mine i)) (rest (slice_index mine i));
     }
 
-    pub goes_on : (trace : List Event) (w : Cluster) (from to : Point) → AreCalm w → size ≡ length w.ids → place_of from < count → MayAllHappen trace w
-        → GoesOn size mine given w trace from to → StandAt size mine given w from
+    pub goes_on : (trace : List Event) (w : Cluster) (from to : Point) → AreCalm w → rules ≡ rules_of w.ids (tells rules) → place_of from < count → MayAllHappen trace w
+        → GoesOn rules mine given w trace from to → StandAt rules mine given w from
         → (i : ℕ) → i < count → Follows w (after_rows w (all_rows trace w)) from to (λ n. raw_by n w (all_rows trace w)) i
-    goes_on [] w from to calm is_size within may goes stand i low =
-        subst (λ (p : Point). Follows w w from p (λ n. []) i) goes (record { stands = stand i low; frames = sym (append-nil (running_at size mine given from i).sent) })
-    goes_on (first ∷ rest) w from to calm is_size within may goes stand i low =
-        by (is_of_these mine (whose first)) refl goes (λ p lies g all. goes_on rest v p to calm_then size_then lies may.1 g all i low)
+    goes_on [] w from to calm by_rules within may goes stand i low =
+        subst (λ (p : Point). Follows w w from p (λ n. []) i) goes (record { stands = stand i low; frames = sym (append-nil (running_at rules mine given from i).sent) })
+    goes_on (first ∷ rest) w from to calm by_rules within may goes stand i low =
+        by (is_of_these mine (whose first)) refl goes (λ p lies g all. goes_on rest v p to calm_then rules_then lies may.1 g all i low)
       where
         v : Cluster
         v = after w first
@@ -336,21 +336,21 @@ module _ (marks : MarkLaws)
             let j = joined w v (after_rows v more) from mid to (sent_then w first) (λ n. raw_by n v more) i a b in
             record {
               stands = subst (λ (u : Cluster). Stands u to i) (sym (after_both w rows more)) j.stands;
-              frames = j.frames ∙ ap (λ (l : List RawFrame). (running_at size mine given from i).sent ++ l) (sym (sent_both (slice_index mine i) w rows more));
+              frames = j.frames ∙ ap (λ (l : List RawFrame). (running_at rules mine given from i).sent ++ l) (sym (sent_both (slice_index mine i) w rows more));
             }
 
         calm_then : AreCalm v
         calm_then = (event_fine deliveries first w calm may.0).calm
 
-        size_then : size ≡ length v.ids
-        size_then = is_size ∙ ap length (sym (same_size w rows))
+        rules_then : rules ≡ rules_of v.ids (tells rules)
+        rules_then = by_rules ∙ ap (λ (ids : List ℕ). rules_of ids (tells rules)) (sym (rows_keep_ids w rows))
 
         by : (b : Bool) → is_of_these mine (whose first) ≡ b
-            → OneOf b (ComesNext size mine given w first from × GoesOn size mine given v rest (next_point count from) to) (GoesOn size mine given v rest from to)
-            → ((p : Point) → place_of p < count → GoesOn size mine given v rest p to → StandAt size mine given v p → Follows v (after_rows v more) p to (λ n. raw_by n v more) i)
+            → OneOf b (ComesNext rules mine given w first from × GoesOn rules mine given v rest (next_point count from) to) (GoesOn rules mine given v rest from to)
+            → ((p : Point) → place_of p < count → GoesOn rules mine given v rest p to → StandAt rules mine given v p → Follows v (after_rows v more) p to (λ n. raw_by n v more) i)
             → Follows w (after_rows w (rows ++ more)) from to (λ n. raw_by n w (rows ++ more)) i
         by true e is then_on =
-            let own : Own w first from = next_own w calm is_size first from within may.0 is.0 stand in
+            let own : Own w first from = next_own w calm by_rules first from within may.0 is.0 stand in
             whole (next_point count from) (own i low) (then_on (next_point count from) (next_within from within) is.1 (λ j h. (own j h).stands))
         by false e is then_on =
             let away : (j : ℕ) → j < count → IsOfAnother (slice_index mine j) first = λ j h same. never (sym e ∙ ap (is_of_these mine) (sym same) ∙ in_list mine j h) in

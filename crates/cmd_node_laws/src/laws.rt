@@ -59,8 +59,8 @@ pub fn traces_are_lawful()
 /// the world sent.
 pub fn processes_are_followed()
     ensures { (mine : List ℕ) (given : Given) (rules : Rules) (w : Cluster) (trace : List Event)
-        (from to : Point) → HasNoneTwice mine → rules ≡ rules_of w.ids (tells rules) → AreCalm w → place_of from < length mine →
-        MayAllHappen trace w → GoesOn rules mine given w trace from to →
+        (from to : Point) → HasNoneTwice mine → rules ≡ rules_of w.ids (tells rules) →
+        AreCalm w → place_of from < length mine → MayAllHappen trace w → GoesOn rules mine given w trace from to →
         StandAt rules mine given w from → (i : ℕ) → i < length mine →
         IsFollowed rules mine given w (after_rows w (all_rows trace w)) from to
         (λ n. raw_by n w (all_rows trace w)) i }

@@ -1,4 +1,4 @@
-use Rattle.std.proofs.Common.{◌≡◌, ℕ, ◌≤◌, ◌<◌, suc, zero, true, List, [], ◌∷◌, ◌++◌, length, take, refl, ap, arith, inl, inr}
+use Rattle.std.proofs.Common.{◌≡◌, ℕ, ◌≤◌, ◌<◌, suc, zero, false, true, List, [], ◌∷◌, ◌++◌, length, take, refl, ap, arith, inl, inr}
 use Rattle.std.specs.Prelude.{◌-◌, replicate}
 use Rattle.can_frame.specs.Cutting.{frames_of, payload_of}
 use Rattle.can_frame.specs.Identifier.{identifier_of}
@@ -6,6 +6,7 @@ use Rattle.raft_model.specs.Lists.{In}
 use Rattle.alloc_spec.specs.Accepted.{rows}
 use Rattle.alloc_spec.specs.Delivered.{delivery_phase}
 use Rattle.alloc_spec.specs.Judging.{arrival_judgement}
+use Rattle.alloc_spec.specs.Rules.{rules_by}
 use Rattle.alloc_spec.specs.Step.{all_nodes, step}
 use Rattle.transfer_rx.specs.Acceptance.{wanted}
 use Rattle.transfer_rx.specs.Outcome.{fits_no_payload, outcome}
@@ -64,28 +65,28 @@ front [] ys = refl
 front (x ∷ xs) ys = ap (λ (l : List ℕ). x ∷ l) (front xs ys)
 
 carried : (w : Cluster) → is_frame (raw_of (frame_at w.frames 2)) ≡ true
-    → Carries (after_rows w (rows_of (Opens 2 9100 (word_at (next_state 2))) w)).frames (Frame (raw_of (frame_at w.frames 2))) (WasSent 2)
+    → Carries (after_rows w (rows_of (Opens 2 false 9100 (word_at (next_state 2))) w)).frames (Frame (raw_of (frame_at w.frames 2))) (WasSent 2)
 carried w e = record { frame = e; id_is = refl; bytes_are = front (frame_at w.frames 2).bytes (replicate (8 - length (frame_at w.frames 2).bytes) 0) }
 
 is_one : is_frame (raw_of (frame_at world_by_then.frames 2)) ≡ true
 unfolding step frame_step outcome fits_no_payload payload_of all_nodes delivery_phase arrival_judgement session_for session_step wanted queued_frames next_out left_behind frames_of identifier_of rows
 is_one = refl
 
-goes : GoesOn 2 own given_then world_by_then later_events (Opening 0) (Turning 1 0)
-goes = ((refl, refl, refl), ((refl, record { moment_is = refl; word_is = refl; carries = carried world_by_then is_one }), refl))
+goes : GoesOn (rules_by 2 []) own given_then world_by_then later_events (Opening 0) (Turning 1 0)
+goes = ((refl, refl, refl, refl), ((refl, record { moment_is = refl; word_is = refl; carries = carried world_by_then is_one }), refl))
 
 down : (world_by_then.member 2).status ≡ Down
 unfolding step frame_step outcome fits_no_payload payload_of all_nodes delivery_phase arrival_judgement session_for session_step wanted queued_frames next_out left_behind frames_of identifier_of rows
 down = refl
 
-waits : (i : ℕ) → i < length own → IsWaiting 2 own given_then world_by_then i
+waits : (i : ℕ) → i < length own → IsWaiting (rules_by 2 []) own given_then world_by_then i
 waits zero low = record { down = down; stored = refl }
 waits (suc i) low = absurd (omega (arith, low))
 
 pub returns-clause-run : goal.returns-clause-run
 returns-clause-run c = record {
   members = members;
-  size_is = refl;
+  rules_are = refl;
   some = omega arith;
   once = (λ i. i, tt);
   among = λ n i. inr i;
