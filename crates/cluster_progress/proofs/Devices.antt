@@ -1,12 +1,8 @@
 -- A device goes on, and its requests are requests.
-use Rattle.std.proofs.Common.{◌≡◌, ℕ, ◌-◌, ◌<◌, ◌≤◌, true, false, List, [], ◌∷◌, length, take, drop, inl, inr, refl, ◌∙◌, ap, arith, max, Some, None}
-use Rattle.std.specs.Prelude.{◌/◌, nat_eq, nat_le}
-use Rattle.std.specs.Str.{bytes_eq}
-use Rattle.std.proofs.lemmas.Bool.Decides.{eqb_tells, leb_tells}
+use Rattle.std.proofs.Common.{◌≡◌, ℕ, ◌<◌, ◌≤◌, true, false, List, [], ◌∷◌, length, take, drop, refl, ◌∙◌, ap, arith, max, Some, None}
 use Rattle.std.proofs.lemmas.Slice.Eq.{bytes_eq-Decides}
 use Rattle.can_frame.specs.declared.identifier.Ident.{Ident}
-use Rattle.can_frame.specs.Cutting.{Piece, bytes_cut, cut, frame_bytes, frames_before_last, frames_of, piece_from, tail_at}
-use Rattle.can_frame.specs.Cutting as cutting
+use Rattle.can_frame.specs.Cutting.{Piece, frame_bytes, piece_from, tail_at}
 use Rattle.can_frame.specs.DataTypes.{allocation}
 use Rattle.can_frame.specs.Identifier.{IsIdentifier, identifier_number, identifier_of}
 use Rattle.dsdl_codec.specs.declared.allocation.Allocation.{Allocation}
@@ -16,12 +12,9 @@ use Rattle.transfer_tx.specs.Queue.{Queued, marked, queued_frames}
 use Rattle.allocatee.specs.Allocatee.{Device, Rx, Tick, after_receiver_answer, step}
 use Rattle.allocatee.specs.Asking.{Asking, after_allocation, at_moment, clock_phase, due, follow_up_wait, has_passed, has_room, ident_of, outgoing, request_bytes, timer_from}
 use Rattle.allocatee.specs.declared.timer.FollowUp.{FollowUp}
-use Rattle.alloc_spec_laws.proofs.Choices.{tell}
+use Rattle.allocatee.proofs.Requests.{hears, le_is, one_piece}
 use Rattle.cluster_progress.specs.Devices.{HearsAnswer, Offers, comes_at}
 use Rattle.cluster_progress.specs.Requests.{IsRequest}
-
-le_is : (a b : ℕ) → a ≤ b → nat_le a b ≡ true
-le_is a b h = elim (leb_tells a b) [ inl z ↦ z.0 | inr z ↦ absurd (omega (arith, z.1, h)) ]
 
 -- ---- what it hears
 
@@ -43,30 +36,13 @@ pub holds : (d : Device) (number word : ℕ) (arrival : Arrival) (message : Allo
 holds d number word arrival message free h uid low high =
     ap (λ (a : Asking). a.holds) (heard d number word arrival message h) ∙ given word (at_moment arrival.moment d.asking) message free uid low high
 
-shorter : (a b : List ℕ) → length a < length b → bytes_eq a b ≡ false
-shorter a b h = elim (tell (bytes_eq a b)) [
-  | inr z ↦ z
-  | inl z ↦ let e : a ≡ b = (bytes_eq-Decides a b).0 z in absurd (omega (arith, h, ap length e))
-]
-
-some_bytes : (n : ℕ) → 1 ≤ n → nat_eq n 0 ≡ false
-some_bytes n h = elim (eqb_tells n 0) [ inl z ↦ absurd (omega (arith, z.1, h)) | inr z ↦ z.0 ]
-
-begun : (word : ℕ) (a : Asking) (message : Allocation) → a.holds ≡ None → 1 ≤ length message.uid.items
-    → length message.uid.items < length a.uid → message.uid.items ≡ take (length message.uid.items) a.uid
-    → (after_allocation word false message a).follow_up ≡ Some (record { timer = timer_from a.moment (follow_up_wait word); known = length message.uid.items })
-unfolding after_allocation
-begun word a message free some short front =
-    rw (free) (rw (shorter message.uid.items a.uid short) (rw (some_bytes (length message.uid.items) some)
-    (rw ((bytes_eq-Decides message.uid.items (take (length message.uid.items) a.uid)).1 front) refl)))
-
 pub waits : (d : Device) (number word : ℕ) (arrival : Arrival) (message : Allocation) → d.asking.holds ≡ None → HearsAnswer d arrival message
     → 1 ≤ length message.uid.items → length message.uid.items < length d.asking.uid
     → message.uid.items ≡ take (length message.uid.items) d.asking.uid
     → (step d number (Rx arrival word)).device.asking.follow_up
     ≡ Some (record { timer = timer_from (max d.asking.moment arrival.moment) (follow_up_wait word); known = length message.uid.items })
 waits d number word arrival message free h some short front =
-    ap (λ (a : Asking). a.follow_up) (heard d number word arrival message h) ∙ begun word (at_moment arrival.moment d.asking) message free some short front
+    ap (λ (a : Asking). a.follow_up) (heard d number word arrival message h) ∙ (hears word message false (at_moment arrival.moment d.asking) free).answered refl some short front
 
 -- ---- what it offers
 
@@ -87,15 +63,6 @@ begins d number now word free none passed room =
     rw (free) (rw (none) (rw (passed) (rw (room) (record { sent = refl; queue = refl }))))
 
 -- ---- what its requests are
-
-one_piece : (signature id : ℕ) (payload : List ℕ) → length payload ≤ 7 → cutting.frames_of signature id payload ≡ record { bytes = payload; tail = tail_at id 0 true } ∷ []
-unfolding cutting.frames_of
-one_piece signature id payload short =
-    ap (λ (bytes : List ℕ). cut id 0 ((length bytes - 1) / 7) bytes) whole
-    ∙ ap (λ (n : ℕ). cut id 0 n payload) (let none : (length payload - 1) / 7 ≡ 0 = omega (arith, short) in none)
-  where
-    whole : bytes_cut signature payload ≡ payload
-    whole = rw (le_is (length payload) 7 short) refl
 
 pub is_request : ((ident : Ident) → IsIdentifier ident → identifier_of (identifier_number ident) ≡ Some ident)
     → ((piece : Piece) → piece.tail.id < 32 → piece_from (frame_bytes piece) ≡ piece)

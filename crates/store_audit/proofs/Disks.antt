@@ -1,5 +1,5 @@
 -- The stores that were read of disks, one more at a time, and the disks that stay.
-use Rattle.std.proofs.Common.{◌≡◌, ◌≢◌, inl, inr, ℕ, ◌<◌, List, [], ◌∷◌, ◌++◌, length, slice_set, refl, sym, ap, subst, ◌∙◌, arith}
+use Rattle.std.proofs.Common.{◌≡◌, ◌≢◌, inl, inr, ℕ, suc, ◌<◌, List, [], ◌∷◌, ◌++◌, length, slice_set, refl, sym, ap, subst, ◌∙◌, arith}
 use Rattle.std.specs.Prelude.{Option, None, Some, IsSome, slice_index, slice_index_or}
 use Rattle.std.proofs.Math.Seq.{get_or-append_seam}
 use Rattle.std.proofs.lemmas.Bool.Decides.{eqb_tells}
@@ -10,8 +10,8 @@ use Rattle.cmd_base.specs.declared.status.Status.{Status}
 use Rattle.cmd_base.specs.declared.status.Status.TheVariants.{DiskFault}
 use Rattle.raft_log.specs.declared.stored.Stored.{Stored}
 use Rattle.raft_log.specs.Reading.{IsReadable}
-use Rattle.store_audit.specs.Audits.{CountsOne, EndsAt, EndsAtDamage}
-use Rattle.store_audit.specs.Reads.{AllStay, AreStoresOf, IsDamagedDisk, IsStoreOf, StaysAs}
+use Rattle.store_audit.specs.Audits.{CountsOne, EndsAt, EndsAtDamage, NamesLast}
+use Rattle.store_audit.specs.Reads.{AllStay, AreReadUpTo, AreStoresOf, IsDamagedDisk, IsReadOnce, IsStoreOf, StaysAs}
 use Rattle.store_audit.specs.Stores.{AreReadable, store_at}
 
 abbrev nothing : Stored
@@ -122,3 +122,24 @@ module _ {D : Type 0} (ghosts : Ghosts D) where
   pub there_is : (place : Option D) → IsSome place → (disk : D) × (place ≡ Some disk)
   there_is None some = absurd (cc some)
   there_is (Some disk) some = (disk, refl)
+
+  -- so far none was read
+  pub none_read : (disks : List (Option D)) → AreReadUpTo ghosts 0 disks disks
+  none_read disks = record { read = λ k before after low was now. absurd (omega (arith, low)); others = λ k low. refl }
+
+  -- and one more
+  pub read_more : (old mid : List (Option D)) (p next : ℕ) (place : Option D) → next ≡ suc p → AreReadUpTo ghosts p old mid → p < length mid
+      → ((before after : D) → slice_index_or old p None ≡ Some before → place ≡ Some after → IsReadOnce ghosts before after)
+      → AreReadUpTo ghosts next old (slice_set mid p place)
+  read_more old mid p next place more so_far within once = record {
+    read = λ k before after low was now. elim (eqb_tells k p) as (λ _. IsReadOnce ghosts before after) [
+      | inl t ↦ once before after (subst (λ n. slice_index_or old n None ≡ Some before) t.1 was)
+          (sym (get_or-set_same mid p place None within) ∙ subst (λ n. slice_index_or (slice_set mid p place) n None ≡ Some after) t.1 now)
+      | inr t ↦ so_far.read k before after (omega (arith, low, more, t.1)) was (sym (get_or-set_other mid p k place None t.1) ∙ now)
+    ];
+    others = λ k low. get_or-set_other mid p k place None (λ e. omega (arith, e, low, more)) ∙ so_far.others k (omega (arith, low, more));
+  }
+
+  -- the last of them is this node's
+  pub names_last : (ids : List ℕ) (disks : List (Option D)) (p : ℕ) → p < length ids → NamesLast ghosts ids disks (slice_index ids p) (suc p)
+  names_last ids disks p within = record { place = p; within = within; is = refl; count_is = refl }

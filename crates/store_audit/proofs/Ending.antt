@@ -6,7 +6,7 @@ use Rattle.cmd_base.specs.Output.{WritesFront}
 use Rattle.cmd_base.specs.declared.status.Status.{Status}
 use Rattle.cmd_base.specs.declared.status.Status.TheVariants.{Differ, DiskFault, Done, WriteFault}
 use Rattle.raft_log.specs.declared.stored.Stored.{Stored}
-use Rattle.store_audit.specs.Audits.{Comes, Compares, Ends, HasAgreement, IsWritten}
+use Rattle.store_audit.specs.Audits.{Comes, Compares, Ends, HasAgreement, IsWritten, Reads}
 use Rattle.disk_model.specs.declared.disk.Disk.{Ghosts}
 use Rattle.store_audit.specs.Reads.{AreStoresOf}
 use Rattle.store_audit.specs.Report.{agreed_report, line_of}
@@ -54,3 +54,10 @@ module _ {D : Type 0} (ghosts : Ghosts D) (ids : List ℕ) (disks : List (Option
 
 pub no_disk_failed : (ids : List ℕ) (stores : List Stored) (status : Status) (report : List ℕ) → Compares ids stores status report → (id : ℕ) → status ≡ DiskFault id → ⊥
 no_disk_failed ids stores status report is id e = subst (λ s. Compares ids stores s report) e is
+
+-- a comparison comes of all disks
+module _ {D : Type 0} (ghosts : Ghosts D) (ids : List ℕ) (disks : List (Option D)) (stores : List Stored) where
+  pub of_all : (outcome : Status) (report : List ℕ) → Compares ids stores outcome report → Reads ghosts ids disks outcome (length ids)
+  of_all Done report compares = refl
+  of_all (Differ place first second) report compares = refl
+  of_all _ report compares = absurd compares

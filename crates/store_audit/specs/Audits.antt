@@ -1,5 +1,5 @@
 -- What an audit of disks comes to, what it writes, and what it leaves.
-use Rattle.std.specs.Prelude.{⊤, ◌≡◌, ◌⊎◌, ℕ, ◌<◌, true, List, length, Option, Some, None, slice_index, slice_index_or}
+use Rattle.std.specs.Prelude.{⊤, ◌≡◌, ◌⊎◌, ℕ, suc, ◌<◌, true, List, length, Option, Some, None, slice_index, slice_index_or}
 use Rattle.std.specs.Io.KnownBytes.{Appends}
 use Rattle.can_frame.specs.declared.entry.Entry.{Entry}
 use Rattle.can_frame.specs.Log.{IsInjective}
@@ -9,7 +9,7 @@ use Rattle.cmd_base.specs.Output.{WritesFront}
 use Rattle.cmd_base.specs.declared.status.Status.{Status}
 use Rattle.cmd_base.specs.declared.status.Status.TheVariants.{Damaged, Differ, DiskFault, Done, WriteFault}
 use Rattle.raft_log.specs.declared.stored.Stored.{Stored}
-use Rattle.store_audit.specs.Reads.{AllStay, AreStoresOf, IsDamagedDisk}
+use Rattle.store_audit.specs.Reads.{AllStay, AreReadUpTo, AreStoresOf, IsDamagedDisk}
 use Rattle.store_audit.specs.Report.{AgreeOn, agreed_report, line_of}
 use Rattle.store_audit.specs.Verdict.{IsDifference}
 
@@ -113,11 +113,31 @@ module _ {D : Type 0} (ghosts : Ghosts D) (ids : List ℕ) (disks : List (Option
         (status ≡ DiskFault (slice_index ids k) → ⊥) → slice_index_or disks k None ≡ Some before →
         slice_index_or new k None ≡ Some after → ghosts.faults after ≡ ghosts.faults before
 
+  -- the disk of this node is the last of so many
+  pub record NamesLast (id count : ℕ) : Type 0 where
+    pub place : ℕ
+    pub within : place < length ids
+    pub is : id ≡ slice_index ids place
+    pub count_is : count ≡ suc place
+
+  -- how many disks are read where an audit ends so: all, or those up to the one that is named
+  abbrev pub Reads : Status → ℕ → Type 0
+  Reads Done count = count ≡ length ids
+  Reads (Differ place first second) count = count ≡ length ids
+  Reads (Damaged id key) count = NamesLast id count
+  Reads (DiskFault id) count = NamesLast id count
+  Reads _ count = ⊥
+
+  -- in order, and no other
+  abbrev pub ReadsInOrder : List (Option D) → Status → Type 0
+  ReadsInOrder new status = (count : ℕ) × Reads status count × AreReadUpTo ghosts count disks new
+
   -- all of an audit
   pub record Audits (new : List (Option D)) (before now : Option (List ℕ)) (status : Status) : Type 0 where
     pub outcome : Status
     pub report : List ℕ
     pub comes : Comes outcome report
     pub stay : AllStay ghosts disks new
+    pub order : ReadsInOrder new outcome
     pub counts : CountsOne new outcome
     pub written : IsWritten outcome report before now status

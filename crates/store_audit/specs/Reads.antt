@@ -1,5 +1,5 @@
 -- What an audit reads of disks.
-use Rattle.std.specs.Prelude.{◌≡◌, ◌⊎◌, ℕ, ◌<◌, Bool, true, List, [], ◌∷◌, length, Option, Some, None, slice_index_or}
+use Rattle.std.specs.Prelude.{◌≡◌, ◌⊎◌, ℕ, ◌<◌, ◌≤◌, Bool, true, List, [], ◌∷◌, length, Option, Some, None, slice_index_or}
 use Rattle.disk_model.specs.Contents.{image_size}
 use Rattle.disk_model.specs.Device.{DeviceCall, Makes}
 use Rattle.disk_model.specs.Device.DeviceCall.{Read}
@@ -49,3 +49,13 @@ module _ {D : Type 0} (ghosts : Ghosts D) where
     pub count : length new ≡ length old
     pub each : (k : ℕ) (before : D) → slice_index_or old k None ≡ Some before →
         StaysAs before (slice_index_or new k None)
+
+  -- that one device call was made
+  abbrev pub IsReadOnce : D → D → Type 0
+  IsReadOnce before after = (ok : Bool) × Makes ghosts.does audit_calls ok before after
+
+  -- of so many disks, the first ones, the image was read, by one call each; nothing was done to the others
+  pub record AreReadUpTo (count : ℕ) (old new : List (Option D)) : Type 0 where
+    pub read : (k : ℕ) (before after : D) → k < count → slice_index_or old k None ≡ Some before →
+        slice_index_or new k None ≡ Some after → IsReadOnce before after
+    pub others : (k : ℕ) → count ≤ k → slice_index_or new k None ≡ slice_index_or old k None

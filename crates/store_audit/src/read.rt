@@ -1,7 +1,7 @@
 ghost use Rattle.std.specs.Prelude.{◌≡◌, ◌≤◌, ◌<◌, ℕ, length, IfOk, IfErr, OnOk, Err, Some, IsSome};
 ghost use Rattle.outside.specs.Faults.{HasCause, Rose};
 ghost use Rattle.raft_log.specs.Reading.{IsReadable};
-ghost use Rattle.store_audit.specs.Reads.{IsDamagedDisk, IsImageOf, IsStoreOf, StaysAs};
+ghost use Rattle.store_audit.specs.Reads.{IsDamagedDisk, IsImageOf, IsReadOnce, IsStoreOf, StaysAs};
 
 use disk_model::{Disk, IMAGE};
 use outside::Failed;
@@ -27,6 +27,7 @@ fn read_store<D: Disk>(disk: &mut D) -> Result<Stored, Refused>
         Rose (D.faults disk.old) (D.faults disk.new)) }
     ensures kept { (result ≡ Err Refused.Failed → ⊥) → D.faults disk.new ≡ D.faults disk.old }
     ensures stays { StaysAs D.Disk disk.old (Some disk.new) }
+    ensures once { IsReadOnce D.Disk disk.old disk.new }
 {
     let mut image = [0; IMAGE];
     match read_image(disk, &mut image) {
@@ -44,6 +45,7 @@ fn read_image<D: Disk>(disk: &mut D, image: &mut [u8; IMAGE]) -> Result<(), Fail
     ensures cause { HasCause (D.faults disk.old) (D.faults disk.new) result }
     ensures kept { OnOk result (D.faults disk.new ≡ D.faults disk.old) }
     ensures stays { StaysAs D.Disk disk.old (Some disk.new) }
+    ensures once { IsReadOnce D.Disk disk.old disk.new }
 {
     disk.read(0, image)
 }
@@ -61,6 +63,8 @@ pub fn read_place<D: Disk>(place: &mut Option<D>) -> Result<Stored, Refused>
     ensures kept { (before after : D) → (result ≡ Err Refused.Failed → ⊥) →
         place.old ≡ Some before → place.new ≡ Some after → D.faults after ≡ D.faults before }
     ensures stays { (before : D) → place.old ≡ Some before → StaysAs D.Disk before place.new }
+    ensures once { (before after : D) → place.old ≡ Some before → place.new ≡ Some after →
+        IsReadOnce D.Disk before after }
 {
     match place {
         Some(disk) => read_store(disk),

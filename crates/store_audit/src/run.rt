@@ -1,7 +1,7 @@
 ghost use Rattle.std.specs.Prelude.{◌≡◌, ◌≤◌, ◌<◌, ◌⊎◌, ℕ, [], length, IsSome, None, OnOk, IfErr, slice_index_or};
 ghost use Rattle.outside.specs.Faults.{Rose};
-ghost use Rattle.store_audit.specs.Audits.{Audits, Comes, CountsOne, Ends, IsWritten};
-ghost use Rattle.store_audit.specs.Reads.{AllStay, AreStoresOf};
+ghost use Rattle.store_audit.specs.Audits.{Audits, Comes, CountsOne, Ends, IsWritten, ReadsInOrder};
+ghost use Rattle.store_audit.specs.Reads.{AllStay, AreReadUpTo, AreStoresOf};
 ghost use Rattle.store_audit.specs.Report.{HasLine, line_of};
 ghost use Rattle.store_audit.specs.Stores.{AreReadable};
 
@@ -19,8 +19,8 @@ use raft_log::Stored;
 /// committed, and a last line. Else it writes one line of what it found: a disk that failed, a store that is
 /// damaged, or the first place at which two have committed different entries.
 ///
-/// Each disk is read by one call at the most, and then read as a store, up to the first that is not read as
-/// one. No disk is written. `DiskFault` comes only where the disk of that node failed, `WriteFault` only
+/// The disks are read in order, each by one call, and then read as a store, up to the first that is not read as
+/// one; nothing is done to those behind it. No disk is written. `DiskFault` comes only where the disk of that node failed, `WriteFault` only
 /// where the sink did, and it then has a front of what was to be written.
 pub fn audit_stores<K: Sink, D: Disk>(ids: &[u8], disks: &mut [Option<D>], sink: &mut K) -> Status
     requires some { 1 ≤ length ids.now }
@@ -61,6 +61,8 @@ fn read_all<D: Disk>(
     ensures ended { IfErr result (λ status. Comes D.Disk ids.now disks.old status
         (line_of status)) }
     ensures stay { AllStay D.Disk disks.old disks.new }
+    ensures whole { OnOk result (AreReadUpTo D.Disk (length ids.now) disks.old disks.new) }
+    ensures order { IfErr result (λ status. ReadsInOrder D.Disk ids.now disks.old disks.new status) }
     ensures quiet { OnOk result ((status : Status) →
         ((id : ℕ) → status ≡ Status.DiskFault id → ⊥) →
         CountsOne D.Disk ids.now disks.old disks.new status) }
