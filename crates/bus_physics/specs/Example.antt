@@ -1,5 +1,5 @@
 -- Timed rows that meet the premises: a member sends, and another one hears it, as does an allocatee.
-use Rattle.std.specs.Prelude.{ℕ, List, [], ◌∷◌, ◌++◌}
+use Rattle.std.specs.Prelude.{ℕ, false, List, [], ◌∷◌, ◌++◌}
 use Rattle.replay_text.specs.declared.row.Row.TheVariants.{AOpen, ARx, Open, Rx, Send, Tick}
 use Rattle.bus_physics.specs.Physics.{Limits, Timed}
 
@@ -12,8 +12,8 @@ limits = record { hold = 100; drift = 5 }
 
 -- frame 1 is the first one that member 1 sends
 abbrev pub before : List Timed
-before = record { at = 7; row = Open 1 0 0 }
-    ∷ record { at = 8; row = Open 2 500 0 }
+before = record { at = 7; row = Open 1 false 0 0 }
+    ∷ record { at = 8; row = Open 2 false 500 0 }
     ∷ record { at = 9; row = AOpen 1 [] 0 40 0 }
     ∷ record { at = 1007; row = Tick 1 1000 0 }
     ∷ record { at = 1008; row = Send 1 }

@@ -114,7 +114,7 @@ now_in (Failed failure) ms = ms
 
 -- the readings of member n since it opened, the latest first
 abbrev pub member_readings : ℕ → List Reading → Cluster → ℕ → Row → List Reading
-member_readings n past w at (Open m ms word) = if n == m then record { at = at; now = ms } ∷ [] else past
+member_readings n past w at (Open m told ms word) = if n == m then record { at = at; now = ms } ∷ [] else past
 member_readings n past w at (Tick m ms word) =
     if n == m then record { at = at; now = now_in (w.member m).status ms } ∷ past else past
 member_readings n past w at (Rx m k ms) =

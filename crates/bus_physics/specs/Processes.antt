@@ -17,7 +17,7 @@ MayCome (WasSent k) w = no_such_frame w k ≡ None
 MayCome (IsForeign frame) w = is_forged w.ids (identifier_of frame.id) ≡ false
 
 abbrev pub MayDo : Event → Cluster → Type 0
-MayDo (Opens n moment word) w = (is_member w.ids n ≡ true) × (is_running (w.member n).status ≡ false)
+MayDo (Opens n told moment word) w = (is_member w.ids n ≡ true) × (is_running (w.member n).status ≡ false)
 MayDo (Turns n moment word came) w = MayTurn n w × MayCome came (after_row w (Tick n moment word))
 MayDo (Stops n) w = MayTurn n w
 MayDo (IsKilled n moment word came puts) w =
