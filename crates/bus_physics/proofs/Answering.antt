@@ -78,7 +78,7 @@ module _ (laws : FrameLaws) (answers : (t : AllocatorState) (number : ℕ) (even
             ∙ ap (λ (a : Arrival). a.mark.step) (sym (one_arrival (arrival_at (frame_at w.frames k) ms) is.delivered.arrival is.delivered.comes)))
 
     by_row : (row : Row) → FrameComesInTime limits all w came row → AreMadeSoon (transfers_of_row w row earlier)
-    by_row (Open n ms word) comes = old
+    by_row (Open n told ms word) comes = old
     by_row (Tick n ms word) comes = by_step n (tick_of ms word) (tick_answers n ms word) (w.member n).status (w.member n)
     by_row (Rx n k ms) comes = by_step n (receipt_of w k ms) (rx_answers n k ms comes) (w.member n).status (w.member n)
     by_row (Send n) comes = old

@@ -179,7 +179,7 @@ module _ (limits : Limits) (all : List Timed) where
 
       pub goes_on : (row : Row) → RowIsPhysical limits all a past w came row → cause w row ≡ None
           → Inv a (frames_then row) (readings_after a past w came row) (after_row w row).allocatee
-      goes_on (Open n ms word) phys lawful = inv
+      goes_on (Open n told ms word) phys lawful = inv
       goes_on (Tick n ms word) phys lawful = inv
       goes_on (Rx n k ms) phys lawful = inv
       goes_on (Send n) phys lawful = same_with_more (in_list (next_frame (w.member n).status))

@@ -1,5 +1,5 @@
 -- Along rows in which frames come in order, no session of a member keeps what was made before a first frame that it heard.
-use Rattle.std.proofs.Common.{◌≡◌, ℕ, ◌+◌, Bool, true, false, List, [], ◌∷◌, ◌++◌, length, refl, sym, ap, subst, ◌∙◌, inl, inr, append_assoc, append-nil}
+use Rattle.std.proofs.Common.{◌≡◌, ℕ, ◌+◌, Bool, true, false, List, [], ◌∷◌, ◌++◌, refl, sym, ap, subst, ◌∙◌, inl, inr, append_assoc, append-nil}
 use Rattle.std.specs.Prelude.{◌==◌, max, if◌then◌else◌}
 use Rattle.std.proofs.lemmas.Bool.Decides.{eqb_tells}
 use Rattle.raft_log.specs.KeyDisk.{are_put, is_open_on, opening_on, puts_on}
@@ -10,11 +10,12 @@ use Rattle.replay_text.specs.declared.row.Row.TheVariants.{AEnd, AOpen, ARx, ASe
 use Rattle.transfer_rx.specs.Sessions.{Session}
 use Rattle.transfer_tx.specs.Queue.{Queued}
 use Rattle.alloc_spec.specs.Accepted.{setting_for}
-use Rattle.alloc_spec.specs.AllocatorState.{AllocatorState, opening}
+use Rattle.alloc_spec.specs.AllocatorState.{AllocatorState}
+use Rattle.alloc_spec.specs.Rules.{Rules, opening_by}
 use Rattle.alloc_spec.specs.Step.{Event, after_pop, step}
 use Rattle.alloc_spec.specs.Step.Event.{Rx as Receives, Tick as Ticks}
 use Rattle.alloc_spec.specs.StepState.{StepState}
-use Rattle.cluster_spec.specs.Cluster.{Cluster, after_row, after_rows, arrival_at, frame_at, receipt_of, tick_of}
+use Rattle.cluster_spec.specs.Cluster.{Cluster, after_row, after_rows, arrival_at, frame_at, receipt_of, rules_of, tick_of}
 use Rattle.cluster_spec.specs.Members.{Member, MemberStatus, after_crash, after_cut_off, after_failed_opening, after_opening, after_sending, member_after_step, puts_of, stopped_with, with_stop_armed}
 use Rattle.cluster_spec.specs.Members.MemberStatus.{Down, Failed, Up}
 use Rattle.bus_physics.specs.Physics.{ComeInOrder, ComesInOrder, IsInOrder, OfIt, heard_by, heard_in}
@@ -96,25 +97,25 @@ module _ (n : ℕ) where
       by (Up t) runs u up = subst (Keeps (heard ++ frame_at w.frames k ∷ [])) (up_after t (receipt_of w k ms) (w.member m) u up)
           (receives t (inv t (ap (λ (j : ℕ). (w.member j).status) (is_same m e) ∙ runs)) (frame_at w.frames k) ms order)
 
-    opened : (m ms word : ℕ) → n ≡ m → KeepsIn heard (after_opening m (length w.ids) ms word (w.member m)).status
-    opened m ms word same u up = by (is_open_on (w.member m).disk) up where
+    opened : (m : ℕ) (rules : Rules) (ms word : ℕ) → n ≡ m → KeepsIn heard (after_opening m rules ms word (w.member m)).status
+    opened m rules ms word same u up = by (is_open_on (w.member m).disk) up where
       failed : (b : Bool) → (if b then stopped_with (w.member m).pattern (opening_on (w.member m).disk) (w.member m)
           else record (w.member m) { status = Down; disk = opening_on (w.member m).disk }).status ≡ Up u → ⊥
       failed true f = absurd (cc (f))
       failed false f = absurd (cc (f))
 
       by : (b : Bool) → (if b then record (w.member m) {
-        status = Up (opening m (length w.ids) (store_of (opening_on (w.member m).disk).store) ms word);
+        status = Up (opening_by m rules (store_of (opening_on (w.member m).disk).store) ms word);
         disk = opening_on (w.member m).disk;
       } else after_failed_opening (w.member m) (opening_on (w.member m).disk)).status ≡ Up u → Keeps heard u
-      by true e = subst (Keeps heard) (one_up (opening m (length w.ids) (store_of (opening_on (w.member m).disk).store) ms word) u e)
+      by true e = subst (Keeps heard) (one_up (opening_by m rules (store_of (opening_on (w.member m).disk).store) ms word) u e)
           (record { me = sym same; each = λ s i. absurd i })
       by false e = absurd (failed (opening_on (w.member m).disk).calls.stopped e)
 
-    open_by : (m ms word : ℕ) (same : Bool) → (n == m) ≡ same
-        → KeepsIn heard (if same then after_opening m (length w.ids) ms word (w.member m) else w.member n).status
-    open_by m ms word false e = inv
-    open_by m ms word true e = opened m ms word (is_same m e)
+    open_by : (m : ℕ) (rules : Rules) (ms word : ℕ) (same : Bool) → (n == m) ≡ same
+        → KeepsIn heard (if same then after_opening m rules ms word (w.member m) else w.member n).status
+    open_by m rules ms word false e = inv
+    open_by m rules ms word true e = opened m rules ms word (is_same m e)
 
     send_by : (m : ℕ) (same : Bool) → (n == m) ≡ same
         → KeepsIn heard (if same then record (w.member m) { status = after_sending (w.member m).status } else w.member n).status
@@ -141,7 +142,7 @@ module _ (n : ℕ) where
     fault_by m y is true e u up = inv u (ap (λ (k : ℕ). (w.member k).status) (is_same m e) ∙ (sym is ∙ up))
 
     pub follows : (row : Row) → IsInOrder n heard w row → KeepsIn (heard ++ heard_in n w row) ((after_row w row).member n).status
-    follows (Open m ms word) order = nothing_more ((after_row w (Open m ms word)).member n).status (open_by m ms word (n == m) refl)
+    follows (Open m told ms word) order = nothing_more ((after_row w (Open m told ms word)).member n).status (open_by m (rules_of w.ids told) ms word (n == m) refl)
     follows (Tick m ms word) order = nothing_more ((after_row w (Tick m ms word)).member n).status (tick_by m ms word (n == m) refl)
     follows (Rx m k ms) order = rx_by m k ms (n == m) refl order
     follows (Send m) order = nothing_more ((after_row w (Send m)).member n).status (send_by m (n == m) refl)

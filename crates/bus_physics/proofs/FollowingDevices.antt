@@ -74,7 +74,7 @@ module _ (a : ℕ) where
         sent_is d x e = cc (e)
 
     pub follows_row : (row : Row) → IsInOrderToDevice a heard w row → KeptIn (heard ++ device_heard_in a w row) ((after_row w row).allocatee a)
-    follows_row (Open n ms word) order = no_more (w.allocatee a) inv
+    follows_row (Open n told ms word) order = no_more (w.allocatee a) inv
     follows_row (Tick n ms word) order = no_more (w.allocatee a) inv
     follows_row (Rx n k ms) order = no_more (w.allocatee a) inv
     follows_row (Send n) order = no_more (w.allocatee a) inv

@@ -18,11 +18,12 @@ use Rattle.transfer_rx.specs.Sessions.{Session}
 use Rattle.transfer_tx.specs.Queue.{Queued}
 use Rattle.alloc_spec_laws.specs.Calls.{CallsAreMade, IsCalled}
 use Rattle.alloc_spec.specs.Accepted.{setting_for}
-use Rattle.alloc_spec.specs.AllocatorState.{AllocatorState, opening}
+use Rattle.alloc_spec.specs.AllocatorState.{AllocatorState}
+use Rattle.alloc_spec.specs.Rules.{Rules, opening_by}
 use Rattle.alloc_spec.specs.Step.{Event, after_pop, moment_of, step}
 use Rattle.alloc_spec.specs.Step.Event.{Rx as Receives, Tick as Ticks}
 use Rattle.alloc_spec.specs.StepState.{StepState}
-use Rattle.cluster_spec.specs.Cluster.{Cluster, after_row, after_rows, arrival_at, frame_at, from_outside, in_list, receipt_of, tick_of}
+use Rattle.cluster_spec.specs.Cluster.{Cluster, after_row, after_rows, arrival_at, frame_at, from_outside, in_list, receipt_of, rules_of, tick_of}
 use Rattle.cluster_spec.specs.Lawful.{Lawful, arrival_refusal, cause, no_node, no_such_frame, not_running, or_else}
 use Rattle.cluster_spec.specs.Allocatees.{next_from}
 use Rattle.cluster_spec.specs.Members.{Member, MemberStatus, after_crash, after_cut_off, after_opening, after_sending, member_after_step, next_frame, puts_of, stopped_with, with_stop_armed}
@@ -208,14 +209,14 @@ module _ (limits : Limits) (all : List Timed) where
           (receives laws of_its_key sane w.frames past came t (inv t (ap (λ (j : ℕ). (w.member j).status) (is_same m e) ∙ runs)) (w.rows + 1) its_time
           (frame_at w.frames k) there ms on timely)
 
-    opened : (m ms word : ℕ) (u : AllocatorState) → (after_opening m (length w.ids) ms word (w.member m)).status ≡ Up u
+    opened : (m : ℕ) (rules : Rules) (ms word : ℕ) (u : AllocatorState) → (after_opening m rules ms word (w.member m)).status ≡ Up u
         → MemberInv w.frames (record { at = came; now = ms } ∷ []) u
-    opened m ms word u = by (is_open_on (w.member m).disk) where
-      fresh : (store : _) → MemberInv w.frames (record { at = came; now = ms } ∷ []) (opening m (length w.ids) store ms word)
+    opened m rules ms word u = by (is_open_on (w.member m).disk) where
+      fresh : (store : _) → MemberInv w.frames (record { at = came; now = ms } ∷ []) (opening_by m rules store ms word)
       fresh store = record { heard = λ s i. absurd i; called = λ peer request sending pending sent. absurd (cc (pending)) }
 
       by : (b : Bool) → (if b then record (w.member m) {
-        status = Up (opening m (length w.ids) (Rattle.raft_core.specs.StoredPuts.store_of (opening_on (w.member m).disk).store) ms word);
+        status = Up (opening_by m rules (Rattle.raft_core.specs.StoredPuts.store_of (opening_on (w.member m).disk).store) ms word);
         disk = opening_on (w.member m).disk;
       } else Rattle.cluster_spec.specs.Members.after_failed_opening (w.member m) (opening_on (w.member m).disk)).status ≡ Up u
           → MemberInv w.frames (record { at = came; now = ms } ∷ []) u
@@ -227,10 +228,10 @@ module _ (limits : Limits) (all : List Timed) where
         failed true f = absurd (cc (f))
         failed false f = absurd (cc (f))
 
-    open_by : (m ms word : ℕ) (same : Bool) → (u : AllocatorState) → (if same then after_opening m (length w.ids) ms word (w.member m) else w.member n).status ≡ Up u
+    open_by : (m : ℕ) (rules : Rules) (ms word : ℕ) (same : Bool) → (u : AllocatorState) → (if same then after_opening m rules ms word (w.member m) else w.member n).status ≡ Up u
         → MemberInv w.frames (if same then record { at = came; now = ms } ∷ [] else past) u
-    open_by m ms word false u up = inv u up
-    open_by m ms word true u up = opened m ms word u up
+    open_by m rules ms word false u up = inv u up
+    open_by m rules ms word true u up = opened m rules ms word u up
 
     send_by : (m : ℕ) (same : Bool) → (n == m) ≡ same → (more : List Queued) → (u : AllocatorState)
         → (if same then record (w.member m) { status = after_sending (w.member m).status } else w.member n).status ≡ Up u → MemberInv (w.frames ++ more) past u
@@ -271,7 +272,7 @@ module _ (limits : Limits) (all : List Timed) where
 
     pub goes_on : (row : Row) → ClockGoesOnAt limits n past w came row → FrameComesInTime limits all w came row → cause w row ≡ None
         → InvOf n (after_row w row).frames (member_readings n past w came row) (after_row w row).member
-    goes_on (Open m ms word) clock comes lawful = open_by m ms word (n == m)
+    goes_on (Open m told ms word) clock comes lawful = open_by m (rules_of w.ids told) ms word (n == m)
     goes_on (Tick m ms word) clock comes lawful = tick_by m ms word (n == m) refl
     goes_on (Rx m k ms) clock comes lawful = rx_by m k ms (n == m) refl (frame_there m k ms lawful) clock comes
     goes_on (Send m) clock comes lawful = send_by m (n == m) refl (in_list (next_frame (w.member m).status))

@@ -109,7 +109,7 @@ module _ (w : Cluster) (why : Unlawful) (is : is_of_bus why ≡ true) where
   ]
 
   pub refusal : (row : Row) → cause w row ≡ Some why → IsRefusal row why
-  refusal (Open n ms word) e = absurd (either (no_node w n) (already_running w n) (no_member n) (running n) e)
+  refusal (Open n told ms word) e = absurd (either (no_node w n) (already_running w n) (no_member n) (running n) e)
   refusal (Tick n ms word) e = absurd (either (no_node w n) (not_running w n) (no_member n) (stopped n) e)
   refusal (Rx n k ms) e = inl (n, (k, (ms, refl)))
   refusal (Send n) e = absurd (either (no_node w n) (or_else (not_running w n) (nothing_to_send (next_frame (w.member n).status))) (no_member n)

@@ -231,7 +231,7 @@ module _ (laws : FrameLaws) (ids : List ℕ) (members : AreMembers ids) (shown :
     from_elsewhere frame f (inr i) = absurd i
 
     goes_on : (row : Row) → cause w row ≡ None → IsSingle ids (after_row w row)
-    goes_on (Open n ms word) allowed = record { bus = inv.bus; queues = inv.queues }
+    goes_on (Open n told ms word) allowed = record { bus = inv.bus; queues = inv.queues }
     goes_on (Tick n ms word) allowed = record { bus = inv.bus; queues = inv.queues }
     goes_on (Rx n k ms) allowed = record { bus = inv.bus; queues = inv.queues }
     goes_on (Send n) allowed = record { bus = with_frames w inv (in_list (next_frame (w.member n).status)) (sent_by n allowed); queues = inv.queues }

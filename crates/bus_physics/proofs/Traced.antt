@@ -209,7 +209,7 @@ module _ (limits : Limits) (ids : List ℕ) where
 
       pub event : (e : Event) (a : List Timed) → rows_in a ≡ rows_of e w → HappenOnBus limits ids before a → MayDo e w
           → MayHappen e w ⊎ LosesFrames ids (before ++ (a ++ rest))
-      event (Opens n moment word) a rows happen may = inl may
+      event (Opens n told moment word) a rows happen may = inl may
       event (Turns n moment word Silence) a rows happen may = inl may
       event (Turns n moment word (WasSent k)) a rows happen may = turn n moment word k a rows happen may
       event (Turns n moment word (IsForeign frame)) a rows happen may = inl may

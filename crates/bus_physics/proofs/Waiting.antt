@@ -1,6 +1,6 @@
 -- The call of a member that waits for a node is the last one that the member made to it.
 use Rattle.std.proofs.Common.{◌≡◌, ℕ, ◌+◌, ◌≤◌, Bool, true, false, List, [], ◌∷◌, refl, sym, ap, subst, ◌∙◌, arith, ◌⊎◌, inl, inr, Some, None}
-use Rattle.std.specs.Prelude.{◌==◌, if◌then◌else◌, length}
+use Rattle.std.specs.Prelude.{◌==◌, if◌then◌else◌}
 use Rattle.std.proofs.lemmas.Bool.Decides.{eqb_tells}
 use Rattle.raft_log.specs.KeyDisk.{are_put, is_open_on, opening_on, puts_on}
 use Rattle.raft_model.specs.Lists.{In}
@@ -9,11 +9,12 @@ use Rattle.replay_text.specs.declared.row.Row.{Row}
 use Rattle.replay_text.specs.declared.row.Row.TheVariants.{AEnd, AOpen, ARx, ASend, ATick, Crash, Ext, Fault, Open, Rx, Send, Tick}
 use Rattle.alloc_spec_laws.specs.Calls.{CallsAreMade}
 use Rattle.alloc_spec_laws.proofs.DistinctTransfers.{rank}
-use Rattle.alloc_spec.specs.AllocatorState.{AllocatorState, opening}
+use Rattle.alloc_spec.specs.AllocatorState.{AllocatorState}
+use Rattle.alloc_spec.specs.Rules.{Rules, opening_by}
 use Rattle.alloc_spec.specs.Step.{Event, after_pop, step}
 use Rattle.alloc_spec.specs.StepState.{StepState}
 use Rattle.alloc_spec.specs.Transfers.{Offer, SentTransfer}
-use Rattle.cluster_spec.specs.Cluster.{Cluster, after_row, after_rows, receipt_of, tick_of}
+use Rattle.cluster_spec.specs.Cluster.{Cluster, after_row, after_rows, receipt_of, rules_of, tick_of}
 use Rattle.cluster_spec.specs.Members.{Member, MemberStatus, after_crash, after_cut_off, after_failed_opening, after_opening, after_sending, member_after_step, puts_of, stopped_with, with_stop_armed}
 use Rattle.cluster_spec.specs.Members.MemberStatus.{Down, Failed, Up}
 use Rattle.cluster_spec.specs.Refinement.{transfers_of_offers, transfers_of_row, transfers_of_rows, transfers_of_step}
@@ -53,7 +54,7 @@ module _ (called : (t : AllocatorState) (number : ℕ) (event : Event) → Calls
     pub past_row : (row : Row) → AreMadeBy number (transfers_of_row w row made)
     past_row (Tick m ms word) = past_step m (tick_of ms word) (w.member m).status (w.member m)
     past_row (Rx m k ms) = past_step m (receipt_of w k ms) (w.member m).status (w.member m)
-    past_row (Open m ms word) = λ y i. omega (arith, past y i)
+    past_row (Open m told ms word) = λ y i. omega (arith, past y i)
     past_row (Send m) = λ y i. omega (arith, past y i)
     past_row (Ext frame) = λ y i. omega (arith, past y i)
     past_row (Crash m calls pattern) = λ y i. omega (arith, past y i)
@@ -138,25 +139,25 @@ module _ (called : (t : AllocatorState) (number : ℕ) (event : Event) → Calls
 
     -- ---- other rows
 
-    opened : (m ms word : ℕ) (u : AllocatorState) → (after_opening m (length w.ids) ms word (w.member m)).status ≡ Up u → (peer : ℕ)
+    opened : (m : ℕ) (rules : Rules) (ms word : ℕ) (u : AllocatorState) → (after_opening m rules ms word (w.member m)).status ≡ Up u → (peer : ℕ)
         → u.raft_server.memory.pending peer ≡ None
-    opened m ms word u up peer = by (is_open_on (w.member m).disk) up where
+    opened m rules ms word u up peer = by (is_open_on (w.member m).disk) up where
       failed : (b : Bool) → (if b then stopped_with (w.member m).pattern (opening_on (w.member m).disk) (w.member m)
           else record (w.member m) { status = Down; disk = opening_on (w.member m).disk }).status ≡ Up u → ⊥
       failed true f = absurd (cc (f))
       failed false f = absurd (cc (f))
 
       by : (b : Bool) → (if b then record (w.member m) {
-        status = Up (opening m (length w.ids) (Rattle.raft_core.specs.StoredPuts.store_of (opening_on (w.member m).disk).store) ms word);
+        status = Up (opening_by m rules (Rattle.raft_core.specs.StoredPuts.store_of (opening_on (w.member m).disk).store) ms word);
         disk = opening_on (w.member m).disk;
       } else after_failed_opening (w.member m) (opening_on (w.member m).disk)).status ≡ Up u → u.raft_server.memory.pending peer ≡ None
       by true e = ap (λ (v : AllocatorState). v.raft_server.memory.pending peer)
-          (sym (one_up (opening m (length w.ids) (Rattle.raft_core.specs.StoredPuts.store_of (opening_on (w.member m).disk).store) ms word) u e))
+          (sym (one_up (opening_by m rules (Rattle.raft_core.specs.StoredPuts.store_of (opening_on (w.member m).disk).store) ms word) u e))
       by false e = absurd (failed (opening_on (w.member m).disk).calls.stopped e)
 
-    open_by : (m ms word : ℕ) (same : Bool) → WaitsLast n made (if same then after_opening m (length w.ids) ms word (w.member m) else w.member n).status
-    open_by m ms word false u up peer request pending = inv u up peer request pending
-    open_by m ms word true u up peer request pending = absurd (cc (sym (opened m ms word u up peer) ∙ pending))
+    open_by : (m : ℕ) (rules : Rules) (ms word : ℕ) (same : Bool) → WaitsLast n made (if same then after_opening m rules ms word (w.member m) else w.member n).status
+    open_by m rules ms word false u up peer request pending = inv u up peer request pending
+    open_by m rules ms word true u up peer request pending = absurd (cc (sym (opened m rules ms word u up peer) ∙ pending))
 
     send_by : (m : ℕ) (same : Bool) → (n == m) ≡ same
         → WaitsLast n made (if same then record (w.member m) { status = after_sending (w.member m).status } else w.member n).status
@@ -192,7 +193,7 @@ module _ (called : (t : AllocatorState) (number : ℕ) (event : Event) → Calls
         inv u (ap (λ (k : ℕ). (w.member k).status) same ∙ (sym is ∙ up))
 
     pub waits_on : (row : Row) → WaitsLast n (transfers_of_row w row made) ((after_row w row).member n).status
-    waits_on (Open m ms word) = open_by m ms word (n == m)
+    waits_on (Open m told ms word) = open_by m (rules_of w.ids told) ms word (n == m)
     waits_on (Tick m ms word) = stepped m (tick_of ms word) (n == m) refl
     waits_on (Rx m k ms) = stepped m (receipt_of w k ms) (n == m) refl
     waits_on (Send m) = send_by m (n == m) refl
