@@ -27,9 +27,8 @@ RESPONSES = {  # request: response
 }
 REQUESTS = {response: request for request, response in RESPONSES.items()}
 
-_CAN_FRAME = struct.Struct("=IB3x8s")  # struct can_frame of linux/can.h
-CAN_FRAME_SIZE = _CAN_FRAME.size
-_EXTENDED, _REMOTE, _ERROR = 1 << 31, 1 << 30, 1 << 29
+CAN_FRAME = struct.Struct("=IB3x8s")  # struct can_frame of linux/can.h
+EXTENDED, REMOTE, ERROR = 1 << 31, 1 << 30, 1 << 29  # in its identifier
 
 
 class Heading(NamedTuple):
@@ -110,16 +109,16 @@ def to_datagram(frame: Frame) -> bytes:
 
 def from_can(packet: bytes) -> Optional[Frame]:
     """The frame of a packet of a raw CAN socket, or None where it is no data frame with 29 bits and data."""
-    if len(packet) != CAN_FRAME_SIZE:
+    if len(packet) != CAN_FRAME.size:
         return None
-    identifier, length, data = _CAN_FRAME.unpack(packet)
-    if identifier & (_EXTENDED | _REMOTE | _ERROR) != _EXTENDED or not 1 <= length <= 8:
+    identifier, length, data = CAN_FRAME.unpack(packet)
+    if identifier & (EXTENDED | REMOTE | ERROR) != EXTENDED or not 1 <= length <= 8:
         return None
     return Frame(identifier % FIRST_WIDE, data[:length])
 
 
 def to_can(frame: Frame) -> bytes:
-    return _CAN_FRAME.pack(frame.identifier | _EXTENDED, len(frame.data), frame.data)
+    return CAN_FRAME.pack(frame.identifier | EXTENDED, len(frame.data), frame.data)
 
 
 # --- transfers
