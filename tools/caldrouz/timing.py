@@ -72,7 +72,7 @@ class Timing:
         self._up: Dict[int, int] = {}
 
     def take(self, record: logs.Record) -> None:
-        heading, tail, stamp = record.heading, record.tail, record.stamp
+        heading, tail, stamp = record.frame.heading, record.frame.tail, record.stamp
         if heading.source not in self.members or heading.kind == wire.OTHER:
             return
         self._look_at_order(record)
@@ -113,13 +113,13 @@ class Timing:
             return
         if before[1] == data and record.stamp - before[0] <= AT_ONCE:
             self.repeats.append(record.line)
-        last, tail = wire.read_tail(before[1][-1]), record.tail
+        last, tail = wire.read_tail(before[1][-1]), record.frame.tail
         goes_on = last.transfer_id == tail.transfer_id and not last.ends and last.toggle != tail.toggle
         if not tail.starts and not goes_on:
             self.disorder.append(record.line)
 
     def _look_at_uptime(self, record: logs.Record) -> None:
-        member, uptime = record.heading.source, wire.number(record.frame.data)
+        member, uptime = record.frame.heading.source, wire.number(record.frame.data)
         if uptime < self._up.get(member, 0):
             # The first NodeStatus comes a second after the opening, and others may have come before it.
             opened = record.stamp - 1000 * uptime

@@ -9,6 +9,7 @@
 """
 from __future__ import annotations
 
+import binascii
 import struct
 from typing import Dict, Hashable, Iterable, List, NamedTuple, Optional, Tuple
 
@@ -124,20 +125,16 @@ def to_can(frame: Frame) -> bytes:
 # --- transfers
 
 
-def transfer_crc(data_type: DataType, payload: bytes) -> int:
+def transfer_crc(data_type: DataType, payload: bytes) -> bytes:
     """CRC-16/CCITT-FALSE over the signature of the type and the payload."""
-    register = 0xFFFF
-    for byte in data_type.signature.to_bytes(8, "little") + payload:
-        register ^= byte << 8
-        for _ in range(8):
-            register = (register << 1 ^ 0x1021 if register & 0x8000 else register << 1) & 0xFFFF
-    return register
+    crc = binascii.crc_hqx(data_type.signature.to_bytes(8, "little") + payload, 0xFFFF)
+    return crc.to_bytes(CRC_BYTES, "little")
 
 
 def cut(data_type: DataType, transfer_id: int, payload: bytes) -> List[bytes]:
     """The data of the frames of a transfer."""
     if len(payload) > FRAME_BYTES:
-        payload = transfer_crc(data_type, payload).to_bytes(CRC_BYTES, "little") + payload
+        payload = transfer_crc(data_type, payload) + payload
     pieces = [payload[at : at + FRAME_BYTES] for at in range(0, len(payload), FRAME_BYTES)] or [b""]
     last = len(pieces) - 1
     return [
@@ -147,25 +144,28 @@ def cut(data_type: DataType, transfer_id: int, payload: bytes) -> List[bytes]:
 
 
 class Transfers:
-    """Joins frames into transfers. A sender's frames come here in the order in which it put them on the bus. The CRC is
-    not looked at."""
+    """Joins frames into transfers. A sender's frames come here in the order in which it put them on the bus."""
 
     def __init__(self) -> None:
         self._begun: Dict[Tuple[Hashable, int, int], bytes] = {}
 
     def take(self, sender: Hashable, frame: Frame) -> Optional[bytes]:
-        """The payload of the transfer that is whole with this frame, or None. `sender` tells equal sources apart."""
-        tail = frame.tail
+        """The payload of the transfer that is whole with this frame, or None, also where its CRC is that of another
+        payload. `sender` tells equal sources apart."""
+        tail, kind = frame.tail, frame.heading.kind
         key = (sender, frame.identifier, tail.transfer_id)
-        body = b"" if tail.starts else self._begun.get(key)
+        begun = self._begun.pop(key, None)
+        body = b"" if tail.starts else begun
         if body is None:
             return None
         body += frame.data[:-1]
         if not tail.ends:
             self._begun[key] = body
             return None
-        self._begun.pop(key, None)
-        return body if tail.starts else body[CRC_BYTES:]
+        if tail.starts:
+            return body
+        crc, payload = body[:CRC_BYTES], body[CRC_BYTES:]
+        return payload if kind == OTHER or crc == transfer_crc(TRANSFERS[kind].data_type, payload) else None
 
 
 # --- what transfers say

@@ -136,7 +136,8 @@ class Prelude:
         self.voters = {term: self._voters(term, leader) for term, leader in leaders.items()}
         self.now = 0
         self.lives = {member: Life() for member in aim.members}
-        self._begun: Dict[int, Tuple[bytes, List[int]]] = {}
+        self._transfers = wire.Transfers()
+        self._numbers: Dict[int, List[int]] = {}  # by identifier: those of the frames of its last transfer
 
     def _voters(self, term: int, leader: int) -> List[int]:
         """Who votes for a leader: those whose files say so; and as many others as it needs, those first that then may
@@ -203,14 +204,14 @@ class Prelude:
 
     def _join(self, sent: report.Sent) -> Optional[Offer]:
         frame = sent.frame
-        nothing: Tuple[bytes, List[int]] = (b"", [])
-        payload, numbers = nothing if frame.tail.starts else self._begun.get(frame.identifier, nothing)
-        payload, numbers = payload + frame.data[:-1], numbers + [sent.number]
+        if frame.tail.starts:
+            self._numbers.pop(frame.identifier, None)
+        numbers = self._numbers.setdefault(frame.identifier, [])
+        numbers.append(sent.number)
+        payload = self._transfers.take(None, frame)
         if not frame.tail.ends:
-            self._begun[frame.identifier] = payload, numbers
             return None
-        payload = payload if frame.tail.starts else payload[table.CRC_BYTES :]
-        if len(payload) < LEAST_BYTES.get(frame.heading.kind, 0):
+        if payload is None or len(payload) < LEAST_BYTES.get(frame.heading.kind, 0):
             raise Broken(f"the program sends {frame}, which ends nothing that a member says")
         return Offer(frame.heading, frame.tail.transfer_id, payload, numbers)
 
