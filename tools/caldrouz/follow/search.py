@@ -13,7 +13,7 @@ from .. import wire
 from . import plans
 from .cluster import Cluster, Conflict, Foreign, Kept, Unlogged
 from .partner import Partner, Refused
-from .prelude import NOTHING, Before
+from .prelude import Before
 from .recording import Logged, Recording
 
 AFTER_THE_LAST = 500  # milliseconds after its last frame at which a member that opens again has stopped, it is taken
@@ -254,9 +254,7 @@ def _happenings(recording: Recording) -> List[Happening]:
     return sorted(found)
 
 
-def search(
-    recording: Recording, words: List[str], before: Before = NOTHING, progress: Progress = lambda *_: None
-) -> Found:
+def search(recording: Recording, words: List[str], before: Before, progress: Progress) -> Found:
     """The run that goes furthest, of those by different delays; the first that explains the whole log."""
     recording.begin -= before.moment
     best: Optional[Found] = None
