@@ -81,12 +81,11 @@ class Lane:
 class BusFrame:
     """A frame on the bus of a run."""
 
-    __slots__ = ("number", "row", "lane", "heading", "payload", "had")
+    __slots__ = ("number", "row", "lane", "heading", "payload")
 
     def __init__(self, number: int, row: int, lane: Lane, heading: wire.Heading, payload: Optional[bytes]) -> None:
         self.number, self.row, self.lane, self.heading = number, row, lane, heading
         self.payload = payload  # of the transfer that is whole with this frame
-        self.had: Set[Lane] = set()  # the lanes that were given this frame
 
 
 class Arrow(NamedTuple):
@@ -135,6 +134,7 @@ class Run:
     moments   the moment of each: its own, else the latest of its member, else that of the row before
     marks, events, arrows, lost    of these rows
     frames    all frames of the run by number
+    given     of the frames of these rows, by number: the lanes that were given them
     end       how the report ends: whole, refused or cut; and a sentence of it
     """
 
@@ -148,6 +148,7 @@ class Run:
     marks: List[Mark] = field(default_factory=list)
     events: Set[int] = field(default_factory=set)
     frames: Dict[int, BusFrame] = field(default_factory=dict)
+    given: Dict[int, Set[Lane]] = field(default_factory=dict)
     member_lanes: Dict[int, Lane] = field(default_factory=dict)
     device_lanes: List[Lane] = field(default_factory=list)
     counts: Counts = field(default_factory=Counts)
@@ -304,7 +305,7 @@ class _Reader:
 
     def _draw(self, number: int, frame: BusFrame, lane: Lane, how: str) -> None:
         if self.window.has(frame.row):
-            frame.had.add(lane)
+            self.run.given.setdefault(frame.number, set()).add(lane)
         if self.window.has(number):
             self.run.arrows.append(Arrow(frame, number, lane, how))
 
@@ -457,7 +458,7 @@ def _find_lost(run: Run) -> Iterator[Lost]:
             continue  # (no member takes these)
         for member in [to] if to else run.member_lanes:
             lane = run.member_lanes.get(member)
-            if lane and lane not in frame.had and lane is not frame.lane:
+            if lane and lane not in run.given.get(frame.number, ()) and lane is not frame.lane:
                 yield Lost(frame, lane)
 
 

@@ -10,6 +10,7 @@
 from __future__ import annotations
 
 import binascii
+import functools
 import struct
 from typing import Dict, Hashable, Iterable, List, NamedTuple, Optional, Tuple
 
@@ -68,6 +69,7 @@ class Frame(NamedTuple):
         return f"{self.identifier:08x}#{self.data.hex()}"
 
 
+@functools.lru_cache(maxsize=4096)
 def read_heading(identifier: int) -> Heading:
     source, destination = identifier & 0x7F, 0
     if identifier & SERVICE:
@@ -81,6 +83,7 @@ def read_heading(identifier: int) -> Heading:
     return Heading(identifier, kind, source, destination)
 
 
+@functools.lru_cache(maxsize=None)
 def read_tail(tail: int) -> Tail:
     return Tail(bool(tail & START), bool(tail & END), bool(tail & TOGGLE), tail % TRANSFER_IDS)
 
