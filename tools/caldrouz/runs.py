@@ -55,6 +55,7 @@ class Lane:
         self.last = self.commit = self.queued = 0
         self.moment, self.holds = 0, 0
         self.known: List[int] = []
+        self.inside = ""  # the row in whose step it stopped, or its disk failed, until it opens again
         self.wins = 0  # how often it began to lead
         self.spans = Changes(window)  # what, term
         self.logs = Changes(window)  # last, commit
@@ -328,11 +329,14 @@ class _Reader:
         if isinstance(event, report.Step):
             return self._step(number, row, event, lane)
         if isinstance(event, report.Opening):
+            stored = _stored(lane, event)
             lane.mode, lane.role, lane.queued, lane.known = "run", report.FOLLOWER, 0, [lane.node]
-            lane.term, lane.last, lane.commit = event.term, event.last, event.commit
+            lane.term, lane.last, lane.commit, lane.inside = event.term, event.last, event.commit, ""
             vote = f", its vote is for {event.vote}" if event.vote else ""
             self._mark(number, lane, "open")
-            return f"{lane.name} opens: term {lane.term}{vote}, {lane.last} entries, {lane.commit} committed"
+            return f"{lane.name} opens: term {lane.term}{vote}, {lane.last} entries, {lane.commit} committed{stored}"
+        if what in ("stop", "fault") and row.name in ("tick", "rx") and lane.mode == "run":
+            lane.inside = row.name
         if what == "stop":
             lane.mode, lane.queued, lane.known = "stopped", 0, []
             self._mark(number, lane, "stop")
@@ -435,6 +439,16 @@ class _Reader:
             mine = bool(frame.heading.source) and len(payload) > 1 and lane.key.startswith(payload[1:].hex())
             self._receive(number, frame, lane, step.seen, mine and before[0] == "wait")
         return "; ".join(said)
+
+
+def _stored(lane: Lane, opening: report.Opening) -> str:
+    """What the step stored in which a member stopped, or its disk failed, as its next opening shows it."""
+    if not lane.inside:
+        return ""
+    before = {"the term": lane.term, "entries": lane.last, "the commit index": lane.commit}
+    after = opening.term, opening.last, opening.commit
+    other = " and ".join(name for (name, had), has in zip(before.items(), after) if had != has)
+    return f"; its {lane.inside} stored {other or 'neither term, entries nor commit index'} before it stopped"
 
 
 def _hear(lane: Lane, frame: BusFrame) -> None:
