@@ -60,10 +60,10 @@ class Requests(unittest.TestCase):
     def test_an_answer_with_a_wrong_crc_is_none(self) -> None:
         payload = bytes([42 << 1]) + bytes.fromhex(ONE)
         frames = [wire.Frame(wire.identifier_of(1, "alloc"), data) for data in wire.cut(table.ALLOCATION, 3, payload)]
-        answers = asking.Answers()
-        self.assertEqual([answers.take(frame) for frame in frames], [None, None, payload])
+        answers = wire.Transfers()
+        self.assertEqual([answers.take(None, frame) for frame in frames], [None, None, payload])
         spoilt = frames[1]._replace(data=b"\0" + frames[1].data[1:])
-        self.assertEqual([answers.take(frame) for frame in (frames[0], spoilt, frames[2])], [None, None, None])
+        self.assertEqual([answers.take(None, frame) for frame in (frames[0], spoilt, frames[2])], [None, None, None])
 
 
 class WithMembers(unittest.TestCase):

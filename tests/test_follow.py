@@ -165,6 +165,13 @@ class Named(FollowCase):
         self.assertEqual(ended.status, 1, ended.errors)
         self.assertNotIn("Traceback", ended.errors)
 
+    def test_a_frame_with_a_stamp_from_before_all_openings(self) -> None:
+        """It is the last one of the first spell of its member, which opened later."""
+        status = ["(100.0) can0 1E015501#05000000000000C0", "(101.0) can0 1E015501#01000000000000C1"]
+        ended = follow([status[0], "(3.0) can0 1E018601#0301C0", status[1]], members=("1",))
+        self.assertEqual(ended.status, 1, ended.errors)
+        self.assertNotIn("Traceback", ended.errors)
+
 
 class Refusals(unittest.TestCase):
     def is_refused(self, status: int, *words: object) -> None:

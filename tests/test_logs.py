@@ -163,16 +163,15 @@ class Lines(unittest.TestCase):
 
     def test_a_data_line_is_a_record(self) -> None:
         for line in ("(1.5) can0 1E000101#00C0", "  (1.500000)  can0 1e000101#00c0 R", "(1.5009) can0 1E000101#00C0 T"):
-            found = logs.read_line(line, 7)
-            assert isinstance(found, logs.Record), line
-            self.assertEqual((found.line, found.stamp, found.interface), (7, 1500, "can0"))
+            [found] = logs.read_lines(["", line]).frames
+            self.assertEqual((found.line, found.stamp, found.interface), (2, 1500, "can0"))
             self.assertEqual(str(found.frame), "1e000101#00c0")
 
     def test_other_traffic_is_passed_over(self) -> None:
         for frame in ("123#00", "1E000101#R", "1E000101##0", "FE000101#00"):
-            self.assertIsInstance(logs.read_line(f"(1.5) can0 {frame}"), logs.PassedOver, frame)
-        self.assertIsInstance(logs.read_line("\n"), logs.PassedOver)
+            self.assertEqual(logs.read_lines([f"(1.5) can0 {frame}"]), logs.Log([], 1, []), frame)
+        self.assertEqual(logs.read_lines(["\n"]), logs.Log([], 1, []))
 
     def test_what_is_no_line_is_none(self) -> None:
         for line in ("x", "(1.5) can0", "(².5) can0 1E000101#00C0", "1.5 can0 1E000101#00C0"):
-            self.assertIsNone(logs.read_line(line), line)
+            self.assertEqual(logs.read_lines([line]), logs.Log([], 0, [1]), line)

@@ -1,4 +1,4 @@
-"""Checks of all Python of tools/, tests/, bench/ and web/: types by mypy, rules by flake8 or ruff, where installed."""
+"""Checks of all Python here, by folders: types by mypy, rules by flake8 or ruff, where installed."""
 from __future__ import annotations
 
 import shutil
@@ -7,7 +7,7 @@ from typing import List
 
 from support import ROOT, Ended
 
-FOLDERS = "tools", "tests", "bench", "web"
+FOLDERS = "tools", "tests", "bench", "web", "packaging", "docs", "examples"
 
 
 def sources() -> List[str]:

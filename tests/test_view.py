@@ -120,6 +120,15 @@ class Pages(ViewCase):
         self.assertEqual(stops[0][1], name)
         self.assertIn("stops inside its", facts["said"][stops[0][0] - 1])
 
+    def test_what_a_step_stored_before_its_stop_is_said_at_the_next_opening(self) -> None:
+        """The worked case of docs/FORMATS.md, "Device calls", and a stop at the first call after the term."""
+        rows = ["open 1 0 0", "crash 1 12 00", "tick 1 2000 0", "open 1 3000 0"]
+        for opened, stored in [("1 1 0 0", "the term"), ("0 0 0 0", "neither term, entries nor commit index")]:
+            lines = ["1 open 0 0 0 0", "1 armed", "1 stop", f"1 open {opened}", "log 1 0", "end 4"]
+            said = self.view(*self.written(rows, lines))["said"]
+            self.assertEqual(said[2], "member 1 stops inside its tick")
+            self.assertTrue(said[3].endswith(f" committed; its tick stored {stored} before it stopped"), said[3])
+
     def test_some_rows_alone(self) -> None:
         facts = self.view_example("five_with_a_lost_leader", "--rows", "600-700")
         self.assertEqual([facts[key] for key in ("first", "last", "total")], [600, 700, 900])

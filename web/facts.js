@@ -4,6 +4,11 @@
 const Facts = (() => {
   const MESSAGES = {1: "alloc", 341: "stat", 390: "disc"};
   const SERVICES = {1: ["infoq", "info"], 30: ["appq", "app"], 31: ["voteq", "vote"]};
+  const SIGNATURES = {
+    alloc: "0b2a812620a11d40", stat: "0f0868d0c1a7c6f1", disc: "821ae2f525f69f21",
+    infoq: "ee468a8121c46a9e", info: "ee468a8121c46a9e", appq: "8032c7097b48a3cc", app: "8032c7097b48a3cc",
+    voteq: "cdde07bb89a56356", vote: "cdde07bb89a56356",
+  };
   const START = 0x80, END = 0x40;
   const NO_UNIQUE_ID = "0".repeat(32);
   const CAUSES = {
@@ -68,6 +73,16 @@ const Facts = (() => {
       heading.kind = MESSAGES[identifier >> 8 & 0xffff] ?? "other";
     }
     return heading;
+  }
+
+  /* CRC-16/CCITT-FALSE over the signature of the type and the payload. */
+  function crc_of(kind, payload) {
+    let register = 0xffff;
+    for (const byte of [...unhex(SIGNATURES[kind]).reverse(), ...payload]) {
+      register ^= byte << 8;
+      for (let bit = 0; bit < 8; bit++) register = (register << 1 ^ (register & 0x8000 ? 0x1021 : 0)) & 0xffff;
+    }
+    return register;
   }
 
   /* The byte at this place; a payload that is too short has no reading. */
@@ -223,6 +238,7 @@ const Facts = (() => {
     constructor(kind, key, name) {
       Object.assign(this, {kind, key, name, mode: "never", role: "F", term: 0, last: 0, commit: 0});
       Object.assign(this, {queued: 0, moment: 0, known: [], is_told: false, holds: 0, spans: [], logs: [], changes: []});
+      this.inside = ""; // the row in whose step it stopped, or its disk failed, until it opens again
     }
     what() {
       return this.mode === "run" ? this.role : this.mode;
@@ -238,6 +254,14 @@ const Facts = (() => {
       const {term, last, commit, queued, moment} = this;
       keep(this.changes, this.what(), term, last, commit, queued, moment, this.is_told ? "all" : this.known.join(" "));
     }
+  }
+
+  /* What the step stored in which a member stopped, or its disk failed, as its next opening shows it. */
+  function stored_by(lane, now) {
+    if (!lane.inside) return "";
+    const names = {term: "the term", last: "entries", commit: "the commit index"};
+    const other = Object.keys(names).filter(key => lane[key] !== now[key]).map(key => names[key]).join(" and ");
+    return `; its ${lane.inside} stored ${other || "neither term, entries nor commit index"} before it stopped`;
   }
 
   /* A run, read from its schedule and its report. */
@@ -306,7 +330,7 @@ const Facts = (() => {
       this.events.push(number);
     }
 
-    /* The payload of the transfer that is whole with this frame, or null. */
+    /* The payload of the transfer that is whole with this frame, or null, also where its CRC is that of another one. */
     joined(lane, identifier, data) {
       const tail = last_of(data), key = `${identifier} ${tail & 31}`;
       if (!this.begun.has(lane)) this.begun.set(lane, new Map());
@@ -319,7 +343,9 @@ const Facts = (() => {
         return null;
       }
       begun.delete(key);
-      return tail & START ? body : body.slice(2);
+      if (tail & START) return body;
+      const payload = body.slice(2), {kind} = heading_of(identifier);
+      return kind === "other" || crc_of(kind, payload) === (body[0] | body[1] << 8) ? payload : null;
     }
 
     /* A frame comes to the bus. */
@@ -352,6 +378,8 @@ const Facts = (() => {
       if (row[0] === "rx" && (what === "stop" || what === "fault")) {
         this.draw(number, this.frame(row[2]), lane, lane.mode === "failed" ? "unwanted" : "changed");
       }
+      const is_stopped = what === "stop" || what === "fault";
+      if (is_stopped && (row[0] === "tick" || row[0] === "rx") && lane.mode === "run") lane.inside = row[0];
       if (row[0] in MOMENTS && what !== "fault") {
         lane.moment = OPENINGS.includes(row[0]) ? this.now : Math.max(lane.moment, this.now);
       }
@@ -360,10 +388,11 @@ const Facts = (() => {
         lane.queued = Math.max(0, lane.queued - 1);
         said = this.put(number, lane, int(line[3]), line[4], line[5]);
       } else if (what === "open") {
-        Object.assign(lane, {mode: "run", role: "F", queued: 0, known: [lane.key], is_told: row[0] === "copen"});
-        Object.assign(lane, {term: int(line[3]), last: int(line[5]), commit: int(line[6])});
+        const now = {term: int(line[3]), last: int(line[5]), commit: int(line[6])}, stored = stored_by(lane, now);
+        Object.assign(lane, {mode: "run", role: "F", queued: 0, inside: "", ...now});
+        Object.assign(lane, {known: [lane.key], is_told: row[0] === "copen"});
         const vote = line[4] !== "0" ? `, its vote is for ${line[4]}` : "";
-        said = `${lane.name} opens: term ${lane.term}${vote}, ${lane.last} entries, ${lane.commit} committed`;
+        said = `${lane.name} opens: term ${lane.term}${vote}, ${lane.last} entries, ${lane.commit} committed${stored}`;
         this.mark(number, lane, "open");
       } else if (what === "stop") {
         Object.assign(lane, {mode: "stopped", queued: 0, known: [], is_told: false});

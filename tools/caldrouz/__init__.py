@@ -9,6 +9,10 @@ matters, the program is the judge.
     runs      what a run did: runs.read(schedule, report, window), with lanes, arrows and marks
     page      the page of a run, which tools/view writes
     follow    from a log to the run that it shows: recording, partner, member, cluster, plans, search, story
+    buses     a bus that is there now: buses.open_bus(word), with receive and send
+    scene     what is heard on a bus, and the events of it; causes: why devices get no node ID; asking: asks for one
+    timing    how late frames of a log are; machine: what a machine tells of its disks, processes and interfaces
+    words     the command lines of the tools: their parser, their exit codes, and how they end
 
 Each module says at its head how it is called. A tool that stands alone is made of its script and of this package by
 tools/make_standalone.

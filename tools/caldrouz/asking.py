@@ -7,7 +7,7 @@ from __future__ import annotations
 
 import random
 import time
-from typing import Callable, Dict, Optional
+from typing import Callable, Optional
 
 from . import buses, table, wire
 
@@ -24,36 +24,12 @@ def request(unique_id: bytes, stage: int, wish: int, transfer_id: int) -> wire.F
     return wire.Frame(wire.identifier_of(0, "alloc") | random.randrange(DISCRIMINATORS) << 10, data + bytes([tail]))
 
 
-class Answers:
-    """Joins the frames of Allocations, by their source. One whose CRC is wrong is none."""
-
-    def __init__(self) -> None:
-        self._begun: Dict[int, bytes] = {}
-
-    def take(self, frame: wire.Frame) -> Optional[bytes]:
-        """The payload of an Allocation with a source that is whole with this frame, or None."""
-        heading, tail = frame.heading, frame.tail
-        if heading.kind != "alloc" or not heading.source:
-            return None
-        if not tail.starts and heading.source not in self._begun:
-            return None
-        body = (b"" if tail.starts else self._begun.pop(heading.source)) + frame.data[:-1]
-        if not tail.ends:
-            self._begun[heading.source] = body
-            return None
-        if tail.starts:
-            return body
-        payload = body[table.CRC_BYTES :]
-        crc = wire.transfer_crc(table.ALLOCATION, payload).to_bytes(table.CRC_BYTES, "little")
-        return payload if body[: table.CRC_BYTES] == crc and len(payload) <= UNIQUE_ID + 1 else None
-
-
 def ask(
     bus: buses.Bus, unique_id: bytes, wish: int, limit: float, hear: Callable[[wire.Frame], None] = lambda _: None
 ) -> Optional[int]:
     """The node ID that the allocators tell to this unique ID, or None where none is told in so many seconds. Whatever
     comes meanwhile is handed to `hear`."""
-    answers, transfer_id, had = Answers(), random.randrange(table.TRANSFER_IDS), 0
+    transfers, transfer_id, had = wire.Transfers(), random.randrange(table.TRANSFER_IDS), 0
     end = time.monotonic() + limit
     while time.monotonic() < end:
         bus.send(request(unique_id, had // STAGE, wish, transfer_id))
@@ -64,7 +40,8 @@ def ask(
             if frame is None:
                 continue
             hear(frame)
-            payload = answers.take(frame)
+            is_answer = frame.heading.kind == "alloc" and frame.heading.source
+            payload = transfers.take(None, frame) if is_answer else None
             if payload is None or len(payload) < 2 or not unique_id.startswith(payload[1:]):
                 continue
             if len(payload) == UNIQUE_ID + 1 and payload[0] >> 1:

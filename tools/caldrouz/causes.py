@@ -11,7 +11,7 @@ from __future__ import annotations
 from typing import Dict, Iterable, Iterator, List, NamedTuple, Sequence, Set, Tuple
 
 from . import table, wire
-from .scene import Lead, Listing, Scene
+from .scene import Answer, Lead, Listing, Scene
 from .stores import MANY_BLANKS, Store
 
 RECENT = 10.0  # seconds before the end in which what is told as going on has to be heard
@@ -228,8 +228,8 @@ def _no_leader(scene: Scene) -> Iterator[Cause]:
     elections = [it for it in scene.elections if scene.now - it.moment <= 2 * RECENT]
     if elections:
         terms = sorted({it.term for it in elections})
-        votes = [vote for vote in scene.votes if scene.now - vote[0] <= 2 * RECENT]
-        granted = sum(vote[3] for vote in votes)
+        votes = [vote for vote in scene.votes if scene.now - vote.moment <= 2 * RECENT]
+        granted = sum(vote.granted for vote in votes)
         answers = f"of the {len(votes)} answers {granted} were votes" if votes else "no answer was heard"
         text = f"terms {terms[0]} to {terms[-1]}" if len(terms) > 1 else f"term {terms[0]}"
         if len(elections) == 1 and scene.now - elections[0].moment < ELECTED_BY:
@@ -373,7 +373,7 @@ class _Asking(NamedTuple):
     firsts: List[float]  # the moments of its requests of the first stage
     answered: int  # how many bytes an answer had at the most
     went_on: bool  # it sent a second stage
-    told: List[Tuple[float, str, int]]  # moment, unique ID, node ID
+    told: List[Answer]  # those with a node ID
 
 
 def _askers(scene: Scene) -> List[_Asking]:
@@ -390,7 +390,7 @@ def _askers(scene: Scene) -> List[_Asking]:
         in_time = table.STAGE_TIMEOUT / 1000
         went_on = bool(longer) or any(0 <= second - first <= in_time for second in seconds for first in begun)
         answered = max((len(it.part) // 2 for it in mine), default=0)
-        told = [(it.moment, it.part, it.node) for it in mine if it.node]
+        told = [it for it in mine if it.node]
         found.append(_Asking(part, [it.moment for it in firsts], answered, went_on, told))
     return found
 
@@ -399,12 +399,12 @@ def _devices(scene: Scene, _: Sequence[NamedStore]) -> Iterator[Cause]:
     askers = _askers(scene)
     recent = [it for it in askers if scene.now - it.firsts[-1] <= RECENT]
     for it in recent:
-        if it.told and sum(moment > it.told[0][0] for moment in it.firsts) > 2:
-            unique_id, node = it.told[-1][1:]
+        if it.told and sum(moment > it.told[0].moment for moment in it.firsts) > 2:
+            last = it.told[-1]
             yield Cause(
                 "unheard-answer",
-                f"The device {unique_id} was told {len(it.told)} times that it has node ID {node}, and asks on: it "
-                "does not hear the answer, or does not take it",
+                f"The device {last.part} was told {len(it.told)} times that it has node ID {last.node}, and asks on: "
+                "it does not hear the answer, or does not take it",
                 "look at the device: it has to receive frames of other nodes (its acceptance filters, its bit timing, "
                 "its end of the bus), and to take an Allocation that it did not ask for by itself",
             )

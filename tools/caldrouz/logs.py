@@ -1,15 +1,15 @@
 """Logs of a CAN bus: candump's own form by itself, other forms by python-can where that is installed. Not proved.
 
     log = logs.read(path)                 # CannotRead where it cannot be read; log.frames, .passed_over, .broken
-    logs.read_line(line)                  # of `candump -L`: a Record, PASSED_OVER, or None where it is none
+    log = logs.read_lines(lines)          # of `candump -L`
 """
 from __future__ import annotations
 
 import re
 from dataclasses import dataclass, field
-from typing import Dict, Iterable, List, NamedTuple, Optional, Tuple, Union
+from typing import Dict, Iterable, List, NamedTuple, Optional, Tuple
 
-from .wire import FIRST_WIDE, Frame, Heading, Tail, read_heading, read_tail
+from .wire import FIRST_WIDE, Frame
 
 _LINE = re.compile(r"\((\d{1,10})\.(\d{1,9})\) +(\S+) +([0-9A-Fa-f]{8})#((?:[0-9A-Fa-f]{2}){1,8})(?: +[TR])?", re.A)
 _OTHER_LINE = re.compile(r"\(\d+\.\d+\) +\S+ +[0-9A-Fa-f]+#", re.A)  # 11 bits, remote and error frames, CAN FD
@@ -21,13 +21,6 @@ class CannotRead(Exception):
     """A log that cannot be read."""
 
 
-class PassedOver:
-    """A line that is other traffic, or empty."""
-
-
-PASSED_OVER = PassedOver()
-
-
 class Record(NamedTuple):
     """A frame of a log: its line, its stamp in milliseconds, its interface, and the frame."""
 
@@ -36,41 +29,27 @@ class Record(NamedTuple):
     interface: str
     frame: Frame
 
-    @property
-    def heading(self) -> Heading:
-        return read_heading(self.frame.identifier)
-
-    @property
-    def tail(self) -> Tail:
-        return read_tail(self.frame.data[-1])
-
 
 @dataclass
 class Log:
-    """The frames of a log, how many lines were passed over as other traffic, and the lines that are none at all."""
+    """The frames of a log; how many lines were passed over, as other traffic or empty; and the lines that are none."""
 
     frames: List[Record] = field(default_factory=list)
     passed_over: int = 0
     broken: List[int] = field(default_factory=list)
 
     def take(self, number: int, line: str) -> None:
-        found = read_line(line, number)
-        if found is None:
-            self.broken.append(number)
-        elif isinstance(found, PassedOver):
+        """A line of `candump -L`."""
+        line = line.strip()
+        found = _LINE.fullmatch(line)
+        if found and int(found[4], 16) < FIRST_WIDE:
+            stamp = int(found[1]) * 1000 + int((found[2] + "000")[:3])
+            frame = Frame(int(found[4], 16), bytes.fromhex(found[5]))
+            self.frames.append(Record(number, stamp, found[3], frame))
+        elif found or _OTHER_LINE.match(line) or not line:
             self.passed_over += 1
         else:
-            self.frames.append(found)
-
-
-def read_line(line: str, number: int = 0) -> Union[Record, PassedOver, None]:
-    """A line of `candump -L`: a Record, PASSED_OVER, or None."""
-    line = line.strip()
-    found = _LINE.fullmatch(line)
-    if found and int(found[4], 16) < FIRST_WIDE:
-        stamp = int(found[1]) * 1000 + int((found[2] + "000")[:3])
-        return Record(number, stamp, found[3], Frame(int(found[4], 16), bytes.fromhex(found[5])))
-    return PASSED_OVER if found or _OTHER_LINE.match(line) or not line else None
+            self.broken.append(number)
 
 
 def read(path: str) -> Log:

@@ -26,14 +26,8 @@ def facts(run: Run, title: str) -> Dict[str, Any]:
         "end": run.end,
         "end_words": run.end_words,
         "lanes": [
-            {
-                "kind": lane.kind,
-                "name": lane.name,
-                "spans": lane.spans.kept,
-                "logs": lane.logs.kept,
-                "states": lane.states.kept,
-            }
-            for lane in run.lanes
+            {"kind": it.kind, "name": it.name, "spans": it.spans.kept, "logs": it.logs.kept, "states": it.states.kept}
+            for it in run.lanes
         ],
         "rows": run.rows,
         "lines": run.lines,

@@ -42,22 +42,12 @@ FOLLOWER, CANDIDATE, LEADER = "F", "C", "L"
 ROLES = {FOLLOWER: "follower", CANDIDATE: "candidate", LEADER: "leader"}
 
 OPENINGS = ("open", "copen")  # of a member that is told how many there are, and of one that is told who they are
-_LENGTHS = {
-    "open": 4,
-    "copen": 4,
-    "tick": 4,
-    "send": 2,
-    "rx": 4,
-    "ext": 3,
-    "crash": 4,
-    "fault": 3,
-    "aopen": 6,
-    "atick": 4,
-    "arx": 5,
-    "asend": 2,
-    "aend": 2,
+# By the name of a row: how many words it has, and which of them is its moment, if one is.
+_ROWS: Dict[str, Tuple[int, Optional[int]]] = {
+    "open": (4, 2), "copen": (4, 2), "tick": (4, 2), "rx": (4, 3), "send": (2, None), "crash": (4, None),
+    "fault": (3, None), "aopen": (6, 4), "atick": (4, 2), "arx": (5, 3), "asend": (2, None), "aend": (2, None),
+    "ext": (3, None),
 }
-_MOMENTS = {"open": 2, "copen": 2, "tick": 2, "rx": 3, "aopen": 4, "atick": 2, "arx": 3}
 _NUMBER = re.compile(r"0|[1-9][0-9]{0,18}", re.A)
 _DATA = re.compile(r"(?:[0-9a-fA-F]{2}){1,8}", re.A)
 _IDENTIFIER = re.compile(r"[01][0-9a-fA-F]{7}", re.A)
@@ -101,10 +91,11 @@ class Row(NamedTuple):
 def read_row(text: str) -> Row:
     words = text.split(" ")
     name = words[0]
-    if len(words) != _LENGTHS.get(name):
+    length, place = _ROWS.get(name, (0, None))
+    if len(words) != length:
         raise NotARow(f"'{text}' is no row")
     try:
-        moment = number(words[_MOMENTS[name]]) if name in _MOMENTS else None
+        moment = None if place is None else number(words[place])
         if name != "ext":
             number(words[1])
         subject = "ext" if name == "ext" else f"a{words[1]}" if name[0] == "a" else words[1]

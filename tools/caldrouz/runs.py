@@ -56,6 +56,7 @@ class Lane:
         self.moment, self.holds = 0, 0
         self.known: List[int] = []
         self.is_told = False  # who the members are
+        self.inside = ""  # the row in whose step it stopped, or its disk failed, until it opens again
         self.wins = 0  # how often it began to lead
         self.spans = Changes(window)  # what, term
         self.logs = Changes(window)  # last, commit
@@ -82,12 +83,11 @@ class Lane:
 class BusFrame:
     """A frame on the bus of a run."""
 
-    __slots__ = ("number", "row", "lane", "heading", "payload", "had")
+    __slots__ = ("number", "row", "lane", "heading", "payload")
 
     def __init__(self, number: int, row: int, lane: Lane, heading: wire.Heading, payload: Optional[bytes]) -> None:
         self.number, self.row, self.lane, self.heading = number, row, lane, heading
         self.payload = payload  # of the transfer that is whole with this frame
-        self.had: Set[Lane] = set()  # the lanes that were given this frame
 
 
 class Arrow(NamedTuple):
@@ -136,6 +136,7 @@ class Run:
     moments   the moment of each: its own, else the latest of its member, else that of the row before
     marks, events, arrows, lost    of these rows
     frames    all frames of the run by number
+    given     of the frames of these rows, by number: the lanes that were given them
     end       how the report ends: whole, refused or cut; and a sentence of it
     """
 
@@ -149,6 +150,7 @@ class Run:
     marks: List[Mark] = field(default_factory=list)
     events: Set[int] = field(default_factory=set)
     frames: Dict[int, BusFrame] = field(default_factory=dict)
+    given: Dict[int, Set[Lane]] = field(default_factory=dict)
     member_lanes: Dict[int, Lane] = field(default_factory=dict)
     device_lanes: List[Lane] = field(default_factory=list)
     counts: Counts = field(default_factory=Counts)
@@ -305,7 +307,7 @@ class _Reader:
 
     def _draw(self, number: int, frame: BusFrame, lane: Lane, how: str) -> None:
         if self.window.has(frame.row):
-            frame.had.add(lane)
+            self.run.given.setdefault(frame.number, set()).add(lane)
         if self.window.has(number):
             self.run.arrows.append(Arrow(frame, number, lane, how))
 
@@ -328,12 +330,15 @@ class _Reader:
         if isinstance(event, report.Step):
             return self._step(number, row, event, lane)
         if isinstance(event, report.Opening):
-            lane.mode, lane.role, lane.queued = "run", report.FOLLOWER, 0
+            stored = _stored(lane, event)
+            lane.mode, lane.role, lane.queued, lane.inside = "run", report.FOLLOWER, 0, ""
             lane.known, lane.is_told = [lane.node], row.name == "copen"
             lane.term, lane.last, lane.commit = event.term, event.last, event.commit
             vote = f", its vote is for {event.vote}" if event.vote else ""
             self._mark(number, lane, "open")
-            return f"{lane.name} opens: term {lane.term}{vote}, {lane.last} entries, {lane.commit} committed"
+            return f"{lane.name} opens: term {lane.term}{vote}, {lane.last} entries, {lane.commit} committed{stored}"
+        if what in ("stop", "fault") and row.name in ("tick", "rx") and lane.mode == "run":
+            lane.inside = row.name
         if what == "stop":
             lane.mode, lane.queued, lane.known, lane.is_told = "stopped", 0, [], False
             self._mark(number, lane, "stop")
@@ -438,6 +443,16 @@ class _Reader:
         return "; ".join(said)
 
 
+def _stored(lane: Lane, opening: report.Opening) -> str:
+    """What the step stored in which a member stopped, or its disk failed, as its next opening shows it."""
+    if not lane.inside:
+        return ""
+    before = {"the term": lane.term, "entries": lane.last, "the commit index": lane.commit}
+    after = opening.term, opening.last, opening.commit
+    other = " and ".join(name for (name, had), has in zip(before.items(), after) if had != has)
+    return f"; its {lane.inside} stored {other or 'neither term, entries nor commit index'} before it stopped"
+
+
 def _hear(lane: Lane, frame: BusFrame) -> None:
     """A list that a member heard is joined to its own, as far as the cluster's size goes."""
     if not frame.payload:
@@ -459,7 +474,7 @@ def _find_lost(run: Run) -> Iterator[Lost]:
             continue  # (no member takes these)
         for member in [to] if to else run.member_lanes:
             lane = run.member_lanes.get(member)
-            if lane and lane not in frame.had and lane is not frame.lane:
+            if lane and lane not in run.given.get(frame.number, ()) and lane is not frame.lane:
                 yield Lost(frame, lane)
 
 

@@ -211,6 +211,15 @@ class Election(NamedTuple):
     term: int
 
 
+class Vote(NamedTuple):
+    """A member's answer to one that stands."""
+
+    moment: float
+    by: int
+    to: int
+    granted: bool
+
+
 class Scene:
     """What was heard so far. `members` are those that are known beforehand, `size` how many there are."""
 
@@ -224,7 +233,7 @@ class Scene:
         self.calls: Dict[Tuple[int, int], Call] = {}
         self.lead: Optional[Lead] = None
         self.elections: Deque[Election] = deque(maxlen=KEPT)
-        self.votes: Deque[Tuple[float, int, int, bool]] = deque(maxlen=KEPT)  # moment, by, for, granted
+        self.votes: Deque[Vote] = deque(maxlen=KEPT)
         self.requests: Deque[Request] = deque(maxlen=KEPT)
         self.answers: Deque[Answer] = deque(maxlen=KEPT)
         self.log: Dict[int, wire.Entry] = {}  # by place, as leaders handed it on
@@ -413,7 +422,7 @@ class Scene:
 
     def _vote(self, heading: wire.Heading, payload: bytes, __: int) -> List[Event]:
         if len(payload) >= 5:
-            self.votes.append((self.now, heading.source, heading.destination, bool(payload[4] & 0x80)))
+            self.votes.append(Vote(self.now, heading.source, heading.destination, bool(payload[4] & 0x80)))
         return []
 
     def _appq(self, heading: wire.Heading, payload: bytes, __: int) -> List[Event]:

@@ -57,6 +57,9 @@ class Store(NamedTuple):
         return len(self.entries) == table.PLACES and self.commit < table.PLACES
 
 
+NEW = Store(0, 0, 0, 0, [])
+
+
 def read(path: str) -> Store:
     """The store in a file. While its member writes, the file is read again until it is twice the same, some times."""
     with open(path, "rb", buffering=0) as file:

@@ -64,12 +64,12 @@ class Timing:
         self.disorder: List[int] = []  # lines with a frame that does not go on where its transfer stands
         self.pauses: Dict[int, List[Late]] = {}  # by member: how long nothing came before it began anew
         self._used: Dict[Tuple[Way, int], Sent] = {}
-        self._last: Dict[int, Tuple[int, bytes]] = {}  # by identifier: the last frame
+        self._last: Dict[int, logs.Record] = {}  # by identifier: the last frame
         self._heard: Dict[int, int] = {}  # by member: its last frame
         self._up: Dict[int, int] = {}
 
     def take(self, record: logs.Record) -> None:
-        heading, tail, stamp = record.heading, record.tail, record.stamp
+        heading, tail, stamp = record.frame.heading, record.frame.tail, record.stamp
         if heading.source not in self.members or heading.kind == wire.OTHER:
             return
         self._look_at_order(record)
@@ -103,20 +103,19 @@ class Timing:
     def _look_at_order(self, record: logs.Record) -> None:
         """A frame that is the last one of its identifier again came twice; one whose toggle does not go on is out of
         order, or the one before it is missing."""
-        identifier, data = record.frame.identifier, record.frame.data
-        before = self._last.get(identifier)
-        self._last[identifier] = record.stamp, data
+        before = self._last.get(record.frame.identifier)
+        self._last[record.frame.identifier] = record
         if before is None:
             return
-        if before[1] == data and record.stamp - before[0] <= AT_ONCE:
+        if before.frame == record.frame and record.stamp - before.stamp <= AT_ONCE:
             self.repeats.append(record.line)
-        last, tail = wire.read_tail(before[1][-1]), record.tail
+        last, tail = before.frame.tail, record.frame.tail
         goes_on = last.transfer_id == tail.transfer_id and not last.ends and last.toggle != tail.toggle
         if not tail.starts and not goes_on:
             self.disorder.append(record.line)
 
     def _look_at_uptime(self, record: logs.Record) -> None:
-        member, uptime = record.heading.source, wire.number(record.frame.data)
+        member, uptime = record.frame.heading.source, wire.number(record.frame.data)
         if uptime < self._up.get(member, 0):
             # The first NodeStatus comes a second after the opening, and others may have come before it.
             opened = record.stamp - 1000 * uptime

@@ -9,6 +9,8 @@
 """
 from __future__ import annotations
 
+import binascii
+import functools
 import struct
 from typing import Dict, Hashable, Iterable, List, NamedTuple, Optional, Tuple
 
@@ -27,9 +29,8 @@ RESPONSES = {  # request: response
 }
 REQUESTS = {response: request for request, response in RESPONSES.items()}
 
-_CAN_FRAME = struct.Struct("=IB3x8s")  # struct can_frame of linux/can.h
-CAN_FRAME_SIZE = _CAN_FRAME.size
-_EXTENDED, _REMOTE, _ERROR = 1 << 31, 1 << 30, 1 << 29
+CAN_FRAME = struct.Struct("=IB3x8s")  # struct can_frame of linux/can.h
+EXTENDED, REMOTE, ERROR = 1 << 31, 1 << 30, 1 << 29  # in its identifier
 
 
 class Heading(NamedTuple):
@@ -68,6 +69,7 @@ class Frame(NamedTuple):
         return f"{self.identifier:08x}#{self.data.hex()}"
 
 
+@functools.lru_cache(maxsize=4096)
 def read_heading(identifier: int) -> Heading:
     source, destination = identifier & 0x7F, 0
     if identifier & SERVICE:
@@ -81,6 +83,7 @@ def read_heading(identifier: int) -> Heading:
     return Heading(identifier, kind, source, destination)
 
 
+@functools.lru_cache(maxsize=None)
 def read_tail(tail: int) -> Tail:
     return Tail(bool(tail & START), bool(tail & END), bool(tail & TOGGLE), tail % TRANSFER_IDS)
 
@@ -110,35 +113,31 @@ def to_datagram(frame: Frame) -> bytes:
 
 def from_can(packet: bytes) -> Optional[Frame]:
     """The frame of a packet of a raw CAN socket, or None where it is no data frame with 29 bits and data."""
-    if len(packet) != CAN_FRAME_SIZE:
+    if len(packet) != CAN_FRAME.size:
         return None
-    identifier, length, data = _CAN_FRAME.unpack(packet)
-    if identifier & (_EXTENDED | _REMOTE | _ERROR) != _EXTENDED or not 1 <= length <= 8:
+    identifier, length, data = CAN_FRAME.unpack(packet)
+    if identifier & (EXTENDED | REMOTE | ERROR) != EXTENDED or not 1 <= length <= 8:
         return None
     return Frame(identifier % FIRST_WIDE, data[:length])
 
 
 def to_can(frame: Frame) -> bytes:
-    return _CAN_FRAME.pack(frame.identifier | _EXTENDED, len(frame.data), frame.data)
+    return CAN_FRAME.pack(frame.identifier | EXTENDED, len(frame.data), frame.data)
 
 
 # --- transfers
 
 
-def transfer_crc(data_type: DataType, payload: bytes) -> int:
+def transfer_crc(data_type: DataType, payload: bytes) -> bytes:
     """CRC-16/CCITT-FALSE over the signature of the type and the payload."""
-    register = 0xFFFF
-    for byte in data_type.signature.to_bytes(8, "little") + payload:
-        register ^= byte << 8
-        for _ in range(8):
-            register = (register << 1 ^ 0x1021 if register & 0x8000 else register << 1) & 0xFFFF
-    return register
+    crc = binascii.crc_hqx(data_type.signature.to_bytes(8, "little") + payload, 0xFFFF)
+    return crc.to_bytes(CRC_BYTES, "little")
 
 
 def cut(data_type: DataType, transfer_id: int, payload: bytes) -> List[bytes]:
     """The data of the frames of a transfer."""
     if len(payload) > FRAME_BYTES:
-        payload = transfer_crc(data_type, payload).to_bytes(CRC_BYTES, "little") + payload
+        payload = transfer_crc(data_type, payload) + payload
     pieces = [payload[at : at + FRAME_BYTES] for at in range(0, len(payload), FRAME_BYTES)] or [b""]
     last = len(pieces) - 1
     return [
@@ -148,25 +147,28 @@ def cut(data_type: DataType, transfer_id: int, payload: bytes) -> List[bytes]:
 
 
 class Transfers:
-    """Joins frames into transfers. A sender's frames come here in the order in which it put them on the bus. The CRC is
-    not looked at."""
+    """Joins frames into transfers. A sender's frames come here in the order in which it put them on the bus."""
 
     def __init__(self) -> None:
         self._begun: Dict[Tuple[Hashable, int, int], bytes] = {}
 
     def take(self, sender: Hashable, frame: Frame) -> Optional[bytes]:
-        """The payload of the transfer that is whole with this frame, or None. `sender` tells equal sources apart."""
-        tail = frame.tail
+        """The payload of the transfer that is whole with this frame, or None, also where its CRC is that of another
+        payload. `sender` tells equal sources apart."""
+        tail, kind = frame.tail, frame.heading.kind
         key = (sender, frame.identifier, tail.transfer_id)
-        body = b"" if tail.starts else self._begun.get(key)
+        begun = self._begun.pop(key, None)
+        body = b"" if tail.starts else begun
         if body is None:
             return None
         body += frame.data[:-1]
         if not tail.ends:
             self._begun[key] = body
             return None
-        self._begun.pop(key, None)
-        return body if tail.starts else body[CRC_BYTES:]
+        if tail.starts:
+            return body
+        crc, payload = body[:CRC_BYTES], body[CRC_BYTES:]
+        return payload if kind == OTHER or crc == transfer_crc(TRANSFERS[kind].data_type, payload) else None
 
 
 # --- what transfers say

@@ -10,6 +10,7 @@ from . import buses, stores, table
 
 DONE, FOUND, WORDS, CANNOT, PROGRAM, WRITE = 0, 1, 2, 3, 4, 6  # exit codes
 MOST_MEMBERS = 5
+MEMBERS_ARE = f"a cluster has 1 to {MOST_MEMBERS} different members, of 1 to {table.LAST}"
 
 
 class Ended(Exception):
@@ -22,14 +23,9 @@ class Ended(Exception):
 
 def parser(name: str, about: str, usage: str) -> argparse.ArgumentParser:
     """A parser that shows a module's text, in which the exit codes come last."""
-    what, _, codes = about.partition("exit codes")
-    return argparse.ArgumentParser(
-        prog=name,
-        formatter_class=argparse.RawDescriptionHelpFormatter,
-        description=what,
-        usage=usage,
-        epilog="exit codes" + codes,
-    )
+    what, begin, codes = about.partition("exit codes")
+    form = argparse.RawDescriptionHelpFormatter
+    return argparse.ArgumentParser(prog=name, usage=usage, description=what, epilog=begin + codes, formatter_class=form)
 
 
 def run(name: str, main: Callable[[], int]) -> NoReturn:
@@ -42,14 +38,17 @@ def run(name: str, main: Callable[[], int]) -> NoReturn:
         status = end.status
     except KeyboardInterrupt:
         status = 130
-    except BrokenPipeError:
-        os.dup2(os.open(os.devnull, os.O_WRONLY), sys.stdout.fileno())
-        status = WRITE
     except OSError as error:  # standard output: what else can fail is looked at where it is done
-        print(f"{name}: {error.strerror}", file=sys.stderr)
+        if not isinstance(error, BrokenPipeError):
+            print(f"{name}: {error.strerror}", file=sys.stderr)
         os.dup2(os.open(os.devnull, os.O_WRONLY), sys.stdout.fileno())
         status = WRITE
     sys.exit(status)
+
+
+def are_members(nodes: Sequence[int]) -> bool:
+    """Whether a cluster may have these members."""
+    return len(set(nodes)) == len(nodes) <= MOST_MEMBERS and all(1 <= node <= table.LAST for node in nodes)
 
 
 def node_ids(text: str) -> List[int]:
@@ -58,8 +57,8 @@ def node_ids(text: str) -> List[int]:
     if not all(word.isascii() and word.isdigit() and len(word) <= 3 for word in words):
         raise argparse.ArgumentTypeError("node IDs with commas between them are asked for, as 1,2,3")
     nodes = [int(word) for word in words]
-    if len(set(nodes)) != len(nodes) or len(nodes) > MOST_MEMBERS or not all(1 <= node <= table.LAST for node in nodes):
-        raise argparse.ArgumentTypeError(f"a cluster has 1 to {MOST_MEMBERS} different members, of 1 to {table.LAST}")
+    if not are_members(nodes):
+        raise argparse.ArgumentTypeError(MEMBERS_ARE)
     return nodes
 
 

@@ -5,6 +5,7 @@
     member.Member                       what is known of a member of the run: its queue, counters and clock
     cluster.Cluster                     the run so far, and the rows that carry it on
     plans                               what may be tried for a frame, an opening or a stop
-    search.search(recording, words)     the search, which takes plans back: a Found
+    prelude.bring(words, stores)        rows that come before: they bring the stores to what files have
+    search.search(recording, words, before, progress)    the search, which takes plans back: a Found
     story.tell(log, recording, found)   what was found, in words
 """

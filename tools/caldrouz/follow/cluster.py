@@ -32,11 +32,9 @@ class OnBus(NamedTuple):
 
     number: int
     frame: wire.Frame
-    heading: wire.Heading
-    tail: wire.Tail
     stamp: int
     logged: Optional[int]
-    heard: bool
+    heard: bool = True
 
 
 class Unlogged(NamedTuple):
@@ -96,9 +94,6 @@ class Cluster:
 
     # --- rows
 
-    def _put(self, number: int, frame: wire.Frame, stamp: int, index: Optional[int], heard: bool = True) -> None:
-        self.bus.append(OnBus(number, frame, frame.heading, frame.tail, stamp, index, heard))
-
     def outside(self, logged: Logged) -> None:
         """A frame of another node, or of a device."""
         try:
@@ -110,7 +105,7 @@ class Cluster:
             ) from None
         if not isinstance(event, Outside):
             raise Conflict(f"the run has {event} there")
-        self._put(event.number, logged.frame, logged.stamp, logged.index)
+        self.bus.append(OnBus(event.number, logged.frame, logged.stamp, logged.index))
 
     def open(self, node: int, place: int) -> None:
         """A member opens, for the spell at this place of the log."""
@@ -167,9 +162,10 @@ class Cluster:
         if step is None:
             return
         answers = any(mark.fitted and mark.name == "app" for mark in step.marks)
-        if on_bus.heading.kind == "appq" and answers and self._term_of(position) >= term:
+        kind = on_bus.frame.heading.kind
+        if kind == "appq" and answers and self._term_of(position) >= term:
             member.since = member.clock
-        if on_bus.heading.kind in wire.RESPONSES and step.seen == "took" and self._is_unanswered(on_bus):
+        if kind in wire.RESPONSES and step.seen == "took" and self._is_unanswered(on_bus):
             self.send_unshown(member)
 
     def _is_unanswered(self, request: OnBus) -> bool:
@@ -181,8 +177,9 @@ class Cluster:
         """The term in a request of more than one frame that ends at this position of the bus."""
         identifier = self.bus[position].frame.identifier
         for at in range(position, -1, -1):
-            if self.bus[at].frame.identifier == identifier and self.bus[at].tail.starts:
-                return wire.number(self.bus[at].frame.data, 2)
+            frame = self.bus[at].frame
+            if frame.identifier == identifier and frame.tail.starts:
+                return wire.number(frame.data, 2)
         return 0
 
     def _send(self, member: Member) -> Sent:
@@ -206,7 +203,7 @@ class Cluster:
         stamp = self.recording.begin + member.clock
         heard = self.heard or not member.spell.late_start or stamp >= member.spell.first.stamp
         self.unlogged.append(Unlogged(len(self.partner.rows), member.node, sent.frame))
-        self._put(sent.number, sent.frame, stamp, None, heard)
+        self.bus.append(OnBus(sent.number, sent.frame, stamp, None, heard))
 
     def is_sent(self, member: Member, logged: Logged) -> bool:
         """Whether the member's next frame is this one; it is sent then, after what never came to the log."""
@@ -217,12 +214,12 @@ class Cluster:
             if head.is_of(logged):
                 sent = self._send(member)
                 if sent.frame == logged.frame:
-                    self._put(sent.number, sent.frame, logged.stamp, logged.index)
+                    self.bus.append(OnBus(sent.number, sent.frame, logged.stamp, logged.index))
                     return True
                 if logged.tail.starts or sent.frame.tail.ends:
                     raise Conflict(f"the run has {sent.frame} there", head.row)
                 self.unlogged.append(Unlogged(len(self.partner.rows), member.node, sent.frame))
-                self._put(sent.number, sent.frame, logged.stamp, None)
+                self.bus.append(OnBus(sent.number, sent.frame, logged.stamp, None))
             elif self._is_shown(member, head):
                 before = head.identifier < logged.frame.identifier
                 if before or any(queued.is_of(logged) for queued in member.queue):
@@ -252,7 +249,7 @@ class Cluster:
         found = []
         for position in range(member.at, len(self.bus)):
             on_bus = self.bus[position]
-            _, kind, source, destination = on_bus.heading
+            _, kind, source, destination = on_bus.frame.heading
             if source == member.node or not on_bus.heard or position in member.skipped:
                 continue
             if destination == member.node or kind in ("stat", "disc") or kind == "alloc" and not source:

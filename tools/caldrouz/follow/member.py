@@ -4,25 +4,16 @@ from __future__ import annotations
 import copy
 from typing import Dict, FrozenSet, List, NamedTuple, Optional, Tuple
 
-from .. import report, wire
-from ..table import (
-    CALL_TIMEOUT,
-    DISCOVERY_INTERVAL,
-    ELECTION_SPREAD,
-    HEARTBEAT_INTERVAL,
-    QUERY_INTERVAL,
-    STATUS_INTERVAL,
-    TRANSFER_IDS,
-)
+from .. import report, table, wire
 from .recording import Logged, Spell
 
-LONGEST_WORD = ELECTION_SPREAD - 1  # of a wait before an election
+LONGEST_WORD = table.ELECTION_SPREAD - 1  # of a wait before an election
 # milliseconds after the last one of a kind at which the next may be due
 DUE_AGAIN = {
-    "appq": (HEARTBEAT_INTERVAL, CALL_TIMEOUT),
-    "voteq": (CALL_TIMEOUT,),
-    "infoq": (QUERY_INTERVAL,),
-    "disc": (DISCOVERY_INTERVAL,),
+    "appq": (table.HEARTBEAT_INTERVAL, table.CALL_TIMEOUT),
+    "voteq": (table.CALL_TIMEOUT,),
+    "infoq": (table.QUERY_INTERVAL,),
+    "disc": (table.DISCOVERY_INTERVAL,),
 }
 CALLER = {"appq": report.LEADER, "infoq": report.LEADER, "voteq": report.CANDIDATE}  # who makes such a call again
 NEVER = 10**9  # milliseconds: later than anything of a log
@@ -73,7 +64,7 @@ class Member:
             transfer_id = request.tail.transfer_id
         else:
             transfer_id = self.counters.get(identifier, 0)
-            self.counters[identifier] = (transfer_id + 1) % TRANSFER_IDS
+            self.counters[identifier] = (transfer_id + 1) % table.TRANSFER_IDS
         place = len(self.queue)
         while place and self.queue[place - 1].identifier > identifier:
             place -= 1
@@ -82,13 +73,13 @@ class Member:
         self.uptime += name == "stat"
 
     def status_due(self) -> int:
-        return self.opened + STATUS_INTERVAL * self.uptime
+        return self.opened + table.STATUS_INTERVAL * self.uptime
 
     def due(self, frame: Logged) -> List[int]:
         """The moments at which calls and messages of the kind of this frame are due again."""
         made, kind = self.made.get(frame.frame.identifier), frame.heading.kind
         if made is None:
-            return [self.opened + DISCOVERY_INTERVAL] if kind == "disc" else []
+            return [self.opened + table.DISCOVERY_INTERVAL] if kind == "disc" else []
         return [made + step for step in DUE_AGAIN.get(kind, ())]
 
     def calls_due(self) -> List[Tuple[int, int]]:

@@ -133,8 +133,8 @@ def of_stop(cluster: Cluster, node: int) -> List[Stop]:
 
 
 def _may_store(cluster: Cluster, position: int) -> bool:
-    on_bus = cluster.bus[position]
-    return on_bus.heading.kind in ("voteq", "appq", "vote", "app", "alloc") and on_bus.tail.ends
+    frame = cluster.bus[position].frame
+    return frame.heading.kind in ("voteq", "appq", "vote", "app", "alloc") and frame.tail.ends
 
 
 def _counts(cluster: Cluster, inbox: List[int], stamp: int, sign: int) -> List[int]:
@@ -167,7 +167,7 @@ def _of_answer(cluster: Cluster, member: Member, frame: Logged, inbox: List[int]
     """All up to the request is received; else without one or the other of the requests that nobody answered."""
     request = None
     for count, position in enumerate(inbox):
-        _, _, heading, tail, *_ = cluster.bus[position]
+        heading, tail = cluster.bus[position].frame.heading, cluster.bus[position].frame.tail
         asks = heading.kind == wire.REQUESTS[frame.heading.kind] and heading.source == frame.heading.destination
         if asks and tail.ends and tail.transfer_id == frame.tail.transfer_id:
             request = count
@@ -184,7 +184,7 @@ def _with_losses(cluster: Cluster, frame: Logged, inbox: List[int], how: str) ->
     """One transfer of those that were on the bus was not received by this member, the latest first."""
 
     def transfer(position: int) -> Tuple[int, int]:
-        return cluster.bus[position].frame.identifier, cluster.bus[position].tail.transfer_id
+        return cluster.bus[position].frame.identifier, cluster.bus[position].frame.tail.transfer_id
 
     plans: List[Plan] = []
     seen: Set[Tuple[int, int]] = set()

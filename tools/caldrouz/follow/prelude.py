@@ -26,7 +26,6 @@ MOST_TRIES = 8  # with other leaders
 EACH_NODE = 50  # milliseconds between two nodes: a member has sessions for some 80 of them at a time
 TERM_AND_NO_VOTE = 9  # the device call of an election before which the term is stored, and no vote
 LEAST_BYTES = {"appq": 10, "app": 5, "vote": 5}  # of the transfers that are looked into
-Entry = Tuple[int, str, int]  # term, unique ID, node ID
 
 
 class CannotReach(Exception):
@@ -49,17 +48,18 @@ class Aim:
         self.members = sorted(stores)
         self.quorum = len(stores) // 2 + 1
         self.stores = stores
-        self.logs: Dict[int, List[Entry]] = {
-            member: [(it.term, it.unique_id, it.node) for it in store.entries] for member, store in stores.items()
+        self.logs = {
+            member: [wire.Entry(it.term, it.unique_id, it.node) for it in store.entries]
+            for member, store in stores.items()
         }
-        terms = {term for log in self.logs.values() for term, _, _ in log}
+        terms = {entry.term for log in self.logs.values() for entry in log}
         self.terms = sorted(terms | {store.term for store in stores.values()} - {0})
         self.leads = {term: self._log_of(term) for term in sorted(terms)}
 
-    def _log_of(self, term: int) -> List[Entry]:
+    def _log_of(self, term: int) -> List[wire.Entry]:
         """The longest log that ends in an entry of this term; all others have a prefix of it there."""
-        parts = [[it for it in log if it[0] <= term] for log in self.logs.values()]
-        parts = [part for part in parts if part and part[-1][0] == term]
+        parts = [[it for it in log if it.term <= term] for log in self.logs.values()]
+        parts = [part for part in parts if part and part[-1].term == term]
         longest = max(parts, key=len)
         for part in parts:
             if part != longest[: len(part)]:
@@ -69,10 +69,10 @@ class Aim:
 
     def before(self, term: int) -> int:
         """How many entries a leader of this term has when it is elected."""
-        return sum(entry[0] < term for entry in self.leads[term])
+        return sum(entry.term < term for entry in self.leads[term])
 
     def begins_with_blank(self, term: int) -> bool:
-        return self.leads[term][self.before(term)][2] == 0
+        return self.leads[term][self.before(term)].node == 0
 
     def shares(self, member: int, term: int) -> int:
         """Up to which place a member's file has the log of the leader of this term; 0 where it takes no part."""
@@ -88,9 +88,9 @@ class Aim:
     def votes_with(self, member: int, term: int) -> int:
         """How many of its entries a member may have when it votes for the leader of this term: no better log."""
         before = self.leads[term][: self.before(term)]
-        best = (before[-1][0] if before else 0, len(before))
+        best = (before[-1].term if before else 0, len(before))
         log = self.logs[member]
-        lasts = [0] + [entry[0] for entry in log]
+        lasts = [0] + [entry.term for entry in log]
         return max(length for length, last in enumerate(lasts) if (last, length) <= best)
 
     def may_vote(self, member: int, term: int, candidate: int) -> bool:
@@ -136,14 +136,15 @@ class Prelude:
         self.voters = {term: self._voters(term, leader) for term, leader in leaders.items()}
         self.now = 0
         self.lives = {member: Life() for member in aim.members}
-        self._begun: Dict[int, Tuple[bytes, List[int]]] = {}
+        self._transfers = wire.Transfers()
+        self._numbers: Dict[int, List[int]] = {}  # by identifier: those of the frames of its last transfer
 
     def _voters(self, term: int, leader: int) -> List[int]:
         """Who votes for a leader: those whose files say so; and as many others as it needs, those first that then may
         have all their entries of before."""
 
         def lacks(member: int) -> int:
-            return sum(entry[0] < term for entry in self.aim.logs[member]) - self.aim.votes_with(member, term)
+            return sum(entry.term < term for entry in self.aim.logs[member]) - self.aim.votes_with(member, term)
 
         stores = self.aim.stores
         forced = [it for it in stores if it != leader and (stores[it].term, stores[it].vote) == (term, leader)]
@@ -203,14 +204,14 @@ class Prelude:
 
     def _join(self, sent: report.Sent) -> Optional[Offer]:
         frame = sent.frame
-        nothing: Tuple[bytes, List[int]] = (b"", [])
-        payload, numbers = nothing if frame.tail.starts else self._begun.get(frame.identifier, nothing)
-        payload, numbers = payload + frame.data[:-1], numbers + [sent.number]
+        if frame.tail.starts:
+            self._numbers.pop(frame.identifier, None)
+        numbers = self._numbers.setdefault(frame.identifier, [])
+        numbers.append(sent.number)
+        payload = self._transfers.take(None, frame)
         if not frame.tail.ends:
-            self._begun[frame.identifier] = payload, numbers
             return None
-        payload = payload if frame.tail.starts else payload[table.CRC_BYTES :]
-        if len(payload) < LEAST_BYTES.get(frame.heading.kind, 0):
+        if payload is None or len(payload) < LEAST_BYTES.get(frame.heading.kind, 0):
             raise Broken(f"the program sends {frame}, which ends nothing that a member says")
         return Offer(frame.heading, frame.tail.transfer_id, payload, numbers)
 
@@ -354,7 +355,7 @@ class Prelude:
         for place in range(first, len(log) + 1):
             entry = log[place - 1]
             if place > life.last:
-                if entry[2] == 0:
+                if entry.node == 0:
                     raise CannotReach(f"the blank at place {place} is not the first entry of term {term}")
                 self._record(leader, entry, place)
             answers = {
@@ -371,7 +372,7 @@ class Prelude:
             # (the call with the next entry tells it to those who get one)
             self._tell(leader, term, [it for it in answers if matched[it] == place == self._wants(it, term)])
 
-    def _record(self, leader: int, entry: Entry, place: int) -> None:
+    def _record(self, leader: int, entry: wire.Entry, place: int) -> None:
         """A node tells its unique ID, and the leader makes the entry of it."""
         _, unique_id, node = entry
         self.now += EACH_NODE

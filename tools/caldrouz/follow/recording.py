@@ -27,7 +27,7 @@ class Logged:
 
     def __init__(self, index: int, record: Record) -> None:
         self.index, self.line, self.stamp, self.frame = index, record.line, record.stamp, record.frame
-        self.heading, self.tail = record.heading, record.tail
+        self.heading, self.tail = record.frame.heading, record.frame.tail
         self.spell: Optional[Spell] = None
 
 
@@ -111,7 +111,8 @@ class Recording:
         records, self.jumps = _mend(records)
         self.frames: List[Logged] = []
         for record in records:
-            if record.heading.kind != wire.OTHER or record.heading.source in members:
+            heading = record.frame.heading
+            if heading.kind != wire.OTHER or heading.source in members:
                 self.frames.append(Logged(len(self.frames), record))
         self.others = len(records) - len(self.frames)
         self.spells = {member: self._spells(member) for member in members}
@@ -133,7 +134,7 @@ class Recording:
         mine = [frame for frame in self.frames if frame.heading.source == member]
         groups: List[List[Tuple[int, Logged]]] = []
         for frame in mine:
-            uptime = _uptime(frame.heading, frame.frame)
+            uptime = _uptime(frame.frame)
             if uptime is not None:
                 if not groups or uptime <= groups[-1][-1][0]:
                     groups.append([])
@@ -162,17 +163,14 @@ class Recording:
         return found
 
 
-def _uptime(heading: wire.Heading, frame: wire.Frame) -> Optional[int]:
+def _uptime(frame: wire.Frame) -> Optional[int]:
     """The seconds that a NodeStatus tells; None of another frame."""
-    return wire.number(frame.data) if heading.kind == "stat" and len(frame.data) == 8 else None
+    return wire.number(frame.data) if frame.heading.kind == "stat" and len(frame.data) == 8 else None
 
 
 def _mend(records: List[Record]) -> Tuple[List[Record], List[Tuple[int, int]]]:
-    found = []
-    for index, record in enumerate(records):
-        uptime = _uptime(record.heading, record.frame)
-        if uptime is not None:
-            found.append((index, record.heading.source, uptime))
+    uptimes = [(index, record.frame, _uptime(record.frame)) for index, record in enumerate(records)]
+    found = [(index, frame.heading.source, uptime) for index, frame, uptime in uptimes if uptime is not None]
     return logs.mend_stamps(records, found)
 
 
@@ -191,7 +189,7 @@ def without_repeats(records: List[Record]) -> Tuple[List[Record], List[int]]:
         again = [
             (index, before)
             for index, before in again
-            if records[index].interface != before.interface or records[index].heading.kind == "stat"
+            if records[index].interface != before.interface or records[index].frame.heading.kind == "stat"
         ]
     repeated = {index for index, _ in again}
     return (

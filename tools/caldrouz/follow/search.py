@@ -13,7 +13,7 @@ from .. import wire
 from . import plans
 from .cluster import Cluster, Conflict, Foreign, Kept, Unlogged
 from .partner import Partner, Refused
-from .prelude import NOTHING, Before
+from .prelude import Before
 from .recording import Logged, Recording
 
 AFTER_THE_LAST = 500  # milliseconds after its last frame at which a member that opens again has stopped, it is taken
@@ -22,7 +22,7 @@ DELAYS = (20, 60, 0, 150)  # milliseconds by which a frame may be received befor
 CHOICES = 1000  # places to which the search may go back
 BEGINNINGS = 40  # how often the run is begun anew for one line of the log
 
-STOP, OPEN = 0, 1
+OPEN, STOP = 0, 1
 Key = Tuple[str, int]  # a place of the search: "frame" or "happening", and which
 Progress = Callable[[int, int], None]  # is told which frame is looked for, of how many
 AnyPlan = Union[plans.Plan, plans.Opening, plans.Stop]
@@ -32,9 +32,9 @@ class Happening(NamedTuple):
     """An opening or a stop of a member, by the stamp at which it is passed, for the spell at this place."""
 
     stamp: int
+    place: int
     what: int
     node: int
-    place: int
 
 
 class Choice(NamedTuple):
@@ -244,19 +244,20 @@ class Search:
 
 
 def _happenings(recording: Recording) -> List[Happening]:
+    """In their order; of a member in turn, also where the stamps are not."""
     found = []
     for node, spells in recording.spells.items():
+        stamp = spells[0].opened if spells else 0
         for place, spell in enumerate(spells):
-            found.append(Happening(spell.opened, OPEN, node, place))
+            stamp = max(stamp, spell.opened)
+            found.append(Happening(stamp, place, OPEN, node))
             if place + 1 < len(spells):
-                stamp = min(spell.last.stamp + AFTER_THE_LAST, spells[place + 1].opened)
-                found.append(Happening(stamp, STOP, node, place))
+                stamp = max(stamp, min(spell.last.stamp + AFTER_THE_LAST, spells[place + 1].opened))
+                found.append(Happening(stamp, place, STOP, node))
     return sorted(found)
 
 
-def search(
-    recording: Recording, words: List[str], before: Before = NOTHING, progress: Progress = lambda *_: None
-) -> Found:
+def search(recording: Recording, words: List[str], before: Before, progress: Progress) -> Found:
     """The run that goes furthest, of those by different delays; the first that explains the whole log."""
     recording.begin -= before.moment
     best: Optional[Found] = None
