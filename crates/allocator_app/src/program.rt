@@ -285,7 +285,17 @@ fn follow<S: Source, K: Sink, L: Link, D: Disk, C: Clock>(
             turns,
             ids,
             ..
-        } => node(alloc, told.size(), told.list(), turns, &ids, sink, links, disks, clock),
+        } => node(
+            alloc,
+            told.size(),
+            told.list(),
+            turns,
+            &ids,
+            sink,
+            links,
+            disks,
+            clock,
+        ),
         Plan::Soak { seed, rounds, size } => soak(alloc, seed, rounds, size, sink),
         Plan::New { ids } => make_stores(&ids, disks, sink),
         Plan::Audit { ids } => audit_stores(&ids, disks, sink),

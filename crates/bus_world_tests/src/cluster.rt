@@ -124,12 +124,15 @@ pub(crate) fn open_again<
 {
     match told {
         Told::Stopped { n } => {
-            let _opened = give(world, &Row::Open {
-                n: *n,
-                told: false,
-                ms,
-                word: 0,
-            });
+            let _opened = give(
+                world,
+                &Row::Open {
+                    n: *n,
+                    told: false,
+                    ms,
+                    word: 0,
+                },
+            );
             true
         }
         Told::Failed { n } => {
@@ -141,12 +144,15 @@ pub(crate) fn open_again<
                     pattern: Pattern::Old,
                 },
             );
-            let _opened = give(world, &Row::Open {
-                n: *n,
-                told: false,
-                ms,
-                word: 0,
-            });
+            let _opened = give(
+                world,
+                &Row::Open {
+                    n: *n,
+                    told: false,
+                    ms,
+                    word: 0,
+                },
+            );
             true
         }
         _ => false,

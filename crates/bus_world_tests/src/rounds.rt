@@ -37,12 +37,17 @@ pub(crate) fn rounds<
     let mut course = Course::BEGUN;
     'openings: for n in 1..=3 {
         let word = word_of(n);
-        let _lawful = take(world, &Row::Open {
-            n,
-            told: false,
-            ms: 0,
-            word,
-        }, 0, &mut course);
+        let _lawful = take(
+            world,
+            &Row::Open {
+                n,
+                told: false,
+                ms: 0,
+                word,
+            },
+            0,
+            &mut course,
+        );
     }
     let _armed = give(world, arming);
     let mut heard = 0;
