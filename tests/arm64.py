@@ -16,7 +16,7 @@ import support
 from support import EXAMPLES, ROOT, Ended
 
 HOST = ROOT / "packaging" / "arm64"
-QEMU = ["qemu-aarch64", "-L", "/usr/aarch64-linux-gnu"]
+QEMU = [shutil.which("qemu-aarch64") or "qemu-aarch64-static", "-L", "/usr/aarch64-linux-gnu"]
 ARM64, X86_64 = [*QEMU], [""]  # the programs, set by the words
 INPUTS = ("schedule", "log", "text")
 MEMBERS = ("1", "2", "3")

@@ -120,6 +120,7 @@ class Browsed(Engine):
 
     def test_a_newcomer_sees_the_leader_lost_takes_one_row_out_and_sees_what_comes_of_it(self) -> None:
         self.open()
+        before = self.text("sum")
         self.assertEqual(self.text("status"), "All 208 rows were taken. Exit code 0.")
         self.assertIn("member 1 stops", self.browser.ask("document.querySelector('#near tr.now').textContent"))
         self.assertEqual(self.last_roles(), {"member 1": ["stopped", 1], "member 2": ["L", 2], "member 3": ["F", 2]})
@@ -130,6 +131,7 @@ class Browsed(Engine):
         })()""")
         self.wait()
         self.assertEqual(self.text("status"), "All 207 rows were taken. Exit code 0.")
+        self.assertNotEqual(self.text("sum"), before)
         self.assertEqual(self.last_roles(), {"member 1": ["L", 1], "member 2": ["L", 2], "member 3": ["F", 2]})
 
     def test_what_the_page_offers_to_try_comes_to_what_it_says(self) -> None:
