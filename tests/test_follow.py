@@ -192,6 +192,20 @@ class Refusals(unittest.TestCase):
         self.is_refused(4, calm, 1, 2, 3, "--program", "/bin/false")
         self.assertEqual(run_tool("follow", "--help").status, 0)
 
+    def test_a_program_that_answers_another_row(self) -> None:
+        """Of a frame from outside it says that a member stops."""
+        request = "(1.5) can0 1E000500#FB001122334455C0"
+        with tempfile.TemporaryDirectory() as folder:
+            program = write_lines(pathlib.Path(folder) / "program", [
+                "#!/bin/sh",
+                "[ $1 = replay ] || exit 2",
+                "[ $2 = 1 ] || echo '1 1 open 0 0 0 0' && echo '2 1 stop'",
+                "cat > /dev/null",
+            ])
+            program.chmod(0o755)
+            log = write_lines(pathlib.Path(folder) / "log", [request, "(2.0) can0 1E015501#01000000000000C0"])
+            self.is_refused(4, log, 1, "--program", program)
+
     def test_a_schedule_that_cannot_be_written(self) -> None:
         with open("/dev/full", "wb") as full, tempfile.TemporaryDirectory() as folder:
             log = write_lines(pathlib.Path(folder) / "log", real_bus(5))

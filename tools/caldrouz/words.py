@@ -2,6 +2,7 @@
 from __future__ import annotations
 
 import argparse
+import errno
 import os
 import sys
 from typing import Callable, List, NoReturn, Sequence, Tuple
@@ -78,11 +79,8 @@ def open_bus(word: str, sends: bool = False) -> buses.Bus:
     try:
         return buses.open_bus(word, sends)
     except OSError as error:
-        raise Ended(CANNOT, f"{word}: {error.strerror}{_hint(error)}") from None
-
-
-def _hint(error: OSError) -> str:
-    return ": is the kernel's module `can` there?" if error.strerror and "Address family" in error.strerror else ""
+        hint = ": is the kernel's module `can` there?" if error.errno == errno.EAFNOSUPPORT else ""
+        raise Ended(CANNOT, f"{word}: {error.strerror}{hint}") from None
 
 
 def read_stores(paths: Sequence[str]) -> List[Tuple[str, stores.Store]]:

@@ -12,7 +12,7 @@ from typing import Callable, Dict, List, NamedTuple, Optional, Sequence, Tuple, 
 from .. import wire
 from . import plans
 from .cluster import Cluster, Conflict, Foreign, Kept, Unlogged
-from .partner import Partner, Refused
+from .partner import Broken, Partner, Refused
 from .prelude import Before
 from .recording import Logged, Recording
 
@@ -102,6 +102,8 @@ class Search:
             self.partner.drop()
             assert self.found
             return self.found
+        except (Conflict, Refused) as reason:  # of a row that each program takes, and in one way
+            raise Broken(str(reason)) from None
 
     def _note(self, failure: Optional[Failure], rest: Sequence[str] = ()) -> Found:
         rows, lines, unlogged = list(self.partner.rows), list(self.partner.lines), list(self.cluster.unlogged)
