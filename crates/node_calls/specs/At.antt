@@ -1,11 +1,13 @@
 -- What a node stands for, and what a call makes of it.
-use Rattle.std.specs.Prelude.{◌≡◌, ◌↔◌, ◌⊎◌, ◌%◌, ◌/◌, ◌+◌, ◌*◌, ◌^◌, ◌≤◌, ◌<◌, ℕ, [], None, Some, IsNone, IsSome, MatchOption, ⊤, length, take, drop}
+use Rattle.std.specs.Prelude.{◌≡◌, ◌↔◌, ◌⊎◌, ◌%◌, ◌/◌, ◌+◌, ◌-◌, ◌*◌, ◌^◌, min, ◌≤◌, ◌<◌, ℕ, [], None, Some, IsNone, IsSome, MatchOption, ⊤, length, take, drop, option_map}
+use Rattle.std.specs.Option.{unwrap_or}
 use Rattle.std.specs.Int.{from_le_bytes, to_le_bytes, w64}
 use Rattle.can_frame.specs.declared.step.Role.{Role}
 use Rattle.can_frame.specs.declared.step.Role.TheVariants.{Follower, Candidate, Leader}
-use Rattle.alloc_server.specs.Server.{StandsFor, durable_of, fault_of, queued}
+use Rattle.alloc_server.specs.Server.{StandsFor, disk_of, durable_of, fault_of, queued}
 use Rattle.alloc_spec.specs.AllocatorState.{AllocatorState, entry_of, opening, view_of}
 use Rattle.alloc_spec.specs.Step.{Event, Rx, Tick, after_pop, step}
+use Rattle.fd_disk.specs.declared.disk.FdDisk.{FdDisk}
 use Rattle.raft_core.specs.StoredPuts.{store_of}
 use Rattle.raft_log.specs.DurableViews.{durable_state}
 use Rattle.transfer_rx.specs.Reassembly.{Arrival}
@@ -26,6 +28,14 @@ IsClosed node = MatchOption node.server ⊥ (λ server. IsSome (fault_of server)
 
 abbrev pub IsOpen : Node → Type 0
 IsOpen node = MatchOption node.server ⊥ (λ server. fault_of server ≡ None)
+
+-- how many calls of its store have failed, counted to the last number of 64 bits
+abbrev pub faults : Node → ℕ
+faults node = unwrap_or (option_map (λ server. let disk : FdDisk = disk_of server in disk.faults) node.server) 0
+
+-- a call of the store failed
+abbrev pub StoreFailed : Node → Node → Type 0
+StoreFailed old new = min (faults old + 1) (2 ^ 64 - 1) ≤ faults new
 
 -- nothing waits to be taken
 abbrev pub HasNoFrame : Node → Type 0
@@ -57,6 +67,8 @@ pub record Opens (old new : Node) (now word result : ℕ) : Type 0 where
   pub kept : result ≡ 1 → new ≡ old
   -- 3 where its store failed, and 256 and more where it is damaged: then it is closed, and nothing waits
   pub refused : 2 ≤ result → IsClosed new × HasNoFrame new
+  pub fault : result ≡ 3 → StoreFailed old new
+  pub damaged : 256 ≤ result → faults new ≡ faults old
   pub answers : (result < 2) ⊎ ((result ≡ 3) ⊎ (256 ≤ result))
 
 -- ---- calls 2 and 3: a step
@@ -71,6 +83,7 @@ pub record Steps (old new : Node) (event : Event) (result : ℕ) : Type 0 where
   pub kept : (result ≡ 1) ⊎ (result ≡ 2) → new ≡ old
   -- 3 where its store failed: then it is closed, and nothing waits
   pub failed : 3 ≤ result → IsClosed new × HasNoFrame new
+  pub fault : result ≡ 3 → StoreFailed old new
   pub answers : result ≤ 3
   -- each step has a number, which is one more than the last, around 64 bits
   pub counted : (result ≡ 0) ⊎ (result ≡ 3) → new.steps ≡ (old.steps + 1) % 18446744073709551616
