@@ -164,7 +164,8 @@ def lines_of_nodes(folder: pathlib.Path) -> List[str]:
 class WorkedSchedules(unittest.TestCase):
     def test_nodes_do_what_replay_says(self) -> None:
         """Of each worked schedule without a refused row, the nodes of the library have the roles and numbers, send the
-        frames and keep the logs of the report; and no frame is taken while its store waits for a sync."""
+        frames and keep the logs of the report; and no frame is taken while its store waits for a sync. Schedules whose
+        members are told their list (copen) are left out: those of the library find each other."""
         tried = set()
         for compiler, flags in zip(there("gcc", "clang"), (SANITIZED, ["-O2"])):
             program = built(compiler, TESTS / "c" / "replay.c", flags=flags)
@@ -172,8 +173,10 @@ class WorkedSchedules(unittest.TestCase):
                 folder, words = path.parent, support.read(path).split()
                 if words[0] != "replay" or support.read(folder / "status").strip() != "0":
                     continue
-                rows = "".join(rows_for_nodes(folder)).encode()
-                wrote = done(program, len(words) - 2, input=rows).splitlines()
+                rows = "".join(rows_for_nodes(folder))
+                if "copen " in rows:
+                    continue
+                wrote = done(program, len(words) - 2, input=rows.encode()).splitlines()
                 self.assertEqual(wrote, lines_of_nodes(folder), folder.name)
                 tried.add(folder)
         self.assertGreaterEqual(len(tried), 20)

@@ -7,7 +7,7 @@ pub use base.Fml.{Fml, ftrue, flft, flent, fres, fsep}
 pub use mir.Syntax.{named}
 pub use mir.Val.{Val, vunit, vint, vptr}
 pub use contract.Running.{tables}
-pub use types.Kit.{‵, raw, ◌⊛◌, some, later, prop, ◌$◌, ◌∵◌, !, qed, done, move, keep, drop, use1, use2, use3, split, join, fsplit, fjoin, fpack, feq_i, feq_l, pick, await, rewrite, regoal, show, suffices, group}
+pub use types.Kit.{‵, raw, ◌⊛◌, some, later, prop, ◌$◌, ◌∵◌, !, qed, done, move, keep, drop, use1, use2, use3, split, join, fsplit, fjoin, feq_i, feq_l, pick, await, rewrite, regoal, show, suffices, group}
 pub use types.Run.{enter, addr, stop, init, of_opd, unit_lit, no_more, and_then, assigns, returns}
 pub use types.ByLocal.{alloc_all, pass_all, free_all, look_at, get, through, sets, lands_as}
 pub use types.Tokens.{lft_new, lft_end}

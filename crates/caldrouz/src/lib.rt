@@ -6,8 +6,7 @@
 
 ghost use Rattle.std.specs.Borrow.{full_share, sem};
 ghost use Rattle.std.specs.Ptr.{lies_at, room_at};
-ghost use Rattle.caldrouz.specs.Held.{held};
-ghost use Rattle.node_calls.specs.At.{Opens, Takes, Ticks};
+ghost use Rattle.node_calls.specs.At.{Calls, IsNew};
 ghost use Rattle.node_calls.specs.contracts.node.Node.{the_row};
 ghost use Rattle.node_calls.specs.declared.node.Node.{Node};
 
@@ -20,23 +19,23 @@ pub extern "C" fn caldrouz_size() -> usize {
     size_of::<Node>()
 }
 
-/// Makes a node that is not open in the room at `at`.
+/// Makes a node in the room at `at`, which is not open, and cannot be opened where there is no such ID or size.
 #[unsafe(no_mangle)]
 pub unsafe extern "C" fn caldrouz_make(at: *mut u8, id: u32, size: u32, fd: u32)
     requires* { sem 𝓛 (room_at the_row at) }
-    ensures* { sem 𝓛 (held the_row at) }
+    ensures* { ∃ₛ (λ (node : Node). sem 𝓛 (lies_at the_row full_share at node) ∗ ⌜ IsNew node id size ⌝) }
 {
     (at as *mut Node).write(Node::closed(id, size, fd))
 }
 
-/// Does what the number `op` asks the node at `at` for (`node_calls::call`): whatever allocator of the definition it
-/// stands for, afterwards it stands for that one after the opening, the step or the taking.
+/// Does what the number `op` asks the node at `at` for, as `node_calls::call` says of it: whatever allocator of the
+/// definition it stands for, afterwards it stands for that one after the opening, the step or the taking.
 #[unsafe(no_mangle)]
 pub unsafe extern "C" fn caldrouz_call(at: *mut u8, op: u32, now: u64, a: u64, b: u64) -> u64
     ghost node: { Node }
     requires* { sem 𝓛 (lies_at the_row full_share at node) }
     ensures* { ∃ₛ (λ (after : Node). sem 𝓛 (lies_at the_row full_share at after) ∗
-        ⌜ Opens node after op now a result × Ticks node after op now a result × Takes node after op ⌝) }
+        ⌜ Calls node after op now a b result ⌝) }
 {
     node_calls::call(&mut *(at as *mut Node), op, now, a, b)
 }

@@ -1,26 +1,178 @@
 -- What a node stands for, and what a call makes of it.
-use Rattle.std.specs.Prelude.{◌≡◌, ◌%◌, ℕ, IfSome, MatchOption}
-use Rattle.alloc_server.specs.Server.{StandsFor, durable_of}
-use Rattle.alloc_spec.specs.AllocatorState.{AllocatorState, opening}
-use Rattle.alloc_spec.specs.Step.{Tick, after_pop, step}
+use Rattle.std.specs.Prelude.{◌≡◌, ◌↔◌, ◌⊎◌, ◌%◌, ◌/◌, ◌+◌, ◌-◌, ◌*◌, ◌^◌, min, ◌≤◌, ◌<◌, ℕ, [], None, Some, IsNone, IsSome, MatchOption, ⊤, length, take, drop, option_map}
+use Rattle.std.specs.Option.{unwrap_or}
+use Rattle.std.specs.Int.{from_le_bytes, to_le_bytes, w64}
+use Rattle.can_frame.specs.declared.step.Role.{Role}
+use Rattle.can_frame.specs.declared.step.Role.TheVariants.{Follower, Candidate, Leader}
+use Rattle.alloc_server.specs.Server.{StandsFor, disk_of, durable_of, fault_of, queued}
+use Rattle.alloc_spec.specs.AllocatorState.{AllocatorState, entry_of, opening, view_of}
+use Rattle.alloc_spec.specs.Step.{Event, Rx, Tick, after_pop, step}
+use Rattle.fd_disk.specs.declared.disk.FdDisk.{FdDisk}
 use Rattle.raft_core.specs.StoredPuts.{store_of}
 use Rattle.raft_log.specs.DurableViews.{durable_state}
+use Rattle.transfer_rx.specs.Reassembly.{Arrival}
+use Rattle.transfer_tx.specs.Queue.{Queued, next_out}
 use Rattle.node_calls.specs.declared.node.Node.{Node}
 
 -- the node was made, and its server stands for this allocator
 abbrev pub IsAt : Node → AllocatorState → Type 0
 IsAt node t = MatchOption node.server ⊥ (λ server. StandsFor server t)
 
--- call 1: the node opens with what is stored
-abbrev pub Opens : Node → Node → ℕ → ℕ → ℕ → ℕ → Type 0
-Opens old new op now a result = op ≡ 1 → result ≡ 0 → IfSome new.server (λ server. StandsFor server
-    (opening old.id old.size (store_of (durable_state (durable_of server))) now (a % 4294967296)))
+-- there is no allocator of its node ID, or of its cluster's size
+abbrev pub IsNotMade : Node → Type 0
+IsNotMade node = IsNone node.server
 
--- call 2: the step of the allocator at a reading of the clock
-abbrev pub Ticks : Node → Node → ℕ → ℕ → ℕ → ℕ → Type 0
-Ticks old new op now a result = op ≡ 2 → (t : AllocatorState) → IsAt old t → result ≡ 0 →
-    IsAt new (step t new.steps (Tick now (a % 4294967296))).step_state.allocator
+-- it is not open: it was not opened yet, or its store was refused or has failed since
+abbrev pub IsClosed : Node → Type 0
+IsClosed node = MatchOption node.server ⊥ (λ server. IsSome (fault_of server))
 
--- call 4: the next frame of its queue is taken, if there is one
-abbrev pub Takes : Node → Node → ℕ → Type 0
-Takes old new op = op ≡ 4 → (t : AllocatorState) → IsAt old t → IsAt new (after_pop t)
+abbrev pub IsOpen : Node → Type 0
+IsOpen node = MatchOption node.server ⊥ (λ server. fault_of server ≡ None)
+
+-- how many calls of its store have failed, counted to the last number of 64 bits
+abbrev pub faults : Node → ℕ
+faults node = unwrap_or (option_map (λ server. let disk : FdDisk = disk_of server in disk.faults) node.server) 0
+
+-- a call of the store failed
+abbrev pub StoreFailed : Node → Node → Type 0
+StoreFailed old new = min (faults old + 1) (2 ^ 64 - 1) ≤ faults new
+
+-- nothing waits to be taken
+abbrev pub HasNoFrame : Node → Type 0
+HasNoFrame node = MatchOption node.server ⊤ (λ server. queued server ≡ [])
+
+-- the low 32 bits of a word, and those above them
+abbrev pub low : ℕ → ℕ
+low word = word % 4294967296
+
+abbrev pub high : ℕ → ℕ
+high word = word / 4294967296
+
+-- ---- a node that is made: of this ID, in a cluster of this size, where these are possible; it is not open
+
+pub record IsNew (node : Node) (id size : ℕ) : Type 0 where
+  pub made : IsSome node.server ↔ ((1 ≤ id) × ((id ≤ 125) × ((1 ≤ size) × (size ≤ 5))))
+  pub its_id : IsSome node.server → node.id ≡ id
+  pub its_size : IsSome node.server → node.size ≡ size
+  pub closed : IsSome node.server → IsClosed node
+  pub empty : HasNoFrame node
+
+-- ---- call 1: it opens with what is stored
+
+pub record Opens (old new : Node) (now word result : ℕ) : Type 0 where
+  pub done : result ≡ 0 → MatchOption new.server ⊥ (λ server. StandsFor server
+      (opening old.id old.size (store_of (durable_state (durable_of server))) now word))
+  -- 1 exactly where it is not made
+  pub not_made : (result ≡ 1) ↔ IsNotMade old
+  pub kept : result ≡ 1 → new ≡ old
+  -- 3 where its store failed, and 256 and more where it is damaged: then it is closed, and nothing waits
+  pub refused : 2 ≤ result → IsClosed new × HasNoFrame new
+  pub fault : result ≡ 3 → StoreFailed old new
+  pub damaged : 256 ≤ result → faults new ≡ faults old
+  pub answers : (result < 2) ⊎ ((result ≡ 3) ⊎ (256 ≤ result))
+
+-- ---- calls 2 and 3: a step
+
+pub record Steps (old new : Node) (event : Event) (result : ℕ) : Type 0 where
+  -- the step of the allocator that it stands for, under the next number
+  pub done : result ≡ 0 → (t : AllocatorState) → IsAt old t → IsAt new (step t new.steps event).step_state.allocator
+  pub works : result ≡ 0 → IsOpen old × IsOpen new
+  -- 1 exactly where it is not made, and 2 exactly where it is not open: then nothing changes
+  pub not_made : (result ≡ 1) ↔ IsNotMade old
+  pub closed : (result ≡ 2) ↔ IsClosed old
+  pub kept : (result ≡ 1) ⊎ (result ≡ 2) → new ≡ old
+  -- 3 where its store failed: then it is closed, and nothing waits
+  pub failed : 3 ≤ result → IsClosed new × HasNoFrame new
+  pub fault : result ≡ 3 → StoreFailed old new
+  pub answers : result ≤ 3
+  -- each step has a number, which is one more than the last, around 64 bits
+  pub counted : (result ≡ 0) ⊎ (result ≡ 3) → new.steps ≡ (old.steps + 1) % 18446744073709551616
+
+-- the identifier has 29 bits, and there are 1 to 8 bytes
+abbrev pub IsFrame : ℕ → Type 0
+IsFrame head = (low head < 2 ^ 29) × ((1 ≤ high head) × (high head ≤ 8))
+
+-- the frame with this identifier and number of bytes, the first one lowest, of a sender outside
+abbrev pub heard : ℕ → ℕ → ℕ → Arrival
+heard now head bytes = record {
+  id = low head;
+  bytes = take (high head) (to_le_bytes w64 bytes);
+  mark = record { step = 0; re = 0; place = 0 };
+  moment = now;
+}
+
+-- 4 exactly where there is no such frame: then nothing changes
+pub record Hears (old new : Node) (now head bytes result : ℕ) : Type 0 where
+  pub steps : IsFrame head → Steps old new (Rx (heard now head bytes)) result
+  pub is_frame : result < 4 → IsFrame head
+  pub no_frame : (result ≡ 4) ↔ (IsFrame head → ⊥)
+  pub kept : result ≡ 4 → new ≡ old
+
+-- ---- calls 4 and 5: the next frame of its queue is taken, and its bytes are told
+
+-- the highest bit, the number of bytes, and the identifier
+abbrev pub head_of : Queued → ℕ
+head_of frame = 2 ^ 63 + length frame.bytes * 4294967296 + frame.id
+
+pub record Takes (old new : Node) (result : ℕ) : Type 0 where
+  pub rest : (t : AllocatorState) → IsAt old t → IsAt new (after_pop t)
+  -- what goes next is answered; its bytes are kept, the first one lowest
+  pub head : (t : AllocatorState) → IsAt old t → (frame : Queued) → next_out t.queue ≡ Some frame →
+      result ≡ head_of frame
+  pub bytes : (t : AllocatorState) → IsAt old t → (frame : Queued) → next_out t.queue ≡ Some frame →
+      new.bytes ≡ from_le_bytes w64 frame.bytes
+  -- 0 exactly where there is nothing: then nothing changes
+  pub none : (result ≡ 0) ↔ HasNoFrame old
+  pub kept : result ≡ 0 → (new.server ≡ old.server) × (new.bytes ≡ old.bytes)
+  pub steps : new.steps ≡ old.steps
+
+-- ---- calls 6 and 7: what it shows
+
+abbrev pub role_number : Role → ℕ
+role_number Follower = 0
+role_number Candidate = 1
+role_number Leader = 2
+
+-- 0 where it is not made, and beyond the parts
+pub record Views (shown : Node) (part result : ℕ) : Type 0 where
+  pub role : part ≡ 0 → (t : AllocatorState) → IsAt shown t → result ≡ role_number (view_of t).role
+  pub term : part ≡ 1 → (t : AllocatorState) → IsAt shown t → result ≡ (view_of t).term
+  pub vote : part ≡ 2 → (t : AllocatorState) → IsAt shown t → result ≡ (view_of t).vote
+  pub last : part ≡ 3 → (t : AllocatorState) → IsAt shown t → result ≡ (view_of t).last
+  pub commit : part ≡ 4 → (t : AllocatorState) → IsAt shown t → result ≡ (view_of t).commit
+  pub queued : part ≡ 5 → (t : AllocatorState) → IsAt shown t → result ≡ (view_of t).queued
+  pub is_open : part ≡ 6 → (result ≡ 1) ↔ IsOpen shown
+  pub is_closed : part ≡ 6 → (result ≡ 0) ↔ (IsNotMade shown ⊎ IsClosed shown)
+  pub beyond : 6 < part → result ≡ 0
+  pub not_made : IsNotMade shown → result ≡ 0
+
+-- the log has an entry at this place
+abbrev pub HasEntry : AllocatorState → ℕ → Type 0
+HasEntry t place = (1 ≤ place) × (place ≤ (view_of t).last)
+
+pub record Entries (shown : Node) (place part result : ℕ) : Type 0 where
+  pub node : part ≡ 0 → (t : AllocatorState) → IsAt shown t → HasEntry t place → result ≡ (entry_of t place).node
+  pub front : part ≡ 1 → (t : AllocatorState) → IsAt shown t → HasEntry t place →
+      result ≡ from_le_bytes w64 (entry_of t place).uid
+  pub back : part ≡ 2 → (t : AllocatorState) → IsAt shown t → HasEntry t place →
+      result ≡ from_le_bytes w64 (drop 8 (entry_of t place).uid)
+  pub term : part ≡ 3 → (t : AllocatorState) → IsAt shown t → HasEntry t place → result ≡ (entry_of t place).term
+  pub none : (t : AllocatorState) → IsAt shown t → (HasEntry t place → ⊥) → result ≡ 0
+  pub beyond : 3 < part → result ≡ 0
+  pub not_made : IsNotMade shown → result ≡ 0
+
+-- ---- every call
+
+pub record Calls (old new : Node) (op now a b result : ℕ) : Type 0 where
+  pub opens : op ≡ 1 → Opens old new now (low a) result
+  pub ticks : op ≡ 2 → Steps old new (Tick now (low a)) result
+  pub hears : op ≡ 3 → Hears old new now a b result
+  pub takes : op ≡ 4 → Takes old new result
+  pub tells : op ≡ 5 → result ≡ old.bytes
+  pub views : op ≡ 6 → Views old a result
+  pub entries : op ≡ 7 → Entries old a b result
+  pub unknown : (op < 1) ⊎ (7 < op) → result ≡ 5
+  -- what only tells changes nothing, and no call changes whose node it is
+  pub kept : (op < 1) ⊎ (4 < op) → new ≡ old
+  pub id : new.id ≡ old.id
+  pub size : new.size ≡ old.size

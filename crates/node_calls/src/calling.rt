@@ -1,5 +1,6 @@
-ghost use Rattle.std.specs.Prelude.{◌≡◌, ◌%◌};
-ghost use Rattle.node_calls.specs.At.{Opens, Takes, Ticks};
+ghost use Rattle.std.specs.Prelude.{◌≡◌, ◌↔◌, IfSome, IsSome, take};
+ghost use Rattle.std.specs.Int.{to_le_bytes, w64};
+ghost use Rattle.node_calls.specs.At.{Calls, IsFrame, high, low};
 
 use crate::node::Node;
 use alloc_server::Event;
@@ -34,12 +35,11 @@ const OUTSIDE: Mark = Mark {
 
 /// Does what the number `op` asks for, with its arguments.
 ///
-/// `OPEN` leaves a node that stands for a server in time that opens with what is stored, `TICK` one that stands for the
-/// step of it at that reading of the clock, and `TAKE` one without the frame that was taken.
+/// `OPEN` leaves a node that stands for a server in time that opens with what is stored; `TICK` and `HEAR` one that stands
+/// for the step of it at that reading of the clock or on that frame; `TAKE` one without the frame that was taken. The
+/// others change nothing. What each answers, and when, is said in `Calls`.
 pub fn call(node: &mut Node, op: u32, now: u64, a: u64, b: u64) -> u64
-    ensures opens { Opens node.old node.new op now a result }
-    ensures ticks { Ticks node.old node.new op now a result }
-    ensures takes { Takes node.old node.new op }
+    ensures calls { Calls node.old node.new op now a b result }
 {
     match op {
         OPEN => node.open(now, low(a)),
@@ -53,7 +53,7 @@ pub fn call(node: &mut Node, op: u32, now: u64, a: u64, b: u64) -> u64
             None => NO_FRAME,
         },
         TAKE => node.take(),
-        DATA => node.data,
+        DATA => node.bytes,
         VIEW => node.view(a),
         ENTRY => node.entry(a, b),
         _ => UNKNOWN,
@@ -61,12 +61,16 @@ pub fn call(node: &mut Node, op: u32, now: u64, a: u64, b: u64) -> u64
 }
 
 /// The frame with the identifier in the low 32 bits of a word and the number of its bytes above them.
-fn frame_of(head: u64, data: u64) -> Option<Frame> {
+fn frame_of(head: u64, word: u64) -> Option<Frame>
+    ensures some { IsSome result ↔ IsFrame head }
+    ensures id { IfSome result (λ frame. frame.id ≡ low head) }
+    ensures bytes { IfSome result (λ frame. frame.bytes.items ≡ take (high head) (to_le_bytes w64 word)) }
+{
     let count = head >> 32;
     if 8 < count {
         return None;
     }
-    let bytes = data.to_le_bytes();
+    let bytes = word.to_le_bytes();
     match Frame::from_parts(low(head), &bytes[..count as usize]) {
         Ok(frame) => Some(frame),
         Err(_) => None,
@@ -75,7 +79,7 @@ fn frame_of(head: u64, data: u64) -> Option<Frame> {
 
 /// The low 32 bits.
 fn low(word: u64) -> u32
-    ensures { result ≡ word % 4294967296 }
+    ensures { result ≡ low word }
 {
     (word % (1 << 32)) as u32
 }

@@ -1,4 +1,5 @@
-ghost use Rattle.std.specs.Prelude.{◌≡◌, ◌≤◌, IfSome, ℕ};
+ghost use Rattle.std.specs.Prelude.{◌≡◌, ◌≤◌, slice_index, ℕ};
+ghost use Rattle.std.specs.Int.{from_le_bytes, w64};
 ghost use Rattle.alloc_spec.specs.Accepted as accepted;
 ghost use Rattle.transfer_rx.specs.Acceptance.{first_signature};
 
@@ -30,8 +31,8 @@ pub struct Node {
     size: u8,
     steps: u64,
 
-    /// The data of the frame that was taken last.
-    pub(crate) data: u64,
+    /// The bytes of the frame that was taken last.
+    pub(crate) bytes: u64,
     ghost least: { 1 ≤ id },
     ghost most: { id ≤ 125 },
     ghost some: { 1 ≤ size },
@@ -39,24 +40,21 @@ pub struct Node {
 }
 
 impl Node {
-    ghost use Rattle.alloc_server.specs.Server.{StandsFor, durable_of, event_of};
-    ghost use Rattle.alloc_spec.specs.AllocatorState.{AllocatorState, opening};
-    ghost use Rattle.alloc_spec.specs.Step as steps;
-    ghost use Rattle.alloc_spec.specs.Step.{after_pop};
-    ghost use Rattle.node_calls.specs.At.{IsAt};
-    ghost use Rattle.raft_core.specs.StoredPuts.{store_of};
-    ghost use Rattle.raft_log.specs.DurableViews.{durable_state};
+    ghost use Rattle.alloc_server.specs.Server.{event_of};
+    ghost use Rattle.node_calls.specs.At.{Entries, IsNew, Opens, Steps, Takes, Views};
 
     /// A node with this ID, of a cluster of `size` members, on the disk behind a descriptor. It is not open:
     /// nothing was read yet. Where there is no such ID or size, it stays closed for ever.
-    pub fn closed(id: u32, size: u32, fd: u32) -> Node {
+    pub fn closed(id: u32, size: u32, fd: u32) -> Node
+        ensures new { IsNew result id size }
+    {
         if id < 1 || 125 < id || size < 1 || 5 < size {
             return Node {
                 server: None,
                 id: 1,
                 size: 1,
                 steps: 0,
-                data: 0,
+                bytes: 0,
             };
         }
         let (id, size) = (id as u8, size as u8);
@@ -66,14 +64,15 @@ impl Node {
             id,
             size,
             steps: 0,
-            data: 0,
+            bytes: 0,
         }
     }
 
     /// Opens with what is stored, at a moment and with a random word.
     pub(crate) fn open(&mut self, now: u64, word: u32) -> u64
-        ensures opened { result ≡ 0 → IfSome self.new.server (λ server. StandsFor server
-            (opening self.old.id self.old.size (store_of (durable_state (durable_of server))) now word)) }
+        ensures opens { Opens self.old self.new now word result }
+        ensures id { self.new.id ≡ self.old.id }
+        ensures size { self.new.size ≡ self.old.size }
     {
         let Some(server) = &mut self.server else {
             return NOT_MADE;
@@ -87,8 +86,9 @@ impl Node {
 
     /// Makes a step.
     pub(crate) fn step(&mut self, event: Event) -> u64
-        ensures stepped { (t : AllocatorState) → IsAt self.old t → result ≡ 0 →
-            IsAt self.new (steps.step t self.new.steps (event_of event)).step_state.allocator }
+        ensures steps { Steps self.old self.new (event_of event) result }
+        ensures id { self.new.id ≡ self.old.id }
+        ensures size { self.new.size ≡ self.old.size }
     {
         let Some(server) = &mut self.server else {
             return NOT_MADE;
@@ -105,7 +105,9 @@ impl Node {
 
     /// Takes the next frame for the bus: its identifier, and how many bytes of data it has.
     pub(crate) fn take(&mut self) -> u64
-        ensures taken { (t : AllocatorState) → IsAt self.old t → IsAt self.new (after_pop t) }
+        ensures takes { Takes self.old self.new result }
+        ensures id { self.new.id ≡ self.old.id }
+        ensures size { self.new.size ≡ self.old.size }
     {
         let Some(server) = &mut self.server else {
             return 0;
@@ -114,16 +116,19 @@ impl Node {
             return 0;
         };
         let bytes = next.frame.bytes.as_slice();
-        self.data = word_of(bytes);
-        SOME | (bytes.len() as u64) << 32 | u64::from(next.frame.id)
+        self.bytes = word_of(bytes);
+        SOME + ((bytes.len() as u64) << 32) + u64::from(next.frame.id)
     }
 
-    pub(crate) fn view(&self, which: u64) -> u64 {
+    /// A part of what it shows of itself.
+    pub(crate) fn view(&self, part: u64) -> u64
+        ensures { Views self.now part result }
+    {
         let Some(server) = &self.server else {
             return 0;
         };
         let view = server.view();
-        match which {
+        match part {
             0 => match view.role {
                 Role::Follower => 0,
                 Role::Candidate => 1,
@@ -140,7 +145,9 @@ impl Node {
     }
 
     /// A part of the entry at a place of the log, from 1.
-    pub(crate) fn entry(&self, place: u64, part: u64) -> u64 {
+    pub(crate) fn entry(&self, place: u64, part: u64) -> u64
+        ensures { Entries self.now place part result }
+    {
         let Some(server) = &self.server else {
             return 0;
         };
@@ -167,9 +174,28 @@ fn accept(kind: Kind, number: u16) -> Option<u64>
 }
 
 /// The first eight bytes as a number, the first one lowest, and zeros where there are fewer.
-fn word_of(bytes: &[u8]) -> u64 {
-    let mut word = [0; 8];
-    let count = bytes.len().min(8);
-    word[..count].copy_from_slice(&bytes[..count]);
+fn word_of(bytes: &[u8]) -> u64
+    ensures { result ≡ from_le_bytes w64 bytes.now }
+{
+    let word = [
+        byte_at(bytes, 0),
+        byte_at(bytes, 1),
+        byte_at(bytes, 2),
+        byte_at(bytes, 3),
+        byte_at(bytes, 4),
+        byte_at(bytes, 5),
+        byte_at(bytes, 6),
+        byte_at(bytes, 7),
+    ];
     u64::from_le_bytes(word)
+}
+
+/// The byte at a place, and 0 behind the last.
+fn byte_at(bytes: &[u8], place: usize) -> u8
+    ensures { result ≡ slice_index bytes.now place }
+{
+    match bytes.get(place) {
+        Some(byte) => *byte,
+        None => 0,
+    }
 }

@@ -4,7 +4,7 @@ use prog.Wp.{WpFn}
 use base.Logic.{SProp, ex, sep}
 use types.Logic.{sem}
 use contract.Monad.{fact}
-use Rattle.node_calls.specs.At.{Opens, Takes, Ticks}
+use Rattle.node_calls.specs.At.{Calls}
 use Rattle.node_calls.specs.contracts.node.Node.{the_row as R}
 use Rattle.caldrouz.specs.contracts.caldrouz_call as f
 use Rattle.caldrouz.proofs.caldrouz_call.Statement.{statement}
@@ -47,16 +47,16 @@ caldrouz_call_spec 𝓤 𝓛 𝓜 𝓡 wired =
     calls_at ! (framed 𝓤 𝓛.H 𝓜 (tables 𝓤 𝓛.H 𝓜 𝓡 𝓡.env)) G (met 𝓤 𝓛 𝓜 𝓡 (code.calls-node_calls::call 𝓡.env wired)) z
     (and_then ! (get ! refl) (and_then ! (get ! refl) (and_then ! (get ! refl) (and_then ! (get ! refl) (and_then ! (get ! refl) (no_more !)))))) (λ v.
     use1 𝓛 (later (some (λ (u : ℕ). ((‵ (flft κ full_share) ⊛ ‵ ftrue) ⊛ ‵ (u64.own_val u (v ∷ []))) ⊛
-    some (λ (ws : R.Denot × (Unit {0} × (Unit {0} × (Unit {0} × (Unit {0} × Unit {0}))))). ‵ (lasts g.ended z.0.0 z.0.3 ws) ⊛ raw (fact 𝓤 (Opens x ws.0 op now m u)) ⊛ raw (fact 𝓤 (Ticks x ws.0 op now m u)) ⊛ raw (fact 𝓤 (Takes x ws.0 op)))))) (id⊢ 𝓤 _) $
+    some (λ (ws : R.Denot × (Unit {0} × (Unit {0} × (Unit {0} × (Unit {0} × Unit {0}))))). ‵ (lasts g.ended z.0.0 z.0.3 ws) ⊛ raw (fact 𝓤 (Calls x ws.0 op now m n u)))))) (id⊢ 𝓤 _) $
     await ! tt $ pick ! (λ u. split ! $ split ! $ split ! $ lft_end ! tt $
     -- [α is over; nothing; the result; what the call left; what the lender keeps]
     move ! (2 ∷ []) $ peeks ! u64 (Is u64) (shows 𝓛 u64) u (v ∷ []) (λ is. lands_as ! refl refl ((uint_Lawful 𝓛 w64).typed u _ is).0 $
-    move ! (3 ∷ []) $ pick ! (λ ws. split ! $ move ! (1 ∷ []) $ split ! $ heard ! _ (λ opens. split ! $ heard ! _ (λ ticks. heard ! _ (λ takes. fsplit ! $ fsplit ! $
+    move ! (3 ∷ []) $ pick ! (λ ws. split ! $ move ! (1 ∷ []) $ heard ! _ (λ calls. fsplit ! $ fsplit ! $
     -- [the loan's last value; its borrow; nothing; the result; α is over; nothing; what the lender keeps]
     move ! (4 ∷ 6 ∷ 0 ∷ []) $ use3 𝓛 (later (‵ ((mem R).own_at ws.0 b o))) (ref_back 𝓛 R κ γ ws.0 b o) $ await ! tt $
     returns ! (look_at ! 0 refl) $ free_all ! refl $ keep ! (0 ∷ 3 ∷ []) $
     let Lies : R.Denot → SProp 𝓤 = λ after. sep 𝓤 (sem 𝓛 (lies_at R full_share (block_ptr b o) after))
-    (fact 𝓤 (Opens x after op now m u × Ticks x after op now m u × Takes x after op)) in
-    use1 𝓛 (raw (ex 𝓤 Lies)) (qed 𝓛 (‵ (lies_at R full_share (block_ptr b o) ws.0) ∷ []) ∵ show ! Lies ws.0 $ says ! (opens, ticks, takes) $ done !) $ move ! (1 ∷ []) $
+    (fact 𝓤 (Calls x after op now m n u)) in
+    use1 𝓛 (raw (ex 𝓤 Lies)) (qed 𝓛 (‵ (lies_at R full_share (block_ptr b o) ws.0) ∷ []) ∵ show ! Lies ws.0 $ says ! calls $ done !) $ move ! (1 ∷ []) $
     suffices ! _ (ends_at 𝓛 f.ended stayed c (y (block_ptr b o)) v u (tt, (tt, (tt, (tt, (tt, tt))))) (tt, (tt, (tt, (tt, (tt, tt)))))) $
-    nothing ! $ nothing ! $ join ! $ nothing ! $ join ! $ nothing ! $ join ! $ nothing ! $ join ! $ nothing ! $ join ! $ nothing ! $ group ! 3 $ done !))))))))))))
+    nothing ! $ nothing ! $ join ! $ nothing ! $ join ! $ nothing ! $ join ! $ nothing ! $ join ! $ nothing ! $ join ! $ nothing ! $ group ! 3 $ done !))))))))))

@@ -1,7 +1,11 @@
 -- A node that is not open is written into the room.
-use Rattle.caldrouz.proofs.Steps.{◌++◌, [], ◌∷◌, refl, w32, proved, full_share, id⊢, ftrue, vunit, vint, tables, ‵, raw, ◌⊛◌, some, later, prop, ◌$◌, ◌∵◌, !, qed, done, move, keep, drop, use1, use2, split, join, fjoin, fpack, feq_i, pick, await, regoal, suffices, group, enter, stop, init, of_opd, unit_lit, no_more, and_then, assigns, returns, alloc_all, pass_all, free_all, look_at, get, through, sets, lands_as, u32, yes, Is, shows, uint_Makes, uint_vals, uint_Tells, Ptr, RawPtr, block_ptr, lies_at, room_at, in_a_block, rawptr_vals, rawptr_Tells, plain, nothing, owned, peeks, calls_at, lasts, on_entry, triple_of, Stays, walk_of, stay_dropped, Goes-dropped, ends_at, framed}
+use Rattle.caldrouz.proofs.Steps.{◌++◌, [], ◌∷◌, refl, w32, proved, full_share, id⊢, ftrue, vunit, vint, tables, ‵, raw, ◌⊛◌, some, later, prop, ◌$◌, ◌∵◌, !, qed, done, move, keep, drop, use1, use2, split, join, fjoin, feq_i, pick, await, show, heard, says, regoal, suffices, group, enter, stop, init, of_opd, unit_lit, no_more, and_then, assigns, returns, alloc_all, pass_all, free_all, look_at, get, through, sets, lands_as, u32, yes, Is, shows, uint_Makes, uint_vals, uint_Tells, Ptr, RawPtr, block_ptr, lies_at, room_at, in_a_block, rawptr_vals, rawptr_Tells, plain, nothing, owned, peeks, calls_at, lasts, on_entry, triple_of, Stays, walk_of, stay_dropped, Goes-dropped, ends_at, framed}
 use prog.Wp.{WpFn}
 use borrow.Table.OneValue.{part_in}
+use base.Logic.{SProp, ex, sep}
+use types.Logic.{sem}
+use contract.Monad.{fact}
+use Rattle.node_calls.specs.At.{IsNew}
 use Rattle.node_calls.specs.contracts.node.Node.{the_row as R}
 use Rattle.node_calls.proofs.node.Node.TheLaws.{the_row_laws}
 use Rattle.caldrouz.specs.contracts.caldrouz_make as f
@@ -36,16 +40,19 @@ caldrouz_make_spec 𝓤 𝓛 𝓜 𝓡 wired =
     nothing ! $ join ! $ nothing ! $ move ! (1 ∷ 0 ∷ []) $ use2 𝓛 (raw (G.pre z)) (id⊢ 𝓤 _) $
     calls_at ! (framed 𝓤 𝓛.H 𝓜 (tables 𝓤 𝓛.H 𝓜 𝓡 𝓡.env)) G (met 𝓤 𝓛 𝓜 𝓡 (code.calls-node_calls::Node::closed 𝓡.env wired)) z
     (and_then ! (get ! refl) (and_then ! (get ! refl) (and_then ! (get ! refl) (no_more !)))) (λ v.
-    use1 𝓛 (later (some (λ (u : R.Denot). (‵ ftrue ⊛ ‵ (R.own_val u (v ∷ []))) ⊛ some (λ (ws : Unit {0} × (Unit {0} × (Unit {0} × Unit {0}))). ‵ (lasts g.ended z.0.0 z.0.3 ws) ⊛ ‵ ftrue)))) (id⊢ 𝓤 _) $
+    use1 𝓛 (later (some (λ (u : R.Denot). (‵ ftrue ⊛ ‵ (R.own_val u (v ∷ []))) ⊛ some (λ (ws : Unit {0} × (Unit {0} × (Unit {0} × Unit {0}))). ‵ (lasts g.ended z.0.0 z.0.3 ws) ⊛ raw (fact 𝓤 (IsNew u id size)))))) (id⊢ 𝓤 _) $
     await ! tt $ pick ! (λ u. split ! $ split ! $
     -- [nothing; what the node owns; what the call left; the room]
-    move ! (1 ∷ []) $ peeks ! R (Is R) (shows 𝓛 R) u (v ∷ []) (λ is.
+    move ! (2 ∷ []) $ pick ! (λ ws. split ! $ move ! (1 ∷ []) $ heard ! _ (λ new.
+    -- [what lasts; nothing; what the node owns; the room]
+    move ! (2 ∷ 1 ∷ []) $ peeks ! R (Is R) (shows 𝓛 R) u (v ∷ []) (λ is.
     let good = ((the_row_laws.lawful 𝓛).typed u _ is).0 in
     lands_as ! refl refl good $
     assigns ! (of_opd ! (get ! refl)) (through ! refl (stop !)) (init ! 3 refl good) $
     sets ! (of_opd ! (unit_lit !)) refl (tt, tt) $
     returns ! (look_at ! 0 refl) $ free_all ! refl $ keep ! (3 ∷ 0 ∷ []) $
     use2 𝓛 (‵ (lies_at R full_share (block_ptr b o) u)) (part_in 𝓛 R refl full_share u b o v) $
-    fpack ! R.Denot (λ z. lies_at R full_share (block_ptr b o) z) u $
+    let Lies : R.Denot → SProp 𝓤 = λ node. sep 𝓤 (sem 𝓛 (lies_at R full_share (block_ptr b o) node)) (fact 𝓤 (IsNew node id size)) in
+    use1 𝓛 (raw (ex 𝓤 Lies)) (qed 𝓛 (‵ (lies_at R full_share (block_ptr b o) u) ∷ []) ∵ show ! Lies u $ says ! new $ done !) $
     suffices ! _ (ends_at 𝓛 f.ended stayed c (y (block_ptr b o)) vunit tt (tt, (tt, (tt, (tt, tt)))) (tt, (tt, (tt, (tt, tt))))) $
-    feq_i ! _ (vunit ∷ []) _ refl $ nothing ! $ nothing ! $ join ! $ nothing ! $ join ! $ nothing ! $ join ! $ nothing ! $ join ! $ nothing ! $ group ! 3 $ done !))))))
+    feq_i ! _ (vunit ∷ []) _ refl $ nothing ! $ nothing ! $ join ! $ nothing ! $ join ! $ nothing ! $ join ! $ nothing ! $ join ! $ nothing ! $ group ! 3 $ done !))))))))
