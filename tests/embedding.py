@@ -164,7 +164,8 @@ def lines_of_nodes(folder: pathlib.Path) -> List[str]:
 class WorkedSchedules(unittest.TestCase):
     def test_nodes_do_what_replay_says(self) -> None:
         """Of each worked schedule without a refused row, the nodes of the library have the roles and numbers, send the
-        frames and keep the logs of the report; and no frame is taken while its store waits for a sync."""
+        frames and keep the logs of the report; and no frame is taken while its store waits for a sync. Passed over are
+        the schedules in which members are told who the others are, which the library offers no call for."""
         tried = set()
         for compiler, flags in zip(there("gcc", "clang"), (SANITIZED, ["-O2"])):
             program = built(compiler, TESTS / "c" / "replay.c", flags=flags)
@@ -173,6 +174,8 @@ class WorkedSchedules(unittest.TestCase):
                 if words[0] != "replay" or support.read(folder / "status").strip() != "0":
                     continue
                 rows = "".join(rows_for_nodes(folder)).encode()
+                if b"\ncopen " in b"\n" + rows:
+                    continue
                 wrote = done(program, len(words) - 2, input=rows).splitlines()
                 self.assertEqual(wrote, lines_of_nodes(folder), folder.name)
                 tried.add(folder)
