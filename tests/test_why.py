@@ -240,6 +240,15 @@ class WhatIsHeard(unittest.TestCase):
         self.assertEqual((heard.scene.members(), heard.scene.size()), ({1, 2, 3}, 3))
         self.assertEqual(heard.names(), ["strange-member"])
 
+    def test_a_device_that_was_told_crosses_nobody_who_asks_later(self) -> None:
+        heard = Heard(1)
+        heard.status(0, 1, 10)
+        heard.take(0.1, 0, "alloc", b"\1" + bytes.fromhex(ONE)[:6])
+        heard.take(0.2, 1, "alloc", bytes([70 << 1]) + bytes.fromhex(ONE))
+        for second in range(1, 6):
+            heard.take(second, 0, "alloc", b"\1" + bytes([9] * 6))
+        self.assertEqual(heard.names(), ["unanswered"])
+
     def test_a_lone_allocator_is_no_second_server(self) -> None:
         heard = Heard()
         heard.status(0, 1, 10)

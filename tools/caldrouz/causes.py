@@ -418,11 +418,19 @@ def _devices(scene: Scene, _: Sequence[NamedStore]) -> Iterator[Cause]:
             "look at this device: does it hear the answers? Where others wait for it, unplug it",
         )
     others = [it for it in unserved if it not in stuck]
-    if len(recent) > 1 and (others or len(stuck) > 1):
-        said = ", ".join(f"{it.part}.. {len(it.firsts)} times{' and was told' if it.told else ''}" for it in recent[:6])
+    # (one that was told before another one began to ask was in nobody's way)
+    crossed = [
+        it
+        for it in recent
+        if not it.told or any(one.firsts[0] < it.told[0].moment for one in recent if one is not it)
+    ]
+    if len(crossed) > 1 and (others or len(stuck) > 1):
+        told = {True: " and was told", False: ""}
+        said = ", ".join(f"{it.part}.. {len(it.firsts)} times{told[bool(it.told)]}" for it in crossed[:6])
         yield Cause(
             "crossed-requests",
-            f"{len(recent)} devices ask at a time ({said}): the requests of one begin the exchange of the other anew",
+            f"{len(crossed)} devices ask at a time ({said}): the requests of one begin the exchange of the other "
+            "anew",
             "wait: devices that keep the standard's times are served one after the other. Where it goes on, unplug all "
             "but one, and look which of them asks too often",
         )
