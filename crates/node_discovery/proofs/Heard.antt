@@ -13,7 +13,7 @@ use Rattle.node_discovery.specs.Watch.{Watched, history}
 pub room : (nodes : List Node) (node : ℕ) (d : Node) → node < length nodes → was_heard (get_or nodes node d) ≡ false
     → heard_count nodes < length nodes
 room nodes node d below unheard =
-    let new : Node = record { heard = Some 0; uid = None; pending = None; asked = None; queries = 0 } in
+    let new : Node = record { heard = Some 0; uid = None; pending = None; asked = None; queries = 0; queries_since_answer = 0 } in
     let counts = sum_by-set (λ n. cond (was_heard n) 1 0) nodes node new d below in
     let none = ap {B = ℕ} (λ (b : Bool). cond b 1 0) unheard in
     let most = count_by-le-length was_heard (set nodes node new) in

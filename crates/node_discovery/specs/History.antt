@@ -1,6 +1,8 @@
 -- What happened with one node, newest event first, and what follows from it.
 use Rattle.std.specs.Prelude.{ℕ, suc, ◌-◌, ◌≡◌, ◌≤◌, Bool, true, false, if◌then◌else◌, ◌&&◌, nat_le, nat_lt, nat_eq, List, [], ◌∷◌, Option, Some, None, is_none}
 use Rattle.can_frame.specs.Timing.{online_timeout, query_interval, query_limit}
+use Rattle.node_discovery.specs.declared.counting.Counting.{Counting}
+use Rattle.node_discovery.specs.declared.counting.Counting.TheVariants.{OfSpell, SinceAnswer}
 use Rattle.node_discovery.specs.declared.query.Query.{Query}
 
 pub data Event : Type 0 where
@@ -104,17 +106,29 @@ query_count (Status moment ∷ events) = query_count events
 query_count (Asked transfer_id moment ∷ events) = suc (query_count events)
 query_count (Taken uid moment ∷ events) = query_count events
 
--- silent: online, and in its spell it told no unique ID and was asked so many times or more, and the last query waits
--- no longer
-pub record IsSilent (events : List Event) (now : ℕ) : Type 0 where
+-- the events since the last answer that was taken, in whatever spell
+abbrev pub since_answer : List Event → List Event
+since_answer [] = []
+since_answer (Status moment ∷ events) = Status moment ∷ since_answer events
+since_answer (Asked transfer_id moment ∷ events) = Asked transfer_id moment ∷ since_answer events
+since_answer (Taken uid moment ∷ events) = []
+
+-- the events whose queries count
+abbrev pub counted : Counting → List Event → List Event
+counted OfSpell events = spell events
+counted SinceAnswer events = since_answer events
+
+-- silent: online, told no unique ID in its spell, and so many queries or more count, the last of which waits no longer
+pub record IsSilent (counting : Counting) (events : List Event) (now : ℕ) : Type 0 where
   pub online : is_online events now ≡ true
   pub untold : unique_id events ≡ None
-  pub asked : query_limit ≤ query_count (spell events)
+  pub asked : query_limit ≤ query_count (counted counting events)
   pub moment : ℕ
-  pub last : last_query (spell events) ≡ Some moment
+  pub last : last_query (counted counting events) ≡ Some moment
   pub waited : query_interval ≤ age moment now
 
 -- whether it is silent
-abbrev pub is_silent : List Event → ℕ → Bool
-is_silent events now = is_nameless events now
-    && (nat_le query_limit (query_count (spell events)) && has_passed query_interval now (last_query (spell events)))
+abbrev pub is_silent : Counting → List Event → ℕ → Bool
+is_silent counting events now = is_nameless events now
+    && (nat_le query_limit (query_count (counted counting events))
+    && has_passed query_interval now (last_query (counted counting events)))

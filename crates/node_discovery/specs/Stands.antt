@@ -3,7 +3,7 @@ use Rattle.std.specs.Prelude.{ℕ, ◌≡◌, ◌<◌, ◌≤◌, List, [], min,
 use Rattle.node_discovery.specs.declared.node.Node.{Node}
 use Rattle.node_discovery.specs.declared.watch.Watch.{Watch}
 use Rattle.node_discovery.specs.Heard.{heard}
-use Rattle.node_discovery.specs.History.{Event, last_query, last_status, query_count, spell, unanswered, unique_id}
+use Rattle.node_discovery.specs.History.{Event, last_query, last_status, query_count, since_answer, spell, unanswered, unique_id}
 use Rattle.node_discovery.specs.Watch.{HearsDevicesAlone, Watched, history}
 
 -- what the code keeps of a node with these events
@@ -13,6 +13,7 @@ pub record Tells (node : Node) (events : List Event) : Type 0 where
   pub pending : node.pending ≡ unanswered (spell events)
   pub asked : node.asked ≡ last_query events
   pub queries : node.queries ≡ min (query_count (spell events)) 255
+  pub queries_since_answer : node.queries_since_answer ≡ min (query_count (since_answer events)) 255
 
 -- each node by its place in the table, and the nodes that were heard on the list; a number that has no place has no
 -- event, and no status was taken but from 1 to 125

@@ -1,8 +1,10 @@
 //! What the definitions mean for a node, in laws, each the contract of a function that does nothing.
 
-ghost use Rattle.std.specs.Prelude.{◌≡◌, ◌∷◌, ◌<◌, ◌+◌, [], ℕ, List, Bool, true, false, Option, Some};
+ghost use Rattle.std.specs.Prelude.{◌≡◌, ◌∷◌, ◌<◌, ◌+◌, [], ℕ, suc, List, Bool, true, false, Option, Some};
 ghost use Rattle.can_frame.specs.Timing.{query_interval};
-ghost use Rattle.node_discovery.specs.History.{Event, Status, Asked, Taken, IsSilent, identity, is_nameless, is_online, is_silent, may_be_asked, query_count, spell, takes, unique_id};
+ghost use Rattle.node_discovery.specs.History.{Event, Status, Asked, Taken, IsSilent, counted, identity, is_nameless, is_online, is_silent, may_be_asked, query_count, spell, takes, unique_id};
+ghost use Rattle.node_discovery.specs.declared.counting.Counting.{Counting};
+ghost use Rattle.node_discovery.specs.declared.counting.Counting.TheVariants.{OfSpell, SinceAnswer};
 ghost use Rattle.node_discovery.specs.Watch.{HearsDevicesAlone, IsNextQuery, IsSomeUnknown, NoneIsUnknown, Watched, next_query, some_unknown};
 
 /// A spell begins with a status that comes while the node is not online; each other status belongs
@@ -49,12 +51,27 @@ pub fn an_answer_is_the_identity()
 
 /// What is computed is what it is to be silent; and who told its unique ID is not silent.
 pub fn silence_is_computed()
-    ensures is { (events : List Event) (now : ℕ) → is_silent events now ≡ true →
-        IsSilent events now }
-    ensures only { (events : List Event) (now : ℕ) → IsSilent events now →
-        is_silent events now ≡ true }
-    ensures told { (events : List Event) (uid : List ℕ) (moment now : ℕ) →
-        is_silent (Taken uid moment ∷ events) now ≡ false }
+    ensures is { (counting : Counting) (events : List Event) (now : ℕ) →
+        is_silent counting events now ≡ true → IsSilent counting events now }
+    ensures only { (counting : Counting) (events : List Event) (now : ℕ) →
+        IsSilent counting events now → is_silent counting events now ≡ true }
+    ensures told { (counting : Counting) (events : List Event) (uid : List ℕ) (moment now : ℕ) →
+        is_silent counting (Taken uid moment ∷ events) now ≡ false }
+{}
+
+/// Where the queries since the last answer count, an answer alone forgets them: a status does not,
+/// whether it begins a spell or not. Then at least those are silent who are by the queries of their spell.
+pub fn an_answer_alone_forgets()
+    ensures status { (events : List Event) (moment : ℕ) →
+        query_count (counted SinceAnswer (Status moment ∷ events))
+        ≡ query_count (counted SinceAnswer events) }
+    ensures asked { (events : List Event) (transfer_id moment : ℕ) →
+        query_count (counted SinceAnswer (Asked transfer_id moment ∷ events))
+        ≡ suc (query_count (counted SinceAnswer events)) }
+    ensures answer { (events : List Event) (uid : List ℕ) (moment : ℕ) →
+        query_count (counted SinceAnswer (Taken uid moment ∷ events)) ≡ 0 }
+    ensures more { (events : List Event) (now : ℕ) → is_silent OfSpell events now ≡ true →
+        is_silent SinceAnswer events now ≡ true }
 {}
 
 /// The next query that is computed is the least node that is due, and nothing else is; and what is

@@ -1,6 +1,7 @@
-ghost use Rattle.std.specs.Prelude.{◌≡◌, ◌∷◌, [], List, false, true};
+ghost use Rattle.std.specs.Prelude.{◌≡◌, ◌∷◌, [], List, false, min, true};
 ghost use Rattle.node_discovery.specs.History.{is_within, has_passed};
 
+use crate::counting::Counting;
 use crate::query::{Query, is_answered_by};
 use can_frame::Uid;
 use can_frame::timing::{ONLINE_TIMEOUT, QUERY_INTERVAL, QUERY_LIMIT};
@@ -22,11 +23,14 @@ pub struct Node {
 
     /// How many queries were asked in this spell; it stays at 255.
     queries: u8,
+
+    /// How many queries were asked since its last answer; it stays at 255.
+    queries_since_answer: u8,
 }
 
 impl Node {
     ghost use Rattle.node_discovery.specs.Heard.{was_heard};
-    ghost use Rattle.node_discovery.specs.History.{Event, Status, Asked, Taken, identity, is_nameless, is_online, is_silent, may_be_asked, takes};
+    ghost use Rattle.node_discovery.specs.History.{Event, Status, Asked, Taken, identity, is_nameless, is_online, is_silent, may_be_asked, counted, query_count, takes};
     ghost use Rattle.node_discovery.specs.Stands.{Tells};
 
     /// A node of which nothing is known.
@@ -40,6 +44,7 @@ impl Node {
             pending: None,
             asked: None,
             queries: 0,
+            queries_since_answer: 0,
         }
     }
 
@@ -69,6 +74,7 @@ impl Node {
         });
         self.asked = Some(now);
         self.queries = self.queries.saturating_add(1);
+        self.queries_since_answer = self.queries_since_answer.saturating_add(1);
     }
 
     /// Whether an answer is taken: the last query of the spell waits for it.
@@ -87,6 +93,7 @@ impl Node {
     {
         self.uid = Some(*uid);
         self.pending = None;
+        self.queries_since_answer = 0;
     }
 
     /// Whether a status of it was ever heard.
@@ -117,12 +124,25 @@ impl Node {
         self.is_online(now) && self.uid.is_none()
     }
 
-    /// Whether the node is online and did not tell its unique ID in its spell, though it was asked five
-    /// times or more, the last time 1,000 ms ago or more.
-    pub fn is_silent(&self, now: u64) -> bool
-        ensures { (events : List Event) → Tells self.now events → result ≡ is_silent events now }
+    /// How many queries count against it; it stays at 255.
+    fn counted(&self, counting: Counting) -> u8
+        ensures { (events : List Event) → Tells self.now events →
+            result ≡ min (query_count (counted counting events)) 255 }
     {
-        self.is_nameless(now) && self.queries >= QUERY_LIMIT && self.may_be_asked(now)
+        match counting {
+            Counting::OfSpell => self.queries,
+            Counting::SinceAnswer => self.queries_since_answer,
+        }
+    }
+
+    /// Whether the node is online and did not tell its unique ID in its spell, though five queries or more
+    /// count against it, the last of them 1,000 ms old or more.
+    pub fn is_silent(&self, counting: Counting, now: u64) -> bool
+        ensures { (events : List Event) → Tells self.now events →
+            result ≡ is_silent counting events now }
+    {
+        let queries = self.counted(counting);
+        self.is_nameless(now) && queries >= QUERY_LIMIT && self.may_be_asked(now)
     }
 
     /// The unique ID that the node told, where it is online.

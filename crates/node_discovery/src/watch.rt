@@ -2,6 +2,7 @@ ghost use Rattle.std.specs.Prelude.{◌≡◌, ◌↔◌, ◌∷◌, ◌<◌, �
 ghost use Rattle.arrayvec.specs.ArrayVec.{array_vec_len};
 ghost use Rattle.node_discovery.specs.Heard.{heard_count};
 
+use crate::counting::Counting;
 use crate::laws::silence_is_computed;
 use crate::node::Node;
 use arrayvec::ArrayVec;
@@ -45,10 +46,11 @@ impl Watch {
         if from == 0 || from > 125 {
             return;
         }
-        if !self.nodes[from as usize].was_heard() {
+        let is_first = !self.nodes[from as usize].was_heard();
+        self.nodes[from as usize].status(now);
+        if is_first {
             self.heard.push(from);
         }
-        self.nodes[from as usize].status(now);
     }
 
     /// The node was asked for its unique ID, by a request with this transfer ID.
@@ -107,16 +109,16 @@ impl Watch {
         seen
     }
 
-    /// Whether the node is silent: it is online, and in its spell it told no unique ID and was asked for
-    /// it five times or more, the last time 1,000 ms ago or more.
-    pub fn silent(&self, node: u8, now: u64) -> bool
+    /// Whether the node is silent: it is online, told no unique ID in its spell, and five queries or more
+    /// count against it, the last of them 1,000 ms old or more.
+    pub fn silent(&self, node: u8, counting: Counting, now: u64) -> bool
         ensures computed { (events : List Watched) → StandsFor self.now events →
-            result ≡ is_silent (history node events) now }
+            result ≡ is_silent counting (history node events) now }
         ensures silent { (events : List Watched) → StandsFor self.now events → IsTrue result
-            ↔ IsSilent (history node events) now }
+            ↔ IsSilent counting (history node events) now }
     {
         silence_is_computed();
-        node < 128 && self.nodes[node as usize].is_silent(now)
+        node < 128 && self.nodes[node as usize].is_silent(counting, now)
     }
 
     /// The unique ID that the node told in its spell; `None` where it told none, or is offline.
