@@ -11,6 +11,8 @@ use Rattle.can_frame.specs.Log.{entry_at}
 use Rattle.can_frame.specs.Zeros.{zeros}
 use Rattle.cluster_discovery.specs.Members.{Event as Heard, Start, is_complete, is_on_list, members}
 use Rattle.dsdl_codec.specs.declared.node_status.NodeStatus.{NodeStatus}
+use Rattle.node_discovery.specs.declared.counting.Counting.{Counting}
+use Rattle.node_discovery.specs.declared.counting.Counting.TheVariants.{OfSpell}
 use Rattle.node_discovery.specs.History.{is_online}
 use Rattle.node_discovery.specs.Watch.{Watched, history}
 use Rattle.raft_core.specs.StoredPuts.{number_of_vote}
@@ -37,6 +39,8 @@ pub record AllocatorState : Type 0 where
   pub accepted : List Accepted
   -- what happened with the nodes of the bus, newest first
   pub watch : List Watched
+  -- which queries count against a node that answers none of them
+  pub counting : Counting
   -- the Discoveries that it heard and sent, newest first
   pub heard : List Heard
   -- the transfer IDs that come next
@@ -58,6 +62,7 @@ opening me size store now word = record {
   queue = [];
   accepted = [];
   watch = [];
+  counting = OfSpell;
   heard = [];
   ids = first_ids;
   opened_at = now;

@@ -1,6 +1,8 @@
 -- What a member is told of its cluster when it is opened: the number of members alone, or also who they are.
 use Rattle.std.specs.Prelude.{◌≡◌, ℕ, ◌≤◌, Bool, nat_lt, List, [], ◌∷◌, length}
 use Rattle.cluster_discovery.specs.Members.{Event, Heard}
+use Rattle.node_discovery.specs.declared.counting.Counting.{Counting}
+use Rattle.node_discovery.specs.declared.counting.Counting.TheVariants.{SinceAnswer}
 use Rattle.raft_model.specs.Lists.{In}
 use Rattle.raft_model.specs.Members.{HasNoneTwice}
 use Rattle.raft_model.specs.Server.{Store}
@@ -32,9 +34,15 @@ heard_with size [] heard = heard
 heard_with size (node ∷ nodes) heard =
     Heard 0 (record { size = size; known = record { items = node ∷ nodes } }) ∷ heard
 
+-- who is told its members counts the queries since a node's last answer
+abbrev pub counting_with : List ℕ → Counting → Counting
+counting_with [] counting = counting
+counting_with (node ∷ nodes) counting = SinceAnswer
+
 -- an allocator that is told these members
 abbrev pub with_told : List ℕ → AllocatorState → AllocatorState
-with_told nodes t = record t { heard = heard_with t.size nodes t.heard }
+with_told nodes t =
+    record t { heard = heard_with t.size nodes t.heard; counting = counting_with nodes t.counting }
 
 -- a server that was opened with this store by these rules: before its first step it knows itself, and whom it was told
 abbrev pub opening_by : ℕ → Rules → Store → ℕ → ℕ → AllocatorState

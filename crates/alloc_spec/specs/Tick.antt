@@ -70,7 +70,7 @@ reserves step node g = proposes step 3 zeros node g
 -- a node that told its unique ID, or stays silent; and that is online, and not known
 abbrev pub is_candidate : AllocatorState → ℕ → Bool
 is_candidate t node =
-    not (is_known t node) && (is_some (identity (history node t.watch) t.now) || is_silent (history node t.watch) t.now)
+    not (is_known t node) && (is_some (identity (history node t.watch) t.now) || is_silent t.counting (history node t.watch) t.now)
 
 -- the least such node
 abbrev pub candidate : AllocatorState → Option ℕ
