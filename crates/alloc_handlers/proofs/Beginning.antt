@@ -19,6 +19,7 @@ begun start member t offered step now sessions nothing same fresh h = record {
     raft = h.raft;
     exchange = h.exchange;
     watch = h.watch;
+    counting = h.counting;
     cluster = h.cluster;
     outbox = h.outbox;
     opened_at = h.opened_at;

@@ -1,11 +1,12 @@
 -- A member with new parts: what it stands for, and that it is ready.
-use Rattle.std.proofs.Common.{◌≡◌, ◌∙◌, ℕ, List}
+use Rattle.std.proofs.Common.{◌≡◌, ◌∙◌, ℕ, List, refl}
 use Rattle.alloc_handlers.proofs.Words.{Accepted, AllocatorState, Durable, Ghosts, IsReady, Member, Raft, RaftServer, StandsFor, Times, Watched, durable_state, members, raft_me, raft_size, start_of}
 use Rattle.alloc_exchange.specs.declared.exchange.Exchange.{Exchange}
 use Rattle.alloc_exchange.specs.Stands as exchange
 use Rattle.cluster_discovery.specs.declared.cluster.Cluster.{Cluster}
 use Rattle.cluster_discovery.specs.Members.{Event as Heard}
 use Rattle.cluster_discovery.specs.Stands as cluster
+use Rattle.node_discovery.specs.declared.counting.Counting.{Counting}
 use Rattle.node_discovery.specs.declared.watch.Watch.{Watch}
 use Rattle.node_discovery.specs.Stands as watch
 use Rattle.raft_core.specs.Fits.{Fits}
@@ -21,11 +22,28 @@ module _ {D : Type 0} {disk : Ghosts D} {member : Member D disk} {t : AllocatorS
     raft = counts;
     exchange = asks;
     watch = knows;
+    counting = h.counting;
     cluster = lists;
     outbox = h.outbox;
     opened_at = h.opened_at;
     now = h.now;
     status_at = told;
+  }
+
+module _ {D : Type 0} {disk : Ghosts D} {member : Member D disk} {t : AllocatorState} (counting : Counting) (h : StandsFor member t) where
+  pub with_counting : StandsFor (record member { counting = counting }) (record t { counting = counting })
+  with_counting = record {
+    me = h.me;
+    size = h.size;
+    raft = h.raft;
+    exchange = h.exchange;
+    watch = h.watch;
+    counting = refl;
+    cluster = h.cluster;
+    outbox = h.outbox;
+    opened_at = h.opened_at;
+    now = h.now;
+    status_at = h.status_at;
   }
 
 module _ {D : Type 0} {disk : Ghosts D} {member : Member D disk} {r : Raft} (h : IsReady member) where

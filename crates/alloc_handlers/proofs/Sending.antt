@@ -52,6 +52,7 @@ module _ {D : Type 0} {disk : Ghosts D} (old : Member D disk) (t : AllocatorStat
     raft = h.raft;
     exchange = h.exchange;
     watch = h.watch;
+    counting = h.counting;
     cluster = h.cluster;
     outbox = is;
     opened_at = h.opened_at;

@@ -28,6 +28,7 @@ pub record StandsFor {D : Type 0} {disk : Ghosts D} (member : Member D disk) (t 
   pub raft : raft.StandsFor member.raft (members_of t) (durable_state member.durable) t.raft_server t.times
   pub exchange : exchange.StandsFor member.exchange t.accepted
   pub watch : watch.StandsFor member.watch t.watch
+  pub counting : member.counting ≡ t.counting
   pub cluster : cluster.StandsFor member.cluster (start_of t) t.heard
   pub outbox : member.outbox ≡ record { me = t.me; queue = t.queue; ids = t.ids }
   pub opened_at : member.opened_at ≡ t.opened_at

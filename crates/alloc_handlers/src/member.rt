@@ -27,7 +27,7 @@ use cluster_discovery::Cluster;
 use cluster_discovery::laws::a_complete_list_stays;
 use disk_model::Disk;
 use dsdl_codec::{Discovery, NodeStatus, Payload};
-use node_discovery::Watch;
+use node_discovery::{Counting, Watch};
 use raft_core::Raft;
 use raft_log::Durable;
 use transfer_rx::Transfer;
@@ -50,6 +50,10 @@ pub struct Member<D: Disk> {
     pub raft: Raft,
     pub exchange: Exchange,
     pub watch: Watch,
+
+    /// Which queries count against a node that answers none of them.
+    pub counting: Counting,
+
     pub cluster: Cluster,
     pub outbox: Outbox,
     pub opened_at: u64,
@@ -84,6 +88,7 @@ impl<D: Disk> Member<D> {
             raft: Raft::new(me, size, now, word),
             exchange: Exchange::new(),
             watch: Watch::new(),
+            counting: Counting::OfSpell,
             cluster: Cluster::new(me, size, now),
             outbox: Outbox::new(me),
             opened_at: now,
@@ -109,6 +114,7 @@ impl<D: Disk> Member<D> {
         self.raft = Raft::new(me, size, now, word);
         self.exchange = Exchange::new();
         self.watch = Watch::new();
+        self.counting = Counting::OfSpell;
         self.cluster = Cluster::new(me, size, now);
         self.outbox = Outbox::new(me);
         self.opened_at = now;
@@ -116,14 +122,14 @@ impl<D: Disk> Member<D> {
         self.status_at = now;
     }
 
-    /// Tells it the members of its cluster. They are learnt as from a Discovery that nobody sent; an empty list
-    /// changes nothing.
+    /// Tells it the members of its cluster. They are learnt as from a Discovery that nobody sent, and from now on
+    /// the queries since a node's last answer count against it; an empty list changes nothing.
     pub fn learn(&mut self, nodes: &[u8])
         requires ready { IsReady self.old }
         requires few { length nodes.now ≤ 5 }
         ensures stands { (t : AllocatorState) → StandsFor self.old t →
             StandsFor self.new (with_told nodes.now t) }
-        ensures rest { self.new ≡ record self.old { cluster = self.new.cluster } }
+        ensures rest { self.new ≡ record self.old { cluster = self.new.cluster; counting = self.new.counting } }
         ensures ready { IsReady self.new }
     {
         a_complete_list_stays();
@@ -140,6 +146,7 @@ impl<D: Disk> Member<D> {
             }
             Err(_) => unreachable!(),
         }
+        self.counting = Counting::SinceAnswer;
     }
 
     /// How each step begins: time goes on, never back, and old calls are given up.

@@ -188,7 +188,7 @@ impl<D: Disk> Member<D> {
     {
         !known[usize::from(node)]
             && (self.watch.identified(node, self.latest).is_some()
-                || self.watch.silent(node, self.latest))
+                || self.watch.silent(node, self.counting, self.latest))
     }
 
     /// The unique ID that a node told, where it is some device's and is not recorded.

@@ -19,6 +19,7 @@ returns-clause-step_state g c t h offered fresh step sessions =
           (c.expire.ensures.moves (members_of t) step state t.raft_server t.times h.raft all_nodes (λ node below pending. in_all_nodes node below)));
       exchange = h.exchange;
       watch = h.watch;
+      counting = h.counting;
       cluster = h.cluster;
       outbox = h.outbox;
       opened_at = h.opened_at;

@@ -9,6 +9,7 @@ returns-clause-stands g c = record {
   raft = c.new.ensures.stands (c.args.me ∷ []) (durable_state c.args.durable);
   exchange = c.new-2.ensures;
   watch = c.new-3.ensures;
+  counting = refl;
   cluster = c.new-4.ensures.starts;
   outbox = c.new-5.ensures;
   opened_at = refl;

@@ -9,6 +9,7 @@ returns-clause-stands g c = record {
   raft = c.new-self.ensures.stands (c.args.me ∷ []) (durable_state c.args.self.now.durable);
   exchange = c.new-self-2.ensures;
   watch = c.new-self-3.ensures;
+  counting = refl;
   cluster = c.new-self-4.ensures.starts;
   outbox = c.new-self-5.ensures;
   opened_at = refl;
