@@ -46,6 +46,7 @@ pub record IsLike (a b : AllocatorState) : Type 0 where
   pub ids : a.ids ≡ b.ids
   pub heard : a.heard ≡ b.heard
   pub watch : a.watch ≡ b.watch
+  pub counting : a.counting ≡ b.counting
 
 pub same_members : (a b : AllocatorState) → IsLike a b → members_of a ≡ members_of b
 same_members a b like =

@@ -81,7 +81,7 @@ module _ (number : ℕ) (event : Event) (Keeps : StepState → Type 0) (IsEnable
   status_keeps : (g : StepState) → Keeps g → Keeps (status_phase number g)
   status_keeps g h =
       either Keeps (nat_le 1000 (g.allocator.now - g.allocator.status_at)) (tells_status number g) g
-      (λ e. k.changes_keep _ _ (record { start = refl; raft_server = refl; times = refl; now = refl; queue = refl; ids = refl; heard = refl; watch = refl }) (k.sends_keep Stat 0 _ None g (record { destination = refl; said = (refl, refl); told = λ e. absurd (cc (e)); gives = λ given e. absurd (cc (e.kind)) }) h)) (λ e. h)
+      (λ e. k.changes_keep _ _ (record { start = refl; raft_server = refl; times = refl; now = refl; queue = refl; ids = refl; heard = refl; watch = refl; counting = refl }) (k.sends_keep Stat 0 _ None g (record { destination = refl; said = (refl, refl); told = λ e. absurd (cc (e)); gives = λ given e. absurd (cc (e.kind)) }) h)) (λ e. h)
 
   record_keeps : (g : StepState) → Keeps g → Keeps (record_phase number g)
   record_keeps g h =
@@ -274,7 +274,7 @@ module _ (number : ℕ) (event : Event) (Keeps : StepState → Type 0) (IsEnable
   kind_keeps d Anonymous g is comes h = reads_keeps (hears_allocation number) (allocation_of d.payload) g h
       (λ message read. heard_keeps (answer g.allocator.accepted message g.allocator.now (may_follow g.allocator)) (with_request message g)
       (answers_whole g.allocator.accepted message g.allocator.now (may_follow g.allocator))
-      (k.changes_keep _ g (record { start = refl; raft_server = refl; times = refl; now = refl; queue = refl; ids = refl; heard = refl; watch = refl }) h))
+      (k.changes_keep _ g (record { start = refl; raft_server = refl; times = refl; now = refl; queue = refl; ids = refl; heard = refl; watch = refl; counting = refl }) h))
   kind_keeps d Broadcast g is comes h = message_keeps d g is comes h
   kind_keeps d RequestKind g is comes h = request_keeps d g is comes h
   kind_keeps d Response g is comes h = response_keeps d g h
@@ -360,7 +360,7 @@ module _ (number : ℕ) (event : Event) (Keeps : StepState → Type 0) (IsEnable
   keeps_at : (e : Event) (g : StepState) → e ≡ event → ComesOf g → Keeps g → Keeps (event_phase number e g).step_state
   keeps_at (Tick now word) g same comes h = ticks_keep word g (subst IsTick same tt) h
   keeps_at (Rx arrival) g same comes h = answer_keeps _ (with_sessions arrival g) (comes arrival (sym same))
-      (k.changes_keep _ g (record { start = refl; raft_server = refl; times = refl; now = refl; queue = refl; ids = refl; heard = refl; watch = refl }) h)
+      (k.changes_keep _ g (record { start = refl; raft_server = refl; times = refl; now = refl; queue = refl; ids = refl; heard = refl; watch = refl; counting = refl }) h)
 
   pub event_keeps : (g : StepState) → ComesOf g → Keeps g → Keeps (event_phase number event g).step_state
   event_keeps g comes h = keeps_at event g refl comes h

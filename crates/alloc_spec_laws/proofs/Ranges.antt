@@ -8,6 +8,7 @@ use Rattle.can_frame.specs.declared.step.What.{What}
 use Rattle.can_frame.specs.declared.step.What.TheVariants.{Alloc, Disc, Stat, InfoQ, Info, VoteQ, Vote, AppQ, App}
 use Rattle.can_frame.specs.Identifier.{IsIdentifier, IsInRange as HasRanges, Spells, identifier_of}
 use Rattle.cluster_discovery.specs.Members.{Start}
+use Rattle.node_discovery.specs.declared.counting.Counting.{Counting}
 use Rattle.raft_model.specs.Lists.{In}
 use Rattle.raft_model.specs.Messages.{Message}
 use Rattle.raft_model.specs.Server.{Store}
@@ -71,6 +72,26 @@ me_when_seen t number event = ap (λ (s : Start). s.me) (start_when_seen t numbe
 pub same_start : (t : AllocatorState) (number : ℕ) (event : Event) → start_of (step t number event).step_state.allocator ≡ start_of t
 same_start t number event =
     step_keeps number event (HasStart (start_of t)) Anything (start_keeping number event (start_of t)) t (λ arrival is d e. tt) refl
+
+abbrev HasCounting : Counting → StepState → Type 0
+HasCounting counting g = g.allocator.counting ≡ counting
+
+counting_keeping : (number : ℕ) (event : Event) (counting : Counting) → Keeping number event (HasCounting counting) Anything
+counting_keeping number event counting = record {
+  takes_keep = λ given moves g quiet decided h. h;
+  proposes_keep = λ origin uid node g found h. h;
+  sends_keep = λ what to payload says g sends h. h;
+  calls_keep = λ what peer move request payload g makes fits h. h;
+  responds_keep = λ what d payload says g comes responds h. h;
+  changes_keep = λ u g like h. like.counting ∙ h;
+  watches_keep = λ node happens g has h. h;
+  tells_keep = λ g h. h;
+  hears_keep = λ d message g comes kind other read h. h;
+}
+
+pub same_counting : (t : AllocatorState) (number : ℕ) (event : Event) → (step t number event).step_state.allocator.counting ≡ t.counting
+same_counting t number event =
+    step_keeps number event (HasCounting t.counting) Anything (counting_keeping number event t.counting) t (λ arrival is d e. tt) refl
 
 -- ---- transfer IDs
 

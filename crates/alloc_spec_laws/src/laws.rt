@@ -52,7 +52,7 @@ pub fn transfers_of_a_step_are_apart()
 
 /// A server that opens is sound, each step keeps it sound, and so does handing out a frame. The
 /// transfers of a sound server have transfer IDs below 32, and a node as their destination, or 0
-/// for messages. Its own node ID and the size of its cluster never change.
+/// for messages. Its own node ID, the size of its cluster and which queries count never change.
 pub fn steps_stay_in_range()
     ensures opening { (me : ℕ) (rules : Rules) (store : Store) (now word : ℕ) → rules.size ≤ 5 →
         IsSound (opening_by me rules store now word) }
@@ -64,6 +64,8 @@ pub fn steps_stay_in_range()
         (step t number event).step_state.allocator.me ≡ t.me }
     ensures size { (t : AllocatorState) (number : ℕ) (event : Event) →
         (step t number event).step_state.allocator.size ≡ t.size }
+    ensures counting { (t : AllocatorState) (number : ℕ) (event : Event) →
+        (step t number event).step_state.allocator.counting ≡ t.counting }
 {
     identifiers_both_ways();
     deliveries_are_whole_transfers();
