@@ -1,7 +1,7 @@
 //! Watching the nodes of the bus.
 
 use can_frame::{NodeId, Uid};
-use node_discovery::Watch;
+use node_discovery::{Counting, Watch};
 
 const UID: Uid = [7; 16];
 
@@ -88,8 +88,15 @@ fn is_silent_after_five_queries(rt: HostRuntime) {
     ];
     for (times, now, want) in rows {
         let watch = asked_times(times);
-        assert_eq!(rt; watch.silent(50, now), want, "{times} at {now}");
-        assert!(rt; !watch.silent(51, now), "{times} at {now}");
+        assert_eq!(rt;
+            watch.silent(50, Counting::OfSpell, now),
+            want,
+            "{times} at {now}"
+        );
+        assert!(rt;
+            !watch.silent(51, Counting::OfSpell, now),
+            "{times} at {now}"
+        );
     }
 }
 
@@ -97,15 +104,15 @@ fn is_silent_after_five_queries(rt: HostRuntime) {
 fn is_not_silent_once_it_answered(rt: HostRuntime) {
     let mut watch = asked_times(5);
     assert!(rt; watch.info(50, 0, &UID, 2003));
-    assert!(rt; !watch.silent(50, 3002));
+    assert!(rt; !watch.silent(50, Counting::OfSpell, 3002));
 
     // The status at 5,002 begins another spell, and what was told before it does not count.
     watch.status(50, 5002);
     for _ in 0..5 {
         ask(&mut watch, 50, 5003);
     }
-    assert!(rt; !watch.silent(50, 6002));
-    assert!(rt; watch.silent(50, 6003));
+    assert!(rt; !watch.silent(50, Counting::OfSpell, 6002));
+    assert!(rt; watch.silent(50, Counting::OfSpell, 6003));
 }
 
 // The status at 5,002 begins another spell; the four queries at 2,002 do not count.
@@ -114,12 +121,36 @@ fn counts_the_queries_of_a_spell(rt: HostRuntime) {
     let mut watch = asked_times(4);
     watch.status(50, 5002);
     ask(&mut watch, 50, 5002);
-    assert!(rt; !watch.silent(50, 6002));
+    assert!(rt; !watch.silent(50, Counting::OfSpell, 6002));
     for _ in 0..4 {
         ask(&mut watch, 50, 5002);
     }
-    assert!(rt; !watch.silent(50, 6001));
-    assert!(rt; watch.silent(50, 6002));
+    assert!(rt; !watch.silent(50, Counting::OfSpell, 6001));
+    assert!(rt; watch.silent(50, Counting::OfSpell, 6002));
+}
+
+// The statuses at 3,001 and at 6,002 begin spells; no spell has five queries, and the one at 6,002 is the
+// fifth since the last answer.
+#[test]
+fn counts_the_queries_since_an_answer(rt: HostRuntime) {
+    let mut watch = Watch::new();
+    for begins in [0, 3001] {
+        watch.status(50, begins);
+        ask(&mut watch, 50, begins);
+        ask(&mut watch, 50, begins + 1000);
+        assert!(rt; !watch.silent(50, Counting::SinceAnswer, begins + 2000));
+    }
+    watch.status(50, 6002);
+    ask(&mut watch, 50, 6002);
+    assert!(rt; !watch.silent(50, Counting::SinceAnswer, 7001));
+    assert!(rt; watch.silent(50, Counting::SinceAnswer, 7002));
+    assert!(rt; !watch.silent(50, Counting::OfSpell, 7002));
+
+    // An answer forgets them; the status at 9,003 begins another spell.
+    assert!(rt; watch.info(50, 0, &UID, 6003));
+    watch.status(50, 9003);
+    ask(&mut watch, 50, 9003);
+    assert!(rt; !watch.silent(50, Counting::SinceAnswer, 10003));
 }
 
 #[test]
