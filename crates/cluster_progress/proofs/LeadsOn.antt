@@ -69,6 +69,17 @@ use Rattle.cluster_progress.proofs.Ends.{IsKept, rest_keeps}
 abbrev Leads : StepState → Type 0
 Leads g = g.allocator.raft_server.memory.role ≡ Leader
 
+-- a leader does not stand for election
+nobody : (waited room : Bool) → (waited && (false && room)) ≡ false
+nobody true room = refl
+nobody false room = refl
+
+pub no_election : (waited : Bool) (server : RaftServer) → server.memory.role ≡ Leader → tick_phase waited server ≡ []
+no_election waited server role =
+    let none : (waited && (not (is_leader server.memory.role) && nat_lt server.store.term term_limit)) ≡ false
+    = ap (λ (r : Role). waited && (not (is_leader r) && nat_lt server.store.term term_limit)) role ∙ nobody waited (nat_lt server.store.term term_limit) in
+    ap (λ (b : Bool). if b then TimeOut ∷ [] else []) none
+
 -- ---- as a step ends
 
 module _ (number : ℕ) where
@@ -91,15 +102,9 @@ module _ (number : ℕ) where
 
   -- ---- a tick
 
-  nobody : (waited room : Bool) → (waited && (false && room)) ≡ false
-  nobody true room = refl
-  nobody false room = refl
-
   elects : (word : ℕ) (waited : Bool) (g : StepState) → Leads g → Leads (with_moves number (given_tick g.allocator.now word) (tick_phase waited g.allocator.raft_server) g)
   elects word waited g h =
-      let none : (waited && (not (is_leader g.allocator.raft_server.memory.role) && nat_lt g.allocator.raft_server.store.term term_limit)) ≡ false
-      = ap (λ (r : Role). waited && (not (is_leader r) && nat_lt g.allocator.raft_server.store.term term_limit)) h ∙ nobody waited (nat_lt g.allocator.raft_server.store.term term_limit) in
-      subst (λ (b : Bool). Leads (with_moves number (given_tick g.allocator.now word) (if b then TimeOut ∷ [] else []) g)) (sym none) h
+      subst (λ (moves : List Move). Leads (with_moves number (given_tick g.allocator.now word) moves g)) (sym (no_election waited g.allocator.raft_server h)) h
 
   recorded_as : (node : ℕ) (uid : Option (List ℕ)) (g : StepState) → Leads g → Leads (records_as number node uid g)
   recorded_as node None g h = h

@@ -22,3 +22,4 @@ pub mod WaitsAnew
 pub mod StaysFollower
 pub mod FramesLeave
 pub mod LeadsOn
+pub mod Recording

@@ -6,3 +6,4 @@ pub mod ComingBack
 pub mod Devices
 pub mod InTime
 pub mod Leading
+pub mod Recording

@@ -10,6 +10,7 @@ ghost use Rattle.cluster_progress.specs.ComingBack.{CanStillTell, ComesBack, New
 ghost use Rattle.cluster_progress.specs.Devices.{HoldsWhatIsGiven, OffersFirst, OffersFollowUps, RequestsAreRequests, WaitsToFollowUp};
 ghost use Rattle.cluster_progress.specs.InTime.{FollowsOn, FramesLeaveFollowers, NoCallIsOld, StandsInTime, StaysFollower, StaysInTouch, WaitsAnew};
 ghost use Rattle.cluster_progress.specs.Leading.{LeadsOnAtFrames, LeadsOnAtTicks};
+ghost use Rattle.cluster_progress.specs.Recording.{RecordsNodes, RecordsSilentNodes};
 ghost use Rattle.cluster_progress.specs.Requests.{IsRequest, delivery_of};
 ghost use Rattle.cluster_progress.specs.Serving.{
   AnswersInThree,
@@ -22,6 +23,7 @@ ghost use Rattle.cluster_progress.specs.Serving.{
 use alloc_spec_laws::laws::duty_of_a_step;
 use can_frame::laws::{frames_read_as_their_pieces, identifiers_both_ways, logs_stay_injective};
 use dsdl_codec::laws::allocations_both_ways;
+use node_discovery::laws::silence_is_computed;
 use raft_model::laws::{law_decisions, law_duty, law_every_run, law_fit};
 
 /// A request of a device is delivered, whatever sessions the receiver has: it needs none of its own.
@@ -151,3 +153,13 @@ pub fn leaders_lead_on()
     ensures ticks { LeadsOnAtTicks }
     ensures frames { LeadsOnAtFrames }
 {}
+
+/// At each tick a leader whose log has room puts into it a node that it does not know, and that told its unique ID or
+/// is silent: the least such node. So a node that answers nothing is set aside at the first such tick after the fifth
+/// query that counts has waited for its answer, or after one tick more for each such node below it.
+pub fn a_leader_records_nodes()
+    ensures candidates { RecordsNodes }
+    ensures silent { RecordsSilentNodes }
+{
+    silence_is_computed();
+}
