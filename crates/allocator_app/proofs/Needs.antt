@@ -27,7 +27,7 @@ pub no_links_used : {L D : Type 0} (plan : Plan) (words : List (List ℕ)) (link
     → HasObjects plan links disks → AreNone links disks → ⊥
 no_links_used (Replay rows ids) words links disks planned uses has none = uses
 no_links_used (Node told base turns ids) words links disks planned uses has none = some_given ids.items links disks planned.members.some has none
-no_links_used (Soak seed rounds size) words links disks planned uses has none = uses
+no_links_used (Soak told seed rounds size) words links disks planned uses has none = uses
 no_links_used (New ids) words links disks planned uses has none = uses
 no_links_used (Audit ids) words links disks planned uses has none = uses
 no_links_used (Watch candump lines ids) words links disks planned uses has none = uses
@@ -38,7 +38,7 @@ pub no_disks_used : {L D : Type 0} (plan : Plan) (words : List (List ℕ)) (link
     → HasObjects plan links disks → AreNone links disks → ⊥
 no_disks_used (Replay rows ids) words links disks planned uses has none = uses
 no_disks_used (Node told base turns ids) words links disks planned uses has none = some_given ids.items links disks planned.members.some has none
-no_disks_used (Soak seed rounds size) words links disks planned uses has none = uses
+no_disks_used (Soak told seed rounds size) words links disks planned uses has none = uses
 no_disks_used (New ids) words links disks planned uses has none = some_stored ids.items links disks planned.members.some has none
 no_disks_used (Audit ids) words links disks planned uses has none = some_stored ids.items links disks planned.members.some has none
 no_disks_used (Watch candump lines ids) words links disks planned uses has none = uses

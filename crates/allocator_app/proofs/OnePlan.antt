@@ -9,7 +9,7 @@ use Rattle.cluster_spec.specs.Cluster.{AreMembers}
 use Rattle.allocator_app.specs.declared.told.Told.{Told}
 use Rattle.allocator_app.specs.declared.told.Told.TheVariants.{Members, Size}
 use Rattle.allocator_app.specs.Told.{IsCluster, Spells, size_of}
-use Rattle.allocator_app.specs.Words.{AreFew, IsAudit, IsConvert, IsDecode, IsNew, IsNode, IsPlan, IsReplay, IsSoak, IsSound, IsWatch, SpellsPayload, form_word}
+use Rattle.allocator_app.specs.Words.{AreFew, IsAudit, IsConvert, IsDecode, IsNew, IsNode, IsPlan, IsReplay, IsSize, IsSoak, IsSound, IsWatch, SpellsPayload, form_word}
 use Rattle.allocator_app.specs.declared.plans.Plan.{Plan}
 use Rattle.allocator_app.proofs.Listing.{same_numbers, same_told}
 use Rattle.allocator_app.specs.declared.plans.Plan.TheVariants.{Replay, Node, Soak, New, Audit, Watch, Convert, Decode}
@@ -22,7 +22,7 @@ sizes (Members members) h = (h.some, h.five)
 pub sound : (plan : Plan) (words : List (List ℕ)) → IsPlan plan words → IsSound plan
 sound (Replay rows ids) words h = (h.rows_most, h.members)
 sound (Node told base turns ids) words h = let size = sizes told h.cluster in (size.0, size.1, h.turns_most, h.members)
-sound (Soak seed rounds size) words h = (h.rounds_most, h.size_least, h.size_most)
+sound (Soak told seed rounds size) words h = (h.rounds_most, h.sized.least, h.sized.most)
 sound (New ids) words h = h.members
 sound (Audit ids) words h = h.members
 sound (Watch candump lines ids) words h = (h.lines_least, h.lines_most, h.nodes)
@@ -31,13 +31,13 @@ sound (Decode name part payload) words h = (h.named, h.part_least, h.part_most, 
 
 -- words that have no plan by any mode have none
 pub unplanned : (words : List (List ℕ)) → ((rows : ℕ) (ids : List ℕ) → IsReplay rows ids words → ⊥)
-    → ((told : Told) (base turns : ℕ) (ids : List ℕ) → IsNode told base turns ids words → ⊥) → ((seed rounds size : ℕ) → IsSoak seed rounds size words → ⊥)
+    → ((told : Told) (base turns : ℕ) (ids : List ℕ) → IsNode told base turns ids words → ⊥) → ((told : Bool) (seed rounds size : ℕ) → IsSoak told seed rounds size words → ⊥)
     → ((ids : List ℕ) → IsNew ids words → ⊥) → ((ids : List ℕ) → IsAudit ids words → ⊥) → ((candump : Bool) (lines : ℕ) (ids : List ℕ) → IsWatch candump lines ids words → ⊥)
     → ((from_candump to_candump : Bool) (lines : ℕ) → IsConvert from_candump to_candump lines words → ⊥)
     → ((name : List ℕ) (part : ℕ) (payload : List ℕ) → IsDecode name part payload words → ⊥) → (plan : Plan) → IsPlan plan words → ⊥
 unplanned words no_replay no_node no_soak no_new no_audit no_watch no_convert no_decode (Replay rows ids) is = no_replay rows ids.items is
 unplanned words no_replay no_node no_soak no_new no_audit no_watch no_convert no_decode (Node told base turns ids) is = no_node told base turns ids.items is
-unplanned words no_replay no_node no_soak no_new no_audit no_watch no_convert no_decode (Soak seed rounds size) is = no_soak seed rounds size is
+unplanned words no_replay no_node no_soak no_new no_audit no_watch no_convert no_decode (Soak told seed rounds size) is = no_soak told seed rounds size is
 unplanned words no_replay no_node no_soak no_new no_audit no_watch no_convert no_decode (New ids) is = no_new ids.items is
 unplanned words no_replay no_node no_soak no_new no_audit no_watch no_convert no_decode (Audit ids) is = no_audit ids.items is
 unplanned words no_replay no_node no_soak no_new no_audit no_watch no_convert no_decode (Watch candump lines ids) is = no_watch candump lines ids.items is
@@ -59,7 +59,7 @@ data Mode : Type 0 where
 abbrev mode : Plan → Mode
 mode (Replay rows ids) = replaying
 mode (Node told base turns ids) = running
-mode (Soak seed rounds size) = soaking
+mode (Soak told seed rounds size) = soaking
 mode (New ids) = making
 mode (Audit ids) = auditing
 mode (Watch candump lines ids) = watching
@@ -84,7 +84,7 @@ mode_of ((letter ∷ word) ∷ words) = if length word == 2 then making else mod
 mode_is : (plan : Plan) (words : List (List ℕ)) → IsPlan plan words → mode_of words ≡ mode plan
 mode_is (Replay rows ids) words h = ap mode_of h.spelled
 mode_is (Node told base turns ids) words h = ap mode_of h.spelled
-mode_is (Soak seed rounds size) words h = ap mode_of h.spelled
+mode_is (Soak told seed rounds size) words h = ap mode_of h.spelled
 mode_is (New ids) words h = ap mode_of h.spelled
 mode_is (Audit ids) words h = ap mode_of h.spelled
 mode_is (Watch candump lines ids) words h = ap mode_of h.spelled
@@ -95,7 +95,7 @@ mode_is (Decode name part payload) words h = ap mode_of h.spelled
 abbrev IsOf : Mode → Plan → Type 0
 IsOf replaying plan = (rows : ℕ) × (ids : ArrayVec ℕ) × (plan ≡ Replay rows ids)
 IsOf running plan = (told : Told) × (base turns : ℕ) × (ids : ArrayVec ℕ) × (plan ≡ Node told base turns ids)
-IsOf soaking plan = (seed rounds size : ℕ) × (plan ≡ Soak seed rounds size)
+IsOf soaking plan = (told : Bool) × (seed rounds size : ℕ) × (plan ≡ Soak told seed rounds size)
 IsOf making plan = (ids : ArrayVec ℕ) × (plan ≡ New ids)
 IsOf auditing plan = (ids : ArrayVec ℕ) × (plan ≡ Audit ids)
 IsOf watching plan = (candump : Bool) × (lines : ℕ) × (ids : ArrayVec ℕ) × (plan ≡ Watch candump lines ids)
@@ -105,7 +105,7 @@ IsOf decoding plan = (name : ArrayVec ℕ) × (part : ℕ) × (payload : ArrayVe
 is_of : (plan : Plan) → IsOf (mode plan) plan
 is_of (Replay rows ids) = (rows, ids, refl)
 is_of (Node told base turns ids) = (told, base, turns, ids, refl)
-is_of (Soak seed rounds size) = (seed, rounds, size, refl)
+is_of (Soak told seed rounds size) = (told, seed, rounds, size, refl)
 is_of (New ids) = (ids, refl)
 is_of (Audit ids) = (ids, refl)
 is_of (Watch candump lines ids) = (candump, lines, ids, refl)
@@ -155,6 +155,9 @@ same_payload [] (y ∷ ys) word p q = absurd (no_digits y ys (subst (IsHex (y �
 same_payload (x ∷ xs) [] word p q = absurd (no_digits x xs (subst (IsHex (x ∷ xs)) q p))
 same_payload (x ∷ xs) (y ∷ ys) word p q = let same = sym p ∙ q in cc
 
+first : {a x : List ℕ} {l m : List (List ℕ)} → a ∷ l ≡ x ∷ m → a ≡ x
+first e = cc
+
 second : {a b x y : List ℕ} {l m : List (List ℕ)} → a ∷ b ∷ l ≡ x ∷ y ∷ m → b ≡ y
 second e = cc
 
@@ -175,6 +178,19 @@ after_three e = cc
 
 pub after_four : {a b c d x y z w : List ℕ} {l m : List (List ℕ)} → a ∷ b ∷ c ∷ d ∷ l ≡ x ∷ y ∷ z ∷ w ∷ m → l ≡ m
 after_four e = cc
+
+-- the words of a cluster's size spell one
+same_size : (a b : Bool) (n m : ℕ) (words : List (List ℕ)) → IsSize a n words → IsSize b m words → (a ≡ b) × (n ≡ m)
+same_size true true n m words p q =
+    let low = p.most in let high = q.most in
+    let same = sym p.spelled ∙ q.spelled in
+    (refl, one_number n m (omega (arith, low)) (omega (arith, high)) (second same))
+same_size true false n m words p q = let same = sym p.spelled ∙ q.spelled in cc
+same_size false true n m words p q = let same = sym p.spelled ∙ q.spelled in cc
+same_size false false n m words p q =
+    let low = p.most in let high = q.most in
+    let same = sym p.spelled ∙ q.spelled in
+    (refl, one_number n m (omega (arith, low)) (omega (arith, high)) (first same))
 
 -- ---- the plan of the words of each mode
 
@@ -204,15 +220,16 @@ module _ (plan : Plan) (words : List (List ℕ)) (planned : IsPlan plan words) w
       ∙ ap (λ n. Node told base n own.3) (one_number own.2 turns is.turns_most asks.turns_most (fourth same))
       ∙ ap (λ l. Node told base turns (kept l)) (same_members own.3.items ids is.members asks.members (after_four same))
 
-  pub only_soak : (seed rounds size : ℕ) → IsSoak seed rounds size words → plan ≡ Soak seed rounds size
-  only_soak seed rounds size asks =
-      let own = of_mode plan (Soak seed rounds size) words planned asks in
-      let is = by (Soak own.0 own.1 own.2) own.3 in
+  pub only_soak : (told : Bool) (seed rounds size : ℕ) → IsSoak told seed rounds size words → plan ≡ Soak told seed rounds size
+  only_soak told seed rounds size asks =
+      let own = of_mode plan (Soak told seed rounds size) words planned asks in
+      let is = by (Soak own.0 own.1 own.2 own.3) own.4 in
       let same = sym is.spelled ∙ asks.spelled in
-      let a = is.rounds_most in let b = asks.rounds_most in let c = is.size_most in let d = asks.size_most in
-      own.3 ∙ ap (λ n. Soak n own.1 own.2) (same_number own.0 seed is.seed_most asks.seed_most (second same))
-      ∙ ap (λ n. Soak seed n own.2) (one_number own.1 rounds (omega (arith, a)) (omega (arith, b)) (third same))
-      ∙ ap (λ n. Soak seed rounds n) (one_number own.2 size (omega (arith, c)) (omega (arith, d)) (fourth same))
+      let a = is.rounds_most in let b = asks.rounds_most in
+      let cluster = same_size own.0 told own.3 size is.cluster is.sized (subst (IsSize told size) (sym (after_three same)) asks.sized) in
+      own.4 ∙ ap (λ n. Soak own.0 n own.2 own.3) (same_number own.1 seed is.seed_most asks.seed_most (second same))
+      ∙ ap (λ n. Soak own.0 seed n own.3) (one_number own.2 rounds (omega (arith, a)) (omega (arith, b)) (third same))
+      ∙ ap (λ k. Soak k seed rounds own.3) cluster.0 ∙ ap (λ n. Soak told seed rounds n) cluster.1
 
   pub only_new : (ids : List ℕ) → IsNew ids words → plan ≡ New (kept ids)
   only_new ids asks =
@@ -262,7 +279,7 @@ module _ (plan : Plan) (words : List (List ℕ)) (planned : IsPlan plan words) w
   pub only : (other : Plan) → IsPlan other words → plan ≡ other
   only (Replay rows ids) asks = only_replay rows ids.items asks
   only (Node told base turns ids) asks = only_node told base turns ids.items asks
-  only (Soak seed rounds size) asks = only_soak seed rounds size asks
+  only (Soak told seed rounds size) asks = only_soak told seed rounds size asks
   only (New ids) asks = only_new ids.items asks
   only (Audit ids) asks = only_audit ids.items asks
   only (Watch candump lines ids) asks = only_watch candump lines ids.items asks

@@ -95,6 +95,12 @@ four_alone f xs a b c d long short p q r s =
     let none : length xs - 4 ≡ 0 = omega (arith, short) in
     from_four f xs a b c d long p q r s ∙ ap (λ n. f a ∷ f b ∷ f c ∷ f d ∷ map f (take n (drop 4 xs))) none
 
+pub two_alone : {A : Type 0} (f : A → List ℕ) (xs : List A) (a b : A) → 2 ≤ length xs → length xs < 3 → a ≡ slice_index_or xs 0 a →
+    b ≡ slice_index_or xs 1 b → map f xs ≡ f a ∷ f b ∷ []
+two_alone f xs a b long short p q =
+    let none : length xs - 2 ≡ 0 = omega (arith, short) in
+    from_two f xs a b long p q ∙ ap (λ n. f a ∷ f b ∷ map f (take n (drop 2 xs))) none
+
 pub second_of_four : {a b c d x y z w : List ℕ} {l m : List (List ℕ)} → a ∷ b ∷ c ∷ d ∷ l ≡ x ∷ y ∷ z ∷ w ∷ m → b ≡ y
 second_of_four e = cc
 

@@ -2,7 +2,7 @@
 use Rattle.std.specs.Prelude.{◌≡◌, ◌≢◌, ◌≤◌, ◌<◌, ℕ, ◌+◌, List, [], ◌++◌, codes, decimal, Some}
 use Rattle.replay_text.specs.declared.row.Row.{Row}
 use Rattle.replay_text.specs.Lines.{BeginsWith, BeginsWithNoRow, ReadsRows}
-use Rattle.cluster_spec.specs.Cluster.{Cluster, after_rows, cluster}
+use Rattle.cluster_spec.specs.Cluster.{Cluster, after_rows}
 use Rattle.cluster_spec.specs.Lawful.{Lawful, cause, number_of}
 use Rattle.cluster_spec.specs.Promise.{KeepsItsWord}
 use Rattle.cluster_spec.specs.Report.{end_lines, row_lines}

@@ -1,5 +1,5 @@
 -- The words of the program.
-use Rattle.std.specs.Prelude.{◌≡◌, ◌≤◌, ◌<◌, ◌⊎◌, ◌^◌, ℕ, Bool, true, false, IsTrue, List, [], ◌∷◌, codes, decimal, length, map, EachIndex, slice_index_or, Option, None, IsNone, IsSome}
+use Rattle.std.specs.Prelude.{◌≡◌, ◌≤◌, ◌<◌, ◌⊎◌, ◌^◌, ℕ, Bool, true, false, IsTrue, List, [], ◌∷◌, ◌++◌, codes, decimal, length, map, EachIndex, slice_index_or, Option, None, IsNone, IsSome}
 use Rattle.dsdl_text.specs.Words.{is_name}
 use Rattle.replay_text.specs.Words.{IsHex}
 use Rattle.cluster_spec.specs.Cluster.{AreMembers}
@@ -28,13 +28,25 @@ pub record IsNode (told : Told) (base turns : ℕ) (ids : List ℕ) (words : Lis
   pub members : AreMembers ids
   pub among : AreAmong told ids
 
--- the words `soak <seed> <rounds> <size>`: what is drawn, how often, and how many members the cluster has
-pub record IsSoak (seed rounds size : ℕ) (words : List (List ℕ)) : Type 0 where
-  pub spelled : words ≡ codes "soak" ∷ decimal seed ∷ decimal rounds ∷ decimal size ∷ []
+-- the word that stands before the number of members, where they are told who they are
+abbrev pub kind_words : Bool → List (List ℕ)
+kind_words false = []
+kind_words true = codes "configured" ∷ []
+
+-- the words `<size>` or `configured <size>`: how many members the cluster of a soak has
+pub record IsSize (told : Bool) (size : ℕ) (words : List (List ℕ)) : Type 0 where
+  pub spelled : words ≡ kind_words told ++ decimal size ∷ []
+  pub least : 1 ≤ size
+  pub most : size ≤ 5
+
+-- the words `soak <seed> <rounds> <size>` or `soak <seed> <rounds> configured <size>`: what is drawn, how often, and of
+-- which cluster
+pub record IsSoak (told : Bool) (seed rounds size : ℕ) (words : List (List ℕ)) : Type 0 where
+  pub cluster : List (List ℕ)
+  pub spelled : words ≡ codes "soak" ∷ decimal seed ∷ decimal rounds ∷ cluster
+  pub sized : IsSize told size cluster
   pub seed_most : seed < 2 ^ 64
   pub rounds_most : rounds ≤ 20000
-  pub size_least : 1 ≤ size
-  pub size_most : size ≤ 5
 
 -- the words `new <id>..`: whose stores are made
 pub record IsNew (ids : List ℕ) (words : List (List ℕ)) : Type 0 where
@@ -89,7 +101,7 @@ pub record IsDecode (name : List ℕ) (part : ℕ) (payload : List ℕ) (words :
 abbrev pub IsPlan : Plan → List (List ℕ) → Type 0
 IsPlan (Replay rows ids) words = IsReplay rows ids.items words
 IsPlan (Node told base turns ids) words = IsNode told base turns ids.items words
-IsPlan (Soak seed rounds size) words = IsSoak seed rounds size words
+IsPlan (Soak told seed rounds size) words = IsSoak told seed rounds size words
 IsPlan (New ids) words = IsNew ids.items words
 IsPlan (Audit ids) words = IsAudit ids.items words
 IsPlan (Watch candump lines ids) words = IsWatch candump lines ids.items words
@@ -101,7 +113,7 @@ abbrev pub IsSound : Plan → Type 0
 IsSound (Replay rows ids) = (rows ≤ 1000000) × AreMembers ids.items
 IsSound (Node told base turns ids) =
     (1 ≤ size_of told) × (size_of told ≤ 5) × (turns ≤ 1000000000) × AreMembers ids.items
-IsSound (Soak seed rounds size) = (rounds ≤ 20000) × (1 ≤ size) × (size ≤ 5)
+IsSound (Soak told seed rounds size) = (rounds ≤ 20000) × (1 ≤ size) × (size ≤ 5)
 IsSound (New ids) = AreMembers ids.items
 IsSound (Audit ids) = AreMembers ids.items
 IsSound (Watch candump lines ids) = (1 ≤ lines) × (lines ≤ 1000000) × AreFew ids.items
@@ -150,7 +162,7 @@ pub record IsAsked {L D : Type 0} (words : List (List ℕ)) (links : List L) (di
 -- a plan that reads the source; one that works on links and with the clock; and one that works on disks
 abbrev pub Reads : Plan → Type 0
 Reads (Node told base turns ids) = ⊥
-Reads (Soak seed rounds size) = ⊥
+Reads (Soak told seed rounds size) = ⊥
 Reads (New ids) = ⊥
 Reads (Audit ids) = ⊥
 Reads _ = Unit {0}

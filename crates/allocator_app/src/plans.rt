@@ -23,8 +23,10 @@ pub enum Plan {
     },
 
     /// To run a cluster of the members 1 to `size`, 1 to 5, for so many rounds, at most 20,000, under
-    /// stops, losses and repeats that are drawn from the seed.
+    /// stops, losses and repeats that are drawn from the seed. Each member is told who the members are, or their
+    /// number alone.
     Soak {
+        told: bool,
         seed: u64,
         rounds: u64,
         size: u8,

@@ -53,7 +53,7 @@ use store_audit::audit_stores;
 /// (`specs/InPart.antt`).
 ///
 /// `soak <seed> <rounds> <size>` makes its rows from the seed, and writes what they came to in six lines
-/// (`Rounds` and `Counts` of `cmd_soak`).
+/// (`Rounds` and `Counts` of `cmd_soak`). With `configured` before the size its members are told who they are.
 ///
 /// `node <members> <base> <turns> <id>..` runs these members of a cluster, which are told its size or a list
 /// of its members, over the links and the disks that are handed in, one of each for a member, in their order,
@@ -148,10 +148,11 @@ pub fn run<S: Source, K: Sink, L: Link, D: Disk, C: Clock>(
         (Rose (K.faults sink.old) (K.faults sink.new) → ⊥) →
         (result ≡ Status.Done) ⊎ (result ≡ Status.Memory) }
     // A soak: what is written; and along its rows the promise holds.
-    ensures soak { (seed rounds size : ℕ) → IsSoak seed rounds size (map string_bytes words.now) →
-        (result ≡ Status.Usage) ⊎ (Soaks seed rounds size (K.faults sink.old) (K.faults sink.new)
+    ensures soak { (told : Bool) (seed rounds size : ℕ) →
+        IsSoak told seed rounds size (map string_bytes words.now) →
+        (result ≡ Status.Usage) ⊎ (Soaks told seed rounds size (K.faults sink.old) (K.faults sink.new)
         (K.written sink.old) (K.written sink.new) result ×
-        KeepsPromise (members size) (soaked seed rounds size).rows) }
+        KeepsPromise (members size) (soaked told seed rounds size).rows) }
     // Allocators over links and disks: what is left and written; and in every trace of processes in
     // which the run stands it is what the world of the trace says, along whose rows the promise holds.
     ensures nodes { (told : Told) (base turns : ℕ) (ids : List ℕ) →
@@ -296,7 +297,12 @@ fn follow<S: Source, K: Sink, L: Link, D: Disk, C: Clock>(
             disks,
             clock,
         ),
-        Plan::Soak { seed, rounds, size } => soak(alloc, seed, rounds, size, sink),
+        Plan::Soak {
+            told,
+            seed,
+            rounds,
+            size,
+        } => soak(alloc, told, seed, rounds, size, sink),
         Plan::New { ids } => make_stores(&ids, disks, sink),
         Plan::Audit { ids } => audit_stores(&ids, disks, sink),
         Plan::Watch {

@@ -3,7 +3,7 @@ ghost use Rattle.dsdl_text.specs.Words as text_words;
 ghost use Rattle.raft_model.specs.Lists.{In};
 ghost use Rattle.cluster_spec.specs.Cluster.{AreMembers};
 ghost use Rattle.allocator_app.specs.declared.told.Told.{Told};
-ghost use Rattle.allocator_app.specs.Words.{AreFew, IsAudit, IsConvert, IsDecode, IsNew, IsNode, IsPlan, IsReplay, IsSoak, IsWatch, SpellsPayload, form_word};
+ghost use Rattle.allocator_app.specs.Words.{AreFew, IsAudit, IsConvert, IsDecode, IsNew, IsNode, IsPlan, IsReplay, IsSize, IsSoak, IsWatch, SpellsPayload, form_word};
 
 use crate::plans::Plan;
 use crate::told::read_told;
@@ -14,7 +14,7 @@ use replay_text::{read_bytes, read_number};
 
 /// The plan of the words, without the program's name; `None` where they are none of
 /// `replay <rows> <id>..`, `node <members> <base> <turns> <id>..`, `soak <seed> <rounds> <size>`,
-/// `new <id>..`, `audit <id>..`, `watch <format> <lines> <id>..`, `convert <format> <format> <lines>` and
+/// `soak <seed> <rounds> configured <size>`, /// `new <id>..`, `audit <id>..`, `watch <format> <lines> <id>..`, `convert <format> <format> <lines>` and
 /// `decode <name> <part> <hex>`.
 pub fn plan(words: &[String]) -> Option<Plan>
     ensures some { IfSome result (λ plan. IsPlan plan (map string_bytes words.now)) }
@@ -88,10 +88,10 @@ fn node_plan(words: &[String]) -> Option<Plan>
 
 fn soak_plan(words: &[String]) -> Option<Plan>
     ensures some { IfSome result (λ plan. IsPlan plan (map string_bytes words.now)) }
-    ensures none { IsNone result → (seed rounds size : ℕ) →
-        IsSoak seed rounds size (map string_bytes words.now) → ⊥ }
+    ensures none { IsNone result → (told : Bool) (seed rounds size : ℕ) →
+        IsSoak told seed rounds size (map string_bytes words.now) → ⊥ }
 {
-    let [mode, seed, rounds, size] = words else {
+    let [mode, seed, rounds, members @ ..] = words else {
         return None;
     };
     if mode.as_str() != "soak" {
@@ -99,8 +99,33 @@ fn soak_plan(words: &[String]) -> Option<Plan>
     }
     let seed = read_number(seed.as_bytes(), u64::MAX)?;
     let rounds = read_number(rounds.as_bytes(), 20_000)?;
+    let (told, size) = read_cluster(members)?;
+    Some(Plan::Soak {
+        told,
+        seed,
+        rounds,
+        size,
+    })
+}
+
+/// Whether members are told who they are, and how many there are.
+fn read_cluster(words: &[String]) -> Option<(bool, u8)>
+    ensures some { IfSome result (λ read. IsSize read.0 read.1 (map string_bytes words.now)) }
+    ensures none { IsNone result → (told : Bool) (size : ℕ) →
+        IsSize told size (map string_bytes words.now) → ⊥ }
+{
+    if let [size] = words {
+        let size = number_within(size.as_bytes(), 1, 5)? as u8;
+        return Some((false, size));
+    }
+    let [kind, size] = words else {
+        return None;
+    };
+    if kind.as_str() != "configured" {
+        return None;
+    }
     let size = number_within(size.as_bytes(), 1, 5)? as u8;
-    Some(Plan::Soak { seed, rounds, size })
+    Some((true, size))
 }
 
 fn new_plan(words: &[String]) -> Option<Plan>

@@ -37,10 +37,10 @@ counts_are rounds size s frames stopped rejected found e f h i =
     ap (λ a. counts a stopped rejected found) e ∙ ap (λ b. counts (length s.world.frames) b rejected found) f
     ∙ ap (λ c. counts (length s.world.frames) s.stops c found) h ∙ ap (λ d. counts (length s.world.frames) s.stops s.refused d) i
 
-pub report_is : (seed rounds size : ℕ) (counts : Counts) → counts ≡ counts_of rounds size (for_each (has_round size) 1 rounds (seeded seed size)) →
-    lines_of counts ≡ soak_report seed rounds size
+pub report_is : (told : Bool) (seed rounds size : ℕ) (counts : Counts) → counts ≡ counts_of rounds size (for_each (has_round size) 1 rounds (seeded told seed size)) →
+    lines_of counts ≡ soak_report told seed rounds size
 unfolding soak_report soaked
-report_is seed rounds size counts e = ap lines_of e
+report_is told seed rounds size counts e = ap lines_of e
 
 pub nothing_waited : (a b : Option (List ℕ)) (piece : List ℕ) → Appends (append_known a []) b piece → Appends a b piece
 nothing_waited None b piece h = tt

@@ -143,7 +143,7 @@ asks_in_time_grows round s =
 pub opens_grows : (n : ℕ) (s : Soak) → Grows 0 1 s (opens n s)
 unfolding opens
 opens_grows n s =
-    let row = Open n false s.moment (word s) in
+    let row = Open n s.told s.moment (word s) in
     either 0 1 s s (gives row (draws s)) (shows n s) (grows_more 0 0 0 1 s s (omega arith) (omega arith) (grows_not s))
     (drawn_first 0 1 s (gives row (draws s)) (gives_grows row (draws s)))
 

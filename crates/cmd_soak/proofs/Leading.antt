@@ -79,7 +79,7 @@ module _ (ids : List ℕ) where
   opens_led : (n : ℕ) (s : Soak) → IsLed ids s → IsLed ids (opens n s)
   unfolding opens
   opens_led n s led =
-      let row = Open n false s.moment (word s) in
+      let row = Open n s.told s.moment (word s) in
       either (shows n s) s (gives row (draws s)) led (gives_led row (draws s) refl (drawn_led s led))
 
   ticks_led : (n : ℕ) (s : Soak) → IsLed ids s → IsLed ids (ticks n s)
@@ -148,7 +148,7 @@ module _ (ids : List ℕ) where
 
 -- ---- the whole
 
-pub soaked_led : (seed rounds size : ℕ) → IsLed (members size) (soaked seed rounds size)
+pub soaked_led : (told : Bool) (seed rounds size : ℕ) → IsLed (members size) (soaked told seed rounds size)
 unfolding soaked
-soaked_led seed rounds size =
-    each_led (members size) (has_round size) (round_led (members size) size) rounds 1 (seeded seed size) (record { lawful = tt; leads = refl; faultless = tt })
+soaked_led told seed rounds size =
+    each_led (members size) (has_round size) (round_led (members size) size) rounds 1 (seeded told seed size) (record { lawful = tt; leads = refl; faultless = tt })

@@ -45,8 +45,8 @@ sent_last n (suc left) s some e = in_then (λ t. t ≡ s) (is_refused s (Send n)
 sent_one : (n left : ℕ) (s : Soak) → is_refused s (Send n) ≡ false → sends n (suc left) s ≡ sends n left (takes (Send n) s)
 sent_one n left s e = in_else (λ t. t ≡ sends n left (takes (Send n) s)) (is_refused s (Send n)) s (sends n left (takes (Send n) s)) e refl
 
-pub fits_first : (seed rounds size room : ℕ) → rounds ≤ 20000 → rounds * 41 ≤ room → Fits (rounds * 41) (rounds * 274877906944) room (seeded seed size)
-fits_first seed rounds size room most enough = record {
+pub fits_first : (told : Bool) (seed rounds size room : ℕ) → rounds ≤ 20000 → rounds * 41 ≤ room → Fits (rounds * 41) (rounds * 274877906944) room (seeded told seed size)
+fits_first told seed rounds size room most enough = record {
   frames = omega (arith, enough);
   rows = omega (arith, most);
   stops = omega (arith, most);
@@ -61,6 +61,7 @@ module _ {F G : Type 0} where
     world = is.world;
     room = is.room;
     narrow = is.narrow;
+    told = is.told;
     chance = e ∙ ap next_state is.chance;
     moment = is.moment;
     heard = is.heard;
@@ -118,6 +119,7 @@ module _ {F G : Type 0} where
     world = after;
     room = room ∙ is.room;
     narrow = is.narrow;
+    told = is.told;
     chance = is.chance;
     moment = is.moment;
     heard = is.heard;
@@ -133,6 +135,7 @@ module _ {F G : Type 0} where
         world = is.world;
         room = is.room;
         narrow = is.narrow;
+        told = is.told;
         chance = is.chance;
         moment = is.moment;
         heard = is.heard;
@@ -175,14 +178,15 @@ module _ {F G : Type 0} where
 
   pub opens_not : (new : Soaking F G) (n : ℕ) (s : Soak) → shows n s ≡ true → StandsFor new s → StandsFor new (opens n s)
   unfolding opens
-  opens_not new n s e is = in_then (StandsFor new) (shows n s) s (gives (Open n false s.moment (word s)) (draws s)) e is
+  opens_not new n s e is = in_then (StandsFor new) (shows n s) s (gives (Open n s.told s.moment (word s)) (draws s)) e is
 
-  pub opens_now : (new : Soaking F G) (n : ℕ) (s : Soak) (ms w : ℕ) → shows n s ≡ false → ms ≡ s.moment → w ≡ word s →
-      StandsFor new (gives (Open n false ms w) (draws s)) → StandsFor new (opens n s)
+  pub opens_now : (new : Soaking F G) (n : ℕ) (s : Soak) (told : Bool) (ms w : ℕ) → shows n s ≡ false → told ≡ s.told → ms ≡ s.moment → w ≡ word s →
+      StandsFor new (gives (Open n told ms w) (draws s)) → StandsFor new (opens n s)
   unfolding opens
-  opens_now new n s ms w e f h is =
-      in_else (StandsFor new) (shows n s) s (gives (Open n false s.moment (word s)) (draws s)) e
-      (subst (λ m. StandsFor new (gives (Open n false m (word s)) (draws s))) f (subst (λ v. StandsFor new (gives (Open n false ms v) (draws s))) h is))
+  opens_now new n s told ms w e i f h is =
+      in_else (StandsFor new) (shows n s) s (gives (Open n s.told s.moment (word s)) (draws s)) e
+      (subst (λ t. StandsFor new (gives (Open n t s.moment (word s)) (draws s))) i
+      (subst (λ m. StandsFor new (gives (Open n told m (word s)) (draws s))) f (subst (λ v. StandsFor new (gives (Open n told ms v) (draws s))) h is)))
 
   pub ticks_not : (new : Soaking F G) (n : ℕ) (s : Soak) → shows n s ≡ false → StandsFor new s → StandsFor new (ticks n s)
   unfolding ticks
@@ -265,6 +269,7 @@ module _ {F G : Type 0} where
     world = is.world;
     room = is.room;
     narrow = is.narrow;
+    told = is.told;
     chance = is.chance;
     moment = refl;
     heard = is.heard;
@@ -278,6 +283,7 @@ module _ {F G : Type 0} where
     world = is.world;
     room = is.room;
     narrow = is.narrow;
+    told = is.told;
     chance = is.chance;
     moment = is.moment;
     heard = e;
@@ -368,12 +374,13 @@ module _ {F G : Type 0} where
   unfolding has_round
   rounds_off new size number s is = is
 
-  pub started : (world : World F G) (seed size room : ℕ) → IsWorld world (cluster (members size)) → frame_room world ≡ room → room < 4294967296 →
-      StandsFor (record { world = world; chance = seed; room = room; moment = 0; heard = 0; stops = 0; refused = 0 }) (seeded seed size)
-  started world seed size room is same narrow = record {
+  pub started : (world : World F G) (told : Bool) (seed size room : ℕ) → IsWorld world (cluster (members size)) → frame_room world ≡ room → room < 4294967296 →
+      StandsFor (record { world = world; told = told; chance = seed; room = room; moment = 0; heard = 0; stops = 0; refused = 0 }) (seeded told seed size)
+  started world told seed size room is same narrow = record {
     world = is;
     room = same;
     narrow = narrow;
+    told = refl;
     chance = refl;
     moment = refl;
     heard = refl;
@@ -381,26 +388,26 @@ module _ {F G : Type 0} where
     refused = refl;
   }
 
-  pub is_started : (now : Soaking F G) (world : World F G) (seed size room : ℕ) (ids : List ℕ) →
-      now ≡ record { world = world; chance = seed; room = room; moment = 0; heard = 0; stops = 0; refused = 0 } → IsWorld world (cluster ids) →
-      ids ≡ members size → frame_room world ≡ room → room < 4294967296 → StandsFor now (seeded seed size)
-  is_started now world seed size room ids e is same own narrow =
-      subst (λ n. StandsFor n (seeded seed size)) (sym e) (started world seed size room (subst (λ l. IsWorld world (cluster l)) same is) own narrow)
+  pub is_started : (now : Soaking F G) (world : World F G) (told : Bool) (seed size room : ℕ) (ids : List ℕ) →
+      now ≡ record { world = world; told = told; chance = seed; room = room; moment = 0; heard = 0; stops = 0; refused = 0 } → IsWorld world (cluster ids) →
+      ids ≡ members size → frame_room world ≡ room → room < 4294967296 → StandsFor now (seeded told seed size)
+  is_started now world told seed size room ids e is same own narrow =
+      subst (λ n. StandsFor n (seeded told seed size)) (sym e) (started world told seed size room (subst (λ l. IsWorld world (cluster l)) same is) own narrow)
 
-  pub room_first : (now : Soaking F G) (seed rounds size room : ℕ) → StandsFor now (seeded seed size) → now.room ≡ room → rounds ≤ 20000 → rounds * 41 ≤ room →
+  pub room_first : (now : Soaking F G) (told : Bool) (seed rounds size room : ℕ) → StandsFor now (seeded told seed size) → now.room ≡ room → rounds ≤ 20000 → rounds * 41 ≤ room →
       HasRoom (rounds * 41) (rounds * 274877906944) now
-  room_first now seed rounds size room is e most enough = record {
-    now = seeded seed size;
+  room_first now told seed rounds size room is e most enough = record {
+    now = seeded told seed size;
     stands = is;
-    fits = subst (λ r. Fits (rounds * 41) (rounds * 274877906944) r (seeded seed size)) (sym e) (fits_first seed rounds size room most enough);
+    fits = subst (λ r. Fits (rounds * 41) (rounds * 274877906944) r (seeded told seed size)) (sym e) (fits_first told seed rounds size room most enough);
   }
 
-pub fits_last : (seed rounds size room : ℕ) → rounds ≤ 20000 → size ≤ 5 → rounds * 41 ≤ room → room < 4294967296 →
-    Fits 0 0 room (for_each (has_round size) 1 rounds (seeded seed size))
-fits_last seed rounds size room most five enough narrow =
-    fits_on room (rounds * 41) (rounds * 274877906944) (rounds * 41) (rounds * 274877906944) 0 0 (seeded seed size)
-    (for_each (has_round size) 1 rounds (seeded seed size)) (fits_first seed rounds size room most enough)
-    (rounds_grow size five rounds (seeded seed size) (omega (arith, enough, narrow))) (omega arith) (omega arith)
+pub fits_last : (told : Bool) (seed rounds size room : ℕ) → rounds ≤ 20000 → size ≤ 5 → rounds * 41 ≤ room → room < 4294967296 →
+    Fits 0 0 room (for_each (has_round size) 1 rounds (seeded told seed size))
+fits_last told seed rounds size room most five enough narrow =
+    fits_on room (rounds * 41) (rounds * 274877906944) (rounds * 41) (rounds * 274877906944) 0 0 (seeded told seed size)
+    (for_each (has_round size) 1 rounds (seeded told seed size)) (fits_first told seed rounds size room most enough)
+    (rounds_grow size five rounds (seeded told seed size) (omega (arith, enough, narrow))) (omega arith) (omega arith)
 
 -- ---- room for the turn of one member more
 

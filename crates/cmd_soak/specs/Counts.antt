@@ -65,8 +65,8 @@ counts_of rounds size s = record {
 }
 
 -- what is written of a soak: how many rounds there were, and what is so at their end
-unfoldable pub soak_report : ℕ → ℕ → ℕ → List ℕ
-soak_report seed rounds size = lines_of (counts_of rounds size (soaked seed rounds size))
+unfoldable pub soak_report : Bool → ℕ → ℕ → ℕ → List ℕ
+soak_report told seed rounds size = lines_of (counts_of rounds size (soaked told seed rounds size))
 
 -- how a soak may end
 abbrev pub IsEnd : Status → Type 0

@@ -1,5 +1,5 @@
 -- The rounds of a soak: the rows that a seed makes, and what they leave. A row that is refused changes nothing.
-use Rattle.std.specs.Prelude.{false, ℕ, zero, suc, ◌+◌, ◌-◌, ◌*◌, ◌/◌, ◌%◌, ◌==◌, Bool, List, [], ◌∷◌, ◌++◌, length, take, is_some, if◌then◌else◌}
+use Rattle.std.specs.Prelude.{ℕ, zero, suc, ◌+◌, ◌-◌, ◌*◌, ◌/◌, ◌%◌, ◌==◌, Bool, List, [], ◌∷◌, ◌++◌, length, take, is_some, if◌then◌else◌}
 use Rattle.outside.specs.declared.pattern.Pattern.TheVariants.{Bytes}
 use Rattle.cmd_base.specs.Draws.{next_state, word_at}
 use Rattle.replay_text.specs.declared.row.Row.{Row}
@@ -15,6 +15,8 @@ use Rattle.cmd_soak.specs.declared.turn.Turn.TheVariants.{Open as Opening, Tick 
 -- what is so at a moment of a soak
 pub record Soak : Type 0 where
   pub world : Cluster
+  -- whether members are told who the members are when they open
+  pub told : Bool
   -- where the generator of numbers stands
   pub chance : ℕ
   -- of the round, in milliseconds
@@ -88,7 +90,7 @@ abbrev pub shows : ℕ → Soak → Bool
 shows n s = is_some (view_at s.world n)
 
 unfoldable pub opens : ℕ → Soak → Soak
-opens n s = if shows n s then s else gives (Open n false s.moment (word s)) (draws s)
+opens n s = if shows n s then s else gives (Open n s.told s.moment (word s)) (draws s)
 
 unfoldable pub ticks : ℕ → Soak → Soak
 ticks n s = if shows n s then gives (Tick n s.moment (word s)) (draws s) else s
@@ -149,9 +151,10 @@ has_round size round s =
 abbrev pub members : ℕ → List ℕ
 members size = take size (1 ∷ 2 ∷ 3 ∷ 4 ∷ 5 ∷ [])
 
-abbrev pub seeded : ℕ → ℕ → Soak
-seeded seed size = record {
+abbrev pub seeded : Bool → ℕ → ℕ → Soak
+seeded told seed size = record {
   world = cluster (members size);
+  told = told;
   chance = seed;
   moment = 0;
   heard = 0;
@@ -161,5 +164,5 @@ seeded seed size = record {
 }
 
 -- after so many rounds
-unfoldable pub soaked : ℕ → ℕ → ℕ → Soak
-soaked seed rounds size = for_each (has_round size) 1 rounds (seeded seed size)
+unfoldable pub soaked : Bool → ℕ → ℕ → ℕ → Soak
+soaked told seed rounds size = for_each (has_round size) 1 rounds (seeded told seed size)

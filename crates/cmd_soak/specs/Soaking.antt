@@ -34,6 +34,7 @@ module _ {F G : Type 0} where
     pub world : IsWorld soaking.world s.world
     pub room : frame_room soaking.world ≡ soaking.room
     pub narrow : soaking.room < 2 ^ 32
+    pub told : soaking.told ≡ s.told
     pub chance : soaking.chance ≡ s.chance
     pub moment : soaking.moment ≡ s.moment
     pub heard : soaking.heard ≡ s.heard

@@ -1,6 +1,6 @@
 //! What holds of every soak, each the contract of a function that does nothing.
 
-ghost use Rattle.std.specs.Prelude.{◌≡◌, ℕ, ◌≤◌, List, is_some};
+ghost use Rattle.std.specs.Prelude.{◌≡◌, ℕ, ◌≤◌, Bool, List, is_some};
 ghost use Rattle.raft_model.specs.Lists.{In};
 ghost use Rattle.replay_text.specs.declared.row.Row.{Row};
 ghost use Rattle.cluster_spec.specs.Cluster.{AreMembers, world_of};
@@ -13,7 +13,8 @@ ghost use Rattle.cmd_soak.specs.Rounds.{members, soaked};
 /// which it ends. None of them lets a call of a disk fail.
 pub fn rows_are_lawful()
     ensures members { (size : ℕ) → 1 ≤ size → size ≤ 5 → AreMembers (members size) }
-    ensures rows { (seed rounds size : ℕ) → IsLed (members size) (soaked seed rounds size) }
+    ensures rows { (told : Bool) (seed rounds size : ℕ) →
+        IsLed (members size) (soaked told seed rounds size) }
 {}
 
 /// Along such rows a member runs exactly where it shows a view.

@@ -24,24 +24,32 @@ const FRAMES_PER_ROUND: u64 = 41;
 const MEMBERS: [u8; 5] = [1, 2, 3, 4, 5];
 
 /// Runs a cluster of 1 to 5 members over the rows that a seed makes, for so many rounds, 20,000 at the
-/// most, and writes six lines: how many rounds there were, how many frames are on the bus, how many rows
+/// most, and writes six lines. Each member is told who the members are when it opens, or their number alone. The
+/// lines say how many rounds there were, how many frames are on the bus, how many rows
 /// told of a stop, how many rows were refused, how many pairs the longest committed list has, and the
 /// rounds again.
 ///
 /// `Done` comes with exactly these lines. `WriteFault` comes exactly where the sink failed, and it then has
 /// a front of them. With `Memory` nothing is written: all memory is taken before the first row.
-pub fn soak<K: Sink>(alloc: Global, seed: u64, rounds: u64, size: u8, sink: &mut K) -> Status
+pub fn soak<K: Sink>(
+    alloc: Global,
+    told: bool,
+    seed: u64,
+    rounds: u64,
+    size: u8,
+    sink: &mut K,
+) -> Status
     requires rounds { rounds ≤ 20000 }
     requires least { 1 ≤ size }
     requires most { size ≤ 5 }
     ensures end { IsEnd result }
     ensures report { result ≡ Status.Done →
-        Appends (K.written sink.old) (K.written sink.new) (soak_report seed rounds size) }
+        Appends (K.written sink.old) (K.written sink.new) (soak_report told seed rounds size) }
     ensures kept { (result ≡ Status.WriteFault) ⊎ (K.faults sink.new ≡ K.faults sink.old) }
     ensures write_fault { result ≡ Status.WriteFault →
         Rose (K.faults sink.old) (K.faults sink.new) }
     ensures written_in_part { result ≡ Status.WriteFault →
-        WritesFront (K.written sink.old) (K.written sink.new) (soak_report seed rounds size) }
+        WritesFront (K.written sink.old) (K.written sink.new) (soak_report told seed rounds size) }
     ensures untouched { result ≡ Status.Memory → sink.new ≡ sink.old }
 {
     let room = room_for(rounds);
@@ -57,7 +65,7 @@ pub fn soak<K: Sink>(alloc: Global, seed: u64, rounds: u64, size: u8, sink: &mut
     ) else {
         return Status::Memory;
     };
-    let mut soaking = Soaking::new(world, room, seed);
+    let mut soaking = Soaking::new(world, room, told, seed);
     soaking.rounds(rounds, size);
     let counts = soaking.counts(rounds, size);
     match write_counts(counts, sink) {

@@ -19,6 +19,9 @@ use replay_text::{Row, Told};
 #[derive(Drop)]
 pub(crate) struct Soaking<F, G> {
     pub(crate) world: World<F, G>,
+    /// Whether members are told who the members are when they open.
+    pub(crate) told: bool,
+
     pub(crate) chance: Draws,
 
     /// How many frames the world was made for.
@@ -40,9 +43,10 @@ pub(crate) struct Soaking<F, G> {
 impl<F: Fn(Kind, u16) -> Option<u64> + Copy, G: Fn(Kind, u16) -> Option<u64> + Copy> Soaking<F, G> {
     ghost use Rattle.cmd_soak.specs.Soaking.{AllocateesReceive, Does, HasRoom, Keeps, MembersReceive, StandsFor, Tries};
 
-    pub fn new(world: World<F, G>, room: usize, seed: u64) -> Soaking<F, G>
+    pub fn new(world: World<F, G>, room: usize, told: bool, seed: u64) -> Soaking<F, G>
         ensures { result ≡ record {
           world = world;
+          told = told;
           chance = seed;
           room = room;
           moment = 0;
@@ -53,6 +57,7 @@ impl<F: Fn(Kind, u16) -> Option<u64> + Copy, G: Fn(Kind, u16) -> Option<u64> + C
     {
         Soaking {
             world,
+            told,
             chance: Draws::new(seed),
             room,
             moment: 0,

@@ -71,7 +71,7 @@ impl<F: Fn(Kind, u16) -> Option<u64> + Copy, G: Fn(Kind, u16) -> Option<u64> + C
         let word = self.chance.word();
         self.give(&Row::Open {
             n,
-            told: false,
+            told: self.told,
             ms: self.moment,
             word,
         });

@@ -39,11 +39,11 @@ returns-clause-finishes g c = λ limit nodes bytes rows asks none told reads few
     (λ is. read (c.follow.ensures.source_kept.rose is)) (λ is. write (c.follow.ensures.sink_kept.rose is))
 
 pub returns-clause-soak : goal.returns-clause-soak
-returns-clause-soak g c = λ seed rounds size asks.
+returns-clause-soak g c = λ told seed rounds size asks.
     let rows = c.rows_are_lawful.ensures in
-    let members = rows.members size asks.size_least asks.size_most in
-    let lawful = (rows.rows seed rounds size).lawful in
-    let soaks = rw (only_soak c.in-Some.plan _ c.in-Some.ensures.some seed rounds size asks) at c.follow.ensures.followed in
+    let members = rows.members size asks.sized.least asks.sized.most in
+    let lawful = (rows.rows told seed rounds size).lawful in
+    let soaks = rw (only_soak c.in-Some.plan _ c.in-Some.ensures.some told seed rounds size asks) at c.follow.ensures.followed in
     inr (
       soaks,
       record {

@@ -12,6 +12,6 @@ give-requires-clause-room g c = drawn_room 1 1 c.args.self.now c.word-word.new.s
 pub returns-clause-stands : goal.returns-clause-stands
 returns-clause-stands g c = λ s is.
     let moved = c.word-word.ensures.moved in
-    opens_now c.give.new.self c.args.n s _ _ (sym (c.shows.ensures s is) ∙ c.if-shows.false) is.moment
+    opens_now c.give.new.self c.args.n s _ _ _ (sym (c.shows.ensures s is) ∙ c.if-shows.false) is.told is.moment
     (drawn_word c.args.self.now s c.word-word.new.self c.word-word.result is moved c.word-word.ensures.word)
     (c.give.ensures.stands (draws s) (drawn_stands c.args.self.now s c.word-word.new.self is moved))
