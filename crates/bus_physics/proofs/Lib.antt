@@ -4,6 +4,8 @@ pub mod Stale
 pub mod Rows
 pub mod InTime
 pub mod Short
+pub mod StepAllocations
+pub mod ShortAllocations
 pub mod Devices
 pub mod Restarts
 pub mod FollowingDevices

@@ -1,10 +1,10 @@
 -- What a physical bus does with the frames that an allocatee hears: its clock goes on with the time, and a frame comes
 -- after it was made, and not much later. That it may be lost, come twice or overtake another one is not excluded.
-use Rattle.std.specs.Prelude.{⊤, ◌≡◌, ◌⊎◌, ℕ, ◌+◌, ◌-◌, ◌*◌, ◌<◌, ◌≤◌, ◌==◌, Bool, true, false, List, [], ◌∷◌, ◌++◌, length, max, min, slice_index_or, nat_eq, Option, None, Some, if◌then◌else◌}
+use Rattle.std.specs.Prelude.{⊤, ◌≡◌, ◌⊎◌, ℕ, ◌+◌, ◌-◌, ◌*◌, ◌<◌, ◌≤◌, ◌==◌, Bool, true, false, List, [], ◌∷◌, ◌++◌, max, min, slice_index_or, nat_eq, Option, None, Some, if◌then◌else◌}
 use Rattle.can_frame.specs.declared.identifier.Ident.{Ident}
 use Rattle.can_frame.specs.declared.identifier.Kind.TheVariants.{Response}
 use Rattle.can_frame.specs.declared.step.What.TheVariants.{Alloc, AppQ, VoteQ}
-use Rattle.can_frame.specs.Cutting.{frame_count, piece_from}
+use Rattle.can_frame.specs.Cutting.{piece_from}
 use Rattle.can_frame.specs.Identifier.{identifier_number, identifier_of}
 use Rattle.raft_model.specs.Lists.{In}
 use Rattle.replay_text.specs.declared.row.Row.{Row}
@@ -90,6 +90,11 @@ ArePhysical limits all a past w (timed ∷ rest) = RowIsPhysical limits all a pa
     × ArePhysical limits all a (readings_after a past w timed.at timed.row) (after_row w timed.row) rest
 
 -- ---- the members
+
+-- for so long after a transfer was made a receiver may put frames of it together with those of another one: they are
+-- held, and it keeps a transfer that is begun for two seconds
+abbrev pub joining_span : Limits → ℕ
+joining_span limits = limits.hold + 2000 + limits.drift
 
 -- so far apart, one way or the other
 abbrev pub AreApart : ℕ → ℕ → ℕ → Type 0
@@ -216,7 +221,7 @@ abbrev pub UsesIdsApart : Limits → List Timed → List SentTransfer → List Q
 UsesIdsApart limits all made heard n = (x y : SentTransfer) → In x made → In y made → x.by ≡ y.by
     → x.offer.what ≡ y.offer.what → x.offer.to ≡ y.offer.to → x.offer.id ≡ y.offer.id → x.step < y.step
     → (x.offer.to ≡ 0) ⊎ (x.offer.to ≡ n)
-    → AreApart (limits.hold + 2000 + limits.drift) (time_of all x.step) (time_of all y.step) ⊎ IsParted heard x y
+    → AreApart (joining_span limits) (time_of all x.step) (time_of all y.step) ⊎ IsParted heard x y
 
 -- ---- Allocations
 
@@ -249,10 +254,9 @@ ComeInOrderToDevice a heard w (row ∷ rows) = IsInOrderToDevice a heard w row
 
 -- No member uses a transfer ID of its Allocations again within the longest hold and two seconds, also where it was
 -- started again in between; or frames come in order, and the allocatee heard an Allocation that the member made between
--- the two. Each Allocation has three frames at the most.
-pub record AllocatesApart (limits : Limits) (all : List Timed) (made : List SentTransfer) (heard : List Queued)
-    (Ordered : Type 0) : Type 0 where
-  pub apart : (x y : SentTransfer) → In x made → In y made → x.offer.what ≡ Alloc → y.offer.what ≡ Alloc → x.by ≡ y.by
-      → x.offer.id ≡ y.offer.id → x.step < y.step → AreApart (limits.hold + 2000 + limits.drift)
-      (time_of all x.step) (time_of all y.step) ⊎ (Ordered × IsParted heard x y)
-  pub short : (x : SentTransfer) → In x made → x.offer.what ≡ Alloc → frame_count (length x.offer.payload) ≤ 3
+-- the two.
+abbrev pub AllocatesApart : Limits → List Timed → List SentTransfer → List Queued → Type 0 → Type 0
+AllocatesApart limits all made heard Ordered = (x y : SentTransfer) → In x made → In y made → x.offer.what ≡ Alloc
+    → y.offer.what ≡ Alloc → x.by ≡ y.by → x.offer.id ≡ y.offer.id → x.step < y.step
+    → AreApart (joining_span limits) (time_of all x.step) (time_of all y.step)
+    ⊎ (Ordered × IsParted heard x y)

@@ -1,7 +1,11 @@
 //! Laws of the definitions, each the contract of a function that does nothing.
 
-ghost use Rattle.std.specs.Prelude.{None, ◌≡◌, ◌⊎◌, ◌<◌, ◌∷◌, ◌++◌, ℕ, List, Some, []};
+ghost use Rattle.std.specs.Prelude.{None, ◌≡◌, ◌⊎◌, ◌<◌, ◌≤◌, ◌∷◌, ◌++◌, ℕ, List, length, Some, []};
+ghost use Rattle.can_frame.specs.Cutting.{frame_count};
+ghost use Rattle.can_frame.specs.declared.step.What.TheVariants.{Alloc};
+ghost use Rattle.raft_model.specs.Lists.{In};
 ghost use Rattle.replay_text.specs.declared.row.Row.{Row};
+ghost use Rattle.alloc_spec.specs.Transfers.{SentTransfer};
 ghost use Rattle.replay_text.specs.declared.row.Row.TheVariants.{ARx, Rx};
 ghost use Rattle.cluster_spec.specs.declared.unlawful.Unlawful.TheVariants.{Stale, Torn};
 ghost use Rattle.cluster_spec.specs.Cluster.{AreMembers, arrival_at, cluster, frame_at, world_of};
@@ -42,6 +46,16 @@ pub fn what_is_refused()
     what_is_said_of_frames();
 }
 
+/// An Allocation that a member made has three frames at the most: a node ID, and a unique ID or the part of one.
+pub fn an_allocation_has_at_most_three_frames()
+    ensures { (ids : List ℕ) (rows : List Row) (x : SentTransfer) → AreMembers ids → Lawful (cluster ids) rows →
+        In x (transfers_of_rows (cluster ids) rows []) → x.offer.what ≡ Alloc →
+        frame_count (length x.offer.payload) ≤ 3 }
+{
+    a_choice_fits();
+    rows_are_shown();
+}
+
 /// An allocatee on a physical bus, whatever frames are lost, come twice or overtake each other, takes nothing
 /// torn: where each frame comes after it was made and within the longest hold, where the allocatee's clock goes
 /// on with the time, and where no member uses a transfer ID of its Allocations again too soon; or where frames come in
@@ -57,6 +71,7 @@ pub fn a_device_puts_nothing_together_of_two()
         cause (world_of ids (rows_in before)) (ARx a k ms word) ≡ Some Torn → ⊥ }
 {
     a_choice_fits();
+    an_allocation_has_at_most_three_frames();
     rows_are_shown();
     sessions_of_a_step();
     what_is_said_of_frames();

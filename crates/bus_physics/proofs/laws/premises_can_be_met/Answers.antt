@@ -2,7 +2,6 @@ use Rattle.std.proofs.Common.{◌≡◌, ℕ, ◌+◌, ◌≤◌, List, [], ◌�
 use Rattle.std.specs.Prelude.{◌-◌, min}
 use Rattle.can_frame.specs.Cutting.{frames_of, payload_of}
 use Rattle.can_frame.specs.Identifier.{identifier_of}
-use Rattle.can_frame.specs.declared.step.What.TheVariants.{Alloc}
 use Rattle.raft_model.specs.Lists.{In}
 use Rattle.transfer_rx.specs.Acceptance.{wanted}
 use Rattle.transfer_rx.specs.Outcome.{fits_no_payload, outcome}
@@ -116,20 +115,11 @@ made_then x (inl e) = ap (λ (y : SentTransfer). y.step) e
 made_then x (inr (inl e)) = ap (λ (y : SentTransfer). y.step) e
 made_then x (inr (inr i)) = absurd i
 
-no_allocation : (x : SentTransfer) → In x (transfers_of_rows (cluster two) (rows_in (before ++ at_member ∷ [])) []) → x.offer.what ≡ Alloc → ⊥
-unfolding step frame_step outcome fits_no_payload all_nodes delivery_phase session_for session_step wanted queued_frames next_out left_behind frames_of identifier_of payload_of rows
-no_allocation x (inl e) what = absurd (cc (sym (ap (λ (y : SentTransfer). y.offer.what) e) ∙ what))
-no_allocation x (inr (inl e)) what = absurd (cc (sym (ap (λ (y : SentTransfer). y.offer.what) e) ∙ what))
-no_allocation x (inr (inr i)) what = absurd i
-
 device_hears : DeviceHears limits two (before ++ at_member ∷ []) at_allocatee 1 1
 unfolding step frame_step outcome fits_no_payload all_nodes delivery_phase session_for session_step wanted queued_frames next_out left_behind frames_of identifier_of payload_of rows
 device_hears = record {
   comes = (tt, (tt, (tt, (tt, (tt, (tt, ((passes 9 40 1050 1080 (omega arith) (omega arith), record { after = λ some. omega arith; soon = λ some. omega arith }), tt)))))));
-  slow = record {
-    apart = λ x y i j what other by id less. absurd (omega (arith, made_then x i, made_then y j, less));
-    short = λ x i what. absurd (no_allocation x i what);
-  };
+  slow = λ x y i j what other by id less. absurd (omega (arith, made_then x i, made_then y j, less));
 }
 
 pub returns-clause-bus : goal.returns-clause-bus
