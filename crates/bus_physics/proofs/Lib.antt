@@ -19,6 +19,8 @@ pub mod Unstale
 pub mod UntornMembers
 pub mod LastCall
 pub mod Waiting
+pub mod StepCalls
 pub mod Spacing
+pub mod SpacedVotes
 pub mod Scheduled
 pub mod Traced
