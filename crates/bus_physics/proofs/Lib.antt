@@ -22,5 +22,8 @@ pub mod Waiting
 pub mod StepCalls
 pub mod Spacing
 pub mod SpacedVotes
+pub mod SpacedCalls
+pub mod HeardAnswers
+pub mod RoundCalls
 pub mod Scheduled
 pub mod Traced

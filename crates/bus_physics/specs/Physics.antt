@@ -126,17 +126,32 @@ member_readings n past w at (Rx m k ms) =
     if n == m then record { at = at; now = now_in (w.member m).status ms } ∷ past else past
 member_readings n past w at row = past
 
-abbrev pub ClockGoesOnAt : Limits → ℕ → List Reading → Cluster → ℕ → Row → Type 0
-ClockGoesOnAt limits n past w at (Tick m ms word) =
-    OfIt (n == m) (GoesOn limits past at (now_in (w.member m).status ms))
-ClockGoesOnAt limits n past w at (Rx m k ms) = OfIt (n == m) (GoesOn limits past at (now_in (w.member m).status ms))
-ClockGoesOnAt limits n past w at row = ⊤
+-- what is asked of a reading, by the earlier ones, its time and its moment, is so of each one of member n
+abbrev pub ReadsAt : (List Reading → ℕ → ℕ → Type 0) → ℕ → List Reading → Cluster → ℕ → Row → Type 0
+ReadsAt Asked n past w at (Tick m ms word) = OfIt (n == m) (Asked past at (now_in (w.member m).status ms))
+ReadsAt Asked n past w at (Rx m k ms) = OfIt (n == m) (Asked past at (now_in (w.member m).status ms))
+ReadsAt Asked n past w at row = ⊤
+
+abbrev pub Reads : (List Reading → ℕ → ℕ → Type 0) → ℕ → List Reading → Cluster → List Timed → Type 0
+Reads Asked n past w [] = ⊤
+Reads Asked n past w (timed ∷ rest) = ReadsAt Asked n past w timed.at timed.row
+    × Reads Asked n (member_readings n past w timed.at timed.row) (after_row w timed.row) rest
 
 -- the clock of member n goes on
+abbrev pub ClockGoesOnAt : Limits → ℕ → List Reading → Cluster → ℕ → Row → Type 0
+ClockGoesOnAt limits n past w at row = ReadsAt (GoesOn limits) n past w at row
+
 abbrev pub ClockGoesOn : Limits → ℕ → List Reading → Cluster → List Timed → Type 0
-ClockGoesOn limits n past w [] = ⊤
-ClockGoesOn limits n past w (timed ∷ rest) = ClockGoesOnAt limits n past w timed.at timed.row
-    × ClockGoesOn limits n (member_readings n past w timed.at timed.row) (after_row w timed.row) rest
+ClockGoesOn limits n past w rows = Reads (GoesOn limits) n past w rows
+
+-- Since each reading of the last minute the clock went on by no more than the time did, but for the drift.
+abbrev pub IsNotFast : Limits → List Reading → ℕ → ℕ → Type 0
+IsNotFast limits past at now = (p : Reading) → In p past → at ≤ p.at + 60000 →
+    now ≤ p.now + (at - p.at) + limits.drift
+
+-- the clock of member n does not run fast
+abbrev pub ClockIsNotFast : Limits → ℕ → List Reading → Cluster → List Timed → Type 0
+ClockIsNotFast limits n past w rows = Reads (IsNotFast limits) n past w rows
 
 -- ---- calls and answers
 
@@ -181,6 +196,30 @@ WaitsForAnswers limits all made heard n = (x y : SentTransfer) → In x made →
     → x.offer.what ≡ y.offer.what → x.offer.to ≡ y.offer.to → x.offer.id ≡ y.offer.id → x.step < y.step
     → (x.offer.what ≡ AppQ) ⊎ (x.offer.what ≡ VoteQ)
     → (time_of all x.step + 2 * limits.hold < time_of all y.step) ⊎ IsAnswered made heard x
+
+-- ---- calls over an opening
+
+-- what happened in the row with this number
+abbrev pub row_of : List Timed → ℕ → Row
+row_of all number = (slice_index_or all (number - 1) (record { at = 0; row = Send 0 })).row
+
+-- member n is opened in a row between these two
+pub record IsOpenedBetween (all : List Timed) (n first second : ℕ) : Type 0 where
+  pub number : ℕ
+  pub later : first < number
+  pub sooner : number < second
+  pub told : Bool
+  pub moment : ℕ
+  pub word : ℕ
+  pub opens : row_of all number ≡ Open n told moment word
+
+-- Where member n is opened between two calls to a node under one transfer ID, more time has passed than a call and its
+-- answer may take.
+abbrev pub RestsWhenOpened : Limits → List Timed → List SentTransfer → ℕ → Type 0
+RestsWhenOpened limits all made n = (x y : SentTransfer) → In x made → In y made → x.by ≡ n → y.by ≡ n
+    → x.offer.what ≡ y.offer.what → x.offer.to ≡ y.offer.to → x.offer.id ≡ y.offer.id
+    → (x.offer.what ≡ AppQ) ⊎ (x.offer.what ≡ VoteQ) → IsOpenedBetween all n x.step y.step
+    → time_of all x.step + 2 * limits.hold < time_of all y.step
 
 -- ---- frames in order
 

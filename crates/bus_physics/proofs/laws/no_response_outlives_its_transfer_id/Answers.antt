@@ -1,4 +1,4 @@
-use Rattle.std.proofs.Common.{refl}
+use Rattle.std.proofs.Common.{◌<◌, arith, refl}
 use Rattle.std.specs.Prelude.{[], ◌∷◌, ◌++◌}
 use Rattle.cluster_spec.specs.Cluster.{cluster, world_of}
 use Rattle.cluster_spec.specs.Refinement.{transfers_of_rows}
@@ -12,8 +12,10 @@ use Rattle.bus_physics.proofs.Waiting.{waits_along}
 use Rattle.bus_physics.proofs.laws.no_response_outlives_its_transfer_id.Goals as goal
 
 pub returns : goal.returns
-returns c = λ limits ids before now n k ms members sane row lawful comes clock order waits e.
+returns c = λ limits ids before now n k ms members enough row lawful comes clock slow order rests e.
     let rows = rows_in before in
+    let sane : limits.drift < 58000 = omega (arith, enough) in
+    let waits = c.calls_come_round_late.ensures limits ids before now n members enough lawful slow rests in
     let steps = c.what_is_said_of_a_step.ensures in
     let laws : MemberLaws = record { heard = steps.heard; ticked = steps.ticked; me = steps.me; called = steps.called; now = now_of_a_step } in
     let chosen = c.a_choice_fits.ensures ids rows members lawful in

@@ -54,8 +54,11 @@ pub returns-clause-frames : goal.returns-clause-frames
 unfolding step all_nodes queued_frames next_out left_behind frames_of
 returns-clause-frames c = (tt, (tt, (tt, (tt, (tt, ((λ other key i first second. absurd i), tt))))))
 
-pub returns-clause-waits : goal.returns-clause-waits
-returns-clause-waits c = λ x y i j mine own what to id earlier call. absurd (omega (arith, (made_in x i).1, mine))
+pub returns-clause-fast : goal.returns-clause-fast
+returns-clause-fast c = (tt, (tt, (tt, (tt, (tt, tt)))))
+
+pub returns-clause-rests : goal.returns-clause-rests
+returns-clause-rests c = λ x y i j mine own what to id call opened. absurd (omega (arith, (made_in x i).1, mine))
 
 pub returns-clause-order : goal.returns-clause-order
 returns-clause-order c = λ other number source dest i first second. absurd i
@@ -139,7 +142,8 @@ returns-clause-bus c = (
               comes = returns-clause-comes c;
               clock = returns-clause-clock c;
               order = returns-clause-order c;
-              waits = returns-clause-waits c;
+              fast = returns-clause-fast c;
+              rests = returns-clause-rests c;
               earlier = (tt, (tt, (tt, (tt, (tt, tt)))));
               behind = λ other key i first second. absurd i;
               apart = returns-clause-apart c;
