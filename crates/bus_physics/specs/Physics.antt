@@ -1,6 +1,6 @@
 -- What a physical bus does with the frames that an allocatee hears: its clock goes on with the time, and a frame comes
 -- after it was made, and not much later. That it may be lost, come twice or overtake another one is not excluded.
-use Rattle.std.specs.Prelude.{⊤, ◌≡◌, ◌⊎◌, ℕ, ◌+◌, ◌-◌, ◌*◌, ◌<◌, ◌≤◌, ◌==◌, Bool, true, false, List, [], ◌∷◌, ◌++◌, max, min, slice_index_or, nat_eq, Option, None, Some, if◌then◌else◌}
+use Rattle.std.specs.Prelude.{⊤, ◌≡◌, ◌≢◌, ◌⊎◌, ℕ, ◌+◌, ◌-◌, ◌*◌, ◌<◌, ◌≤◌, ◌==◌, Bool, true, false, List, [], ◌∷◌, ◌++◌, max, min, slice_index_or, nat_eq, Option, None, Some, if◌then◌else◌}
 use Rattle.can_frame.specs.declared.identifier.Ident.{Ident}
 use Rattle.can_frame.specs.declared.identifier.Kind.TheVariants.{Response}
 use Rattle.can_frame.specs.declared.step.What.TheVariants.{Alloc, AppQ, VoteQ}
@@ -18,6 +18,7 @@ use Rattle.allocatee.specs.Allocatee.{Device}
 use Rattle.alloc_spec.specs.Accepted.{setting_for}
 use Rattle.alloc_spec.specs.Transfers.{SentTransfer, ident_of, number_of}
 use Rattle.cluster_spec.specs.Cluster.{Cluster, after_row, arrival_at, frame_at}
+use Rattle.cluster_spec.specs.Lawful.{is_members_service}
 use Rattle.cluster_spec.specs.Members.{MemberStatus}
 use Rattle.cluster_spec.specs.Members.MemberStatus.{Down, Failed, Up}
 
@@ -173,11 +174,11 @@ pub record IsResponseOf (number source dest : ℕ) (frame : Queued) : Type 0 whe
   pub from : ident.source ≡ source
   pub to : ident.dest ≡ dest
 
--- the answers of a node to another one come in the order of the calls, each once: one that was heard answers an earlier
--- call
-abbrev pub AnswersInOrder : List Queued → Queued → Type 0
-AnswersInOrder heard frame = (other : Queued) (number source dest : ℕ) → In other heard
-    → IsResponseOf number source dest other → IsResponseOf number source dest frame → other.mark.re < frame.mark.re
+-- the answers of a node to member n come in the order of the calls, each once: one that was heard answers an earlier
+-- call of the service
+abbrev pub AnswersInOrder : ℕ → List Queued → Queued → Type 0
+AnswersInOrder n heard frame = (other : Queued) (number source : ℕ) → source ≢ n → In other heard
+    → is_members_service number ≡ true → IsResponseOf number source n other → IsResponseOf number source n frame → other.mark.re < frame.mark.re
 
 -- a call of these was answered: the first one, or one that the member made later to the same node, of the same service
 pub record IsAnswered (made : List SentTransfer) (heard : List Queued) (first : SentTransfer) : Type 0 where
@@ -232,15 +233,35 @@ abbrev pub ComesInOrder : ℕ → List Queued → Queued → Type 0
 ComesInOrder n heard frame = (other : Queued) (key : Key) → In other heard → HasKeyAt n key other → HasKeyAt n key frame
     → other.mark.step ≤ frame.mark.step
 
+-- what is asked of a frame, by those that were heard before, is so of each one of member n
+abbrev pub ComesAt : (List Queued → Queued → Type 0) → ℕ → List Queued → Cluster → Row → Type 0
+ComesAt Asked n heard w (Rx m k ms) = OfIt (n == m) (Asked heard (frame_at w.frames k))
+ComesAt Asked n heard w row = ⊤
+
+abbrev pub Come : (List Queued → Queued → Type 0) → ℕ → List Queued → Cluster → List Row → Type 0
+Come Asked n heard w [] = ⊤
+Come Asked n heard w (row ∷ rows) =
+    ComesAt Asked n heard w row × Come Asked n (heard ++ heard_in n w row) (after_row w row) rows
+
 abbrev pub IsInOrder : ℕ → List Queued → Cluster → Row → Type 0
-IsInOrder n heard w (Rx m k ms) = OfIt (n == m) (ComesInOrder n heard (frame_at w.frames k))
-IsInOrder n heard w row = ⊤
+IsInOrder n heard w row = ComesAt (ComesInOrder n) n heard w row
 
 -- to member n, which heard these before
 abbrev pub ComeInOrder : ℕ → List Queued → Cluster → List Row → Type 0
-ComeInOrder n heard w [] = ⊤
-ComeInOrder n heard w (row ∷ rows) =
-    IsInOrder n heard w row × ComeInOrder n (heard ++ heard_in n w row) (after_row w row) rows
+ComeInOrder n heard w rows = Come (ComesInOrder n) n heard w rows
+
+-- a frame that a step made comes once
+abbrev pub ComesOnce : List Queued → Queued → Type 0
+ComesOnce heard frame = (other : Queued) → In other heard → 1 ≤ frame.mark.step → other.id ≡ frame.id
+    → other.mark ≡ frame.mark → ⊥
+
+-- in order, and once
+abbrev pub ComesInTurn : ℕ → List Queued → Queued → Type 0
+ComesInTurn n heard frame = ComesInOrder n heard frame × ComesOnce heard frame
+
+-- to each member
+abbrev pub AllComeInTurn : List ℕ → Cluster → List Row → Type 0
+AllComeInTurn ids w rows = (m : ℕ) → In m ids → Come (ComesInTurn m) m [] w rows
 
 -- a frame was heard that was made between these two, under the same identifier: a first one, and with a transfer ID
 -- that is neither theirs nor the one before

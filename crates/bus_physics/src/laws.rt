@@ -9,8 +9,9 @@ ghost use Rattle.alloc_spec.specs.Transfers.{SentTransfer};
 ghost use Rattle.replay_text.specs.declared.row.Row.TheVariants.{ARx, Rx};
 ghost use Rattle.cluster_spec.specs.declared.unlawful.Unlawful.TheVariants.{Stale, Torn};
 ghost use Rattle.cluster_spec.specs.Cluster.{AreMembers, arrival_at, cluster, frame_at, world_of};
-ghost use Rattle.cluster_spec.specs.Lawful.{Lawful, cause};
+ghost use Rattle.cluster_spec.specs.Lawful.{Lawful, cause, no_such_frame};
 ghost use Rattle.cluster_spec.specs.Refinement.{transfers_of_rows};
+ghost use Rattle.bus_physics.specs.Physics.{AllComeInTurn, ComesInTurn, ComesOnce};
 ghost use Rattle.bus_physics.specs.Physics.{AllocatesApart, AnswersInOrder, ArePhysical, ClockGoesOn, ComeInOrder};
 ghost use Rattle.bus_physics.specs.Physics.{ComeInOrderToDevice, ComesInOrderToDevice, device_heard_by};
 ghost use Rattle.bus_physics.specs.Physics.{ComesInOrder, FramesComeInTime};
@@ -23,6 +24,7 @@ ghost use Rattle.cmd_node_laws.specs.Traces.{Event, MayAllHappen, all_rows};
 ghost use Rattle.bus_physics.specs.Processes.{MayAllDo};
 ghost use Rattle.bus_physics.specs.Schedule.{HappenOnBus, LawfulButForBus, LosesFrames};
 
+use alloc_spec_laws::laws::transfers_of_a_step_are_apart;
 use allocatee::laws::sessions_of_a_step;
 use cluster_agreement::below::{what_is_said_of_a_step, what_is_said_of_frames};
 use cluster_agreement::headline::{a_choice_fits, rows_are_shown};
@@ -96,20 +98,36 @@ pub fn calls_come_round_late()
     rows_are_shown();
 }
 
+/// The answers of another node come to a member in the order of the calls, each once: where the frames of one kind,
+/// number and source come to each member in the order in which they were made, and none comes twice.
+pub fn answers_come_in_order()
+    ensures { (ids : List ℕ) (rows : List Row) (n k : ℕ) → AreMembers ids → Lawful (cluster ids) rows →
+        no_such_frame (world_of ids rows) k ≡ None → AllComeInTurn ids (cluster ids) rows →
+        ComesInTurn n (heard_by n (cluster ids) rows) (frame_at (world_of ids rows).frames k) →
+        AnswersInOrder n (heard_by n (cluster ids) rows) (frame_at (world_of ids rows).frames k) }
+{
+    a_choice_fits();
+    rows_are_shown();
+    transfers_of_a_step_are_apart();
+    what_is_said_of_a_step();
+    what_is_said_of_frames();
+}
+
 /// A member on a physical bus, whatever frames are lost, takes no response to an earlier call: where each frame comes
 /// after it was made and within the longest hold, where the member's clock goes on with the time and does not run fast,
-/// where answers come in the order of the calls, and where a member that is opened rests.
+/// where frames come to each member in order and once, and where a member that is opened rests.
 pub fn no_response_outlives_its_transfer_id()
     ensures { (limits : Limits) (ids : List ℕ) (before : List Timed) (now : Timed) (n k ms : ℕ) →
         AreMembers ids → 2 * limits.hold + limits.drift < 21000 → now.row ≡ Rx n k ms →
         Lawful (cluster ids) (rows_in before) →
         FramesComeInTime limits (before ++ now ∷ []) (cluster ids) (before ++ now ∷ []) →
         ClockGoesOn limits n [] (cluster ids) (before ++ now ∷ []) → ClockIsNotFast limits n [] (cluster ids) before →
-        AnswersInOrder (heard_by n (cluster ids) (rows_in before))
-        (frame_at (world_of ids (rows_in before)).frames k) →
+        AllComeInTurn ids (cluster ids) (rows_in before) →
+        ComesInTurn n (heard_by n (cluster ids) (rows_in before)) (frame_at (world_of ids (rows_in before)).frames k) →
         RestsWhenOpened limits (before ++ now ∷ []) (transfers_of_rows (cluster ids) (rows_in before) []) n →
         cause (world_of ids (rows_in before)) (Rx n k ms) ≡ Some Stale → ⊥ }
 {
+    answers_come_in_order();
     calls_come_round_late();
     what_is_refused();
     what_is_said_of_a_step();
@@ -154,7 +172,8 @@ pub fn premises_can_be_met()
     ensures fast { ClockIsNotFast some_limits 2 [] (cluster two) first_rows }
     ensures rests { RestsWhenOpened some_limits (first_rows ++ at_member ∷ [])
         (transfers_of_rows (cluster two) (rows_in first_rows) []) 2 }
-    ensures order { AnswersInOrder (heard_by 2 (cluster two) (rows_in first_rows))
+    ensures turns { AllComeInTurn two (cluster two) (rows_in first_rows) }
+    ensures once { ComesOnce (heard_by 2 (cluster two) (rows_in first_rows))
         (frame_at (world_of two (rows_in first_rows)).frames 1) }
     ensures member { cause (world_of two (rows_in first_rows)) at_member.row ≡ None }
     ensures allocatee { cause (world_of two (rows_in first_rows)) at_allocatee.row ≡ None }

@@ -60,8 +60,11 @@ returns-clause-fast c = (tt, (tt, (tt, (tt, (tt, tt)))))
 pub returns-clause-rests : goal.returns-clause-rests
 returns-clause-rests c = λ x y i j mine own what to id call opened. absurd (omega (arith, (made_in x i).1, mine))
 
-pub returns-clause-order : goal.returns-clause-order
-returns-clause-order c = λ other number source dest i first second. absurd i
+pub returns-clause-turns : goal.returns-clause-turns
+returns-clause-turns c = λ m i. (tt, (tt, (tt, (tt, (tt, tt)))))
+
+pub returns-clause-once : goal.returns-clause-once
+returns-clause-once c = λ other i some id mark. absurd i
 
 pub returns-clause-comes : goal.returns-clause-comes
 unfolding step all_nodes queued_frames next_out left_behind frames_of
@@ -141,11 +144,11 @@ returns-clause-bus c = (
             record {
               comes = returns-clause-comes c;
               clock = returns-clause-clock c;
-              order = returns-clause-order c;
+              turns = returns-clause-turns c;
+              turn = (λ other key i first second. absurd i, returns-clause-once c);
               fast = returns-clause-fast c;
               rests = returns-clause-rests c;
               earlier = (tt, (tt, (tt, (tt, (tt, tt)))));
-              behind = λ other key i first second. absurd i;
               apart = returns-clause-apart c;
             },
             (device_hears, tt),
