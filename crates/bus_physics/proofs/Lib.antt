@@ -4,6 +4,8 @@ pub mod Stale
 pub mod Rows
 pub mod InTime
 pub mod Short
+pub mod StepAllocations
+pub mod ShortAllocations
 pub mod Devices
 pub mod Restarts
 pub mod FollowingDevices
@@ -17,6 +19,15 @@ pub mod Unstale
 pub mod UntornMembers
 pub mod LastCall
 pub mod Waiting
+pub mod StepCalls
 pub mod Spacing
+pub mod SpacedVotes
+pub mod SpacedCalls
+pub mod HeardAnswers
+pub mod RoundCalls
+pub mod OncePerStep
+pub mod AnswerOrder
+pub mod AnswersHeard
+pub mod TurnedAnswers
 pub mod Scheduled
 pub mod Traced

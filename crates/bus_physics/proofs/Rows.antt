@@ -1,6 +1,7 @@
 -- What the world of lawful rows shows of a row that is refused.
-use Rattle.std.proofs.Common.{◌≡◌, ℕ, ◌≤◌, Bool, true, false, List, refl, sym, ap, subst, ◌∙◌, inl, inr, Some}
-use Rattle.std.specs.Prelude.{max, nat_eq}
+use Rattle.std.proofs.Common.{◌≡◌, ℕ, ◌≤◌, Bool, true, false, List, refl, sym, ap, subst, ◌∙◌, arith, inl, inr, Some}
+use Rattle.std.specs.Prelude.{max, nat_eq, not}
+use Rattle.std.proofs.lemmas.Bool.Decides.{eqb_tells}
 use Rattle.can_frame.specs.declared.identifier.Ident.{Ident}
 use Rattle.can_frame.specs.declared.identifier.Kind.{Kind}
 use Rattle.can_frame.specs.declared.identifier.Kind.TheVariants.{Message, Anonymous, Request, Response}
@@ -18,6 +19,7 @@ use Rattle.allocatee.specs.Accepted as device
 use Rattle.alloc_spec.specs.Accepted.{rows, setting_for}
 use Rattle.alloc_spec.specs.AllocatorState.{AllocatorState}
 use Rattle.alloc_spec.specs.Transfers.{SentTransfer, number_of}
+use Rattle.alloc_spec_laws.proofs.Choices.{and_right, not_true}
 use Rattle.cluster_spec.specs.declared.unlawful.Unlawful.TheVariants.{Stale as IsStale, Torn as IsTorn}
 use Rattle.cluster_spec.specs.Cluster.{AreMembers, Cluster, arrival_at, frame_at}
 use Rattle.cluster_spec.specs.Lawful.{cause, is_forged}
@@ -40,6 +42,16 @@ only_messages Message number s e known = refl
 only_messages Anonymous number s e known = never (sym known)
 only_messages Request number s e known = absurd (cc (e))
 only_messages Response number s e known = absurd (cc (e))
+
+-- a server hears nothing of its own
+not_own : (me : ℕ) → 1 ≤ me → (ident : Ident) → is_for me ident ≡ true → ident.source ≡ me → ⊥
+not_own me some ident for_me same = elim (eqb_tells me 0) [
+  | inl none ↦ omega (arith, some, none.1)
+  | inr apart ↦ elim (eqb_tells ident.source me) [
+    | inl is ↦ never (sym (not_true (nat_eq ident.source me) (and_right _ (not (nat_eq ident.source me)) (rw apart.0 at for_me))) ∙ is.0)
+    | inr differ ↦ differ.1 same
+  ]
+]
 
 module _ (laws : FrameLaws) (choice : ℕ → Bool) (made : List SentTransfer) (w : Cluster) (run : machine.World) (members : AreMembers w.ids)
     (shows : Shows choice made w run) where
@@ -99,6 +111,8 @@ module _ (laws : FrameLaws) (choice : ℕ → Bool) (made : List SentTransfer) (
           second = calls.second;
           twice = calls.twice;
           maker = calls.maker ∙ there.runs.me;
+          another = λ e. not_own t.me some its.w.ident (wanted_is rows t.me coming.id its.w its.accepted).for_me
+              (ap (λ (i : Ident). i.source) (sym its.ident) ∙ (sym calls.receiver ∙ (sym calls.twice.to ∙ (e ∙ sym there.runs.me))));
           response = one.0;
           response_made = one.1;
           response_kind = one.2.kind ∙ is.kind;

@@ -21,7 +21,7 @@ module _ (laws : FrameLaws) (signature id : ℕ) (payload : List ℕ) where
   abbrev last_place : ℕ
   last_place = frames_before_last signature payload
 
-  tail_is : (i : ℕ) → i ≤ last_place → (slice_index_or (pieces_of signature id payload) i no_piece).tail ≡ tail_at id i (nat_eq i last_place)
+  pub tail_is : (i : ℕ) → i ≤ last_place → (slice_index_or (pieces_of signature id payload) i no_piece).tail ≡ tail_at id i (nat_eq i last_place)
   tail_is i h = elim (eqb_tells i last_place) [
     | inl same ↦ ap (λ (k : ℕ). (slice_index_or (pieces_of signature id payload) k no_piece).tail) same.1
         ∙ (ap (λ (p : Piece). p.tail) (laws.last signature id payload no_piece)

@@ -1,5 +1,5 @@
 -- Calls of a leader to a node that does not answer come 1,000 ms apart: what one move keeps of it.
-use Rattle.std.proofs.Common.{◌≡◌, ℕ, suc, ◌+◌, ◌*◌, ◌≤◌, Bool, true, false, List, refl, sym, ap, ◌∙◌, arith, ◌⊎◌, inl, inr, Option, Some, None}
+use Rattle.std.proofs.Common.{◌≡◌, ℕ, suc, ◌+◌, ◌*◌, ◌≤◌, Bool, true, false, List, refl, sym, ap, subst, ◌∙◌, arith, ◌⊎◌, inl, inr, Option, Some, None}
 use Rattle.std.specs.Prelude.{◌-◌, ◌==◌, ◌&&◌, is_some, nat_lt, if◌then◌else◌}
 use Rattle.std.proofs.lemmas.Bool.Decides.{eqb_tells}
 use Rattle.raft_core.specs.Times.{Given, Sending, Times, begin_wait, end_call, end_vote_call, stand, step_down, times_after, win}
@@ -9,10 +9,11 @@ use Rattle.raft_model.specs.Moves.Appending.{Verdict, acknowledges, matched_memo
 use Rattle.raft_model.specs.Moves.Appending.Verdict.{Added, Held, Outdated, Refused}
 use Rattle.raft_model.specs.Moves.Elections.{counts, has_quorum, is_candidate, memory_without_call, own_vote, stand_memory, stepped_down, votes_with, win_memory, with_vote}
 use Rattle.raft_model.specs.Moves.Leading.{append_request, vote_request}
-use Rattle.raft_model.specs.Moves.Move.{CallForVote, CallToAppend, GiveUp, TakeAppendAnswer, TakeAppendRequest, TakeVoteAnswer, TakeVoteRequest, TellNothing, TellPair, TimeOut}
+use Rattle.raft_model.specs.Moves.Move.{AnswerAgain, CallForVote, CallToAppend, CommitTo, GiveUp, ProposeEntry, TakeAppendAnswer, TakeAppendRequest, TakeVoteAnswer, TakeVoteRequest, TellNothing, TellPair, TimeOut}
 use Rattle.raft_model.specs.Server.{Memory, RaftServer, Role}
 use Rattle.raft_model.specs.Server.Role.{Candidate, Follower, Leader}
 use Rattle.cluster_agreement.proofs.Lists.{never}
+use Rattle.bus_physics.proofs.StepCalls.{IsOwnCall, IsReason, IsSpaced}
 
 eqb_is : (a b : ℕ) → (a == b) ≡ true → a ≡ b
 eqb_is a b e = elim (eqb_tells a b) [ inl s ↦ s.1 | inr apart ↦ never (sym apart.0 ∙ e) ]
@@ -129,19 +130,17 @@ module _ (p M : ℕ) where
     ended q true e = inr (refl, refl)
     ended q false e = inl (refl, refl)
 
-    pub stands : (word id origin : ℕ) → (server.memory.role ≡ Leader → ⊥) → times.since + 2000 ≤ now
-        → After (record { now = now; word = word; id = id; origin = origin }) TimeOut
-    stands word id origin not_leading waited = by (has_quorum members (own_vote me)) where
+    pub stands : (given : Given) → given.now ≡ now → (server.memory.role ≡ Leader → ⊥) → times.since + 2000 ≤ now → After given TimeOut
+    stands given is not_leading waited = by (has_quorum members (own_vote me)) where
       high : (role : Role) → server.memory.role ≡ role → floor b + 1000 ≤ now
       high Follower e = omega (arith, o.follower e, waited)
       high Candidate e = omega (arith, o.candidate e, o.since)
       high Leader e = absurd (not_leading e)
 
       by : (quorum : Bool) → Open b (if quorum then win_memory server.store (stand_memory me server.memory) else stand_memory me server.memory)
-          (if quorum then win (stand (record { now = now; word = word; id = id; origin = origin }) times)
-          else stand (record { now = now; word = word; id = id; origin = origin }) times) now
-      by true = won b server.memory times now o _ _ refl (omega arith) refl refl (high server.memory.role refl)
-      by false = stood b server.memory times now o _ _ refl refl refl refl (high server.memory.role refl)
+          (if quorum then win (stand given times) else stand given times) now
+      by true = won b server.memory times now o _ _ refl (omega (arith, is)) refl refl (high server.memory.role refl)
+      by false = stood b server.memory times now o _ _ refl is refl refl (high server.memory.role refl)
 
     pub votes : (given : Given) → given.now ≡ now → (request : Request) (granted : Bool) → After given (TakeVoteRequest request granted)
     votes given is request granted = by (nat_lt server.store.term request.term) granted where
@@ -312,3 +311,98 @@ module _ (p M : ℕ) where
           }
       by false e = unchanged b server.memory times now o _ _ refl refl (ap (λ (c : Bool). if c then Some asked else server.memory.pending p) e)
           (ap (λ (c : Bool). if c then Some (record { id = given.id; moment = given.now }) else times.sending p) e)
+
+    -- any move that is no call to the node, and no answer of it to one
+    pub any_move : (given : Given) → given.now ≡ now → (move : Move) → IsReason true p server times now move → After given move
+    any_move given is TimeOut reason = stands given is reason.0 reason.1
+    any_move given is (TakeVoteRequest request granted) reason = votes given is request granted
+    any_move given is (TakeVoteAnswer answer) reason = vote_answers given is answer
+        (λ here. (reason.asked, ap server.memory.pending (eqb_is p answer.from here) ∙ reason.pending, reason.service))
+    any_move given is (TakeAppendRequest request verdict) reason = appends given is request verdict
+    any_move given is (TakeAppendAnswer answer) reason = append_answers given is answer (reason.other refl)
+    any_move given is (ProposeEntry entry) reason = o
+    any_move given is (CommitTo index) reason = o
+    any_move given is TellPair reason = (tells given).0
+    any_move given is TellNothing reason = (tells given).1
+    any_move given is (CallForVote q) reason = calls_for_vote given q reason.0
+    any_move given is (CallToAppend q previous with_entry) reason =
+        subst (λ (c : Bool). Open (if c then suc b else b) (memory_after members me number server (CallToAppend q previous with_entry))
+        (times_after members me given server (CallToAppend q previous with_entry) times) now) (reason.1 refl)
+        (calls_to_append given is q previous with_entry reason.0 (λ here. never (sym (reason.1 refl) ∙ here)))
+    any_move given is (AnswerAgain place) reason = o
+    any_move given is (GiveUp q) reason = gives_up given q reason
+
+  pub later : (b : ℕ) (m : Memory) (times : Times) (now then_ : ℕ) → now ≤ then_ → Open b m times now → Open b m times then_
+  later b m times now then_ less o = record {
+    low = omega (arith, less, o.low);
+    since = omega (arith, less, o.since);
+    kept = o.kept;
+    waits = o.waits;
+    follower = o.follower;
+    candidate = o.candidate;
+    leader = λ e none. omega (arith, less, o.leader e none);
+    leads = o.leads;
+  }
+
+  itself : (p == p) ≡ true
+  itself = elim (eqb_tells p p) [ inl s ↦ s.0 | inr apart ↦ absurd (apart.1 refl) ]
+
+  -- the first call
+  pub first : (server : RaftServer) (times : Times) (now : ℕ) → M ≡ now → times.since ≤ now → (members : List ℕ) (me number : ℕ) (given : Given) → given.now ≡ now
+      → (previous : ℕ) (with_entry : Bool) → server.memory.role ≡ Leader
+      → Open 0 (memory_after members me number server (CallToAppend p previous with_entry)) (times_after members me given server (CallToAppend p previous with_entry) times) now
+  first server times now first_now since members me number given is previous with_entry leading =
+      let asked : Request = append_request me number server.store p previous with_entry in
+      let pends : (if p == p then Some asked else server.memory.pending p) ≡ Some asked = ap (λ (c : Bool). if c then Some asked else server.memory.pending p) itself in
+      let sends : (if p == p then Some (record { id = given.id; moment = given.now }) else times.sending p) ≡ Some (record { id = given.id; moment = given.now }) =
+      ap (λ (c : Bool). if c then Some (record { id = given.id; moment = given.now }) else times.sending p) itself in
+      record {
+        low = omega (arith, first_now);
+        since = since;
+        kept = ap (λ (x : Option Sending). is_some x) sends ∙ ap (λ (x : Option Request). is_some x) (sym pends);
+        waits = λ r s pending sent append. omega (arith, first_now, is, ap (λ (x : Sending). x.moment) (the_sending _ s (sym sends ∙ sent)));
+        follower = λ f. absurd (cc (sym leading ∙ f));
+        candidate = λ f. absurd (cc (sym leading ∙ f));
+        leader = λ f quiet. absurd (cc (sym pends ∙ quiet));
+        leads = λ r f pending. ap (λ (x : Request). x.append) (sym (the_request asked r (sym pends ∙ pending)));
+      }
+    where
+      the_request : (x y : Request) → Some x ≡ Some y → x ≡ y
+      the_request x y e = cc (e)
+
+      the_sending : (x y : Sending) → Some x ≡ Some y → x ≡ y
+      the_sending x y e = cc (e)
+
+-- append requests to a node that does not answer come round after 32 s
+pub spaced_appends : (p : ℕ) → IsSpaced true p 32000 (λ M b m times now. Open p M b m times now)
+spaced_appends p = record {
+  later = λ M b m times now then_ less o. later p M b m times now then_ less o;
+  moves = λ M b server times now o members me number given is move reason. any_move p M b server times now o members me number given is move reason;
+  calls = calls;
+  begins = begins;
+  far = far;
+}
+  where
+    calls : (M b : ℕ) (server : RaftServer) (times : Times) (now : ℕ) → Open p M b server.memory times now → (members : List ℕ) (me number : ℕ)
+        (given : Given) → given.now ≡ now → (move : Move) → IsOwnCall true p server.memory move
+        → Open p M (suc b) (memory_after members me number server move) (times_after members me given server move times) now
+    calls M b server times now o members me number given is (CallToAppend q previous with_entry) own =
+        let here : (p == q) ≡ true = ap (λ (n : ℕ). p == n) own.2 ∙ itself p M in
+        subst (λ (c : Bool). Open p M (if c then suc b else b) (memory_after members me number server (CallToAppend q previous with_entry))
+        (times_after members me given server (CallToAppend q previous with_entry) times) now) here
+        (calls_to_append p M b server times now o members me number given is q previous with_entry own.0
+        (λ e. ap server.memory.pending (sym own.2) ∙ own.1))
+    calls M b server times now o members me number given is move own = absurd own
+
+    begins : (server : RaftServer) (times : Times) (now : ℕ) → times.since ≤ now → (members : List ℕ) (me number : ℕ)
+        (given : Given) → given.now ≡ now → (move : Move) → IsOwnCall true p server.memory move
+        → Open p now 0 (memory_after members me number server move) (times_after members me given server move times) now
+    begins server times now low members me number given is (CallToAppend q previous with_entry) own =
+        subst (λ (n : ℕ). Open p now 0 (memory_after members me number server (CallToAppend n previous with_entry))
+        (times_after members me given server (CallToAppend n previous with_entry) times) now)
+        (sym own.2) (first p now server times now refl low members me number given is previous with_entry own.0)
+    begins server times now low members me number given is move own = absurd own
+
+    far : (M b : ℕ) (m : Memory) (times : Times) (now : ℕ) → Open p M b m times now → (move : Move) → IsOwnCall true p m move → 31 ≤ b → M + 32000 ≤ now
+    far M b m times now o (CallToAppend q previous with_entry) own many = omega (arith, o.leader own.0 (ap m.pending (sym own.2) ∙ own.1), many)
+    far M b m times now o move own many = absurd own

@@ -1,5 +1,5 @@
 -- A member on a physical bus takes no response to an earlier call, where transfer IDs are used again late.
-use Rattle.std.proofs.Common.{◌≡◌, ◌≢◌, ℕ, ◌+◌, ◌<◌, ◌≤◌, Bool, true, false, List, refl, sym, subst, ◌∙◌, arith, ◌⊎◌, inl, inr}
+use Rattle.std.proofs.Common.{◌≡◌, ◌≢◌, ℕ, ◌+◌, ◌<◌, ◌≤◌, Bool, true, false, List, refl, sym, ap, subst, ◌∙◌, arith, ◌⊎◌, inl, inr}
 use Rattle.std.specs.Prelude.{◌*◌, ◌==◌, max}
 use Rattle.std.proofs.lemmas.Bool.Decides.{eqb_tells}
 use Rattle.can_frame.specs.declared.step.What.{What}
@@ -10,11 +10,12 @@ use Rattle.replay_text.specs.declared.row.Row.TheVariants.{Rx}
 use Rattle.transfer_tx.specs.Queue.{Queued}
 use Rattle.alloc_spec.specs.Transfers.{SentTransfer, number_of}
 use Rattle.cluster_spec.specs.Cluster.{Cluster, frame_at}
+use Rattle.cluster_spec.specs.Lawful.{is_members_service}
 use Rattle.cluster_spec.specs.Members.{MemberStatus}
 use Rattle.cluster_agreement.specs.Said.{carrier}
 use Rattle.alloc_spec_laws.proofs.DistinctTransfers.{rank}
 use Rattle.cluster_agreement.proofs.Lists.{never}
-use Rattle.bus_physics.specs.Physics.{ClockGoesOnAt, ComesInTime, FrameComesInTime, GoesOn, Limits, OfIt, IsAnswered, AnswersInOrder, Timed, WaitsForAnswers, now_in, time_of}
+use Rattle.bus_physics.specs.Physics.{ClockGoesOnAt, ComesInTime, FrameComesInTime, GoesOn, Limits, OfIt, IsAnswered, AnswersInOrder, IsResponseOf, Timed, WaitsForAnswers, now_in, time_of}
 use Rattle.bus_physics.specs.Reuse.{IsStaleAt}
 use Rattle.bus_physics.proofs.Members.{MemberBefore}
 use Rattle.bus_physics.proofs.Waiting.{WaitsLast}
@@ -39,7 +40,7 @@ is_call false = omega arith
 
 module _ (limits : Limits) (all : List Timed) (sane : limits.drift < 58000) (made : List SentTransfer) (numbered : (x : SentTransfer) → In x made → 1 ≤ x.step)
     (heard : List Queued) (w : Cluster) (now : Timed) (n k ms : ℕ) (waits : WaitsForAnswers limits all made heard n)
-    (order : AnswersInOrder heard (frame_at w.frames k)) (row : now.row ≡ Rx n k ms) (before : MemberBefore limits all n w now)
+    (order : AnswersInOrder n heard (frame_at w.frames k)) (row : now.row ≡ Rx n k ms) (before : MemberBefore limits all n w now)
     (waits_last : WaitsLast n made (w.member n).status)
     (s : IsStaleAt made w n k ms) (soon : IsSoon limits all s.response) where
   comes : ComesInTime limits all now.at (frame_at w.frames k)
@@ -86,8 +87,18 @@ module _ (limits : Limits) (all : List Timed) (sane : limits.drift < 58000) (mad
     is.after,
     is.answers,
     s.answered,
-    order is.answer (number_of s.first.offer.what) s.first.offer.to s.first.by is.came is.is s.is_response,
+    order is.answer (number_of s.first.offer.what) s.first.offer.to s.another is.came service (to_it is.answer is.is) (to_it (frame_at w.frames k) s.is_response),
   ))
+    where
+      to_it : (f : Queued) → IsResponseOf (number_of s.first.offer.what) s.first.offer.to s.first.by f → IsResponseOf (number_of s.first.offer.what) s.first.offer.to n f
+      to_it f r = subst (λ (m : ℕ). IsResponseOf (number_of s.first.offer.what) s.first.offer.to m f) (s.twice.by ∙ s.maker) r
+
+      of_carrier : (append : Bool) → is_members_service (number_of (carrier append)) ≡ true
+      of_carrier true = refl
+      of_carrier false = refl
+
+      service : is_members_service (number_of s.first.offer.what) ≡ true
+      service = ap (λ (w : What). is_members_service (number_of w)) (s.twice.what ∙ s.carried) ∙ of_carrier s.request.append
 
   by_carrier : (append : Bool) (what : What) → what ≡ carrier append → (what ≡ AppQ) ⊎ (what ≡ VoteQ)
   by_carrier true what is = inl is

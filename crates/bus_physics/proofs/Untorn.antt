@@ -51,6 +51,7 @@ use Rattle.bus_physics.specs.Reuse.{AreOfOne, AreOfTwo, IsFrameOf}
 use Rattle.bus_physics.proofs.Devices.{IsKnown, IsTimely, StandsBefore, soon, width}
 use Rattle.bus_physics.proofs.InTime.{AreClose, Heard, IsIdle, IsInTime, IsYoung, close_more, comes, filtered, found}
 use Rattle.bus_physics.proofs.Refusals.{IsRefusedAt, of_torn, marked_at_device, refused_at, torn_at_device}
+use Rattle.bus_physics.proofs.ShortAllocations.{AreShortOf}
 use Rattle.bus_physics.proofs.Short.{short_is_whole}
 use Rattle.bus_physics.proofs.Single.{IsOrigin, IsSingle}
 use Rattle.bus_physics.proofs.Torn.{completes, forged_has_source, how, place_of}
@@ -247,7 +248,7 @@ of_it {A} a is = by (a == a) refl is where
 module _ (laws : FrameLaws) (choice : ℕ → Bool) (made : List SentTransfer) (w : Cluster) (run : machine.World) (members : AreMembers w.ids)
     (shows : Shows choice made w run) (limits : Limits) (all : List Timed) (sane : limits.drift < 58000) (now : Timed) (a k ms word : ℕ)
     (row : now.row ≡ ARx a k ms word) (before : StandsBefore limits all a w now) (heard : List Queued)
-    (Ordered : Type 0) (slowly : AllocatesApart limits all made heard Ordered) (order : Ordered → ComesInOrderToDevice heard (frame_at w.frames k))
+    (few : AreShortOf made) (Ordered : Type 0) (slowly : AllocatesApart limits all made heard Ordered) (order : Ordered → ComesInOrderToDevice heard (frame_at w.frames k))
     (follows : Ordered → KeptIn a heard (w.allocatee a))
     (x : Device) (there : w.allocatee a ≡ Some x) (inside : In (frame_at w.frames k) w.frames) where
   abbrev coming : Arrival
@@ -379,11 +380,11 @@ module _ (laws : FrameLaws) (choice : ℕ → Bool) (made : List SentTransfer) (
 
       of_two : AreOfTwo made d.ident (map (λ (h : Heard). h.arrival) hs ++ coming ∷ []) → ⊥
       of_two two = elim (lt_trichotomy two.first.step two.second.step) [
-        | inl less ↦ elim (slowly.apart two.first two.second two.twice.first_made two.twice.second_made what (sym two.twice.what ∙ what) two.twice.by two.twice.id less) [
+        | inl less ↦ elim (slowly two.first two.second two.twice.first_made two.twice.second_made what (sym two.twice.what ∙ what) two.twice.by two.twice.id less) [
           | inl far ↦ near far
           | inr part ↦ parted two.first two.second two.twice.first_made part pair.first pair.first_in (subst (λ (b : Arrival). IsFrameOf two.first b) (sym pair.one_is) two.of_first)
         ]
-        | inr more ↦ elim (slowly.apart two.second two.first two.twice.second_made two.twice.first_made (sym two.twice.what ∙ what) what (sym two.twice.by) (sym two.twice.id)
+        | inr more ↦ elim (slowly two.second two.first two.twice.second_made two.twice.first_made (sym two.twice.what ∙ what) what (sym two.twice.by) (sym two.twice.id)
             (below (two.twice.apart) more)) [
               | inl (inl far) ↦ near (inr far)
               | inl (inr far) ↦ near (inl far)
@@ -427,7 +428,7 @@ module _ (laws : FrameLaws) (choice : ℕ → Bool) (made : List SentTransfer) (
       of_one one =
           let what = one_what one.whose.offer.what Alloc Message 1 (one.kind ∙ allocation.0) refl (one.number ∙ allocation.1) refl in
           never (sym one.not_whole ∙ short_is_whole laws one.whose (shows.holds.transfers.ranges one.whose one.was_made).id
-          (slowly.short one.whose one.was_made what) (map (λ (h : Heard). h.arrival) hs ++ coming ∷ []) coming one.each its.w.signature d.id d.payload cutting)
+          (few one.whose one.was_made what) (map (λ (h : Heard). h.arrival) hs ++ coming ∷ []) coming one.each its.w.signature d.id d.payload cutting)
 
       nothing_torn : ⊥
       nothing_torn = elim (how laws w.ids (λ n i. (members.nodes n i).0) (λ n i. (members.nodes n i).1) made shows.holds.transfers device.setting w.frames shows.bus
@@ -444,10 +445,10 @@ module _ (laws : FrameLaws) (choice : ℕ → Bool) (made : List SentTransfer) (
 
 pub no_torn_row : (laws : FrameLaws) (choice : ℕ → Bool) (made : List SentTransfer) (w : Cluster) (run : machine.World) (members : AreMembers w.ids)
     (shows : Shows choice made w run) (limits : Limits) (all : List Timed) → limits.drift < 58000 → (now : Timed) (a k ms word : ℕ)
-    → now.row ≡ ARx a k ms word → StandsBefore limits all a w now → (heard : List Queued) (Ordered : Type 0) → AllocatesApart limits all made heard Ordered
+    → now.row ≡ ARx a k ms word → StandsBefore limits all a w now → (heard : List Queued) → AreShortOf made → (Ordered : Type 0) → AllocatesApart limits all made heard Ordered
     → (Ordered → ComesInOrderToDevice heard (frame_at w.frames k)) → (Ordered → KeptIn a heard (w.allocatee a)) → IsSingle w.ids w → cause w (ARx a k ms word) ≡ Some IsTorn → ⊥
-no_torn_row laws choice made w run members shows limits all sane now a k ms word row before heard Ordered slowly order follows single e =
+no_torn_row laws choice made w run members shows limits all sane now a k ms word row before heard few Ordered slowly order follows single e =
     let r : IsRefusedAt w a k ms Torn = refused_at IsTorn Torn of_torn w a k ms word e in
     let b = torn_at_device r.x (arrival_at (frame_at w.frames k) ms) r.judgement in
-    never_torn laws choice made w run members shows limits all sane now a k ms word row before heard Ordered slowly order follows r.x r.there (stands w k r.frame_there)
+    never_torn laws choice made w run members shows limits all sane now a k ms word row before heard few Ordered slowly order follows r.x r.there (stands w k r.frame_there)
     b.delivery b.gives b.is (marked_at_device r.x (arrival_at (frame_at w.frames k) ms) r.judgement) (single.bus (frame_at w.frames k) (stands w k r.frame_there))

@@ -1,10 +1,10 @@
 -- What a physical bus does with the frames that an allocatee hears: its clock goes on with the time, and a frame comes
 -- after it was made, and not much later. That it may be lost, come twice or overtake another one is not excluded.
-use Rattle.std.specs.Prelude.{⊤, ◌≡◌, ◌⊎◌, ℕ, ◌+◌, ◌-◌, ◌*◌, ◌<◌, ◌≤◌, ◌==◌, Bool, true, false, List, [], ◌∷◌, ◌++◌, length, max, min, slice_index_or, nat_eq, Option, None, Some, if◌then◌else◌}
+use Rattle.std.specs.Prelude.{⊤, ◌≡◌, ◌≢◌, ◌⊎◌, ℕ, ◌+◌, ◌-◌, ◌*◌, ◌<◌, ◌≤◌, ◌==◌, Bool, true, false, List, [], ◌∷◌, ◌++◌, max, min, slice_index_or, nat_eq, Option, None, Some, if◌then◌else◌}
 use Rattle.can_frame.specs.declared.identifier.Ident.{Ident}
 use Rattle.can_frame.specs.declared.identifier.Kind.TheVariants.{Response}
 use Rattle.can_frame.specs.declared.step.What.TheVariants.{Alloc, AppQ, VoteQ}
-use Rattle.can_frame.specs.Cutting.{frame_count, piece_from}
+use Rattle.can_frame.specs.Cutting.{piece_from}
 use Rattle.can_frame.specs.Identifier.{identifier_number, identifier_of}
 use Rattle.raft_model.specs.Lists.{In}
 use Rattle.replay_text.specs.declared.row.Row.{Row}
@@ -18,6 +18,7 @@ use Rattle.allocatee.specs.Allocatee.{Device}
 use Rattle.alloc_spec.specs.Accepted.{setting_for}
 use Rattle.alloc_spec.specs.Transfers.{SentTransfer, ident_of, number_of}
 use Rattle.cluster_spec.specs.Cluster.{Cluster, after_row, arrival_at, frame_at}
+use Rattle.cluster_spec.specs.Lawful.{is_members_service}
 use Rattle.cluster_spec.specs.Members.{MemberStatus}
 use Rattle.cluster_spec.specs.Members.MemberStatus.{Down, Failed, Up}
 
@@ -91,6 +92,11 @@ ArePhysical limits all a past w (timed ∷ rest) = RowIsPhysical limits all a pa
 
 -- ---- the members
 
+-- for so long after a transfer was made a receiver may put frames of it together with those of another one: they are
+-- held, and it keeps a transfer that is begun for two seconds
+abbrev pub joining_span : Limits → ℕ
+joining_span limits = limits.hold + 2000 + limits.drift
+
 -- so far apart, one way or the other
 abbrev pub AreApart : ℕ → ℕ → ℕ → Type 0
 AreApart width m n = (m + width < n) ⊎ (n + width < m)
@@ -121,17 +127,32 @@ member_readings n past w at (Rx m k ms) =
     if n == m then record { at = at; now = now_in (w.member m).status ms } ∷ past else past
 member_readings n past w at row = past
 
-abbrev pub ClockGoesOnAt : Limits → ℕ → List Reading → Cluster → ℕ → Row → Type 0
-ClockGoesOnAt limits n past w at (Tick m ms word) =
-    OfIt (n == m) (GoesOn limits past at (now_in (w.member m).status ms))
-ClockGoesOnAt limits n past w at (Rx m k ms) = OfIt (n == m) (GoesOn limits past at (now_in (w.member m).status ms))
-ClockGoesOnAt limits n past w at row = ⊤
+-- what is asked of a reading, by the earlier ones, its time and its moment, is so of each one of member n
+abbrev pub ReadsAt : (List Reading → ℕ → ℕ → Type 0) → ℕ → List Reading → Cluster → ℕ → Row → Type 0
+ReadsAt Asked n past w at (Tick m ms word) = OfIt (n == m) (Asked past at (now_in (w.member m).status ms))
+ReadsAt Asked n past w at (Rx m k ms) = OfIt (n == m) (Asked past at (now_in (w.member m).status ms))
+ReadsAt Asked n past w at row = ⊤
+
+abbrev pub Reads : (List Reading → ℕ → ℕ → Type 0) → ℕ → List Reading → Cluster → List Timed → Type 0
+Reads Asked n past w [] = ⊤
+Reads Asked n past w (timed ∷ rest) = ReadsAt Asked n past w timed.at timed.row
+    × Reads Asked n (member_readings n past w timed.at timed.row) (after_row w timed.row) rest
 
 -- the clock of member n goes on
+abbrev pub ClockGoesOnAt : Limits → ℕ → List Reading → Cluster → ℕ → Row → Type 0
+ClockGoesOnAt limits n past w at row = ReadsAt (GoesOn limits) n past w at row
+
 abbrev pub ClockGoesOn : Limits → ℕ → List Reading → Cluster → List Timed → Type 0
-ClockGoesOn limits n past w [] = ⊤
-ClockGoesOn limits n past w (timed ∷ rest) = ClockGoesOnAt limits n past w timed.at timed.row
-    × ClockGoesOn limits n (member_readings n past w timed.at timed.row) (after_row w timed.row) rest
+ClockGoesOn limits n past w rows = Reads (GoesOn limits) n past w rows
+
+-- Since each reading of the last minute the clock went on by no more than the time did, but for the drift.
+abbrev pub IsNotFast : Limits → List Reading → ℕ → ℕ → Type 0
+IsNotFast limits past at now = (p : Reading) → In p past → at ≤ p.at + 60000 →
+    now ≤ p.now + (at - p.at) + limits.drift
+
+-- the clock of member n does not run fast
+abbrev pub ClockIsNotFast : Limits → ℕ → List Reading → Cluster → List Timed → Type 0
+ClockIsNotFast limits n past w rows = Reads (IsNotFast limits) n past w rows
 
 -- ---- calls and answers
 
@@ -153,11 +174,11 @@ pub record IsResponseOf (number source dest : ℕ) (frame : Queued) : Type 0 whe
   pub from : ident.source ≡ source
   pub to : ident.dest ≡ dest
 
--- the answers of a node to another one come in the order of the calls, each once: one that was heard answers an earlier
--- call
-abbrev pub AnswersInOrder : List Queued → Queued → Type 0
-AnswersInOrder heard frame = (other : Queued) (number source dest : ℕ) → In other heard
-    → IsResponseOf number source dest other → IsResponseOf number source dest frame → other.mark.re < frame.mark.re
+-- the answers of a node to member n come in the order of the calls, each once: one that was heard answers an earlier
+-- call of the service
+abbrev pub AnswersInOrder : ℕ → List Queued → Queued → Type 0
+AnswersInOrder n heard frame = (other : Queued) (number source : ℕ) → source ≢ n → In other heard
+    → is_members_service number ≡ true → IsResponseOf number source n other → IsResponseOf number source n frame → other.mark.re < frame.mark.re
 
 -- a call of these was answered: the first one, or one that the member made later to the same node, of the same service
 pub record IsAnswered (made : List SentTransfer) (heard : List Queued) (first : SentTransfer) : Type 0 where
@@ -177,6 +198,30 @@ WaitsForAnswers limits all made heard n = (x y : SentTransfer) → In x made →
     → (x.offer.what ≡ AppQ) ⊎ (x.offer.what ≡ VoteQ)
     → (time_of all x.step + 2 * limits.hold < time_of all y.step) ⊎ IsAnswered made heard x
 
+-- ---- calls over an opening
+
+-- what happened in the row with this number
+abbrev pub row_of : List Timed → ℕ → Row
+row_of all number = (slice_index_or all (number - 1) (record { at = 0; row = Send 0 })).row
+
+-- member n is opened in a row between these two
+pub record IsOpenedBetween (all : List Timed) (n first second : ℕ) : Type 0 where
+  pub number : ℕ
+  pub later : first < number
+  pub sooner : number < second
+  pub told : Bool
+  pub moment : ℕ
+  pub word : ℕ
+  pub opens : row_of all number ≡ Open n told moment word
+
+-- Where member n is opened between two calls to a node under one transfer ID, more time has passed than a call and its
+-- answer may take.
+abbrev pub RestsWhenOpened : Limits → List Timed → List SentTransfer → ℕ → Type 0
+RestsWhenOpened limits all made n = (x y : SentTransfer) → In x made → In y made → x.by ≡ n → y.by ≡ n
+    → x.offer.what ≡ y.offer.what → x.offer.to ≡ y.offer.to → x.offer.id ≡ y.offer.id
+    → (x.offer.what ≡ AppQ) ⊎ (x.offer.what ≡ VoteQ) → IsOpenedBetween all n x.step y.step
+    → time_of all x.step + 2 * limits.hold < time_of all y.step
+
 -- ---- frames in order
 
 -- a frame comes to the session of this key at member n
@@ -188,15 +233,35 @@ abbrev pub ComesInOrder : ℕ → List Queued → Queued → Type 0
 ComesInOrder n heard frame = (other : Queued) (key : Key) → In other heard → HasKeyAt n key other → HasKeyAt n key frame
     → other.mark.step ≤ frame.mark.step
 
+-- what is asked of a frame, by those that were heard before, is so of each one of member n
+abbrev pub ComesAt : (List Queued → Queued → Type 0) → ℕ → List Queued → Cluster → Row → Type 0
+ComesAt Asked n heard w (Rx m k ms) = OfIt (n == m) (Asked heard (frame_at w.frames k))
+ComesAt Asked n heard w row = ⊤
+
+abbrev pub Come : (List Queued → Queued → Type 0) → ℕ → List Queued → Cluster → List Row → Type 0
+Come Asked n heard w [] = ⊤
+Come Asked n heard w (row ∷ rows) =
+    ComesAt Asked n heard w row × Come Asked n (heard ++ heard_in n w row) (after_row w row) rows
+
 abbrev pub IsInOrder : ℕ → List Queued → Cluster → Row → Type 0
-IsInOrder n heard w (Rx m k ms) = OfIt (n == m) (ComesInOrder n heard (frame_at w.frames k))
-IsInOrder n heard w row = ⊤
+IsInOrder n heard w row = ComesAt (ComesInOrder n) n heard w row
 
 -- to member n, which heard these before
 abbrev pub ComeInOrder : ℕ → List Queued → Cluster → List Row → Type 0
-ComeInOrder n heard w [] = ⊤
-ComeInOrder n heard w (row ∷ rows) =
-    IsInOrder n heard w row × ComeInOrder n (heard ++ heard_in n w row) (after_row w row) rows
+ComeInOrder n heard w rows = Come (ComesInOrder n) n heard w rows
+
+-- a frame that a step made comes once
+abbrev pub ComesOnce : List Queued → Queued → Type 0
+ComesOnce heard frame = (other : Queued) → In other heard → 1 ≤ frame.mark.step → other.id ≡ frame.id
+    → other.mark ≡ frame.mark → ⊥
+
+-- in order, and once
+abbrev pub ComesInTurn : ℕ → List Queued → Queued → Type 0
+ComesInTurn n heard frame = ComesInOrder n heard frame × ComesOnce heard frame
+
+-- to each member
+abbrev pub AllComeInTurn : List ℕ → Cluster → List Row → Type 0
+AllComeInTurn ids w rows = (m : ℕ) → In m ids → Come (ComesInTurn m) m [] w rows
 
 -- a frame was heard that was made between these two, under the same identifier: a first one, and with a transfer ID
 -- that is neither theirs nor the one before
@@ -216,7 +281,7 @@ abbrev pub UsesIdsApart : Limits → List Timed → List SentTransfer → List Q
 UsesIdsApart limits all made heard n = (x y : SentTransfer) → In x made → In y made → x.by ≡ y.by
     → x.offer.what ≡ y.offer.what → x.offer.to ≡ y.offer.to → x.offer.id ≡ y.offer.id → x.step < y.step
     → (x.offer.to ≡ 0) ⊎ (x.offer.to ≡ n)
-    → AreApart (limits.hold + 2000 + limits.drift) (time_of all x.step) (time_of all y.step) ⊎ IsParted heard x y
+    → AreApart (joining_span limits) (time_of all x.step) (time_of all y.step) ⊎ IsParted heard x y
 
 -- ---- Allocations
 
@@ -249,10 +314,9 @@ ComeInOrderToDevice a heard w (row ∷ rows) = IsInOrderToDevice a heard w row
 
 -- No member uses a transfer ID of its Allocations again within the longest hold and two seconds, also where it was
 -- started again in between; or frames come in order, and the allocatee heard an Allocation that the member made between
--- the two. Each Allocation has three frames at the most.
-pub record AllocatesApart (limits : Limits) (all : List Timed) (made : List SentTransfer) (heard : List Queued)
-    (Ordered : Type 0) : Type 0 where
-  pub apart : (x y : SentTransfer) → In x made → In y made → x.offer.what ≡ Alloc → y.offer.what ≡ Alloc → x.by ≡ y.by
-      → x.offer.id ≡ y.offer.id → x.step < y.step → AreApart (limits.hold + 2000 + limits.drift)
-      (time_of all x.step) (time_of all y.step) ⊎ (Ordered × IsParted heard x y)
-  pub short : (x : SentTransfer) → In x made → x.offer.what ≡ Alloc → frame_count (length x.offer.payload) ≤ 3
+-- the two.
+abbrev pub AllocatesApart : Limits → List Timed → List SentTransfer → List Queued → Type 0 → Type 0
+AllocatesApart limits all made heard Ordered = (x y : SentTransfer) → In x made → In y made → x.offer.what ≡ Alloc
+    → y.offer.what ≡ Alloc → x.by ≡ y.by → x.offer.id ≡ y.offer.id → x.step < y.step
+    → AreApart (joining_span limits) (time_of all x.step) (time_of all y.step)
+    ⊎ (Ordered × IsParted heard x y)

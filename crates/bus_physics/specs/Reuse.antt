@@ -113,6 +113,7 @@ pub record IsStaleAt (made : List SentTransfer) (w : Cluster) (n k ms : ℕ) : T
   pub second : SentTransfer
   pub twice : IsUsedTwice made first second
   pub maker : second.by ≡ n
+  pub another : first.offer.to ≢ n
   pub response : SentTransfer
   pub response_made : In response made
   pub response_kind : kind_of response.offer.what ≡ Response

@@ -7,7 +7,7 @@ use Rattle.cluster_spec.specs.declared.unlawful.Unlawful.TheVariants.{Stale, Tor
 use Rattle.cluster_spec.specs.Cluster.{Cluster, after_row, arrival_at, cluster, frame_at, world_of}
 use Rattle.cluster_spec.specs.Lawful.{Lawful, cause}
 use Rattle.cluster_spec.specs.Refinement.{transfers_of_rows}
-use Rattle.bus_physics.specs.Physics.{AllocatesApart, AnswersInOrder, ArePhysical, ClockGoesOn, ComeInOrder, ComeInOrderToDevice, ComesInOrder, ComesInOrderToDevice, FramesComeInTime, device_heard_by, Limits, Timed, UsesIdsApart, WaitsForAnswers, heard_by, rows_in}
+use Rattle.bus_physics.specs.Physics.{AllComeInTurn, AllocatesApart, ArePhysical, ClockGoesOn, ClockIsNotFast, ComeInOrder, ComeInOrderToDevice, ComesInOrderToDevice, ComesInTurn, FramesComeInTime, device_heard_by, Limits, RestsWhenOpened, Timed, UsesIdsApart, heard_by, rows_in}
 use Rattle.bus_physics.specs.Reuse.{LacksFrames}
 
 -- ---- the premises
@@ -16,13 +16,12 @@ use Rattle.bus_physics.specs.Reuse.{LacksFrames}
 pub record MemberHears (limits : Limits) (ids : List ℕ) (before : List Timed) (now : Timed) (n k : ℕ) : Type 0 where
   pub comes : FramesComeInTime limits (before ++ now ∷ []) (cluster ids) (before ++ now ∷ [])
   pub clock : ClockGoesOn limits n [] (cluster ids) (before ++ now ∷ [])
-  pub order : AnswersInOrder (heard_by n (cluster ids) (rows_in before))
+  pub turns : AllComeInTurn ids (cluster ids) (rows_in before)
+  pub turn : ComesInTurn n (heard_by n (cluster ids) (rows_in before))
       (frame_at (world_of ids (rows_in before)).frames k)
-  pub waits : WaitsForAnswers limits (before ++ now ∷ []) (transfers_of_rows (cluster ids) (rows_in before) [])
-      (heard_by n (cluster ids) (rows_in before)) n
+  pub fast : ClockIsNotFast limits n [] (cluster ids) before
+  pub rests : RestsWhenOpened limits (before ++ now ∷ []) (transfers_of_rows (cluster ids) (rows_in before) []) n
   pub earlier : ComeInOrder n [] (cluster ids) (rows_in before)
-  pub behind : ComesInOrder n (heard_by n (cluster ids) (rows_in before))
-      (frame_at (world_of ids (rows_in before)).frames k)
   pub apart : UsesIdsApart limits (before ++ now ∷ []) (transfers_of_rows (cluster ids) (rows_in before) [])
       (heard_by n (cluster ids) (rows_in before)) n
 

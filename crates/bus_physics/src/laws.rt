@@ -1,16 +1,22 @@
 //! Laws of the definitions, each the contract of a function that does nothing.
 
-ghost use Rattle.std.specs.Prelude.{None, ◌≡◌, ◌⊎◌, ◌<◌, ◌∷◌, ◌++◌, ℕ, List, Some, []};
+ghost use Rattle.std.specs.Prelude.{None, ◌≡◌, ◌⊎◌, ◌+◌, ◌*◌, ◌<◌, ◌≤◌, ◌∷◌, ◌++◌, ℕ, List, length, Some, []};
+ghost use Rattle.can_frame.specs.Cutting.{frame_count};
+ghost use Rattle.can_frame.specs.declared.step.What.TheVariants.{Alloc};
+ghost use Rattle.raft_model.specs.Lists.{In};
 ghost use Rattle.replay_text.specs.declared.row.Row.{Row};
+ghost use Rattle.alloc_spec.specs.Transfers.{SentTransfer};
 ghost use Rattle.replay_text.specs.declared.row.Row.TheVariants.{ARx, Rx};
 ghost use Rattle.cluster_spec.specs.declared.unlawful.Unlawful.TheVariants.{Stale, Torn};
 ghost use Rattle.cluster_spec.specs.Cluster.{AreMembers, arrival_at, cluster, frame_at, world_of};
-ghost use Rattle.cluster_spec.specs.Lawful.{Lawful, cause};
+ghost use Rattle.cluster_spec.specs.Lawful.{Lawful, cause, no_such_frame};
 ghost use Rattle.cluster_spec.specs.Refinement.{transfers_of_rows};
+ghost use Rattle.bus_physics.specs.Physics.{AllComeInTurn, ComesInTurn, ComesOnce};
 ghost use Rattle.bus_physics.specs.Physics.{AllocatesApart, AnswersInOrder, ArePhysical, ClockGoesOn, ComeInOrder};
 ghost use Rattle.bus_physics.specs.Physics.{ComeInOrderToDevice, ComesInOrderToDevice, device_heard_by};
 ghost use Rattle.bus_physics.specs.Physics.{ComesInOrder, FramesComeInTime};
-ghost use Rattle.bus_physics.specs.Physics.{Limits, Timed, UsesIdsApart, WaitsForAnswers, heard_by, rows_in};
+ghost use Rattle.bus_physics.specs.Physics.{ClockIsNotFast, Limits, RestsWhenOpened, Timed, UsesIdsApart, WaitsForAnswers, heard_by};
+ghost use Rattle.bus_physics.specs.Physics.{rows_in};
 ghost use Rattle.bus_physics.specs.Example.{at_allocatee, at_member, before as first_rows, everything, limits as some_limits, two};
 ghost use Rattle.bus_physics.specs.Reuse.{IsStaleAt, IsTornAt, IsTornAtDevice, LacksFrames};
 ghost use Rattle.cluster_agreement.specs.Headline.{HasHeadline};
@@ -18,6 +24,7 @@ ghost use Rattle.cmd_node_laws.specs.Traces.{Event, MayAllHappen, all_rows};
 ghost use Rattle.bus_physics.specs.Processes.{MayAllDo};
 ghost use Rattle.bus_physics.specs.Schedule.{HappenOnBus, LawfulButForBus, LosesFrames};
 
+use alloc_spec_laws::laws::transfers_of_a_step_are_apart;
 use allocatee::laws::sessions_of_a_step;
 use cluster_agreement::below::{what_is_said_of_a_step, what_is_said_of_frames};
 use cluster_agreement::headline::{a_choice_fits, rows_are_shown};
@@ -42,6 +49,16 @@ pub fn what_is_refused()
     what_is_said_of_frames();
 }
 
+/// An Allocation that a member made has three frames at the most: a node ID, and a unique ID or the part of one.
+pub fn an_allocation_has_at_most_three_frames()
+    ensures { (ids : List ℕ) (rows : List Row) (x : SentTransfer) → AreMembers ids → Lawful (cluster ids) rows →
+        In x (transfers_of_rows (cluster ids) rows []) → x.offer.what ≡ Alloc →
+        frame_count (length x.offer.payload) ≤ 3 }
+{
+    a_choice_fits();
+    rows_are_shown();
+}
+
 /// An allocatee on a physical bus, whatever frames are lost, come twice or overtake each other, takes nothing
 /// torn: where each frame comes after it was made and within the longest hold, where the allocatee's clock goes
 /// on with the time, and where no member uses a transfer ID of its Allocations again too soon; or where frames come in
@@ -57,25 +74,61 @@ pub fn a_device_puts_nothing_together_of_two()
         cause (world_of ids (rows_in before)) (ARx a k ms word) ≡ Some Torn → ⊥ }
 {
     a_choice_fits();
+    an_allocation_has_at_most_three_frames();
     rows_are_shown();
     sessions_of_a_step();
     what_is_said_of_frames();
 }
 
+/// A member makes one call to a node at a time, for 1,000 ms, and forgets it as it stands for election. So a transfer ID
+/// of its calls to a node comes round only when more time has passed than a call and its answer may take, or one of the
+/// calls since was answered: where its clock does not run fast, and it rests when it is opened. Append requests come
+/// round after 32 s, vote requests after 21 s.
+pub fn calls_come_round_late()
+    ensures { (limits : Limits) (ids : List ℕ) (before : List Timed) (now : Timed) (n : ℕ) → AreMembers ids →
+        2 * limits.hold + limits.drift < 21000 → Lawful (cluster ids) (rows_in before) →
+        ClockIsNotFast limits n [] (cluster ids) before →
+        RestsWhenOpened limits (before ++ now ∷ []) (transfers_of_rows (cluster ids) (rows_in before) []) n →
+        WaitsForAnswers limits (before ++ now ∷ []) (transfers_of_rows (cluster ids) (rows_in before) [])
+        (heard_by n (cluster ids) (rows_in before)) n }
+{
+    what_is_said_of_a_step();
+    what_is_said_of_frames();
+    a_choice_fits();
+    rows_are_shown();
+}
+
+/// The answers of another node come to a member in the order of the calls, each once: where the frames of one kind,
+/// number and source come to each member in the order in which they were made, and none comes twice.
+pub fn answers_come_in_order()
+    ensures { (ids : List ℕ) (rows : List Row) (n k : ℕ) → AreMembers ids → Lawful (cluster ids) rows →
+        no_such_frame (world_of ids rows) k ≡ None → AllComeInTurn ids (cluster ids) rows →
+        ComesInTurn n (heard_by n (cluster ids) rows) (frame_at (world_of ids rows).frames k) →
+        AnswersInOrder n (heard_by n (cluster ids) rows) (frame_at (world_of ids rows).frames k) }
+{
+    a_choice_fits();
+    rows_are_shown();
+    transfers_of_a_step_are_apart();
+    what_is_said_of_a_step();
+    what_is_said_of_frames();
+}
+
 /// A member on a physical bus, whatever frames are lost, takes no response to an earlier call: where each frame comes
-/// after it was made and within the longest hold, where the member's clock goes on with the time, where answers come in
-/// the order of the calls, and where a member waits for the answer to one call before it makes the next one.
+/// after it was made and within the longest hold, where the member's clock goes on with the time and does not run fast,
+/// where frames come to each member in order and once, and where a member that is opened rests.
 pub fn no_response_outlives_its_transfer_id()
     ensures { (limits : Limits) (ids : List ℕ) (before : List Timed) (now : Timed) (n k ms : ℕ) →
-        AreMembers ids → limits.drift < 58000 → now.row ≡ Rx n k ms → Lawful (cluster ids) (rows_in before) →
+        AreMembers ids → 2 * limits.hold + limits.drift < 21000 → now.row ≡ Rx n k ms →
+        Lawful (cluster ids) (rows_in before) →
         FramesComeInTime limits (before ++ now ∷ []) (cluster ids) (before ++ now ∷ []) →
-        ClockGoesOn limits n [] (cluster ids) (before ++ now ∷ []) →
-        AnswersInOrder (heard_by n (cluster ids) (rows_in before))
-        (frame_at (world_of ids (rows_in before)).frames k) →
-        WaitsForAnswers limits (before ++ now ∷ []) (transfers_of_rows (cluster ids) (rows_in before) [])
-        (heard_by n (cluster ids) (rows_in before)) n →
+        ClockGoesOn limits n [] (cluster ids) (before ++ now ∷ []) → ClockIsNotFast limits n [] (cluster ids) before →
+        AllComeInTurn ids (cluster ids) (rows_in before) →
+        ComesInTurn n (heard_by n (cluster ids) (rows_in before)) (frame_at (world_of ids (rows_in before)).frames k) →
+        RestsWhenOpened limits (before ++ now ∷ []) (transfers_of_rows (cluster ids) (rows_in before) []) n →
         cause (world_of ids (rows_in before)) (Rx n k ms) ≡ Some Stale → ⊥ }
 {
+    answers_come_in_order();
+    calls_come_round_late();
     what_is_refused();
     what_is_said_of_a_step();
     what_is_said_of_frames();
@@ -116,9 +169,11 @@ pub fn premises_can_be_met()
     ensures apart { UsesIdsApart some_limits (first_rows ++ at_member ∷ [])
         (transfers_of_rows (cluster two) (rows_in first_rows) []) (heard_by 2 (cluster two) (rows_in first_rows)) 2 }
     ensures frames { ComeInOrder 2 [] (cluster two) (rows_in (first_rows ++ at_member ∷ [])) }
-    ensures waits { WaitsForAnswers some_limits (first_rows ++ at_member ∷ [])
-        (transfers_of_rows (cluster two) (rows_in first_rows) []) (heard_by 2 (cluster two) (rows_in first_rows)) 2 }
-    ensures order { AnswersInOrder (heard_by 2 (cluster two) (rows_in first_rows))
+    ensures fast { ClockIsNotFast some_limits 2 [] (cluster two) first_rows }
+    ensures rests { RestsWhenOpened some_limits (first_rows ++ at_member ∷ [])
+        (transfers_of_rows (cluster two) (rows_in first_rows) []) 2 }
+    ensures turns { AllComeInTurn two (cluster two) (rows_in first_rows) }
+    ensures once { ComesOnce (heard_by 2 (cluster two) (rows_in first_rows))
         (frame_at (world_of two (rows_in first_rows)).frames 1) }
     ensures member { cause (world_of two (rows_in first_rows)) at_member.row ≡ None }
     ensures allocatee { cause (world_of two (rows_in first_rows)) at_allocatee.row ≡ None }
@@ -131,8 +186,8 @@ pub fn premises_can_be_met()
 /// torn and stale follow from when frames come, how clocks go on, the order of answers, and when transfer IDs are used
 /// again.
 pub fn schedules_on_a_bus_are_lawful()
-    ensures { (limits : Limits) (ids : List ℕ) (all : List Timed) → AreMembers ids → limits.drift < 58000 →
-        HappenOnBus limits ids [] all → LawfulButForBus (cluster ids) (rows_in all) →
+    ensures { (limits : Limits) (ids : List ℕ) (all : List Timed) → AreMembers ids →
+        2 * limits.hold + limits.drift < 21000 → HappenOnBus limits ids [] all → LawfulButForBus (cluster ids) (rows_in all) →
         Lawful (cluster ids) (rows_in all) ⊎ LosesFrames ids all }
 {
     a_device_puts_nothing_together_of_two();
@@ -144,10 +199,10 @@ pub fn schedules_on_a_bus_are_lawful()
 /// but where frames are lost. So the headline needs no premise on what is torn or stale.
 pub fn traces_on_a_bus_may_happen()
     ensures may { (limits : Limits) (ids : List ℕ) (trace : List Event) (all : List Timed) → AreMembers ids →
-        limits.drift < 58000 → rows_in all ≡ all_rows trace (cluster ids) → HappenOnBus limits ids [] all →
+        2 * limits.hold + limits.drift < 21000 → rows_in all ≡ all_rows trace (cluster ids) → HappenOnBus limits ids [] all →
         MayAllDo trace (cluster ids) → MayAllHappen trace (cluster ids) ⊎ LosesFrames ids all }
     ensures headline { (limits : Limits) (ids : List ℕ) (trace : List Event) (all : List Timed) → AreMembers ids →
-        limits.drift < 58000 → rows_in all ≡ all_rows trace (cluster ids) → HappenOnBus limits ids [] all →
+        2 * limits.hold + limits.drift < 21000 → rows_in all ≡ all_rows trace (cluster ids) → HappenOnBus limits ids [] all →
         MayAllDo trace (cluster ids) → HasHeadline ids (all_rows trace (cluster ids)) ⊎ LosesFrames ids all }
 {
     a_device_puts_nothing_together_of_two();

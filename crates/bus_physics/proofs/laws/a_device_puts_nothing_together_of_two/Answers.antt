@@ -23,6 +23,7 @@ returns c = λ limits ids before now a k ms word members sane row lawful physica
     (c.rows_are_shown.ensures chosen.0 ids rows members lawful chosen.1).shows limits (before ++ now ∷ []) sane now a k ms word row
     (along limits (before ++ now ∷ []) laws (λ key b is. of_its_key device.setting key b is) sane a now before (cluster ids) []
     (λ x is. absurd (cc (is))) physical lawful) (device_heard_by a (cluster ids) rows)
+    (λ x there what. c.an_allocation_has_at_most_three_frames.ensures ids rows x members lawful there what)
     (ComeInOrderToDevice a [] (cluster ids) rows × ComesInOrderToDevice (device_heard_by a (cluster ids) rows) (frame_at (world_of ids rows).frames k)) slowly
     (λ ordered. ordered.1) (λ ordered. follow_device a laws rows (cluster ids) [] (λ y is. absurd (cc (is))) ordered.0)
     (subst (λ (l : List ℕ). IsSingle l (world_of ids rows)) (sym (ids_stay (cluster ids) rows)) (single c.what_is_said_of_frames.ensures ids members (λ rows lawful.

@@ -1,4 +1,4 @@
-use Rattle.std.proofs.Common.{refl}
+use Rattle.std.proofs.Common.{◌<◌, arith, refl}
 use Rattle.std.specs.Prelude.{[], ◌∷◌, ◌++◌}
 use Rattle.cluster_spec.specs.Cluster.{cluster, world_of}
 use Rattle.cluster_spec.specs.Refinement.{transfers_of_rows}
@@ -6,16 +6,22 @@ use Rattle.bus_physics.specs.Physics.{heard_by, rows_in}
 use Rattle.bus_physics.proofs.Answering.{IsMadeSoon, all_soon}
 use Rattle.bus_physics.proofs.Members.{MemberLaws, along}
 use Rattle.bus_physics.proofs.Now.{now_of_a_step}
+use Rattle.can_frame.specs.declared.step.Judged.TheVariants.{Stale}
+use Rattle.cluster_spec.specs.declared.unlawful.Unlawful.TheVariants.{Stale as IsStale}
+use Rattle.bus_physics.proofs.Refusals.{of_stale, refused}
 use Rattle.bus_physics.proofs.Torn.{of_its_key}
 use Rattle.bus_physics.proofs.Unstale.{not_stale}
 use Rattle.bus_physics.proofs.Waiting.{waits_along}
 use Rattle.bus_physics.proofs.laws.no_response_outlives_its_transfer_id.Goals as goal
 
 pub returns : goal.returns
-returns c = λ limits ids before now n k ms members sane row lawful comes clock order waits e.
+returns c = λ limits ids before now n k ms members enough row lawful comes clock slow turns turn rests e.
     let rows = rows_in before in
+    let sane : limits.drift < 58000 = omega (arith, enough) in
+    let waits = c.calls_come_round_late.ensures limits ids before now n members enough lawful slow rests in
     let steps = c.what_is_said_of_a_step.ensures in
     let laws : MemberLaws = record { heard = steps.heard; ticked = steps.ticked; me = steps.me; called = steps.called; now = now_of_a_step } in
+    let order = c.answers_come_in_order.ensures ids rows n k members lawful (refused IsStale Stale of_stale (world_of ids rows) n k ms e).there turns turn in
     let chosen = c.a_choice_fits.ensures ids rows members lawful in
     let shows = (c.rows_are_shown.ensures chosen.0 ids rows members lawful chosen.1).shows in
     let stale = c.what_is_refused.ensures.stale ids rows n k ms members lawful e in

@@ -2,7 +2,6 @@ use Rattle.std.proofs.Common.{◌≡◌, ℕ, ◌+◌, ◌≤◌, List, [], ◌�
 use Rattle.std.specs.Prelude.{◌-◌, min}
 use Rattle.can_frame.specs.Cutting.{frames_of, payload_of}
 use Rattle.can_frame.specs.Identifier.{identifier_of}
-use Rattle.can_frame.specs.declared.step.What.TheVariants.{Alloc}
 use Rattle.raft_model.specs.Lists.{In}
 use Rattle.transfer_rx.specs.Acceptance.{wanted}
 use Rattle.transfer_rx.specs.Outcome.{fits_no_payload, outcome}
@@ -55,11 +54,17 @@ pub returns-clause-frames : goal.returns-clause-frames
 unfolding step all_nodes queued_frames next_out left_behind frames_of
 returns-clause-frames c = (tt, (tt, (tt, (tt, (tt, ((λ other key i first second. absurd i), tt))))))
 
-pub returns-clause-waits : goal.returns-clause-waits
-returns-clause-waits c = λ x y i j mine own what to id earlier call. absurd (omega (arith, (made_in x i).1, mine))
+pub returns-clause-fast : goal.returns-clause-fast
+returns-clause-fast c = (tt, (tt, (tt, (tt, (tt, tt)))))
 
-pub returns-clause-order : goal.returns-clause-order
-returns-clause-order c = λ other number source dest i first second. absurd i
+pub returns-clause-rests : goal.returns-clause-rests
+returns-clause-rests c = λ x y i j mine own what to id call opened. absurd (omega (arith, (made_in x i).1, mine))
+
+pub returns-clause-turns : goal.returns-clause-turns
+returns-clause-turns c = λ m i. (tt, (tt, (tt, (tt, (tt, tt)))))
+
+pub returns-clause-once : goal.returns-clause-once
+returns-clause-once c = λ other i some id mark. absurd i
 
 pub returns-clause-comes : goal.returns-clause-comes
 unfolding step all_nodes queued_frames next_out left_behind frames_of
@@ -116,20 +121,11 @@ made_then x (inl e) = ap (λ (y : SentTransfer). y.step) e
 made_then x (inr (inl e)) = ap (λ (y : SentTransfer). y.step) e
 made_then x (inr (inr i)) = absurd i
 
-no_allocation : (x : SentTransfer) → In x (transfers_of_rows (cluster two) (rows_in (before ++ at_member ∷ [])) []) → x.offer.what ≡ Alloc → ⊥
-unfolding step frame_step outcome fits_no_payload all_nodes delivery_phase session_for session_step wanted queued_frames next_out left_behind frames_of identifier_of payload_of rows
-no_allocation x (inl e) what = absurd (cc (sym (ap (λ (y : SentTransfer). y.offer.what) e) ∙ what))
-no_allocation x (inr (inl e)) what = absurd (cc (sym (ap (λ (y : SentTransfer). y.offer.what) e) ∙ what))
-no_allocation x (inr (inr i)) what = absurd i
-
 device_hears : DeviceHears limits two (before ++ at_member ∷ []) at_allocatee 1 1
 unfolding step frame_step outcome fits_no_payload all_nodes delivery_phase session_for session_step wanted queued_frames next_out left_behind frames_of identifier_of payload_of rows
 device_hears = record {
   comes = (tt, (tt, (tt, (tt, (tt, (tt, ((passes 9 40 1050 1080 (omega arith) (omega arith), record { after = λ some. omega arith; soon = λ some. omega arith }), tt)))))));
-  slow = record {
-    apart = λ x y i j what other by id less. absurd (omega (arith, made_then x i, made_then y j, less));
-    short = λ x i what. absurd (no_allocation x i what);
-  };
+  slow = λ x y i j what other by id less. absurd (omega (arith, made_then x i, made_then y j, less));
 }
 
 pub returns-clause-bus : goal.returns-clause-bus
@@ -148,10 +144,11 @@ returns-clause-bus c = (
             record {
               comes = returns-clause-comes c;
               clock = returns-clause-clock c;
-              order = returns-clause-order c;
-              waits = returns-clause-waits c;
+              turns = returns-clause-turns c;
+              turn = (λ other key i first second. absurd i, returns-clause-once c);
+              fast = returns-clause-fast c;
+              rests = returns-clause-rests c;
               earlier = (tt, (tt, (tt, (tt, (tt, tt)))));
-              behind = λ other key i first second. absurd i;
               apart = returns-clause-apart c;
             },
             (device_hears, tt),

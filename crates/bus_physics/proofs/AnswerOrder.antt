@@ -1,0 +1,469 @@
+-- Answers of a node to another one are made in the order of the calls, one to each.
+use Rattle.std.proofs.Common.{◌≡◌, ℕ, ◌+◌, ◌<◌, ◌≤◌, Bool, true, false, List, [], ◌∷◌, ◌++◌, length, length-append, refl, sym, ap, subst, ◌∙◌, arith, ◌⊎◌, inl, inr, Option, None, append_assoc}
+use Rattle.std.specs.Prelude.{◌==◌, max, slice_index_or, if◌then◌else◌}
+use Rattle.std.proofs.lemmas.Bool.Decides.{eqb_tells}
+use Rattle.can_frame.specs.declared.identifier.Ident.{Ident}
+use Rattle.can_frame.specs.declared.identifier.Kind.{Kind}
+use Rattle.can_frame.specs.declared.identifier.Kind.TheVariants.{Request, Response}
+use Rattle.can_frame.specs.declared.mark.Mark.{Mark}
+use Rattle.can_frame.specs.declared.step.What.{What}
+use Rattle.can_frame.specs.declared.step.What.TheVariants.{Alloc, App, Vote}
+use Rattle.can_frame.specs.declared.tail.Tail.{Tail}
+use Rattle.can_frame.specs.Cutting.{Piece, frames_before_last, frames_of as pieces_of}
+use Rattle.can_frame.specs.Identifier.{identifier_number}
+use Rattle.raft_log.specs.KeyDisk.{are_put}
+use Rattle.raft_model.specs.Lists.{In}
+use Rattle.raft_model.specs.Runs as machine
+use Rattle.replay_text.specs.declared.row.Row.{Row}
+use Rattle.replay_text.specs.declared.row.Row.TheVariants.{AEnd, AOpen, ARx, ASend, ATick, Crash, Ext, Fault, Open, Rx, Send, Tick}
+use Rattle.transfer_rx.specs.declared.key.Key.{Key}
+use Rattle.transfer_rx.specs.Keys.{is_anonymous, key_of}
+use Rattle.transfer_rx.specs.Reassembly.{Arrival, Gives, answer, piece_in}
+use Rattle.transfer_rx.specs.Run.{is_of}
+use Rattle.transfer_rx.specs.Sound.{Completes, IsAlone, IsDelivered}
+use Rattle.transfer_rx.proofs.Completeness.{is_own}
+use Rattle.transfer_tx.specs.Queue.{Queued}
+use Rattle.alloc_spec.specs.Accepted.{rows, setting_for}
+use Rattle.alloc_spec.specs.AllocatorState.{AllocatorState, members_of}
+use Rattle.alloc_spec.specs.Services.{is_listed}
+use Rattle.alloc_spec.specs.Step.{Event, step}
+use Rattle.alloc_spec.specs.Step.Event.{Rx as Receives}
+use Rattle.alloc_spec.specs.StepState.{StepState}
+use Rattle.alloc_spec.specs.Transfers.{Offer, SentTransfer, ident_of, kind_of, number_of, signature_of}
+use Rattle.alloc_spec_laws.specs.Responses.{AnswersAsked, IsResponse, ResponsesAnswer}
+use Rattle.cluster_spec.specs.declared.unlawful.Unlawful.{Unlawful}
+use Rattle.cluster_spec.specs.Cluster.{AreMembers, Cluster, after_row, after_rows, arrival_at, cluster, frame_at, receipt_of, tick_of, world_of}
+use Rattle.cluster_spec.specs.Lawful.{Lawful, arrival_refusal, cause, no_node, no_such_frame, not_running, or_else}
+use Rattle.cluster_spec.specs.Members.{Member, MemberStatus, puts_of}
+use Rattle.cluster_spec.specs.Members.MemberStatus.{Down, Failed, Up}
+use Rattle.cluster_spec.specs.Refinement.{transfers_of_offers, transfers_of_row, transfers_of_rows, transfers_of_step}
+use Rattle.cluster_agreement.specs.LawsBelow.{FrameLaws}
+use Rattle.cluster_agreement.specs.Said.{carrier}
+use Rattle.cluster_agreement.specs.Shows.{Shows, ShowsMember, ShowsUp}
+use Rattle.cluster_agreement.proofs.Concatenations.{rows_joined}
+use Rattle.cluster_agreement.proofs.Deliveries.{listed_in}
+use Rattle.cluster_agreement.proofs.Idents.{IsWanted, one_what, to_for, wanted_is}
+use Rattle.cluster_agreement.proofs.Lists.{in_back, in_front, never}
+use Rattle.cluster_agreement.proofs.MadeTransfers.{IsNew, made_when, still_made}
+use Rattle.cluster_agreement.proofs.OneRow.{stands}
+use Rattle.cluster_agreement.proofs.OneRowMore.{lawful as one_more}
+use Rattle.cluster_agreement.proofs.Pieces.{no_piece, piece_read, theirs}
+use Rattle.cluster_agreement.proofs.RowsWithoutEvents.{is_one, past_first}
+use Rattle.cluster_agreement.proofs.WholeTransfers.{IsFrom, from_bus, members_own}
+use Rattle.bus_physics.specs.Physics.{Come, ComesAt, ComesInTurn, HasKeyAt, OfIt, heard_by, heard_in}
+use Rattle.bus_physics.proofs.OncePerStep.{AreOnce}
+use Rattle.bus_physics.proofs.Short.{tail_is}
+
+-- the answer of a service
+abbrev pub answerer : Bool → What
+answerer true = App
+answerer false = Vote
+
+-- ---- the frame that completes a transfer is its last one
+
+last_at : {A : Type 0} (front : List A) (last d : A) → slice_index_or (front ++ last ∷ []) (length front) d ≡ last
+last_at [] last d = refl
+last_at (x ∷ front) last d = last_at front last d
+
+pub mark_is : (x y : Mark) → x.step ≡ y.step → x.re ≡ y.re → x.place ≡ y.place → x ≡ y
+mark_is x y same re place = ap (λ (n : ℕ). record { step = n; re = x.re; place = x.place }) same
+    ∙ (ap (λ (n : ℕ). record { step = y.step; re = n; place = x.place }) re ∙ ap (λ (n : ℕ). record { step = y.step; re = y.re; place = n }) place)
+
+module _ (laws : FrameLaws) (x : SentTransfer) (small : x.offer.id < 32) (arrival : Arrival) (place : arrival.mark.place < length (theirs x))
+    (read : piece_in arrival ≡ slice_index_or (theirs x) arrival.mark.place no_piece) (front : List Piece) (signature id : ℕ) (payload : List ℕ)
+    (cutting : front ++ piece_in arrival ∷ [] ≡ pieces_of signature id payload) where
+  count : length front ≡ frames_before_last signature payload
+  count = omega (arith, length-append front (piece_in arrival ∷ []), ap length cutting, laws.count signature id payload)
+
+  ends : (piece_in arrival).tail.end ≡ true
+  ends = ap (λ (p : Piece). p.tail.end) (sym (last_at front (piece_in arrival) no_piece))
+      ∙ (ap (λ (l : List Piece). (slice_index_or l (length front) no_piece).tail.end) cutting
+      ∙ (ap (λ (k : ℕ). (slice_index_or (pieces_of signature id payload) k no_piece).tail.end) count ∙ ap (λ (p : Piece). p.tail.end) (laws.last signature id payload no_piece)))
+
+  pub is_last : arrival.mark.place ≡ frames_before_last (signature_of x.offer.what) x.offer.payload
+  is_last = elim (eqb_tells arrival.mark.place (frames_before_last (signature_of x.offer.what) x.offer.payload)) [
+    | inl same ↦ same.1
+    | inr apart ↦ never (sym apart.0 ∙ (sym (ap (λ (t : Tail). t.end)
+        (tail_is laws (signature_of x.offer.what) x.offer.id x.offer.payload arrival.mark.place inside)) ∙ (ap (λ (p : Piece). p.tail.end) (sym read) ∙ ends)))
+  ]
+    where
+      inside : arrival.mark.place ≤ frames_before_last (signature_of x.offer.what) x.offer.payload
+      inside = omega (arith, place, laws.count (signature_of x.offer.what) x.offer.id x.offer.payload)
+
+-- ---- what was asked
+
+module _ (append : Bool) (p n : ℕ) where
+  abbrev pub asking_key : Key
+  asking_key = record { kind = Request; number = number_of (carrier append); source = n }
+
+  pub record IsAnswer (x : SentTransfer) : Type 0 where
+    pub by : x.by ≡ p
+    pub what : x.offer.what ≡ answerer append
+    pub to : x.offer.to ≡ n
+
+  -- node p heard the last frame of the call that the answer answers
+  pub record HasAsked (made : List SentTransfer) (heard : List Queued) (re : ℕ) : Type 0 where
+    pub frame : Queued
+    pub came : In frame heard
+    pub step : frame.mark.step ≡ re
+    pub key : HasKeyAt p asking_key frame
+    pub whose : SentTransfer
+    pub was_made : In whose made
+    pub what : whose.offer.what ≡ carrier append
+    pub to : whose.offer.to ≡ p
+    pub ident : frame.id ≡ identifier_number (ident_of n (carrier append) p)
+    pub made_then : frame.mark.step ≡ whose.step
+    pub re_is : frame.mark.re ≡ whose.offer.re
+    pub last : frame.mark.place ≡ frames_before_last (signature_of whose.offer.what) whose.offer.payload
+
+  asked_more : (made more : List SentTransfer) (heard further : List Queued) → ((x : SentTransfer) → In x made → In x more) → ((f : Queued) → In f heard → In f further)
+      → (re : ℕ) → HasAsked made heard re → HasAsked more further re
+  asked_more made more heard further grows hears re h = record {
+    frame = h.frame;
+    came = hears h.frame h.came;
+    step = h.step;
+    key = h.key;
+    whose = h.whose;
+    was_made = grows h.whose h.was_made;
+    what = h.what;
+    to = h.to;
+    ident = h.ident;
+    made_then = h.made_then;
+    re_is = h.re_is;
+    last = h.last;
+  }
+
+  pub record AreOrdered (made : List SentTransfer) (heard : List Queued) : Type 0 where
+    pub asked : (x : SentTransfer) → In x made → IsAnswer x → HasAsked made heard x.offer.re
+    pub order : (x y : SentTransfer) → In x made → In y made → IsAnswer x → IsAnswer y → x.step < y.step → x.offer.re < y.offer.re
+
+  -- ---- a row
+
+  module _ (w : Cluster) (made : List SentTransfer) (heard : List Queued) (once : AreOnce w.rows made) (some : (x : SentTransfer) → In x made → 1 ≤ x.step)
+      (old : AreOrdered made heard) where
+    abbrev number : ℕ
+    number = w.rows + 1
+
+    quiet : (more : List SentTransfer) (further : List Queued) → ((x : SentTransfer) → In x made → In x more) → ((f : Queued) → In f heard → In f further)
+        → ((x : SentTransfer) → In x more → IsAnswer x → In x made) → AreOrdered more further
+    quiet more further grows hears only = record {
+      asked = λ x i a. asked_more made more heard further grows hears x.offer.re (old.asked x (only x i a) a);
+      order = λ x y i j a b less. old.order x y (only x i a) (only y j b) a b less;
+    }
+
+    nothing : AreOrdered made (heard ++ [])
+    nothing = quiet made (heard ++ []) (λ x i. i) (λ f i. in_front f heard [] i) (λ x i a. i)
+
+    -- a step of another member, or at a tick
+    no_answer : (m : ℕ) (event : Event) (further : List Queued) → ((f : Queued) → In f heard → In f further)
+        → ((t : AllocatorState) (offer : Offer) → In offer (step t number event).step_state.offers → m ≡ p → offer.what ≡ answerer append → ⊥)
+        → (status : MemberStatus) (y : Member) → AreOrdered (transfers_of_step number m event status y made) further
+    no_answer m event further hears none Down y = quiet made further (λ x i. i) hears (λ x i a. i)
+    no_answer m event further hears none (Failed failure) y = quiet made further (λ x i. i) hears (λ x i a. i)
+    no_answer m event further hears none (Up t) y = by (are_put (puts_of y g) y.disk.calls) where
+      g : StepState
+      g = (step t number event).step_state
+
+      by : (b : Bool) → AreOrdered (if b then transfers_of_offers number m g.offers made else made) further
+      by false = quiet made further (λ x i. i) hears (λ x i a. i)
+      by true = quiet (transfers_of_offers number m g.offers made) further (still_made number m g.offers made) hears
+          (λ x i a. elim (made_when number m g.offers made x i) [
+            | inl j ↦ j
+            | inr new ↦ absurd (none t new.offer new.offered (ap (λ (z : SentTransfer). z.by) (sym new.is) ∙ a.by)
+                (ap (λ (z : SentTransfer). z.offer.what) (sym new.is) ∙ a.what))
+          ])
+
+    -- node p receives frame k
+    module _ (k ms : ℕ) (turn : ComesInTurn p heard (frame_at w.frames k))
+        (asks : (t : AllocatorState) → (w.member p).status ≡ Up t → (offer : Offer) → In offer (step t number (receipt_of w k ms)).step_state.offers
+        → offer.what ≡ answerer append → offer.to ≡ n → (re : ℕ) → re ≡ offer.re → HasAsked made (frame_at w.frames k ∷ []) re) where
+      abbrev further : List Queued
+      further = heard ++ frame_at w.frames k ∷ []
+
+      hears : (f : Queued) → In f heard → In f further
+      hears f i = in_front f heard (frame_at w.frames k ∷ []) i
+
+      the_frame : (f : Queued) → In f (frame_at w.frames k ∷ []) → f ≡ frame_at w.frames k
+      the_frame f (inl e) = e
+      the_frame f (inr i) = absurd i
+
+      -- the call was made later than each that was answered
+      later : (re : ℕ) → HasAsked made heard re → (then_ : ℕ) → HasAsked made (frame_at w.frames k ∷ []) then_ → re < then_
+      later re a then_ b = by (frame_at w.frames k) (the_frame b.frame b.came) turn where
+        by : (f : Queued) → b.frame ≡ f → ComesInTurn p heard f → re < then_
+        by f e t = elim (eqb_tells a.frame.mark.step b.frame.mark.step) [
+          | inr apart ↦ omega (arith, before, apart.1, a.step, b.step)
+          | inl same ↦
+              let one : a.whose ≡ b.whose = once.once a.whose b.whose a.was_made b.was_made (sym a.made_then ∙ (same.1 ∙ b.made_then)) (a.what ∙ sym b.what) (a.to ∙ sym b.to)
+              (λ alloc. is_call append (sym a.what ∙ alloc)) in
+              absurd (t.1 a.frame a.came
+              (subst (λ (q : Queued). 1 ≤ q.mark.step) e (omega (arith, b.made_then, some b.whose b.was_made)))
+              (a.ident ∙ (sym b.ident ∙ ap (λ (q : Queued). q.id) e))
+              (mark_is a.frame.mark b.frame.mark same.1 (a.re_is ∙ (ap (λ (z : SentTransfer). z.offer.re) one ∙ sym b.re_is))
+              (a.last ∙ (ap (λ (z : SentTransfer). frames_before_last (signature_of z.offer.what) z.offer.payload) one ∙ sym b.last)) ∙ ap (λ (q : Queued). q.mark) e))
+        ]
+          where
+            before : a.frame.mark.step ≤ b.frame.mark.step
+            before = subst (λ (q : Queued). a.frame.mark.step ≤ q.mark.step) (sym e) (t.0 a.frame asking_key a.came a.key (subst (λ (q : Queued). HasKeyAt p asking_key q) e b.key))
+
+            is_call : (c : Bool) → carrier c ≡ Alloc → ⊥
+            is_call true f_ = absurd (cc (f_))
+            is_call false f_ = absurd (cc (f_))
+
+      received : (status : MemberStatus) → (w.member p).status ≡ status → AreOrdered (transfers_of_step number p (receipt_of w k ms) status (w.member p) made) further
+      received Down is_it = quiet made further (λ x i. i) hears (λ x i a. i)
+      received (Failed failure) is_it = quiet made further (λ x i. i) hears (λ x i a. i)
+      received (Up t) is_it = by (are_put (puts_of (w.member p) g) (w.member p).disk.calls) where
+        g : StepState
+        g = (step t number (receipt_of w k ms)).step_state
+
+        more : List SentTransfer
+        more = transfers_of_offers number p g.offers made
+
+        new_asked : (x : SentTransfer) → IsNew number p g.offers x → IsAnswer x → HasAsked made (frame_at w.frames k ∷ []) x.offer.re
+        new_asked x new a =
+            let same : x.offer ≡ new.offer = ap (λ (z : SentTransfer). z.offer) new.is in
+            asks t is_it new.offer new.offered (ap (λ (o : Offer). o.what) (sym same) ∙ a.what) (ap (λ (o : Offer). o.to) (sym same) ∙ a.to)
+            x.offer.re (ap (λ (o : Offer). o.re) same)
+
+        new_step : (x : SentTransfer) → IsNew number p g.offers x → x.step ≡ number
+        new_step x new = ap (λ (z : SentTransfer). z.step) new.is
+
+        by : (b : Bool) → AreOrdered (if b then transfers_of_offers number p g.offers made else made) further
+        by false = quiet made further (λ x i. i) hears (λ x i a. i)
+        by true = record {
+          asked = λ x i a. elim (made_when number p g.offers made x i) [
+            | inl j ↦ asked_more made more heard further (still_made number p g.offers made) hears x.offer.re (old.asked x j a)
+            | inr new ↦ asked_more made more (frame_at w.frames k ∷ []) further (still_made number p g.offers made) (λ f l. in_back f heard (frame_at w.frames k ∷ []) l)
+                x.offer.re (new_asked x new a)
+          ];
+          order = λ x y i j a b less. elim (made_when number p g.offers made x i) [
+            | inl l ↦ elim (made_when number p g.offers made y j) [
+              | inl m ↦ old.order x y l m a b less
+              | inr new ↦ later x.offer.re (old.asked x l a) y.offer.re (new_asked y new b)
+            ]
+            | inr new ↦ elim (made_when number p g.offers made y j) [
+              | inl m ↦ absurd (omega (arith, less, new_step x new, once.past y m))
+              | inr new_too ↦ absurd (omega (arith, less, new_step x new, new_step y new_too))
+            ]
+          ];
+        }
+        -- ---- all of it
+
+    module _ (row : Row) (turn : ComesAt (ComesInTurn p) p heard w row) (answers : (t : AllocatorState) (event : Event) → ResponsesAnswer t number event)
+        (asks : (k ms : ℕ) → row ≡ Rx p k ms → (t : AllocatorState) → (w.member p).status ≡ Up t → (offer : Offer)
+        → In offer (step t number (receipt_of w k ms)).step_state.offers → offer.what ≡ answerer append → offer.to ≡ n → (re : ℕ) → re ≡ offer.re
+        → HasAsked made (frame_at w.frames k ∷ []) re) where
+      After : Row → Type 0
+      After r = AreOrdered (transfers_of_row w r made) (heard ++ heard_in p w r)
+
+      is_answer : (a : Bool) → kind_of (answerer a) ≡ Response
+      is_answer true = refl
+      is_answer false = refl
+
+      at_tick : (m ms word : ℕ) (t : AllocatorState) (offer : Offer) → In offer (step t number (tick_of ms word)).step_state.offers → m ≡ p → offer.what ≡ answerer append → ⊥
+      at_tick m ms word t offer i same what = absurd (cc (none))
+        where
+          none : tick_of ms word ≡ Receives (answers t (tick_of ms word) offer i (ap kind_of what ∙ is_answer append)).delivered.arrival
+          none = (answers t (tick_of ms word) offer i (ap kind_of what ∙ is_answer append)).delivered.comes
+
+      other : (m : ℕ) → (p == m) ≡ false → m ≡ p → ⊥
+      other m e same = elim (eqb_tells p m) [ inl s ↦ absurd (cc (sym e ∙ s.0)) | inr apart ↦ apart.1 (sym same) ]
+
+      rx_row : (m k ms : ℕ) → row ≡ Rx m k ms → (same : Bool) → (p == m) ≡ same → OfIt same (ComesInTurn p heard (frame_at w.frames k))
+          → AreOrdered (transfers_of_step number m (receipt_of w k ms) (w.member m).status (w.member m) made) (heard ++ (if same then frame_at w.frames k ∷ [] else []))
+      rx_row m k ms r false e turn_ = no_answer m (receipt_of w k ms) (heard ++ []) (λ f i. in_front f heard [] i)
+          (λ t offer i same what. other m e same) (w.member m).status (w.member m)
+      rx_row m k ms r true e turn_ =
+          subst (λ (j : ℕ). row ≡ Rx j k ms → AreOrdered (transfers_of_step number j (receipt_of w k ms) (w.member j).status (w.member j) made) (heard ++ frame_at w.frames k ∷ []))
+          is_same (λ r_. received k ms turn_ (λ t up offer i what to re e_. asks k ms r_ t up offer i what to re e_) (w.member p).status refl) r
+        where
+          is_same : p ≡ m
+          is_same = elim (eqb_tells p m) [ inl s ↦ s.1 | inr apart ↦ absurd (cc (sym apart.0 ∙ e)) ]
+
+      by_row : (r : Row) → row ≡ r → After r
+      unfolding After
+      by_row (Tick m ms word) e = no_answer m (tick_of ms word) (heard ++ []) (λ f i. in_front f heard [] i) (at_tick m ms word) (w.member m).status (w.member m)
+      by_row (Rx m k ms) e = rx_row m k ms e (p == m) refl (subst (λ (r : Row). ComesAt (ComesInTurn p) p heard w r) e turn)
+      by_row (Open m told ms word) e = nothing
+      by_row (Send m) e = nothing
+      by_row (Ext frame) e = nothing
+      by_row (Crash m calls pattern) e = nothing
+      by_row (Fault m call) e = nothing
+      by_row (AOpen b uid pref ms word) e = nothing
+      by_row (ATick b ms word) e = nothing
+      by_row (ARx b k ms word) e = nothing
+      by_row (ASend b) e = nothing
+      by_row (AEnd b) e = nothing
+
+      pub next_row : AreOrdered (transfers_of_row w row made) (heard ++ heard_in p w row)
+      unfolding After
+      next_row = by_row row refl
+
+  -- ---- the call that an answer answers
+
+  module _ (laws : FrameLaws) (choice : ℕ → Bool) (made : List SentTransfer) (w : Cluster) (run : machine.World) (members : AreMembers w.ids)
+      (shows : Shows choice made w run) (answers : (t : AllocatorState) (event : Event) → ResponsesAnswer t (w.rows + 1) event) where
+    low : (m : ℕ) → In m w.ids → 1 ≤ m
+    low m i = (members.nodes m i).0
+
+    high : (m : ℕ) → In m w.ids → m ≤ 125
+    high m i = (members.nodes m i).1
+
+    module _ (k ms : ℕ) (lawful : cause w (Rx p k ms) ≡ None) (t : AllocatorState) (runs : (w.member p).status ≡ Up t) (offer : Offer)
+        (offered : In offer (step t (w.rows + 1) (receipt_of w k ms)).step_state.offers) (what : offer.what ≡ answerer append) (to : offer.to ≡ n) where
+      is_response : (a : Bool) → kind_of (answerer a) ≡ Response
+      is_response true = refl
+      is_response false = refl
+
+      is : IsResponse t (w.rows + 1) (receipt_of w k ms) offer
+      is = answers t (receipt_of w k ms) offer offered (ap kind_of what ∙ is_response append)
+
+      coming : Arrival
+      coming = arrival_at (frame_at w.frames k) (max t.now ms)
+
+      one_arrival : (a b : Arrival) → Receives a ≡ Receives b → a ≡ b
+      one_arrival a b e = cc (e)
+
+      gives : answer (setting_for t.me) t.sessions coming ≡ Gives is.d
+      unfolding coming
+      gives = subst (λ (a : Arrival). answer (setting_for t.me) t.sessions (record a { moment = max t.now ms }) ≡ Gives is.d)
+          (sym (one_arrival (arrival_at (frame_at w.frames k) ms) is.delivered.arrival is.delivered.comes)) is.delivered.gives
+
+      last_cause : Option Unlawful
+      last_cause = arrival_refusal (w.member p).status (arrival_at (frame_at w.frames k) ms)
+
+      first : (no_node w p ≡ None) × (or_else (not_running w p) (or_else (no_such_frame w k) last_cause) ≡ None)
+      unfolding last_cause
+      first = past_first (no_node w p) (or_else (not_running w p) (or_else (no_such_frame w k) last_cause)) lawful
+
+      inside : In (frame_at w.frames k) w.frames
+      inside = stands w k (past_first (no_such_frame w k) last_cause (past_first (not_running w p) (or_else (no_such_frame w k) last_cause) first.1).1).0
+
+      there : ShowsUp made w.ids w.frames run p t (w.member p).disk
+      there = subst (λ (status : MemberStatus). ShowsMember choice made w.ids w.frames run p status (w.member p).disk) runs (shows.lives p (is_one w p first.0))
+
+      some : 1 ≤ t.me
+      some = subst (λ (m : ℕ). 1 ≤ m) (sym there.runs.me) (low p (is_one w p first.0))
+
+      its : IsDelivered (setting_for t.me) t.sessions coming is.d
+      its = laws.delivered (setting_for t.me) t.sessions coming is.d gives
+
+      listed_by : (a : Bool) → answerer a ≡ offer.what → is_listed is.d t ≡ true
+      listed_by true e = (subst (λ (x : What). AnswersAsked is.d t x offer.says) (sym e) is.says).listed
+      listed_by false e = (subst (λ (x : What). AnswersAsked is.d t x offer.says) (sym e) is.says).listed
+
+      source : In is.d.ident.source w.ids
+      source = there.works.among is.d.ident.source (listed_in (members_of t) is.d.ident.source (listed_by append (sym what)))
+
+      known : is_anonymous its.w.ident.kind ≡ false
+      known = ap (λ (i : Ident). is_anonymous i.kind) (sym its.ident) ∙ ap is_anonymous is.kind
+
+      wants : IsWanted rows t.me coming.id is.d.ident
+      wants = subst (λ (i : Ident). IsWanted rows t.me coming.id i) (sym its.ident) (wanted_is rows t.me coming.id its.w its.accepted)
+
+      from : IsFrom made t.me (key_of is.d.ident) coming
+      unfolding coming
+      from = from_bus laws w.ids low high made shows.holds.transfers rows t.me w.frames shows.bus coming
+          (record { frame = frame_at w.frames k; there = inside; id = refl; bytes = refl; mark = refl }) is.d.ident wants
+          (members_own w.ids is.d.ident source (ap is_anonymous is.kind)) (key_of is.d.ident) (inl some) refl refl refl
+
+      number_is : (a : Bool) → number_of (answerer a) ≡ number_of (carrier a)
+      number_is true = refl
+      number_is false = refl
+
+      kind_is : (a : Bool) → kind_of (carrier a) ≡ Request
+      kind_is true = refl
+      kind_is false = refl
+
+      its_number : is.d.ident.number ≡ number_of (carrier append)
+      its_number = is.service ∙ (ap number_of what ∙ number_is append)
+
+      its_what : from.whose.offer.what ≡ carrier append
+      its_what = one_what from.whose.offer.what (carrier append) Request (number_of (carrier append)) (from.kind ∙ is.kind) (kind_is append) (from.number ∙ its_number) refl
+
+      its_source : is.d.ident.source ≡ n
+      its_source = sym is.to ∙ to
+
+      to_me : from.whose.offer.to ≡ p
+      to_me = from.to ∙ (ap (λ (kind : Kind). to_for kind t.me) is.kind ∙ there.runs.me)
+
+      small : from.whose.offer.id < 32
+      small = (shows.holds.transfers.ranges from.whose from.was_made).id
+
+      its_last : coming.mark.place ≡ frames_before_last (signature_of from.whose.offer.what) from.whose.offer.payload
+      its_last = by its.frames where
+        by : IsAlone its.w coming is.d ⊎ Completes (setting_for t.me) t.sessions its.w coming is.d
+            → coming.mark.place ≡ frames_before_last (signature_of from.whose.offer.what) from.whose.offer.payload
+        by (inl alone) = never (sym known ∙ alone.anonymous)
+        by (inr c) = is_last laws from.whose small coming from.piece.place (piece_read laws from.whose coming from.piece small) c.session.taken
+            its.w.signature is.d.id is.d.payload c.cutting.frames
+
+      its_key : HasKeyAt p asking_key (frame_at w.frames k)
+      unfolding is_of coming
+      its_key = subst (λ (m : ℕ). is_of (setting_for m) asking_key (arrival_at (frame_at w.frames k) 0) ≡ true) there.runs.me
+          (subst (λ (key : Key). is_of (setting_for t.me) key (arrival_at (frame_at w.frames k) 0) ≡ true) key_is
+          (is_own (setting_for t.me) its.w coming its.accepted known))
+        where
+          key_is : key_of its.w.ident ≡ asking_key
+          key_is = ap key_of (sym its.ident) ∙ (ap (λ (kind : Kind). record { kind = kind; number = is.d.ident.number; source = is.d.ident.source }) is.kind
+              ∙ (ap (λ (m : ℕ). record { kind = Request; number = m; source = is.d.ident.source }) its_number
+              ∙ ap (λ (m : ℕ). record { kind = Request; number = number_of (carrier append); source = m }) its_source))
+
+      pub has_asked : (re : ℕ) → re ≡ offer.re → HasAsked made (frame_at w.frames k ∷ []) re
+      unfolding coming
+      has_asked re e = record {
+        frame = frame_at w.frames k;
+        came = inl refl;
+        step = sym (e ∙ (is.re ∙ ap (λ (m : Mark). m.step) its.mark));
+        key = its_key;
+        whose = from.whose;
+        was_made = from.was_made;
+        what = its_what;
+        to = to_me;
+        ident = from.piece.id ∙ (ap (λ (m : ℕ). identifier_number (ident_of m from.whose.offer.what from.whose.offer.to)) (from.by ∙ its_source)
+            ∙ (ap (λ (x : What). identifier_number (ident_of n x from.whose.offer.to)) its_what ∙ ap (λ (m : ℕ). identifier_number (ident_of n (carrier append) m)) to_me));
+        made_then = from.piece.step;
+        re_is = from.piece.re;
+        last = its_last;
+      }
+
+  -- ---- all rows
+
+  -- what is known of the world of lawful rows, and of the row after them
+  pub record Known (w : Cluster) (made : List SentTransfer) : Type 0 where
+    pub once : AreOnce w.rows made
+    pub some : (x : SentTransfer) → In x made → 1 ≤ x.step
+    pub asks : (row : Row) → cause w row ≡ None → (k ms : ℕ) → row ≡ Rx p k ms → (t : AllocatorState) → (w.member p).status ≡ Up t → (offer : Offer)
+        → In offer (step t (w.rows + 1) (receipt_of w k ms)).step_state.offers → offer.what ≡ answerer append → offer.to ≡ n → (re : ℕ) → re ≡ offer.re
+        → HasAsked made (frame_at w.frames k ∷ []) re
+
+  module _ (answers : (t : AllocatorState) (number : ℕ) (event : Event) → ResponsesAnswer t number event) (ids : List ℕ)
+      (known : (rows : List Row) → Lawful (cluster ids) rows → Known (world_of ids rows) (transfers_of_rows (cluster ids) rows [])) where
+    made_joined : (v : Cluster) (rows : List Row) (row : Row) (m : List SentTransfer)
+        → transfers_of_rows v (rows ++ row ∷ []) m ≡ transfers_of_row (after_rows v rows) row (transfers_of_rows v rows m)
+    made_joined v [] row m = refl
+    made_joined v (first ∷ rows) row m = made_joined (after_row v first) rows row (transfers_of_row v first m)
+
+    pub along : (rest done : List Row) (w : Cluster) (made : List SentTransfer) (heard : List Queued) → world_of ids done ≡ w → transfers_of_rows (cluster ids) done [] ≡ made
+        → Lawful (cluster ids) done → Lawful w rest → Come (ComesInTurn p) p heard w rest → AreOrdered made heard
+        → AreOrdered (transfers_of_rows w rest made) (heard ++ heard_by p w rest)
+    along [] done w made heard world sent before lawful turns old = record {
+      asked = λ x i a. asked_more made made heard (heard ++ []) (λ y j. j) (λ f j. in_front f heard [] j) x.offer.re (old.asked x i a);
+      order = old.order;
+    }
+    along (row ∷ rest) done w made heard world sent before lawful turns old =
+        subst (λ (l : List Queued). AreOrdered (transfers_of_rows w (row ∷ rest) made) l) (append_assoc heard (heard_in p w row) (heard_by p (after_row w row) rest))
+        (along rest (done ++ row ∷ []) (after_row w row) (transfers_of_row w row made) (heard ++ heard_in p w row) grown_world grown_made
+        (one_more (cluster ids) done row before (ap (λ (v : Cluster). cause v row) world ∙ lawful.0)) lawful.1 turns.1
+        (next_row w made heard here.once here.some old row turns.0 (λ t event. answers t (w.rows + 1) event) (here.asks row lawful.0)))
+      where
+        here : Known w made
+        here = subst (λ (v : Cluster). Known v made) world (subst (λ (l : List SentTransfer). Known (world_of ids done) l) sent (known done before))
+
+        grown_world : world_of ids (done ++ row ∷ []) ≡ after_row w row
+        grown_world = rows_joined (cluster ids) done (row ∷ []) ∙ ap (λ (v : Cluster). after_row v row) world
+
+        grown_made : transfers_of_rows (cluster ids) (done ++ row ∷ []) [] ≡ transfers_of_row w row made
+        grown_made = made_joined (cluster ids) done row [] ∙ (ap (λ (l : List SentTransfer). transfers_of_row (world_of ids done) row l) sent
+            ∙ ap (λ (v : Cluster). transfers_of_row v row made) world)

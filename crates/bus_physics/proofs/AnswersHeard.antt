@@ -1,0 +1,233 @@
+-- Answers of a node come to a member in the order of the calls, where each member hears frames in turn.
+use Rattle.std.proofs.Common.{◌≡◌, ◌≢◌, ℕ, ◌<◌, ◌≤◌, Bool, true, false, List, [], ◌∷◌, length, refl, sym, ap, subst, ◌∙◌, arith, inl, inr, Some, None}
+use Rattle.std.specs.Prelude.{◌==◌, ◌||◌, ◌&&◌, not, nat_eq, Err, if◌then◌else◌}
+use Rattle.std.proofs.lemmas.Bool.Decides.{eqb_tells}
+use Rattle.can_frame.specs.declared.identifier.Ident.{Ident}
+use Rattle.can_frame.specs.declared.identifier.Kind.{Kind}
+use Rattle.can_frame.specs.declared.identifier.Kind.TheVariants.{Response}
+use Rattle.can_frame.specs.declared.step.Why.TheVariants.{NotWanted}
+use Rattle.can_frame.specs.declared.step.What.{What}
+use Rattle.can_frame.specs.declared.step.What.TheVariants.{Alloc}
+use Rattle.can_frame.specs.Cutting.{frame_count}
+use Rattle.can_frame.specs.Identifier.{identifier_number, identifier_of}
+use Rattle.raft_model.specs.Lists.{In}
+use Rattle.raft_model.specs.Runs as machine
+use Rattle.replay_text.specs.declared.row.Row.{Row}
+use Rattle.replay_text.specs.declared.row.Row.TheVariants.{AEnd, AOpen, ARx, ASend, ATick, Crash, Ext, Fault, Open, Rx, Send, Tick}
+use Rattle.transfer_rx.specs.declared.key.Key.{Key}
+use Rattle.transfer_rx.specs.Acceptance.{accepted, first_signature, is_for, is_service, wanted, with_signature}
+use Rattle.transfer_rx.specs.Keys.{is_anonymous, key_of, same_key}
+use Rattle.transfer_rx.specs.Run.{has_session_key, is_of}
+use Rattle.transfer_rx.proofs.Found.{same_key-equal}
+use Rattle.transfer_tx.specs.Queue.{Queued}
+use Rattle.alloc_spec.specs.Accepted.{rows}
+use Rattle.alloc_spec.specs.Transfers.{SentTransfer, ident_of, kind_of, number_of, signature_of}
+use Rattle.alloc_spec_laws.specs.Saying.{IsSaid}
+use Rattle.cluster_spec.specs.Allocatees.{next_from}
+use Rattle.cluster_spec.specs.Cluster.{AreMembers, Cluster, after_row, after_rows, arrival_at, frame_at, from_outside, in_list, is_member}
+use Rattle.cluster_spec.specs.Lawful.{Lawful, arrival_refusal, cause, is_forged, is_forged_by, is_members_service, no_node, no_such_frame, not_running, or_else}
+use Rattle.cluster_spec.specs.Members.{next_frame}
+use Rattle.cluster_agreement.specs.Frames.{IsOnBus}
+use Rattle.cluster_agreement.specs.LawsBelow.{FrameLaws}
+use Rattle.cluster_agreement.specs.Shows.{Shows}
+use Rattle.cluster_agreement.proofs.Idents.{one_what}
+use Rattle.cluster_agreement.proofs.Lists.{in_append, in_front, never}
+use Rattle.cluster_agreement.proofs.OneRow.{stands}
+use Rattle.cluster_agreement.proofs.Pieces.{IsPieceOf, piece_of}
+use Rattle.cluster_agreement.proofs.RowsWithoutEvents.{past_first}
+use Rattle.cluster_agreement.proofs.WholeTransfers.{read_back, some_is}
+use Rattle.bus_physics.specs.Physics.{ComesInTurn, HasKeyAt, IsResponseOf, heard_by, heard_in}
+use Rattle.bus_physics.proofs.AnswerOrder.{AreOrdered, answerer, mark_is}
+use Rattle.bus_physics.proofs.OncePerStep.{AreOnce}
+
+or_true : (a b : Bool) → b ≡ true → (a || b) ≡ true
+or_true true b e = refl
+or_true false b e = e
+
+-- ---- what was heard stands on the bus
+
+grows : (w : Cluster) (row : Row) (f : Queued) → In f w.frames → In f (after_row w row).frames
+grows w (Open n told ms word) f i = i
+grows w (Tick n ms word) f i = i
+grows w (Rx n k ms) f i = i
+grows w (Send n) f i = in_front f w.frames (in_list (next_frame (w.member n).status)) i
+grows w (Ext frame) f i = in_front f w.frames (from_outside frame.id frame.bytes.items ∷ []) i
+grows w (Crash n calls pattern) f i = i
+grows w (Fault n call) f i = i
+grows w (AOpen a uid pref ms word) f i = i
+grows w (ATick a ms word) f i = i
+grows w (ARx a k ms word) f i = i
+grows w (ASend a) f i = in_front f w.frames (in_list (next_from (w.allocatee a))) i
+grows w (AEnd a) f i = i
+
+grow : (w : Cluster) (rows_ : List Row) (f : Queued) → In f w.frames → In f (after_rows w rows_).frames
+grow w [] f i = i
+grow w (row ∷ rest) f i = grow (after_row w row) rest f (grows w row f i)
+
+heard_now : (n : ℕ) (w : Cluster) (row : Row) → cause w row ≡ None → (f : Queued) → In f (heard_in n w row) → In f w.frames
+heard_now n w (Rx m k ms) lawful f i = by (n == m) i where
+  inside : In (frame_at w.frames k) w.frames
+  inside =
+      let last = arrival_refusal (w.member m).status (arrival_at (frame_at w.frames k) ms) in
+      let first = past_first (no_node w m) (or_else (not_running w m) (or_else (no_such_frame w k) last)) lawful in
+      let second = past_first (not_running w m) (or_else (no_such_frame w k) last) first.1 in
+      stands w k (past_first (no_such_frame w k) last second.1).0
+
+  by : (b : Bool) → In f (if b then frame_at w.frames k ∷ [] else []) → In f w.frames
+  by true (inl e) = subst (λ (g : Queued). In g w.frames) (sym e) inside
+  by true (inr j) = absurd j
+  by false j = absurd j
+heard_now n w row lawful f i = absurd i
+
+pub heard_on_bus : (n : ℕ) (rows_ : List Row) (w : Cluster) → Lawful w rows_ → (f : Queued) → In f (heard_by n w rows_) → In f (after_rows w rows_).frames
+heard_on_bus n [] w lawful f i = absurd i
+heard_on_bus n (row ∷ rest) w lawful f i = elim (in_append f (heard_in n w row) (heard_by n (after_row w row) rest) i) [
+  | inl here ↦ grow (after_row w row) rest f (grows w row f (heard_now n w row lawful.0 f here))
+  | inr there ↦ heard_on_bus n rest (after_row w row) lawful.1 f there
+]
+
+-- ---- the key of a response
+
+module _ (n source number : ℕ) (other : source ≢ n) (f : Queued) (is : IsResponseOf number source n f) (s : ℕ)
+    (signature : first_signature rows Response number ≡ Some s) where
+  eq_same : (a b : ℕ) → a ≡ b → nat_eq a b ≡ true
+  eq_same a b e = elim (eqb_tells a b) [ inl same ↦ same.0 | inr apart ↦ absurd (apart.1 e) ]
+
+  eq_other : (a b : ℕ) → a ≢ b → nat_eq a b ≡ false
+  eq_other a b e = elim (eqb_tells a b) [ inl same ↦ absurd (e same.1) | inr apart ↦ apart.0 ]
+
+  for_me : is_for n is.ident ≡ true
+  for_me = or_true (nat_eq n 0) _
+      (ap (λ (k : Kind). not (is_service k && not (nat_eq is.ident.dest n)) && not (nat_eq is.ident.source n)) is.kind
+      ∙ (ap (λ (b : Bool). not (not b) && not (nat_eq is.ident.source n)) (eq_same is.ident.dest n is.to)
+      ∙ ap not (eq_other is.ident.source n (λ e. other (sym is.from ∙ e)))))
+
+  signed : first_signature rows is.ident.kind is.ident.number ≡ Some s
+  signed = ap (λ (k : Kind). first_signature rows k is.ident.number) is.kind ∙ (ap (λ (m : ℕ). first_signature rows Response m) is.service ∙ signature)
+
+  key_is : key_of is.ident ≡ record { kind = Response; number = number; source = source }
+  key_is = ap (λ (k : Kind). record { kind = k; number = is.ident.number; source = is.ident.source }) is.kind
+      ∙ (ap (λ (m : ℕ). record { kind = Response; number = m; source = is.ident.source }) is.service
+      ∙ ap (λ (m : ℕ). record { kind = Response; number = number; source = m }) is.from)
+
+  abbrev key : Key
+  key = record { kind = Response; number = number; source = source }
+
+  pub has_key : HasKeyAt n key f
+  unfolding is_of wanted
+  has_key =
+      ap (λ (o : _). has_session_key key (accepted rows n o)) is.read
+      ∙ (ap (λ (b : Bool). has_session_key key (if b then with_signature is.ident (first_signature rows is.ident.kind is.ident.number) else Err NotWanted)) for_me
+      ∙ (ap (λ (o : _). has_session_key key (with_signature is.ident o)) signed
+      ∙ (ap (λ (k : Kind). if is_anonymous k then false else same_key key (key_of is.ident)) is.kind ∙ same_key-equal key (key_of is.ident) (sym key_is))))
+
+-- ---- answers on the bus
+
+module _ (append : Bool) (n : ℕ) (laws : FrameLaws) (choice : ℕ → Bool) (made : List SentTransfer) (w : Cluster) (run : machine.World) (members : AreMembers w.ids)
+    (shows : Shows choice made w run) where
+  low : (m : ℕ) → In m w.ids → 1 ≤ m
+  low m i = (members.nodes m i).0
+
+  high : (m : ℕ) → In m w.ids → m ≤ 125
+  high m i = (members.nodes m i).1
+
+  pub record OfAnswer (source : ℕ) (f : Queued) : Type 0 where
+    pub x : SentTransfer
+    pub was_made : In x made
+    pub by : x.by ≡ source
+    pub what : x.offer.what ≡ answerer append
+    pub to : x.offer.to ≡ n
+    pub id : f.id ≡ identifier_number (ident_of source (answerer append) n)
+    pub step : f.mark.step ≡ x.step
+    pub re : f.mark.re ≡ x.offer.re
+    pub place : f.mark.place ≡ 0
+
+  kind_is : (a : Bool) → kind_of (answerer a) ≡ Response
+  kind_is true = refl
+  kind_is false = refl
+
+  -- an answer is one frame
+  single : (x : SentTransfer) → In x made → x.offer.what ≡ answerer append → frame_count (length x.offer.payload) ≡ 1
+  single x there what = by append what where
+    said_as : (a : Bool) → x.offer.what ≡ answerer a → IsSaid x.step x.by (answerer a) x.offer.to x.offer.re x.offer.payload x.offer.says
+    said_as a e = subst (λ (k : What). IsSaid x.step x.by k x.offer.to x.offer.re x.offer.payload x.offer.says) e (shows.holds.said.carried x there)
+
+    by : (a : Bool) → x.offer.what ≡ answerer a → frame_count (length x.offer.payload) ≡ 1
+    by true e = ap (λ (l : List ℕ). frame_count (length l)) (said_as true e).written
+    by false e = ap (λ (l : List ℕ). frame_count (length l)) (said_as false e).written
+
+  module _ (source : ℕ) (f : Queued) (inside : In f w.frames) (is : IsResponseOf (number_of (answerer append)) source n f)
+      (service : is_members_service (number_of (answerer append)) ≡ true) where
+    forged : is_forged w.ids (identifier_of f.id) ≡ true
+    forged = ap (is_forged w.ids) is.read ∙ (ap (λ (k : Kind). is_forged_by w.ids k is.ident) is.kind
+        ∙ or_true (is_member w.ids is.ident.source) (is_members_service is.ident.number) (ap is_members_service is.service ∙ service))
+
+    pub of_answer : OfAnswer source f
+    of_answer = by (shows.bus f inside) where
+      by : IsOnBus made w.ids f → OfAnswer source f
+      by (inr foreign) = never (sym foreign ∙ forged)
+      by (inl (m, i, piece)) = record {
+        x = piece.whose;
+        was_made = piece.was_made;
+        by = its_source;
+        what = its_what;
+        to = its_to;
+        id = it.id ∙ (ap (λ (k : ℕ). identifier_number (ident_of k piece.whose.offer.what piece.whose.offer.to)) its_source
+            ∙ (ap (λ (x : What). identifier_number (ident_of source x piece.whose.offer.to)) its_what ∙ ap (λ (k : ℕ). identifier_number (ident_of source (answerer append) k)) its_to));
+        step = it.step;
+        re = it.re;
+        place = omega (arith, it.place, laws.cut_count (signature_of piece.whose.offer.what) piece.whose.offer.id piece.whose.offer.payload, single piece.whose piece.was_made its_what);
+      }
+        where
+          it : IsPieceOf piece.whose (arrival_at f 0)
+          it = piece_of laws made m f piece (arrival_at f 0) refl refl refl
+
+          own : ident_of piece.whose.by piece.whose.offer.what piece.whose.offer.to ≡ is.ident
+          own = some_is (ident_of piece.whose.by piece.whose.offer.what piece.whose.offer.to) is.ident
+              (sym (read_back laws w.ids low high made shows.holds.transfers piece.whose piece.was_made) ∙ (ap identifier_of (sym it.id) ∙ is.read))
+
+          its_source : piece.whose.by ≡ source
+          its_source = ap (λ (k : Ident). k.source) own ∙ is.from
+
+          its_to : piece.whose.offer.to ≡ n
+          its_to = ap (λ (k : Ident). k.dest) own ∙ is.to
+
+          its_what : piece.whose.offer.what ≡ answerer append
+          its_what = one_what piece.whose.offer.what (answerer append) Response (number_of (answerer append)) (ap (λ (k : Ident). k.kind) own ∙ is.kind) (kind_is append)
+              (ap (λ (k : Ident). k.number) own ∙ is.service) refl
+
+  -- the one that was heard before answers an earlier call
+  pub in_turn : (heard : List Queued) (frame : Queued) → ComesInTurn n heard frame → (source : ℕ) → AreOnce w.rows made
+      → (there : (f : Queued) → In f heard → In f w.frames) → In frame w.frames → (past : List Queued) → AreOrdered append source n made past → source ≢ n
+      → (s : ℕ) → first_signature rows Response (number_of (answerer append)) ≡ Some s → is_members_service (number_of (answerer append)) ≡ true
+      → (other : Queued) → In other heard → IsResponseOf (number_of (answerer append)) source n other → IsResponseOf (number_of (answerer append)) source n frame
+      → other.mark.re < frame.mark.re
+  in_turn heard frame turn source once there inside past ordered apart s signature service other came is is_too =
+      elim (eqb_tells other.mark.step frame.mark.step) [
+        | inr differ ↦ omega (
+          arith,
+          a.re,
+          b.re,
+          ordered.order a.x b.x a.was_made b.was_made
+              (record { by = a.by; what = a.what; to = a.to }) (record { by = b.by; what = b.what; to = b.to }) (omega (arith, before, differ.1, a.step, b.step)),
+        )
+        | inl same ↦
+            let one : a.x ≡ b.x = once.once a.x b.x a.was_made b.was_made (sym a.step ∙ (same.1 ∙ b.step)) (a.what ∙ sym b.what) (a.to ∙ sym b.to)
+            (λ e. no_allocation append (sym a.what ∙ e)) in
+            absurd (turn.1 other came (omega (arith, b.step, shows.holds.transfers.numbered b.x b.was_made)) (a.id ∙ sym b.id)
+            (mark_is other.mark frame.mark same.1 (a.re ∙ (ap (λ (z : SentTransfer). z.offer.re) one ∙ sym b.re)) (a.place ∙ sym b.place)))
+      ]
+    where
+      a : OfAnswer source other
+      a = of_answer source other (there other came) is service
+
+      b : OfAnswer source frame
+      b = of_answer source frame inside is_too service
+
+      before : other.mark.step ≤ frame.mark.step
+      before = turn.0 other (record { kind = Response; number = number_of (answerer append); source = source }) came
+          (has_key n source (number_of (answerer append)) apart other is s signature) (has_key n source (number_of (answerer append)) apart frame is_too s signature)
+
+      no_allocation : (c : Bool) → answerer c ≡ Alloc → ⊥
+      no_allocation true e = absurd (cc (e))
+      no_allocation false e = absurd (cc (e))

@@ -1,0 +1,76 @@
+-- A transfer ID of a member's calls to a node comes round late, by the two kinds of calls.
+use Rattle.std.proofs.Common.{◌≡◌, ℕ, ◌+◌, ◌*◌, ◌<◌, ◌≤◌, Bool, true, false, List, [], ◌∷◌, ◌++◌, refl, sym, ap, subst, ◌∙◌, arith, ◌⊎◌, inl, inr}
+use Rattle.can_frame.specs.declared.identifier.Kind.TheVariants.{Request as RequestKind}
+use Rattle.can_frame.specs.declared.step.What.TheVariants.{AppQ, VoteQ}
+use Rattle.raft_core.specs.Times.{Times}
+use Rattle.raft_model.specs.Lists.{In}
+use Rattle.raft_model.specs.Server.{Memory}
+use Rattle.replay_text.specs.declared.row.Row.{Row}
+use Rattle.alloc_spec.specs.AllocatorState.{AllocatorState}
+use Rattle.alloc_spec.specs.Step.{Event, step}
+use Rattle.alloc_spec.specs.Transfers.{SentTransfer, kind_of}
+use Rattle.alloc_spec_laws.specs.Calls.{CallsAreMade}
+use Rattle.alloc_spec_laws.specs.Sound.{IsDestination}
+use Rattle.cluster_spec.specs.Cluster.{AreMembers, cluster, world_of}
+use Rattle.cluster_spec.specs.Lawful.{Lawful}
+use Rattle.cluster_spec.specs.Refinement.{transfers_of_rows}
+use Rattle.cluster_agreement.specs.LawsBelow.{FrameLaws}
+use Rattle.cluster_agreement.specs.Said.{carrier}
+use Rattle.cluster_agreement.proofs.Concatenations.{ids_stay}
+use Rattle.bus_physics.specs.Physics.{ClockIsNotFast, IsAnswered, Limits, RestsWhenOpened, Timed, WaitsForAnswers, heard_by, rows_in, time_of}
+use Rattle.bus_physics.proofs.HeardAnswers.{answers_are_heard}
+use Rattle.bus_physics.proofs.Single.{IsShown}
+use Rattle.bus_physics.proofs.SpacedCalls.{AreSettled, Known, along}
+use Rattle.bus_physics.proofs.SpacedVotes.{Asked, spaced_votes}
+use Rattle.bus_physics.proofs.Spacing.{Open, spaced_appends}
+use Rattle.bus_physics.proofs.StepCalls.{IsSpaced}
+use Rattle.bus_physics.proofs.Waiting.{waits_along}
+
+module _ (laws : FrameLaws) (called : (t : AllocatorState) (number : ℕ) (event : Event) → CallsAreMade number t (step t number event).step_state) (ids : List ℕ)
+    (members : AreMembers ids) (shown : (rows : List Row) → Lawful (cluster ids) rows → IsShown ids rows) (limits : Limits) (before : List Timed) (now : Timed) (n : ℕ)
+    (lawful : Lawful (cluster ids) (rows_in before)) (slow : ClockIsNotFast limits n [] (cluster ids) before) where
+  abbrev all : List Timed
+  all = before ++ now ∷ []
+
+  abbrev made : List SentTransfer
+  made = transfers_of_rows (cluster ids) (rows_in before) []
+
+  module _ (append : Bool) (p width : ℕ) (P : ℕ → ℕ → Memory → Times → ℕ → Type 0) (spaced : IsSpaced append p width P) (small : p < 128)
+      (enough : 2 * limits.hold + limits.drift < width) (narrow : width ≤ 32000) where
+    known : (rows : List Row) → Lawful (cluster ids) rows → Known append p width P spaced small n limits all (world_of ids rows) (transfers_of_rows (cluster ids) rows [])
+    known rows so_far = record {
+      earlier = (shown rows so_far).shows.past;
+      answered = answers_are_heard append p width P spaced small n laws (shown rows so_far).choice (transfers_of_rows (cluster ids) rows []) (world_of ids rows)
+          (shown rows so_far).run (subst AreMembers (sym (ids_stay (cluster ids) rows)) members) (shown rows so_far).shows
+          (waits_along called n rows (cluster ids) [] (λ t up. absurd (cc (up))) (λ x i. absurd i));
+    }
+
+    settled : AreSettled append p width P spaced small n limits all made (heard_by n (cluster ids) (rows_in before))
+    settled = along append p width P spaced small n limits all enough narrow ids known before [] (now ∷ []) (cluster ids) [] [] [] refl refl refl refl tt lawful slow
+        (λ t up. absurd (cc (up))) (λ x y i. absurd i)
+
+    module _ (rests : RestsWhenOpened limits all made n) (x y : SentTransfer) (i : In x made) (j : In y made) (by : x.by ≡ n) (by_too : y.by ≡ n)
+        (what : x.offer.what ≡ y.offer.what) (to : x.offer.to ≡ y.offer.to) (id : x.offer.id ≡ y.offer.id) (less : x.step < y.step)
+        (kind : (x.offer.what ≡ AppQ) ⊎ (x.offer.what ≡ VoteQ)) where
+      pub comes_late : x.offer.what ≡ carrier append → x.offer.to ≡ p
+          → (time_of all x.step + 2 * limits.hold < time_of all y.step)
+          ⊎ IsAnswered made (heard_by n (cluster ids) (rows_in before)) x
+      comes_late carries here = elim (settled x y i j (record { by = by; what = carries; to = here })
+          (record { by = by_too; what = sym what ∙ carries; to = sym to ∙ here }) id less) [
+            | inl far ↦ inl far
+            | inr (inl answered) ↦ inr answered
+            | inr (inr opened) ↦ inl (rests x y i j by by_too what to id kind opened)
+          ]
+
+  pub round_late : 2 * limits.hold + limits.drift < 21000 → RestsWhenOpened limits all made n
+      → WaitsForAnswers limits all made (heard_by n (cluster ids) (rows_in before)) n
+  round_late enough rests x y i j by by_too what to id less kind = by_kind kind where
+    small : kind_of x.offer.what ≡ RequestKind → x.offer.to < 128
+    small is = let r = subst (λ (k : _). IsDestination k x.offer.to) is ((shown (rows_in before) lawful).shows.holds.transfers.ranges x i).to in omega (arith, r.1)
+
+    by_kind : (x.offer.what ≡ AppQ) ⊎ (x.offer.what ≡ VoteQ) → (time_of all x.step + 2 * limits.hold < time_of all y.step)
+        ⊎ IsAnswered made (heard_by n (cluster ids) (rows_in before)) x
+    by_kind (inl append) = comes_late true x.offer.to 32000 (λ M b m times moment. Open x.offer.to M b m times moment) (spaced_appends x.offer.to) (small (ap kind_of append))
+        (omega (arith, enough)) (omega arith) rests x y i j by by_too what to id less kind append refl
+    by_kind (inr vote) = comes_late false x.offer.to 21000 (λ M b m times moment. Asked x.offer.to M b m times moment) (spaced_votes x.offer.to) (small (ap kind_of vote))
+        enough (omega arith) rests x y i j by by_too what to id less kind vote refl

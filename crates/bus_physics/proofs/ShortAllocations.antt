@@ -1,0 +1,121 @@
+-- Each Allocation that a member made has three frames at the most.
+use Rattle.std.proofs.Common.{◌≡◌, ℕ, ◌+◌, ◌≤◌, Bool, true, false, List, [], ◌∷◌, ◌++◌, length, refl, sym, ap, subst, ◌∙◌, arith, inl, inr, None, append_assoc}
+use Rattle.std.specs.Prelude.{nat_le, if◌then◌else◌}
+use Rattle.can_frame.specs.declared.step.What.TheVariants.{Alloc}
+use Rattle.can_frame.specs.Cutting.{frame_count}
+use Rattle.raft_log.specs.KeyDisk.{are_put, puts_on}
+use Rattle.raft_model.specs.Lists.{In, at_here}
+use Rattle.raft_model.specs.Runs as machine
+use Rattle.raft_model.specs.Server.{RaftServer}
+use Rattle.replay_text.specs.declared.row.Row.{Row}
+use Rattle.replay_text.specs.declared.row.Row.TheVariants.{AEnd, AOpen, ARx, ASend, ATick, Crash, Ext, Fault, Open, Rx, Send, Tick}
+use Rattle.alloc_spec.specs.AllocatorState.{AllocatorState}
+use Rattle.alloc_spec.specs.Step.{Event, step}
+use Rattle.alloc_spec.specs.StepState.{StepState}
+use Rattle.alloc_spec.specs.Transfers.{Offer, SentTransfer}
+use Rattle.cluster_spec.specs.Cluster.{Cluster, after_row, arrival_at, cluster, frame_at, receipt_of, tick_of, world_of}
+use Rattle.cluster_spec.specs.Lawful.{Lawful, arrival_refusal, cause, no_node, no_such_frame, not_running, or_else}
+use Rattle.cluster_spec.specs.Members.{Member, MemberStatus, after_cut_off, member_after_step, puts_of}
+use Rattle.cluster_spec.specs.Members.MemberStatus.{Down, Failed, Up}
+use Rattle.cluster_spec.specs.Refinement.{transfers_of_offers, transfers_of_row, transfers_of_rows, transfers_of_step}
+use Rattle.cluster_agreement.specs.Said.{IsRunWritable, IsStoreWritable}
+use Rattle.cluster_agreement.specs.Shows.{Shows, ShowsMember, ShowsUp}
+use Rattle.cluster_agreement.proofs.Concatenations.{cause_at, first_lawful, rows_joined}
+use Rattle.cluster_agreement.proofs.Lists.{tell}
+use Rattle.cluster_agreement.proofs.MadeTransfers.{made_when}
+use Rattle.cluster_agreement.proofs.RowsWithoutEvents.{is_one, past_first}
+use Rattle.bus_physics.proofs.StepAllocations.{AreWhole, short}
+
+abbrev pub AreShortOf : List SentTransfer → Type 0
+AreShortOf made = (x : SentTransfer) → In x made → x.offer.what ≡ Alloc → frame_count (length x.offer.payload) ≤ 3
+
+-- the members that run have logs whose unique IDs have 16 bytes
+abbrev pub LogsAreWhole : Cluster → Type 0
+LogsAreWhole w = (m : ℕ) (t : AllocatorState) → In m w.ids → (w.member m).status ≡ Up t → AreWhole t.raft_server.store.log
+
+-- what is shown of a run has bytes
+pub whole_logs : (choice : ℕ → Bool) (made : List SentTransfer) (w : Cluster) (run : machine.World) → Shows choice made w run → IsRunWritable w.ids run → LogsAreWhole w
+whole_logs choice made w run shows written m t listed up entry there =
+    let is : ShowsUp made w.ids w.frames run m t (w.member m).disk =
+    subst (λ (status : MemberStatus). ShowsMember choice made w.ids w.frames run m status (w.member m).disk) up (shows.lives m listed) in
+    ((subst (λ (p : RaftServer). IsStoreWritable w.ids p.store) is.runs.raft_server (written.stores m)).entries entry there).fits.uid
+
+three : (n : ℕ) → n ≤ 17 → frame_count n ≤ 3
+three n few = elim (tell (nat_le n 7)) [ inl b ↦ rw b (omega arith) | inr b ↦ rw b (omega (arith, few)) ]
+
+-- ---- one row
+
+module _ (w : Cluster) (made : List SentTransfer) (before : LogsAreWhole w) (old : AreShortOf made) where
+  abbrev number : ℕ
+  number = w.rows + 1
+
+  module _ (n : ℕ) (listed : In n w.ids) (event : Event)
+      (after : (t : AllocatorState) → (member_after_step number event (w.member n).status (w.member n)).status ≡ Up t → AreWhole t.raft_server.store.log) where
+    stepped : (status : MemberStatus) → (w.member n).status ≡ status → AreShortOf (transfers_of_step number n event status (w.member n) made)
+    stepped Down is = old
+    stepped (Failed failure) is = old
+    stepped (Up t) is = by (are_put (puts_of (w.member n) g) (w.member n).disk.calls) finished where
+      g : StepState
+      g = (step t number event).step_state
+
+      finished : (u : AllocatorState) → (member_after_step number event (Up t) (w.member n)).status ≡ Up u → AreWhole u.raft_server.store.log
+      finished u up = after u (ap (λ (s : MemberStatus). (member_after_step number event s (w.member n)).status) is ∙ up)
+
+      by : (b : Bool) → ((u : AllocatorState)
+          → (if b then record (w.member n) { status = Up g.allocator; disk = puts_on (puts_of (w.member n) g) (w.member n).disk }
+          else after_cut_off (w.member n) number t g (puts_on (puts_of (w.member n) g) (w.member n).disk)).status ≡ Up u → AreWhole u.raft_server.store.log)
+          → AreShortOf (if b then transfers_of_offers number n g.offers made else made)
+      by false whole x i what = old x i what
+      by true whole x i what = elim (made_when number n g.offers made x i) [
+        | inl j ↦ old x j what
+        | inr new ↦
+            let same : x.offer ≡ new.offer = ap (λ (y : SentTransfer). y.offer) new.is in
+            three (length x.offer.payload) (omega (
+              arith,
+              ap (λ (o : Offer). length o.payload) same,
+              short t number event (before n t listed is) (whole g.allocator refl) new.offer new.offered (ap (λ (o : Offer). o.what) (sym same) ∙ what),
+            ))
+      ]
+
+  pub more_short : (row : Row) → cause w row ≡ None → LogsAreWhole (after_row w row) → AreShortOf (transfers_of_row w row made)
+  more_short (Tick n ms word) lawful after =
+      let listed : In n w.ids = is_one w n (past_first (no_node w n) (not_running w n) lawful).0 in
+      stepped n listed (tick_of ms word) (λ t up. after n t listed
+      (ap (λ (x : Member). x.status) (at_here w.member n n (member_after_step number (tick_of ms word) (w.member n).status (w.member n)) refl) ∙ up))
+      (w.member n).status refl
+  more_short (Rx n k ms) lawful after =
+      let listed : In n w.ids = is_one w n (past_first (no_node w n) (or_else (not_running w n) (or_else (no_such_frame w k)
+      (arrival_refusal (w.member n).status (arrival_at (frame_at w.frames k) ms)))) lawful).0 in
+      stepped n listed (receipt_of w k ms) (λ t up. after n t listed
+      (ap (λ (x : Member). x.status) (at_here w.member n n (member_after_step number (receipt_of w k ms) (w.member n).status (w.member n)) refl) ∙ up))
+      (w.member n).status refl
+  more_short (Open n told ms word) lawful after = old
+  more_short (Send n) lawful after = old
+  more_short (Ext frame) lawful after = old
+  more_short (Crash n calls pattern) lawful after = old
+  more_short (Fault n call) lawful after = old
+  more_short (AOpen b uid pref ms word) lawful after = old
+  more_short (ATick b ms word) lawful after = old
+  more_short (ARx b k ms word) lawful after = old
+  more_short (ASend b) lawful after = old
+  more_short (AEnd b) lawful after = old
+
+-- ---- all rows
+
+pub all_short : (ids : List ℕ) → ((rows : List Row) → Lawful (cluster ids) rows → LogsAreWhole (world_of ids rows)) → (rest done : List Row)
+    (made : List SentTransfer) → Lawful (cluster ids) (done ++ rest) → AreShortOf made → AreShortOf (transfers_of_rows (world_of ids done) rest made)
+all_short ids whole [] done made lawful old = old
+all_short ids whole (row ∷ rest) done made lawful old =
+    subst (λ (v : Cluster). AreShortOf (transfers_of_rows v rest (transfers_of_row w row made))) grown
+    (all_short ids whole rest (done ++ row ∷ []) (transfers_of_row w row made) further
+    (more_short w made (whole done (first_lawful (cluster ids) done (row ∷ rest) lawful)) old row (cause_at (cluster ids) done rest row lawful)
+    (subst LogsAreWhole grown (whole (done ++ row ∷ []) (first_lawful (cluster ids) (done ++ row ∷ []) rest further)))))
+  where
+    w : Cluster
+    w = world_of ids done
+
+    grown : world_of ids (done ++ row ∷ []) ≡ after_row w row
+    grown = rows_joined (cluster ids) done (row ∷ [])
+
+    further : Lawful (cluster ids) ((done ++ row ∷ []) ++ rest)
+    further = subst (λ (l : List Row). Lawful (cluster ids) l) (sym (append_assoc done (row ∷ []) rest)) lawful

@@ -1,0 +1,629 @@
+-- Where a transfer ID of a member's calls to a node comes round, much time has passed, or one of them was answered, or
+-- the member was opened in between.
+use Rattle.std.proofs.Common.{◌≡◌, ℕ, suc, ◌+◌, ◌*◌, ◌<◌, ◌≤◌, Bool, true, false, List, [], ◌∷◌, ◌++◌, length, refl, sym, ap, subst, ◌∙◌, arith, ◌⊎◌, inl, inr, None, append_assoc}
+use Rattle.std.specs.Prelude.{◌-◌, ◌==◌, max, nat_eq, slice_index_or, if◌then◌else◌}
+use Rattle.std.proofs.lemmas.Bool.Decides.{eqb_tells, leb_tells}
+use Rattle.std.proofs.lemmas.List.{length-replicate}
+use Rattle.can_frame.specs.declared.identifier.Kind.{Kind}
+use Rattle.can_frame.specs.declared.identifier.Kind.TheVariants.{Anonymous, Message as Broadcast, Request as RequestKind, Response}
+use Rattle.cluster_discovery.specs.Members.{is_on_list}
+use Rattle.outside.specs.declared.pattern.Pattern.{Pattern}
+use Rattle.raft_core.specs.StoredPuts.{store_of}
+use Rattle.raft_core.specs.Times.{Times, is_awaited}
+use Rattle.raft_log.specs.KeyDisk.{are_put, is_open_on, opening_on, puts_on}
+use Rattle.raft_model.specs.Lists.{In}
+use Rattle.raft_model.specs.Server.{Memory, Store}
+use Rattle.replay_text.specs.declared.row.Row.{Row}
+use Rattle.replay_text.specs.declared.row.Row.TheVariants.{AEnd, AOpen, ARx, ASend, ATick, Crash, Ext, Fault, Open as Opens, Rx, Send, Tick}
+use Rattle.transfer_rx.specs.Reassembly.{Answer, Continues, Delivery, Drops, Gives, answer}
+use Rattle.transfer_tx.specs.Queue.{Queued}
+use Rattle.alloc_spec.specs.Accepted.{setting_for}
+use Rattle.alloc_spec.specs.AllocatorState.{AllocatorState, members_of}
+use Rattle.alloc_spec.specs.Rules.{Rules, opening_by}
+use Rattle.alloc_spec.specs.Step.{Event, after_pop, at_step, begin_phase, moment_of, step}
+use Rattle.alloc_spec.specs.Step.Event.{Rx as Receives, Tick as Ticks}
+use Rattle.alloc_spec.specs.StepState.{StepState}
+use Rattle.alloc_spec.specs.Transfers.{Offer, SentTransfer, first_ids, number_of}
+use Rattle.cluster_spec.specs.Cluster.{Cluster, after_row, after_rows, cluster, frame_at, receipt_of, rules_of, tick_of, world_of}
+use Rattle.cluster_spec.specs.Lawful.{Lawful, cause}
+use Rattle.cluster_spec.specs.Members.{Member, MemberStatus, after_crash, after_cut_off, after_failed_opening, after_opening, after_sending, member_after_step, puts_of, stopped_with, with_failure_armed, with_stop_armed}
+use Rattle.cluster_spec.specs.Members.MemberStatus.{Down, Failed, Up}
+use Rattle.cluster_spec.specs.Refinement.{transfers_of_offers, transfers_of_row, transfers_of_rows, transfers_of_step}
+use Rattle.cluster_agreement.specs.Said.{carrier}
+use Rattle.cluster_agreement.proofs.Concatenations.{rows_joined}
+use Rattle.cluster_agreement.proofs.Lists.{in_front}
+use Rattle.cluster_agreement.proofs.OneRowMore.{lawful as one_more}
+use Rattle.cluster_agreement.proofs.MadeTransfers.{IsNew, made_when, still_made}
+use Rattle.bus_physics.specs.Physics.{IsAnswered, IsNotFast, IsOpenedBetween, IsResponseOf, Limits, OfIt, Reading, Reads, ReadsAt, Timed, heard_by, heard_in, member_readings, now_in, row_of, rows_in, time_of}
+use Rattle.bus_physics.proofs.Scheduled.{rows_of_more}
+use Rattle.bus_physics.proofs.Now.{now_of_a_step}
+use Rattle.bus_physics.proofs.StepCalls.{Called, IsAnswerOf, IsCall, IsQuietAt, IsSpaced, Open, Since, calls_of_a_step, ids_to}
+
+one_up : (a b : AllocatorState) → Up a ≡ Up b → a ≡ b
+one_up a b e = cc (e)
+
+module _ (append : Bool) (p width : ℕ) (P : ℕ → ℕ → Memory → Times → ℕ → Type 0) (is : IsSpaced append p width P) (small : p < 128) (n : ℕ) where
+  -- ---- whether an event is an answer to them
+
+  -- the event delivers an answer to a call in question
+  abbrev pub Answers : Event → AllocatorState → Type 0
+  Answers (Ticks now word) t = ⊥
+  Answers (Receives arrival) t = (d : Delivery) × (answer (setting_for t.me) t.sessions (at_step t arrival) ≡ Gives d)
+      × IsAnswerOf append p d (members_of t) t.raft_server t.times
+
+  is_response : Kind → Bool
+  is_response Broadcast = false
+  is_response Anonymous = false
+  is_response RequestKind = false
+  is_response Response = true
+
+  kind_is : (kind : Kind) → (kind ≡ Response) ⊎ (kind ≡ Response → ⊥)
+  kind_is Broadcast = inr (λ e. absurd (cc (e)))
+  kind_is Anonymous = inr (λ e. absurd (cc (e)))
+  kind_is RequestKind = inr (λ e. absurd (cc (e)))
+  kind_is Response = inl refl
+
+  bool_is : (a b : Bool) → (a ≡ b) ⊎ (a ≡ b → ⊥)
+  bool_is true true = inl refl
+  bool_is true false = inr (λ e. absurd (cc (e)))
+  bool_is false true = inr (λ e. absurd (cc (e)))
+  bool_is false false = inl refl
+
+  delivery_is : (d : Delivery) (t : AllocatorState) → IsAnswerOf append p d (members_of t) t.raft_server t.times
+      ⊎ (IsAnswerOf append p d (members_of t) t.raft_server t.times → ⊥)
+  delivery_is d t = elim (kind_is d.ident.kind) [
+    | inr other ↦ inr (λ a. other a.kind)
+    | inl kind ↦ elim (bool_is (is_on_list (members_of t) d.ident.source) true) [
+      | inr other ↦ inr (λ a. other a.listed)
+      | inl listed ↦ elim (bool_is (nat_eq d.ident.number 1) false) [
+        | inr other ↦ inr (λ a. other a.other)
+        | inl unlike ↦ elim (bool_is (nat_eq d.ident.number 30) append) [
+          | inr other ↦ inr (λ a. other a.service)
+          | inl service ↦ elim (eqb_tells p d.ident.source) [
+            | inr other ↦ inr (λ a. other.1 a.from)
+            | inl from ↦ elim (bool_is (is_awaited t.raft_server t.times d.ident.source append d.id) true) [
+              | inr other ↦ inr (λ a. other a.awaited)
+              | inl awaited ↦ inl (record { listed = listed; kind = kind; other = unlike; service = service; from = from.1; awaited = awaited })
+            ]
+          ]
+        ]
+      ]
+    ]
+  ]
+
+  event_is : (event : Event) (t : AllocatorState) → Answers event t ⊎ (Answers event t → ⊥)
+  event_is (Ticks now word) t = inr (λ a. a)
+  event_is (Receives arrival) t = by (answer (setting_for t.me) t.sessions (at_step t arrival)) refl where
+    by : (got : Answer) → answer (setting_for t.me) t.sessions (at_step t arrival) ≡ got → Answers (Receives arrival) t ⊎ (Answers (Receives arrival) t → ⊥)
+    by (Gives d) e = elim (delivery_is d t) [
+      | inl a ↦ inl (d, e, a)
+      | inr none ↦ inr (λ a. none (subst (λ (x : Delivery). IsAnswerOf append p x (members_of t) t.raft_server t.times) (one a.0 d (sym a.1 ∙ e)) a.2))
+    ]
+      where
+        one : (x y : Delivery) → Gives x ≡ Gives y → x ≡ y
+        one x y f = cc (f)
+    by Continues e = inr (λ a. absurd (cc (sym a.1 ∙ e)))
+    by (Drops why) e = inr (λ a. absurd (cc (sym a.1 ∙ e)))
+
+  -- ---- what is known of the calls that were made
+
+  pub record IsCallTo (x : SentTransfer) : Type 0 where
+    pub by : x.by ≡ n
+    pub what : x.offer.what ≡ carrier append
+    pub to : x.offer.to ≡ p
+
+  -- none was made later than one to which an answer was heard
+  pub record IsHeard (made : List SentTransfer) (heard : List Queued) (step : ℕ) : Type 0 where
+    pub later : SentTransfer
+    pub was_made : In later made
+    pub answer : Queued
+    pub came : In answer heard
+    pub response : (x : SentTransfer) → IsCallTo x → IsResponseOf (number_of x.offer.what) x.offer.to x.by answer
+    pub answers : answer.mark.re ≡ later.step
+    pub last : (x : SentTransfer) → In x made → IsCallTo x → x.step ≤ later.step
+
+  module _ (limits : Limits) (all : List Timed) where
+    -- the member was opened in a row behind a step, and one of these
+    pub record IsOpenedAfter (rows first : ℕ) : Type 0 where
+      pub number : ℕ
+      pub later : first < number
+      pub done : number ≤ rows
+      pub told : Bool
+      pub moment : ℕ
+      pub word : ℕ
+      pub opens : row_of all number ≡ Opens n told moment word
+
+    -- since the call so many were made, and its moment is that of a reading
+    pub record Waits (past : List Reading) (t : AllocatorState) (x : SentTransfer) : Type 0 where
+      pub moment : ℕ
+      pub reading : In (record { at = time_of all x.step; now = moment }) past
+      pub since : Since append p P x.offer.id moment t.raft_server.memory t.times t.ids t.now
+
+    abbrev pub IsEnded : List SentTransfer → List Queued → ℕ → SentTransfer → Type 0
+    IsEnded made heard rows x = IsAnswered made heard x ⊎ IsOpenedAfter rows x.step
+
+    pub record Runs (made : List SentTransfer) (heard : List Queued) (past : List Reading) (rows : ℕ) (t : AllocatorState) : Type 0 where
+      pub wait : t.times.since ≤ t.now
+      pub room : p < length (ids_to append t.ids)
+      pub each : (x : SentTransfer) → In x made → IsCallTo x → IsEnded made heard rows x ⊎ Waits past t x
+
+    abbrev pub RunsWhereUp : List SentTransfer → List Queued → List Reading → ℕ → MemberStatus → Type 0
+    RunsWhereUp made heard past rows status = (t : AllocatorState) → status ≡ Up t → Runs made heard past rows t
+
+    abbrev pub IsSettled : List SentTransfer → List Queued → SentTransfer → SentTransfer → Type 0
+    IsSettled made heard x y = (time_of all x.step + 2 * limits.hold < time_of all y.step)
+        ⊎ (IsAnswered made heard x ⊎ IsOpenedBetween all n x.step y.step)
+
+    abbrev pub AreSettled : List SentTransfer → List Queued → Type 0
+    AreSettled made heard = (x y : SentTransfer) → In x made → In y made → IsCallTo x → IsCallTo y → x.offer.id ≡ y.offer.id → x.step < y.step
+        → IsSettled made heard x y
+
+    -- what was answered, or ended, stays so
+    answered_more : (made more : List SentTransfer) (heard further : List Queued) → ((x : SentTransfer) → In x made → In x more)
+        → ((f : Queued) → In f heard → In f further) → (x : SentTransfer) → IsAnswered made heard x → IsAnswered more further x
+    answered_more made more heard further grows hears x a = record {
+      later = a.later;
+      was_made = grows a.later a.was_made;
+      after = a.after;
+      answer = a.answer;
+      came = hears a.answer a.came;
+      is = a.is;
+      answers = a.answers;
+    }
+
+    opened_more : (rows then_ first : ℕ) → rows ≤ then_ → IsOpenedAfter rows first → IsOpenedAfter then_ first
+    opened_more rows then_ first less o = record {
+      number = o.number;
+      later = o.later;
+      done = omega (arith, less, o.done);
+      told = o.told;
+      moment = o.moment;
+      word = o.word;
+      opens = o.opens;
+    }
+
+    settled_more : (made more : List SentTransfer) (heard further : List Queued) → ((x : SentTransfer) → In x made → In x more)
+        → ((f : Queued) → In f heard → In f further) → (x y : SentTransfer) → IsSettled made heard x y → IsSettled more further x y
+    settled_more made more heard further grows hears x y (inl far) = inl far
+    settled_more made more heard further grows hears x y (inr (inl a)) = inr (inl (answered_more made more heard further grows hears x a))
+    settled_more made more heard further grows hears x y (inr (inr o)) = inr (inr o)
+
+    between : (rows : ℕ) (x y : SentTransfer) → rows < y.step → IsOpenedAfter rows x.step → IsOpenedBetween all n x.step y.step
+    between rows x y less o = record {
+      number = o.number;
+      later = o.later;
+      sooner = omega (arith, less, o.done);
+      told = o.told;
+      moment = o.moment;
+      word = o.word;
+      opens = o.opens;
+    }
+
+    answered_by : (made : List SentTransfer) (heard : List Queued) (step : ℕ) → IsHeard made heard step → (x : SentTransfer) → In x made → IsCallTo x → IsAnswered made heard x
+    answered_by made heard step h x i call = record {
+      later = h.later;
+      was_made = h.was_made;
+      after = h.last x i call;
+      answer = h.answer;
+      came = h.came;
+      is = h.response x call;
+      answers = h.answers;
+    }
+
+    -- ---- a step of the member
+
+    module _ (enough : 2 * limits.hold + limits.drift < width) (narrow : width ≤ 32000) (made : List SentTransfer) (heard further : List Queued)
+        (hears : (f : Queued) → In f heard → In f further) (past : List Reading) (rows came : ℕ) (its_time : time_of all (rows + 1) ≡ came)
+        (earlier : (x : SentTransfer) → In x made → x.step ≤ rows) (t : AllocatorState) (runs : Runs made heard past rows t)
+        (settled : AreSettled made heard) (event : Event)
+        (slow : IsNotFast limits past came (max t.now (moment_of event)))
+        (heard_it : Answers event (begin_phase (rows + 1) (moment_of event) t).allocator → IsHeard made further (rows + 1)) where
+      abbrev number : ℕ
+      number = rows + 1
+
+      abbrev begun : StepState
+      begun = begin_phase number (moment_of event) t
+
+      abbrev g : StepState
+      g = (step t number event).step_state
+
+      abbrev later_past : List Reading
+      later_past = record { at = came; now = max t.now (moment_of event) } ∷ past
+
+      -- a call that waits, where the event is no answer to it
+      pub record Past (id M : ℕ) : Type 0 where
+        pub x : SentTransfer
+        pub there : In x made
+        pub call : IsCallTo x
+        pub same : x.offer.id ≡ id
+        pub waits : Waits past t x
+        pub moment : waits.moment ≡ M
+        pub silent : Answers event begun.allocator → ⊥
+
+      opened : Open append p width P is number Past t.raft_server.memory t.times t.ids t.now
+      opened = record {
+        wait = runs.wait;
+        room = runs.room;
+        past = λ id M i. subst (λ (k : ℕ). Since append p P k M t.raft_server.memory t.times t.ids t.now) i.same
+            (subst (λ (k : ℕ). Since append p P i.x.offer.id k t.raft_server.memory t.times t.ids t.now) i.moment i.waits.since);
+      }
+
+      quiet : (e : Event) → event ≡ e → IsQuietAt append p width P is number Past e begun
+      quiet (Ticks now word) e = tt
+      quiet (Receives arrival) e = λ d gives answers id M i. i.silent (subst (λ (x : Event). Answers x begun.allocator) (sym e) (d, gives, answers))
+
+      called : Called append p width P is number Past g.allocator.raft_server.memory g.allocator.times g.allocator.ids g.allocator.now g.offers
+      called = calls_of_a_step append p width P is number Past t event opened (quiet event refl)
+
+      abbrev more : List SentTransfer
+      more = transfers_of_offers number n g.offers made
+
+      grows : (x : SentTransfer) → In x made → In x more
+      grows x i = still_made number n g.offers made x i
+
+      new_call : (x : SentTransfer) (new : IsNew number n g.offers x) → IsCallTo x → IsCall append p width P is number Past new.offer
+      new_call x new call =
+          let same : x.offer ≡ new.offer = ap (λ (y : SentTransfer). y.offer) new.is in
+          record {
+            what = ap (λ (o : Offer). o.what) (sym same) ∙ call.what;
+            to = ap (λ (o : Offer). o.to) (sym same) ∙ call.to;
+            fitted = new.fitted;
+          }
+
+      now_is : g.allocator.now ≡ max t.now (moment_of event)
+      now_is = now_of_a_step t number event
+
+      pub runs_then : Runs more further later_past number g.allocator
+      runs_then = record { wait = called.opened.wait; room = called.opened.room; each = λ x i call. by x call (made_when number n g.offers made x i) } where
+        old : (x : SentTransfer) → In x made → IsCallTo x → IsEnded made heard rows x ⊎ Waits past t x
+            → Answers event begun.allocator ⊎ (Answers event begun.allocator → ⊥) → IsEnded more further number x ⊎ Waits later_past g.allocator x
+        old x i call (inl (inl a)) decided = inl (inl (answered_more made more heard further grows hears x a))
+        old x i call (inl (inr o)) decided = inl (inr (opened_more rows number x.step (omega arith) o))
+        old x i call (inr w) (inl answers) =
+            inl (inl (answered_more made more further further grows (λ f j. j) x (answered_by made further number (heard_it answers) x i call)))
+        old x i call (inr w) (inr silent) = inr (record {
+          moment = w.moment;
+          reading = inr w.reading;
+          since = called.opened.past x.offer.id w.moment
+              (record { x = x; there = i; call = call; same = refl; waits = w; moment = refl; silent = silent });
+        })
+
+        by : (x : SentTransfer) → IsCallTo x → In x made ⊎ IsNew number n g.offers x → IsEnded more further number x ⊎ Waits later_past g.allocator x
+        by x call (inl i) = old x i call (runs.each x i call) (event_is event begun.allocator)
+        by x call (inr new) = inr (record {
+          moment = g.allocator.now;
+          reading = inl (ap (λ (k : ℕ). record { at = time_of all k; now = g.allocator.now }) (ap (λ (y : SentTransfer). y.step) new.is)
+              ∙ (ap (λ (k : ℕ). record { at = k; now = g.allocator.now }) its_time ∙ ap (λ (k : ℕ). record { at = came; now = k }) now_is));
+          since = subst (λ (o : Offer). Since append p P o.id g.allocator.now g.allocator.raft_server.memory g.allocator.times g.allocator.ids g.allocator.now)
+              (ap (λ (y : SentTransfer). y.offer) (sym new.is)) (called.own new.offer new.offered (new_call x new call));
+        })
+
+      pub settled_then : AreSettled more further
+      settled_then x y i j call called_too id less = by (made_when number n g.offers made x i) (made_when number n g.offers made y j) where
+        step_of : (z : SentTransfer) → IsNew number n g.offers z → z.step ≡ number
+        step_of z new = ap (λ (y : SentTransfer). y.step) new.is
+
+        -- so much went by on the member's clock, and so on a true one
+        far : (w : Waits past t x) → w.moment + width ≤ g.allocator.now → time_of all x.step + 2 * limits.hold < came
+        far w passed = elim (leb_tells came (time_of all x.step + 60000)) [
+          | inr long ↦ omega (arith, long.1, enough, narrow)
+          | inl soon ↦ omega (arith, slow (record { at = time_of all x.step; now = w.moment }) w.reading soon.1, passed, now_is, enough)
+        ]
+
+        old : In x made → IsNew number n g.offers y → IsEnded made heard rows x ⊎ Waits past t x
+            → Answers event begun.allocator ⊎ (Answers event begun.allocator → ⊥) → IsSettled more further x y
+        old k new (inl (inl a)) decided = inr (inl (answered_more made more heard further grows hears x a))
+        old k new (inl (inr o)) decided = inr (inr (between rows x y (omega (arith, step_of y new)) o))
+        old k new (inr w) (inl answers) =
+            inr (inl (answered_more made more further further grows (λ f l. l) x (answered_by made further number (heard_it answers) x k call)))
+        old k new (inr w) (inr silent) =
+            inl (subst (λ (m : ℕ). time_of all x.step + 2 * limits.hold < m) (sym its_time ∙ ap (time_of all) (sym (step_of y new)))
+            (far w (called.far x.offer.id w.moment (record { x = x; there = k; call = call; same = refl; waits = w; moment = refl; silent = silent })
+            new.offer new.offered (new_call y new called_too) (ap (λ (z : SentTransfer). z.offer.id) (sym new.is) ∙ sym id))))
+
+        by : In x made ⊎ IsNew number n g.offers x → In y made ⊎ IsNew number n g.offers y → IsSettled more further x y
+        by (inl k) (inl l) = settled_more made more heard further grows hears x y (settled x y k l call called_too id less)
+        by (inl k) (inr new) = old k new (runs.each x k call) (event_is event begun.allocator)
+        by (inr new) (inl l) = absurd (omega (arith, less, step_of x new, earlier y l))
+        by (inr new) (inr other) = absurd (omega (arith, less, step_of x new, step_of y other))
+
+    -- ---- any row
+
+    module _ (w : Cluster) (made : List SentTransfer) (heard : List Queued) (past : List Reading) (came : ℕ) (its_time : time_of all (w.rows + 1) ≡ came)
+        (earlier : (x : SentTransfer) → In x made → x.step ≤ w.rows) (runs : RunsWhereUp made heard past w.rows (w.member n).status)
+        (settled : AreSettled made heard) where
+      pub record Next (more : List SentTransfer) (further : List Queued) (past_then : List Reading) (status : MemberStatus) : Type 0 where
+        pub running : RunsWhereUp more further past_then (w.rows + 1) status
+        pub apart : AreSettled more further
+
+      module _ (more : List SentTransfer) (further : List Queued) (grows : (x : SentTransfer) → In x made → In x more)
+          (hears : (f : Queued) → In f heard → In f further) (only : (x : SentTransfer) → In x more → IsCallTo x → In x made) where
+        settled_still : AreSettled more further
+        settled_still x y i j c d id less = settled_more made more heard further grows hears x y (settled x y (only x i c) (only y j d) c d id less)
+
+        kept : (t : AllocatorState) → Runs made heard past w.rows t → Runs more further past (w.rows + 1) t
+        kept t r = record { wait = r.wait; room = r.room; each = λ x i c. by x (r.each x (only x i c) c) } where
+          by : (x : SentTransfer) → IsEnded made heard w.rows x ⊎ Waits past t x → IsEnded more further (w.rows + 1) x ⊎ Waits past t x
+          by x (inl (inl a)) = inl (inl (answered_more made more heard further grows hears x a))
+          by x (inl (inr o)) = inl (inr (opened_more w.rows (w.rows + 1) x.step (omega arith) o))
+          by x (inr v) = inr v
+
+        -- its status stays
+        still : (status : MemberStatus) → ((u : AllocatorState) → status ≡ Up u → (w.member n).status ≡ Up u) → Next more further past status
+        still status same = record { running = λ u up. kept u (runs u (same u up)); apart = settled_still }
+
+      -- it hears nothing new, and makes nothing
+      unchanged : (status : MemberStatus) → ((u : AllocatorState) → status ≡ Up u → (w.member n).status ≡ Up u) → Next made (heard ++ []) past status
+      unchanged status same = still made (heard ++ []) (λ x i. i) (λ f i. in_front f heard [] i) (λ x i c. i) status same
+
+      is_same : (m : ℕ) → (n == m) ≡ true → n ≡ m
+      is_same m e = elim (eqb_tells n m) [ inl s ↦ s.1 | inr apart ↦ absurd (cc (sym apart.0 ∙ e)) ]
+
+      is_other : (m : ℕ) → (n == m) ≡ false → m ≡ n → ⊥
+      is_other m e same = elim (eqb_tells n m) [ inl s ↦ absurd (cc (sym e ∙ s.0)) | inr apart ↦ apart.1 (sym same) ]
+
+      -- ---- an opening
+
+      zeros : (a : Bool) → p < length (ids_to a first_ids)
+      zeros true = omega (arith, small, length-replicate {A = ℕ} 128 0)
+      zeros false = omega (arith, small, length-replicate {A = ℕ} 128 0)
+
+      fresh : (m : ℕ) → n ≡ m → (told : Bool) (ms word : ℕ) → row_of all (w.rows + 1) ≡ Opens m told ms word → (rules : Rules) (store : Store) (u : AllocatorState)
+          → opening_by m rules store ms word ≡ u → Runs made (heard ++ []) (record { at = came; now = ms } ∷ []) (w.rows + 1) u
+      fresh m same told ms word row rules store u is_it =
+          subst (λ (v : AllocatorState). Runs made (heard ++ []) (record { at = came; now = ms } ∷ []) (w.rows + 1) v) is_it (record {
+            wait = omega arith;
+            room = zeros append;
+            each = λ x i c. inl (inr (record {
+              number = w.rows + 1;
+              later = omega (arith, earlier x i);
+              done = omega arith;
+              told = told;
+              moment = ms;
+              word = word;
+              opens = row ∙ ap (λ (k : ℕ). Opens k told ms word) (sym same);
+            }));
+          })
+
+      opened_row : (m : ℕ) (told : Bool) (ms word : ℕ) → row_of all (w.rows + 1) ≡ Opens m told ms word → (rules : Rules) (same : Bool) → (n == m) ≡ same
+          → Next made (heard ++ []) (if same then record { at = came; now = ms } ∷ [] else past)
+          (if same then after_opening m rules ms word (w.member m) else w.member n).status
+      opened_row m told ms word row rules false e = unchanged (w.member n).status (λ u up. up)
+      opened_row m told ms word row rules true e = record {
+        running = λ u up. by u (is_open_on (w.member m).disk) up;
+        apart = settled_still made (heard ++ []) (λ x i. i) (λ f i. in_front f heard [] i) (λ x i c. i);
+      }
+        where
+          by : (u : AllocatorState) (b : Bool) → (if b then record (w.member m) {
+            status = Up (opening_by m rules (store_of (opening_on (w.member m).disk).store) ms word);
+            disk = opening_on (w.member m).disk;
+          } else after_failed_opening (w.member m) (opening_on (w.member m).disk)).status ≡ Up u
+              → Runs made (heard ++ []) (record { at = came; now = ms } ∷ []) (w.rows + 1) u
+          by u true up = fresh m (is_same m e) told ms word row rules (store_of (opening_on (w.member m).disk).store) u (one_up _ u up)
+          by u false up = absurd (failed (opening_on (w.member m).disk).calls.stopped up) where
+            failed : (b : Bool) → (if b then stopped_with (w.member m).pattern (opening_on (w.member m).disk) (w.member m)
+                else record (w.member m) { status = Down; disk = opening_on (w.member m).disk }).status ≡ Up u → ⊥
+            failed true f = absurd (cc (f))
+            failed false f = absurd (cc (f))
+
+      -- ---- a step
+
+      -- one of another member makes no call of this one
+      stepped_other : (m : ℕ) → (m ≡ n → ⊥) → (event : Event) (status : MemberStatus) (y : Member) (further : List Queued) → ((f : Queued) → In f heard → In f further)
+          → Next (transfers_of_step (w.rows + 1) m event status y made) further past (w.member n).status
+      stepped_other m other event Down y further hears = still made further (λ x i. i) hears (λ x i c. i) (w.member n).status (λ u up. up)
+      stepped_other m other event (Failed failure) y further hears = still made further (λ x i. i) hears (λ x i c. i) (w.member n).status (λ u up. up)
+      stepped_other m other event (Up t) y further hears = by (are_put (puts_of y g) y.disk.calls) where
+        g : StepState
+        g = (step t (w.rows + 1) event).step_state
+
+        by : (b : Bool) → Next (if b then transfers_of_offers (w.rows + 1) m g.offers made else made) further past (w.member n).status
+        by false = still made further (λ x i. i) hears (λ x i c. i) (w.member n).status (λ u up. up)
+        by true = still (transfers_of_offers (w.rows + 1) m g.offers made) further (still_made (w.rows + 1) m g.offers made) hears
+            (λ x i c. elim (made_when (w.rows + 1) m g.offers made x i) [
+              | inl j ↦ j
+              | inr new ↦ absurd (other (ap (λ (z : SentTransfer). z.by) (sym new.is) ∙ c.by))
+            ]) (w.member n).status (λ u up. up)
+
+      module _ (enough : 2 * limits.hold + limits.drift < width) (narrow : width ≤ 32000) (event : Event) (further : List Queued)
+          (hears : (f : Queued) → In f heard → In f further) where
+        stepped_own : (status : MemberStatus) → (w.member n).status ≡ status → IsNotFast limits past came (now_in status (moment_of event))
+            → ((t : AllocatorState) → status ≡ Up t → Answers event (begin_phase (w.rows + 1) (moment_of event) t).allocator → IsHeard made further (w.rows + 1))
+            → Next (transfers_of_step (w.rows + 1) n event status (w.member n) made) further (record { at = came; now = now_in status (moment_of event) } ∷ past)
+            (member_after_step (w.rows + 1) event status (w.member n)).status
+        stepped_own Down is_it slow answered = record {
+          running = λ u up. absurd (cc (sym is_it ∙ up));
+          apart = settled_still made further (λ x i. i) hears (λ x i c. i);
+        }
+        stepped_own (Failed failure) is_it slow answered = record {
+          running = λ u up. absurd (cc (sym is_it ∙ up));
+          apart = settled_still made further (λ x i. i) hears (λ x i c. i);
+        }
+        stepped_own (Up t) is_it slow answered = by (are_put (puts_of (w.member n) g) (w.member n).disk.calls) where
+          g : StepState
+          g = (step t (w.rows + 1) event).step_state
+
+          reads : List Reading
+          reads = record { at = came; now = max t.now (moment_of event) } ∷ past
+
+          cut : (u : AllocatorState) (b : Bool) (failed : Member) → ((v : AllocatorState) → failed.status ≡ Up v → ⊥)
+              → (if b then stopped_with (w.member n).pattern (puts_on (puts_of (w.member n) g) (w.member n).disk) (w.member n) else failed).status ≡ Up u → ⊥
+          cut u true failed none f = absurd (cc (f))
+          cut u false failed none f = none u f
+
+          by : (b : Bool) → Next (if b then transfers_of_offers (w.rows + 1) n g.offers made else made) further reads
+              (if b then record (w.member n) { status = Up g.allocator; disk = puts_on (puts_of (w.member n) g) (w.member n).disk }
+              else after_cut_off (w.member n) (w.rows + 1) t g (puts_on (puts_of (w.member n) g) (w.member n).disk)).status
+          by true = record {
+            running = λ u up. subst (λ (v : AllocatorState). Runs (transfers_of_offers (w.rows + 1) n g.offers made) further reads (w.rows + 1) v) (one_up g.allocator u up)
+                (runs_then enough narrow made heard further hears past w.rows came its_time earlier t (runs t is_it) settled event slow (answered t refl));
+            apart = settled_then enough narrow made heard further hears past w.rows came its_time earlier t (runs t is_it) settled event slow (answered t refl);
+          }
+          by false = record {
+            running = λ u up. absurd (cut u (puts_on (puts_of (w.member n) g) (w.member n).disk).calls.stopped _ (λ v f. absurd (cc (f))) up);
+            apart = settled_still made further (λ x i. i) hears (λ x i c. i);
+          }
+
+      -- ---- a row
+
+      module _ (enough : 2 * limits.hold + limits.drift < width) (narrow : width ≤ 32000) (row : Row) (its_row : row_of all (w.rows + 1) ≡ row)
+          (slow : ReadsAt (IsNotFast limits) n past w came row)
+          (answered : (k ms : ℕ) → row ≡ Rx n k ms → (t : AllocatorState) → (w.member n).status ≡ Up t
+          → Answers (receipt_of w k ms) (begin_phase (w.rows + 1) ms t).allocator → IsHeard made (heard ++ heard_in n w row) (w.rows + 1)) where
+        abbrev After : Row → Type 0
+        After r = Next (transfers_of_row w r made) (heard ++ heard_in n w r) (member_readings n past w came r) ((after_row w r).member n).status
+
+        open_row : (m : ℕ) (told : Bool) (ms word : ℕ) → row_of all (w.rows + 1) ≡ Opens m told ms word → After (Opens m told ms word)
+        open_row m told ms word r = opened_row m told ms word r (rules_of w.ids told) (n == m) refl
+
+        tick_row : (m ms word : ℕ) (same : Bool) → (n == m) ≡ same → OfIt same (IsNotFast limits past came (now_in (w.member m).status ms))
+            → Next (transfers_of_step (w.rows + 1) m (tick_of ms word) (w.member m).status (w.member m) made) (heard ++ [])
+            (if same then record { at = came; now = now_in (w.member m).status ms } ∷ past else past)
+            (if same then member_after_step (w.rows + 1) (tick_of ms word) (w.member m).status (w.member m) else w.member n).status
+        tick_row m ms word false e slow_ = stepped_other m (is_other m e) (tick_of ms word) (w.member m).status (w.member m) (heard ++ []) (λ f i. in_front f heard [] i)
+        tick_row m ms word true e slow_ =
+            subst (λ (k : ℕ). IsNotFast limits past came (now_in (w.member k).status ms)
+            → Next (transfers_of_step (w.rows + 1) k (tick_of ms word) (w.member k).status (w.member k) made) (heard ++ [])
+            (record { at = came; now = now_in (w.member k).status ms } ∷ past) (member_after_step (w.rows + 1) (tick_of ms word) (w.member k).status (w.member k)).status)
+            (is_same m e) (λ s. stepped_own enough narrow (tick_of ms word) (heard ++ []) (λ f i. in_front f heard [] i) (w.member n).status refl s (λ t up a. absurd a)) slow_
+
+        rx_row : (m k ms : ℕ) → row ≡ Rx m k ms → (same : Bool) → (n == m) ≡ same → OfIt same (IsNotFast limits past came (now_in (w.member m).status ms))
+            → Next (transfers_of_step (w.rows + 1) m (receipt_of w k ms) (w.member m).status (w.member m) made) (heard ++ (if same then frame_at w.frames k ∷ [] else []))
+            (if same then record { at = came; now = now_in (w.member m).status ms } ∷ past else past)
+            (if same then member_after_step (w.rows + 1) (receipt_of w k ms) (w.member m).status (w.member m) else w.member n).status
+        rx_row m k ms r false e slow_ = stepped_other m (is_other m e) (receipt_of w k ms) (w.member m).status (w.member m) (heard ++ []) (λ f i. in_front f heard [] i)
+        rx_row m k ms r true e slow_ =
+            subst (λ (j : ℕ). row ≡ Rx j k ms → IsNotFast limits past came (now_in (w.member j).status ms)
+            → Next (transfers_of_step (w.rows + 1) j (receipt_of w k ms) (w.member j).status (w.member j) made) (heard ++ frame_at w.frames k ∷ [])
+            (record { at = came; now = now_in (w.member j).status ms } ∷ past) (member_after_step (w.rows + 1) (receipt_of w k ms) (w.member j).status (w.member j)).status)
+            (is_same m e) (λ r_ s. stepped_own enough narrow (receipt_of w k ms) (heard ++ frame_at w.frames k ∷ [])
+            (λ f i. in_front f heard (frame_at w.frames k ∷ []) i) (w.member n).status refl s
+            (λ t up a. subst (λ (l : List Queued). IsHeard made (heard ++ l) (w.rows + 1)) (ap (λ (x : Row). heard_in n w x) r_ ∙ itself k)
+            (answered k ms r_ t up a))) r slow_
+          where
+            itself : (k : ℕ) → (if n == n then frame_at w.frames k ∷ [] else []) ≡ frame_at w.frames k ∷ []
+            itself k = elim (eqb_tells n n) [ inl s ↦ ap (λ (b : Bool). if b then frame_at w.frames k ∷ [] else []) s.0 | inr differ ↦ absurd (differ.1 refl) ]
+
+        send_row : (m : ℕ) (same : Bool) → (n == m) ≡ same
+            → Next made (heard ++ []) past (if same then record (w.member m) { status = after_sending (w.member m).status } else w.member n).status
+        send_row m false e = unchanged (w.member n).status (λ u up. up)
+        send_row m true e = record {
+          running = λ u up. by u (w.member m).status refl up;
+          apart = settled_still made (heard ++ []) (λ x i. i) (λ f i. in_front f heard [] i) (λ x i c. i);
+        }
+          where
+            by : (u : AllocatorState) (status : MemberStatus) → (w.member m).status ≡ status → after_sending status ≡ Up u → Runs made (heard ++ []) past (w.rows + 1) u
+            by u Down is_it f = absurd (cc (f))
+            by u (Failed failure) is_it f = absurd (cc (f))
+            by u (Up t) is_it f =
+                let r = kept made (heard ++ []) (λ x i. i) (λ g i. in_front g heard [] i) (λ x i c. i) t (runs t (ap (λ (j : ℕ). (w.member j).status) (is_same m e) ∙ is_it)) in
+                subst (λ (v : AllocatorState). Runs made (heard ++ []) past (w.rows + 1) v) (one_up (after_pop t) u f) (record {
+                  wait = r.wait;
+                  room = r.room;
+                  each = λ x i c. popped x (r.each x i c);
+                })
+              where
+                popped : (x : SentTransfer) → IsEnded made (heard ++ []) (w.rows + 1) x ⊎ Waits past t x → IsEnded made (heard ++ []) (w.rows + 1) x ⊎ Waits past (after_pop t) x
+                popped x (inl e) = inl e
+                popped x (inr v) = inr (record { moment = v.moment; reading = v.reading; since = v.since })
+
+        crash_row : (m calls : ℕ) (pattern : Pattern) (same : Bool) → (n == m) ≡ same
+            → Next made (heard ++ []) past (if same then after_crash calls pattern (w.member m) else w.member n).status
+        crash_row m calls pattern false e = unchanged (w.member n).status (λ u up. up)
+        crash_row m calls pattern true e = unchanged (after_crash calls pattern (w.member m)).status (λ u up. by u (calls == 0) up) where
+          by : (u : AllocatorState) (b : Bool) → (if b then stopped_with pattern (w.member m).disk (w.member m) else with_stop_armed calls pattern (w.member m)).status ≡ Up u
+              → (w.member n).status ≡ Up u
+          by u true f = absurd (cc (f))
+          by u false f = ap (λ (j : ℕ). (w.member j).status) (is_same m e) ∙ f
+
+        fault_row : (m call : ℕ) (same : Bool) → (n == m) ≡ same
+            → Next made (heard ++ []) past (if same then with_failure_armed call (w.member m) else w.member n).status
+        fault_row m call false e = unchanged (w.member n).status (λ u up. up)
+        fault_row m call true e = unchanged (w.member m).status (λ u up. ap (λ (j : ℕ). (w.member j).status) (is_same m e) ∙ up)
+
+        by_row : (r : Row) → row ≡ r → After r
+        by_row (Opens m told ms word) e = open_row m told ms word (its_row ∙ e)
+        by_row (Tick m ms word) e = tick_row m ms word (n == m) refl (subst (λ (r : Row). ReadsAt (IsNotFast limits) n past w came r) e slow)
+        by_row (Rx m k ms) e = rx_row m k ms e (n == m) refl (subst (λ (r : Row). ReadsAt (IsNotFast limits) n past w came r) e slow)
+        by_row (Send m) e = send_row m (n == m) refl
+        by_row (Ext frame) e = unchanged (w.member n).status (λ u up. up)
+        by_row (Crash m calls pattern) e = crash_row m calls pattern (n == m) refl
+        by_row (Fault m call) e = fault_row m call (n == m) refl
+        by_row (AOpen b uid pref ms word) e = unchanged (w.member n).status (λ u up. up)
+        by_row (ATick b ms word) e = unchanged (w.member n).status (λ u up. up)
+        by_row (ARx b k ms word) e = unchanged (w.member n).status (λ u up. up)
+        by_row (ASend b) e = unchanged (w.member n).status (λ u up. up)
+        by_row (AEnd b) e = unchanged (w.member n).status (λ u up. up)
+
+        pub next_row : After row
+        next_row = by_row row refl
+
+    -- ---- all rows
+
+    -- what is known of the world of lawful rows, and the row after them
+    pub record Known (w : Cluster) (made : List SentTransfer) : Type 0 where
+      pub earlier : (x : SentTransfer) → In x made → x.step ≤ w.rows
+      pub answered : (row : Row) → cause w row ≡ None → (heard : List Queued) (k ms : ℕ) → row ≡ Rx n k ms → (t : AllocatorState) → (w.member n).status ≡ Up t
+          → Answers (receipt_of w k ms) (begin_phase (w.rows + 1) ms t).allocator → IsHeard made (heard ++ heard_in n w row) (w.rows + 1)
+
+    at_end : (done : List Timed) (t : Timed) (rest : List Timed) (d : Timed) → slice_index_or (done ++ t ∷ rest) (length done) d ≡ t
+    at_end [] t rest d = refl
+    at_end (x ∷ done) t rest d = at_end done t rest d
+
+    longer : (xs : List Timed) (t : Timed) → length (xs ++ t ∷ []) ≡ suc (length xs)
+    longer [] t = refl
+    longer (x ∷ xs) t = ap suc (longer xs t)
+
+    module _ (enough : 2 * limits.hold + limits.drift < width) (narrow : width ≤ 32000) (ids : List ℕ)
+        (known : (rows : List Row) → Lawful (cluster ids) rows → Known (world_of ids rows) (transfers_of_rows (cluster ids) rows [])) where
+      pub along : (rest done tail : List Timed) (w : Cluster) (made : List SentTransfer) (heard : List Queued) (past : List Reading)
+          → world_of ids (rows_in done) ≡ w → transfers_of_rows (cluster ids) (rows_in done) [] ≡ made → all ≡ done ++ (rest ++ tail) → w.rows ≡ length done
+          → Lawful (cluster ids) (rows_in done) → Lawful w (rows_in rest) → Reads (IsNotFast limits) n past w rest
+          → RunsWhereUp made heard past w.rows (w.member n).status → AreSettled made heard
+          → AreSettled (transfers_of_rows w (rows_in rest) made) (heard ++ heard_by n w (rows_in rest))
+      along [] done tail w made heard past world sent split count before lawful slow runs settled =
+          λ x y i j c d id less. settled_more made made heard (heard ++ []) (λ z k. k) (λ f k. in_front f heard [] k) x y (settled x y i j c d id less)
+      along (t ∷ rest) done tail w made heard past world sent split count before lawful slow runs settled =
+          subst (λ (l : List Queued). AreSettled (transfers_of_rows w (rows_in (t ∷ rest)) made) l)
+          (append_assoc heard (heard_in n w t.row) (heard_by n (after_row w t.row) (rows_in rest)))
+          (along rest (done ++ t ∷ []) tail (after_row w t.row) (transfers_of_row w t.row made) (heard ++ heard_in n w t.row)
+          (member_readings n past w t.at t.row)
+          (grown_world) (grown_made) (split ∙ sym (append_assoc done (t ∷ []) (rest ++ tail))) (omega (arith, count, longer done t)) more lawful.1 slow.1
+          next.running next.apart)
+        where
+          here : Known w made
+          here = subst (λ (v : Cluster). Known v made) world (subst (λ (l : List SentTransfer). Known (world_of ids (rows_in done)) l) sent (known (rows_in done) before))
+
+          rows_more : rows_in (done ++ t ∷ []) ≡ rows_in done ++ t.row ∷ []
+          rows_more = rows_of_more limits ids done t
+
+          grown_world : world_of ids (rows_in (done ++ t ∷ [])) ≡ after_row w t.row
+          grown_world = ap (world_of ids) rows_more ∙ (rows_joined (cluster ids) (rows_in done) (t.row ∷ []) ∙ ap (λ (v : Cluster). after_row v t.row) world)
+
+          made_joined : (v : Cluster) (rows : List Row) (row : Row) (m : List SentTransfer)
+              → transfers_of_rows v (rows ++ row ∷ []) m ≡ transfers_of_row (after_rows v rows) row (transfers_of_rows v rows m)
+          made_joined v [] row m = refl
+          made_joined v (first ∷ rows) row m = made_joined (after_row v first) rows row (transfers_of_row v first m)
+
+          grown_made : transfers_of_rows (cluster ids) (rows_in (done ++ t ∷ [])) [] ≡ transfers_of_row w t.row made
+          grown_made = ap (λ (l : List Row). transfers_of_rows (cluster ids) l []) rows_more
+              ∙ (made_joined (cluster ids) (rows_in done) t.row []
+              ∙ (ap (λ (l : List SentTransfer). transfers_of_row (world_of ids (rows_in done)) t.row l) sent ∙ ap (λ (v : Cluster). transfers_of_row v t.row made) world))
+
+          lawful_now : cause (world_of ids (rows_in done)) t.row ≡ None
+          lawful_now = ap (λ (v : Cluster). cause v t.row) world ∙ lawful.0
+
+          more : Lawful (cluster ids) (rows_in (done ++ t ∷ []))
+          more = subst (λ (l : List Row). Lawful (cluster ids) l) (sym rows_more) (one_more (cluster ids) (rows_in done) t.row before lawful_now)
+
+          at_place : (k : ℕ) → k ≡ length done → slice_index_or (done ++ (t ∷ (rest ++ tail))) (k + 1 - 1) (record { at = 0; row = Send 0 }) ≡ t
+          at_place k e = let less : k + 1 - 1 ≡ length done = omega (arith, e) in
+              ap (λ (j : ℕ). slice_index_or (done ++ (t ∷ (rest ++ tail))) j (record { at = 0; row = Send 0 })) less ∙ at_end done t (rest ++ tail) (record { at = 0; row = Send 0 })
+
+          itself : slice_index_or all (w.rows + 1 - 1) (record { at = 0; row = Send 0 }) ≡ t
+          itself = ap (λ (l : List Timed). slice_index_or l (w.rows + 1 - 1) (record { at = 0; row = Send 0 })) split ∙ at_place w.rows count
+
+          next : Next w made heard past t.at (ap (λ (x : Timed). x.at) itself) here.earlier runs settled (transfers_of_row w t.row made) (heard ++ heard_in n w t.row)
+              (member_readings n past w t.at t.row) ((after_row w t.row).member n).status
+          next = next_row w made heard past t.at (ap (λ (x : Timed). x.at) itself) here.earlier runs settled enough narrow t.row (ap (λ (x : Timed). x.row) itself) slow.0
+              (λ k ms e u up a. here.answered t.row lawful.0 heard k ms e u up a)
