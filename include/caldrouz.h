@@ -5,6 +5,7 @@
  *     static caldrouz node;
  *     caldrouz_init(&node, 1, 3, store);            // node ID 1, of a cluster of 3
  *     caldrouz_open(&node, now_ms(), random_word());
+ *     caldrouz_learn(&node, members, 3);            // the node IDs of the three, best told to each
  *     for (;;) {
  *         caldrouz_tick(&node, now_ms(), random_word());
  *         if (a frame came) caldrouz_hear(&node, now_ms(), &frame);
@@ -40,7 +41,7 @@ extern "C" {
 
 /* the bytes of a store, and of a node */
 #define CALDROUZ_STORE_BYTES 8844
-#define CALDROUZ_NODE_BYTES 46448
+#define CALDROUZ_NODE_BYTES 46464
 
 /* Milliseconds. A frame that may have waited longer, in a queue of the caller or of the driver, before it is heard or
  * before it is sent, is dropped: by then its transfer ID may be in use again. */
@@ -55,6 +56,8 @@ enum caldrouz_status {
     CALDROUZ_NO_FRAME = 4,      /* an identifier of more than 29 bits, or not 1 to 8 bytes. Nothing was heard */
     CALDROUZ_UNKNOWN = 5,       /* caldrouz_call() knows no such number */
     CALDROUZ_OTHER_LIBRARY = 6, /* the library is of another version than this header. Nothing was made */
+    CALDROUZ_NOT_MEMBERS = 7,   /* caldrouz_learn() was given what is no list of all members. Nothing was learned */
+    CALDROUZ_TOO_LATE = 8,      /* caldrouz_learn() came after a step or a second time. Nothing was learned */
     CALDROUZ_DAMAGED = 256      /* and more: the store is damaged, first at the key that is the status less 256 */
 };
 
@@ -120,6 +123,21 @@ static inline uint32_t caldrouz_init(caldrouz *node, uint32_t id, uint32_t size,
  * before the cause is known: what it reads may never have reached it. */
 static inline uint32_t caldrouz_open(caldrouz *node, uint64_t now, uint32_t word) {
     return (uint32_t)caldrouz_call(node, 1, now, word, 0);
+}
+
+/* Tells an open node who the members of its cluster are: `count` node IDs at `members`, its own among them. To be called
+ * once after each caldrouz_open() that was done, before the first caldrouz_tick() or caldrouz_hear(), or never: on all
+ * members, with the same list in the same order, or on none. Of members that were told, a majority serves from power-on
+ * on; members that were not told elect nobody before they have heard each other one.
+ * Answers CALDROUZ_DONE; CALDROUZ_NOT_MEMBERS where the list has another count than the size of the cluster, a number
+ * beyond 1 to 125, one twice, or not this node; CALDROUZ_TOO_LATE; CALDROUZ_NOT_MADE or CALDROUZ_CLOSED. */
+static inline uint32_t caldrouz_learn(caldrouz *node, const uint8_t *members, size_t count) {
+    uint64_t list = 0;
+    unsigned i;
+    for (i = 0; i < 8 && i < count; i++) {
+        list |= (uint64_t)members[i] << (8 * i);
+    }
+    return (uint32_t)caldrouz_call(node, 8, 0, list, count);
 }
 
 /* The clock reads `now`. To be called each 10 ms or so: the timers of the protocol are of 400 ms and more. `word` is

@@ -164,8 +164,7 @@ def lines_of_nodes(folder: pathlib.Path) -> List[str]:
 class WorkedSchedules(unittest.TestCase):
     def test_nodes_do_what_replay_says(self) -> None:
         """Of each worked schedule without a refused row, the nodes of the library have the roles and numbers, send the
-        frames and keep the logs of the report; and no frame is taken while its store waits for a sync. Schedules whose
-        members are told their list (copen) are left out: those of the library find each other."""
+        frames and keep the logs of the report; and no frame is taken while its store waits for a sync."""
         tried = set()
         for compiler, flags in zip(there("gcc", "clang"), (SANITIZED, ["-O2"])):
             program = built(compiler, TESTS / "c" / "replay.c", flags=flags)
@@ -174,9 +173,7 @@ class WorkedSchedules(unittest.TestCase):
                 if words[0] != "replay" or support.read(folder / "status").strip() != "0":
                     continue
                 rows = "".join(rows_for_nodes(folder))
-                if "copen " in rows:
-                    continue
-                wrote = done(program, len(words) - 2, input=rows.encode()).splitlines()
+                wrote = done(program, *words[2:], input=rows.encode()).splitlines()
                 self.assertEqual(wrote, lines_of_nodes(folder), folder.name)
                 tried.add(folder)
         self.assertGreaterEqual(len(tried), 20)
@@ -197,7 +194,7 @@ class Cluster(unittest.TestCase):
 
         def command(member: int, descriptor: int) -> List[str]:
             program = programs[member % len(programs)]
-            return [program, f"fd:{descriptor}", str(member), "3", f"alloc-{member}.store"]
+            return [program, f"fd:{descriptor}", str(member), "1,2,3", f"alloc-{member}.store"]
 
         bus = packets.Bus(folder, command)
         for member in MEMBERS:

@@ -9,7 +9,7 @@
 #include <sys/mman.h>
 #include <unistd.h>
 
-enum { CALLS_OF_A_NODE = 3000, OPS = 8, STATUSES = 7 };
+enum { CALLS_OF_A_NODE = 3000, OPS = 9, STATUSES = 9 };
 
 static caldrouz node, before;
 static uint64_t state;
@@ -41,6 +41,18 @@ static int store_of(unsigned long round) {
     return fd;
 }
 
+/* mostly a list of members that a node may have, from its own ID on, with its size; else any numbers */
+static void list_words(uint32_t id, uint32_t size, uint64_t *list, uint64_t *count) {
+    unsigned i;
+    *list = random_number();
+    *count = below(4) ? size : random_number();
+    if (below(4)) {
+        for (i = 0, *list = 0; i < 8; i++) {
+            *list |= (uint64_t)((id + i * 13) % 128) << (8 * i);
+        }
+    }
+}
+
 /* mostly a frame with a length of 1 to 8; every fifth is a first request of a device */
 static uint64_t frame_words(unsigned k) {
     if (k % 5 == 0) {
@@ -50,9 +62,11 @@ static uint64_t frame_words(unsigned k) {
 }
 
 static int is_refused(uint32_t op, uint64_t answer) {
-    return op == 0 || op > 4 ||
-           (op <= 3 && (answer == CALDROUZ_NOT_MADE || answer == CALDROUZ_CLOSED || answer == CALDROUZ_NO_FRAME)) ||
-           (op == 4 && answer == 0);
+    if (op == 4) {
+        return answer == 0;
+    }
+    return op == 0 || (op > 4 && op != 8) || answer == CALDROUZ_NOT_MADE || answer == CALDROUZ_CLOSED ||
+           answer == CALDROUZ_NO_FRAME || answer == CALDROUZ_NOT_MEMBERS || answer == CALDROUZ_TOO_LATE;
 }
 
 int main(int count, char **words) {
@@ -64,13 +78,16 @@ int main(int count, char **words) {
         const int fd = store_of(round);
         uint64_t now = round % 2 ? random_number() : 0;
         unsigned k;
-        caldrouz_make(&node, (uint32_t)(round % 3 ? below(130) : random_number()),
-                      (uint32_t)(round % 4 ? below(6) : random_number()),
-                      round % 11 == 0 ? (uint32_t)random_number() : (uint32_t)fd);
+        const uint32_t id = (uint32_t)(round % 3 ? below(130) : random_number());
+        const uint32_t size = (uint32_t)(round % 4 ? below(6) : random_number());
+        caldrouz_make(&node, id, size, round % 11 == 0 ? (uint32_t)random_number() : (uint32_t)fd);
         for (k = 0; k < CALLS_OF_A_NODE; k++) {
             const uint32_t op = k % 97 == 0 ? 1 : (uint32_t)(k % 50 ? below(OPS) : random_number());
-            const uint64_t a = op == 3 ? frame_words(k) : random_number(), b = random_number();
+            uint64_t a = op == 3 ? frame_words(k) : random_number(), b = random_number();
             uint64_t answer;
+            if (op == 8) {
+                list_words(id, size, &a, &b);
+            }
             now = k % 4 ? now + below(50) : k % 64 == 0 ? random_number() : now;
             before = node;
             answer = caldrouz_call(&node, op, now, a, b);
@@ -78,9 +95,9 @@ int main(int count, char **words) {
                 printf("op %lu: answered %llu, and changed the node\n", (unsigned long)op, (unsigned long long)answer);
                 return 1;
             }
-            if (op >= 1 && op <= 3 && answer >= CALDROUZ_DAMAGED) {
+            if (op == 1 && answer >= CALDROUZ_DAMAGED) {
                 damaged++;
-            } else if (op >= 1 && op <= 3 && answer < STATUSES) {
+            } else if (((op >= 1 && op <= 3) || op == 8) && answer < STATUSES) {
                 counts[answer]++;
             } else if (op == 4 && answer != 0) {
                 taken++;
@@ -90,7 +107,7 @@ int main(int count, char **words) {
         }
         close(fd);
     }
-    for (i = 0; i < STATUSES - 1; i++) {
+    for (i = 0; i < STATUSES; i++) {
         printf("status %d: %lu\n", i, counts[i]);
     }
     printf("damaged: %lu\nframes taken: %lu\n", damaged, taken);

@@ -1,10 +1,11 @@
 /* One allocator on a SocketCAN interface:
  *
- *     socketcan_node INTERFACE ID SIZE STORE
+ *     socketcan_node INTERFACE ID MEMBERS STORE
  *
- * STORE is a file of 8,844 bytes, as that of `allocator node`; a missing one is made. SIGTERM or SIGINT ends the
- * program, which then writes its list to standard error. Its status is 0; 1 for wrong words; 12 where the socket or
- * the store cannot be opened; 13 where the socket failed; 14 where the store failed or is damaged.
+ * MEMBERS are the node IDs of all members, as 1,2,3, the same on each of them. STORE is a file of 8,844 bytes, as that of
+ * `allocator node`; a missing one is made. SIGTERM or SIGINT ends the program, which then writes its list to standard
+ * error. Its status is 0; 1 for wrong words; 12 where the socket or the store cannot be opened; 13 where the socket
+ * failed; 14 where the store failed or is damaged.
  *
  * INTERFACE may be fd:N, a socket of packets that is open already and gives each packet back to its sender, for tests.
  */
@@ -32,6 +33,8 @@ enum { WRONG_WORDS = 1, NOT_OPENED = 12, BUS_FAILED = 13, STORE_FAILED = 14 };
 /* Milliseconds. A frame that was not on the bus by then may never come there: nobody acknowledges, or the controller
  * was started again. What waits behind it is let go. */
 enum { LONGEST_ON_ITS_WAY = 500 };
+
+enum { MOST_MEMBERS = 5 };
 
 /* The bus. One frame is on its way at a time: the socket gives it back once it was on the bus. So no controller can
  * change the order of frames, and where nobody acknowledges one frame waits there, and no more. */
@@ -188,6 +191,18 @@ static int send_one(struct bus *bus, caldrouz *node) {
     return errno == EAGAIN || errno == ENOBUFS || errno == EINTR || errno == ENETDOWN ? 0 : -1;
 }
 
+/* The node IDs of a word, as 1,2,3. Answers how many; what is no list of members caldrouz_learn() refuses. */
+static unsigned read_members(const char *word, uint8_t members[MOST_MEMBERS]) {
+    unsigned count = 0;
+    while (*word != 0 && count < MOST_MEMBERS) {
+        char *end;
+        const unsigned long member = strtoul(word, &end, 10);
+        members[count++] = member <= UINT8_MAX ? (uint8_t)member : 0;
+        word = *end == ',' ? end + 1 : "";
+    }
+    return count;
+}
+
 static void tell(caldrouz *node) {
     const caldrouz_view view = caldrouz_look(node);
     unsigned place;
@@ -207,12 +222,15 @@ int main(int count, char **words) {
     static caldrouz node;
     struct sigaction action = {.sa_handler = on_signal};
     struct bus bus = {0};
+    uint8_t members[MOST_MEMBERS];
+    unsigned size;
     uint32_t status;
     int store;
     if (count != 5) {
-        fprintf(stderr, "socketcan_node INTERFACE ID SIZE STORE\n");
+        fprintf(stderr, "socketcan_node INTERFACE ID MEMBERS STORE\n");
         return WRONG_WORDS;
     }
+    size = read_members(words[3], members);
     sigaction(SIGTERM, &action, NULL);
     sigaction(SIGINT, &action, NULL);
     bus.fd = open_bus(words[1]);
@@ -222,9 +240,12 @@ int main(int count, char **words) {
         return NOT_OPENED;
     }
     caldrouz_ages_empty(&bus.ages, now_ms());
-    status = caldrouz_init(&node, (uint32_t)atoi(words[2]), (uint32_t)atoi(words[3]), store);
+    status = caldrouz_init(&node, (uint32_t)atoi(words[2]), size, store);
     if (status == CALDROUZ_DONE) {
         status = caldrouz_open(&node, now_ms(), random_word());
+    }
+    if (status == CALDROUZ_DONE) {
+        status = caldrouz_learn(&node, members, size);
     }
     /* a turn is that of `allocator node`: the clock, one frame that came, one frame to send */
     while (status == CALDROUZ_DONE && !is_ended) {
@@ -246,7 +267,7 @@ int main(int count, char **words) {
     }
     if (status != CALDROUZ_DONE) {
         fprintf(stderr, "%s: status %u\n", words[4], (unsigned)status);
-        return status == CALDROUZ_NOT_MADE ? WRONG_WORDS : STORE_FAILED;
+        return status == CALDROUZ_NOT_MADE || status == CALDROUZ_NOT_MEMBERS ? WRONG_WORDS : STORE_FAILED;
     }
     tell(&node);
     return 0;

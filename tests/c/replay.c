@@ -1,9 +1,11 @@
-/* Drives nodes of the library by the rows of a schedule at standard input (docs/FORMATS.md, "Schedule"), as
- * `allocator replay` drives its members, and prints what the report says of them: openings, steps (role, numbers,
- * queue), frames that are sent, stops and failures, and at the end the logs. Rows of allocatees are none.
+/* replay ID..: drives nodes of the library, of a cluster of these members, by the rows of a schedule at standard input
+ * (docs/FORMATS.md, "Schedule"), as `allocator replay` drives its members, and prints what the report says of them:
+ * openings, steps (role, numbers, queue), frames that are sent, stops and failures, and at the end the logs. Rows of
+ * allocatees are none.
  *
  * The stores are arrays, of which a call can be set to stop the store or to fail. A frame that is taken while bytes
- * wait for a sync ends the program with 2, and a row that it does not know with 3.
+ * wait for a sync ends the program with 2, as a member does that does not take the list of members, and a row that it
+ * does not know with 3.
  */
 #include "caldrouz.h"
 #include <stdio.h>
@@ -105,7 +107,8 @@ static void restart(struct store *store, const struct pattern *pattern) {
 
 static caldrouz nodes[MEMBERS];
 static int is_up[MEMBERS];
-static unsigned size;
+static uint8_t members[MEMBERS];
+static unsigned size; /* how many of them there are */
 static caldrouz_frame bus[FRAMES];
 static unsigned long frames;
 
@@ -136,10 +139,14 @@ static int goes_on(unsigned n, uint32_t status) {
     return 1;
 }
 
-static void opens(unsigned n, uint64_t now, uint32_t word) {
+static void opens(unsigned n, int is_told, uint64_t now, uint32_t word) {
     caldrouz_view view;
     caldrouz_init(&nodes[n], n, size, (int)n);
     is_up[n] = goes_on(n, caldrouz_open(&nodes[n], now, word));
+    if (is_up[n] && is_told && caldrouz_learn(&nodes[n], members, size) != CALDROUZ_DONE) {
+        fprintf(stderr, "%u does not take the list of members\n", n);
+        exit(2);
+    }
     if (is_up[n]) {
         view = caldrouz_look(&nodes[n]);
         printf("%u open %lu %u %u %u\n", n, (unsigned long)view.term, view.vote, view.last, view.commit);
@@ -225,7 +232,9 @@ static int row(const char *line) {
     unsigned long long now;
     char text[LINE];
     if (sscanf(line, "open %u %llu %lu", &n, &now, &word) == 3 && n < MEMBERS) {
-        opens(n, now, (uint32_t)word);
+        opens(n, 0, now, (uint32_t)word);
+    } else if (sscanf(line, "copen %u %llu %lu", &n, &now, &word) == 3 && n < MEMBERS) {
+        opens(n, 1, now, (uint32_t)word);
     } else if (sscanf(line, "tick %u %llu %lu", &n, &now, &word) == 3 && n < MEMBERS) {
         stepped(n, caldrouz_tick(&nodes[n], now, (uint32_t)word));
     } else if (sscanf(line, "rx %u %lu %llu", &n, &k, &now) == 3 && n < MEMBERS && k >= 1 && k <= frames) {
@@ -252,7 +261,9 @@ static int row(const char *line) {
 
 int main(int count, char **words) {
     char line[LINE];
-    size = count == 2 ? (unsigned)atoi(words[1]) : 0;
+    for (size = 0; (int)size + 1 < count && size < MEMBERS; size++) {
+        members[size] = (uint8_t)atoi(words[size + 1]);
+    }
     while (fgets(line, sizeof line, stdin)) {
         if (!row(line)) {
             fprintf(stderr, "no row for a node: %s", line);

@@ -16,7 +16,7 @@ use Rattle.cmd_node_laws.specs.Mirrored.{raw_by, sent_by, sent_in}
 use Rattle.cmd_node_laws.specs.Processes.{whose}
 
 -- the row is of this member, or of no member
-abbrev IsAt : Option ℕ → Row → Type 0
+abbrev pub IsAt : Option ℕ → Row → Type 0
 IsAt whom (Open m told ms word) = Some m ≡ whom
 IsAt whom (Tick m ms word) = Some m ≡ whom
 IsAt whom (Rx m k ms) = Some m ≡ whom
@@ -42,7 +42,7 @@ module _ (whom : Option ℕ) (m : ℕ) (apart : Some m ≡ whom → ⊥) where
   other : (k : ℕ) → Some k ≡ whom → m ≢ k
   other k e f = apart (ap (λ (j : ℕ). Some j) f ∙ e)
 
-  row_member : (w : Cluster) (row : Row) → IsAt whom row → (after_row w row).member m ≡ w.member m
+  pub row_member : (w : Cluster) (row : Row) → IsAt whom row → (after_row w row).member m ≡ w.member m
   row_member w (Open k told ms word) is = at_other w.member k m _ (other k is)
   row_member w (Tick k ms word) is = at_other w.member k m _ (other k is)
   row_member w (Rx k frame ms) is = at_other w.member k m _ (other k is)
@@ -56,7 +56,7 @@ module _ (whom : Option ℕ) (m : ℕ) (apart : Some m ≡ whom → ⊥) where
   row_member w (ASend a) is = refl
   row_member w (AEnd a) is = refl
 
-  row_sent : (w : Cluster) (row : Row) → IsAt whom row → sent_in m w row ≡ []
+  pub row_sent : (w : Cluster) (row : Row) → IsAt whom row → sent_in m w row ≡ []
   row_sent w (Open k told ms word) is = refl
   row_sent w (Tick k ms word) is = refl
   row_sent w (Rx k frame ms) is = refl

@@ -34,7 +34,7 @@ pub lawful_both : (w : Cluster) (first rest : List Row) → Lawful w first → L
 lawful_both w [] rest a b = b
 lawful_both w (row ∷ first) rest a b = (a.0, lawful_both (after_row w row) first rest a.1 b)
 
-queued_both : (n : ℕ) (w : Cluster) (first rest : List Row) → sent_by n w (first ++ rest) ≡ sent_by n w first ++ sent_by n (after_rows w first) rest
+pub queued_both : (n : ℕ) (w : Cluster) (first rest : List Row) → sent_by n w (first ++ rest) ≡ sent_by n w first ++ sent_by n (after_rows w first) rest
 queued_both n w [] rest = refl
 queued_both n w (row ∷ first) rest =
     ap (λ (l : List Queued). sent_in n w row ++ l) (queued_both n (after_row w row) first rest)

@@ -1,11 +1,12 @@
 -- What a node stands for, and what a call makes of it.
-use Rattle.std.specs.Prelude.{◌≡◌, ◌↔◌, ◌⊎◌, ◌%◌, ◌/◌, ◌+◌, ◌-◌, ◌*◌, ◌^◌, min, ◌≤◌, ◌<◌, ℕ, [], None, Some, IsNone, IsSome, MatchOption, ⊤, length, take, drop, option_map}
+use Rattle.std.specs.Prelude.{◌≡◌, ◌≢◌, ◌↔◌, ◌⊎◌, ◌%◌, ◌/◌, ◌+◌, ◌-◌, ◌*◌, ◌^◌, min, ◌≤◌, ◌<◌, ℕ, true, false, List, [], None, Some, IsNone, IsSome, MatchOption, ⊤, length, take, drop, option_map}
 use Rattle.std.specs.Option.{unwrap_or}
 use Rattle.std.specs.Int.{from_le_bytes, to_le_bytes, w64}
 use Rattle.can_frame.specs.declared.step.Role.{Role}
 use Rattle.can_frame.specs.declared.step.Role.TheVariants.{Follower, Candidate, Leader}
 use Rattle.alloc_server.specs.Server.{StandsFor, disk_of, durable_of, fault_of, queued}
 use Rattle.alloc_spec.specs.AllocatorState.{AllocatorState, entry_of, opening, view_of}
+use Rattle.alloc_spec.specs.Rules.{IsToldAll, rules_by, with_told}
 use Rattle.alloc_spec.specs.Step.{Event, Rx, Tick, after_pop, step}
 use Rattle.fd_disk.specs.declared.disk.FdDisk.{FdDisk}
 use Rattle.raft_core.specs.StoredPuts.{store_of}
@@ -48,6 +49,10 @@ low word = word % 4294967296
 abbrev pub high : ℕ → ℕ
 high word = word / 4294967296
 
+-- the bytes of a word, the first one lowest: so many, at most all eight
+abbrev pub first_bytes : ℕ → ℕ → List ℕ
+first_bytes count word = take count (to_le_bytes w64 word)
+
 -- ---- a node that is made: of this ID, in a cluster of this size, where these are possible; it is not open
 
 pub record IsNew (node : Node) (id size : ℕ) : Type 0 where
@@ -62,6 +67,8 @@ pub record IsNew (node : Node) (id size : ℕ) : Type 0 where
 pub record Opens (old new : Node) (now word result : ℕ) : Type 0 where
   pub done : result ≡ 0 → MatchOption new.server ⊥ (λ server. StandsFor server
       (opening old.id old.size (store_of (durable_state (durable_of server))) now word))
+  -- it may be told who its members are
+  pub may_learn : result ≡ 0 → new.is_new ≡ true
   -- 1 exactly where it is not made
   pub not_made : (result ≡ 1) ↔ IsNotMade old
   pub kept : result ≡ 1 → new ≡ old
@@ -70,6 +77,27 @@ pub record Opens (old new : Node) (now word result : ℕ) : Type 0 where
   pub fault : result ≡ 3 → StoreFailed old new
   pub damaged : 256 ≤ result → faults new ≡ faults old
   pub answers : (result < 2) ⊎ ((result ≡ 3) ⊎ (256 ≤ result))
+
+-- ---- call 8: it is told who its members are, itself among them
+
+pub record MayLearn (node : Node) (list : List ℕ) (result : ℕ) : Type 0 where
+  -- 1 exactly where it is not made, and 2 exactly where it is not open
+  pub not_made : (result ≡ 1) ↔ IsNotMade node
+  pub closed : (result ≡ 2) ↔ IsClosed node
+  -- 8 exactly where it is open, and was told before or has made a step since the opening
+  pub late : (result ≡ 8) ↔ (IsOpen node × (node.is_new ≡ false))
+  -- else 0 exactly where these are all members of its cluster, and 7 exactly where they are not
+  pub all : (result ≡ 0) ↔ ((IsOpen node × (node.is_new ≡ true)) × IsToldAll node.id (rules_by node.size list))
+  pub not_all : (result ≡ 7) ↔
+      ((IsOpen node × (node.is_new ≡ true)) × (IsToldAll node.id (rules_by node.size list) → ⊥))
+
+pub record Learns (old new : Node) (list : List ℕ) (result : ℕ) : Type 0 where
+  -- 0 where it may be told these members: then the allocator that it stands for is told them, once
+  pub may : MayLearn old list result
+  pub done : result ≡ 0 → (t : AllocatorState) → IsAt old t → IsAt new (with_told list t)
+  pub once : result ≡ 0 → new.is_new ≡ false
+  pub kept : 0 < result → new ≡ old
+  pub steps : new.steps ≡ old.steps
 
 -- ---- calls 2 and 3: a step
 
@@ -87,6 +115,8 @@ pub record Steps (old new : Node) (event : Event) (result : ℕ) : Type 0 where
   pub answers : result ≤ 3
   -- each step has a number, which is one more than the last, around 64 bits
   pub counted : (result ≡ 0) ⊎ (result ≡ 3) → new.steps ≡ (old.steps + 1) % 18446744073709551616
+  -- from the first one on it is not told who its members are
+  pub begun : (result ≡ 0) ⊎ (result ≡ 3) → new.is_new ≡ false
 
 -- the identifier has 29 bits, and there are 1 to 8 bytes
 abbrev pub IsFrame : ℕ → Type 0
@@ -96,7 +126,7 @@ IsFrame head = (low head < 2 ^ 29) × ((1 ≤ high head) × (high head ≤ 8))
 abbrev pub heard : ℕ → ℕ → ℕ → Arrival
 heard now head bytes = record {
   id = low head;
-  bytes = take (high head) (to_le_bytes w64 bytes);
+  bytes = first_bytes (high head) bytes;
   mark = record { step = 0; re = 0; place = 0 };
   moment = now;
 }
@@ -124,7 +154,10 @@ pub record Takes (old new : Node) (result : ℕ) : Type 0 where
   -- 0 exactly where there is nothing: then nothing changes
   pub none : (result ≡ 0) ↔ HasNoFrame old
   pub kept : result ≡ 0 → (new.server ≡ old.server) × (new.bytes ≡ old.bytes)
+  -- else there is a frame that goes next
+  pub some : 0 < result → (t : AllocatorState) → IsAt old t → IsSome (next_out t.queue)
   pub steps : new.steps ≡ old.steps
+  pub is_new : new.is_new ≡ old.is_new
 
 -- ---- calls 6 and 7: what it shows
 
@@ -163,6 +196,10 @@ pub record Entries (shown : Node) (place part result : ℕ) : Type 0 where
 
 -- ---- every call
 
+-- calls 5 to 7, and those that are none
+abbrev pub OnlyTells : ℕ → Type 0
+OnlyTells op = (op < 1) ⊎ ((4 < op) × (op ≢ 8))
+
 pub record Calls (old new : Node) (op now a b result : ℕ) : Type 0 where
   pub opens : op ≡ 1 → Opens old new now (low a) result
   pub ticks : op ≡ 2 → Steps old new (Tick now (low a)) result
@@ -171,8 +208,9 @@ pub record Calls (old new : Node) (op now a b result : ℕ) : Type 0 where
   pub tells : op ≡ 5 → result ≡ old.bytes
   pub views : op ≡ 6 → Views old a result
   pub entries : op ≡ 7 → Entries old a b result
-  pub unknown : (op < 1) ⊎ (7 < op) → result ≡ 5
+  pub learns : op ≡ 8 → Learns old new (first_bytes b a) result
+  pub unknown : (op < 1) ⊎ (8 < op) → result ≡ 5
   -- what only tells changes nothing, and no call changes whose node it is
-  pub kept : (op < 1) ⊎ (4 < op) → new ≡ old
+  pub kept : OnlyTells op → new ≡ old
   pub id : new.id ≡ old.id
   pub size : new.size ≡ old.size

@@ -1,6 +1,5 @@
-ghost use Rattle.std.specs.Prelude.{◌≡◌, ◌↔◌, IfSome, IsSome, take};
-ghost use Rattle.std.specs.Int.{to_le_bytes, w64};
-ghost use Rattle.node_calls.specs.At.{Calls, IsFrame, high, low};
+ghost use Rattle.std.specs.Prelude.{◌≡◌, ◌↔◌, IfSome, IsSome};
+ghost use Rattle.node_calls.specs.At.{Calls, IsFrame, Learns, first_bytes, high, low};
 
 use crate::node::Node;
 use alloc_server::Event;
@@ -21,6 +20,8 @@ const VIEW: u32 = 6;
 
 const ENTRY: u32 = 7;
 
+const LEARN: u32 = 8;
+
 /// What a call answers, beside what the node does.
 const NO_FRAME: u64 = 4;
 
@@ -35,9 +36,9 @@ const OUTSIDE: Mark = Mark {
 
 /// Does what the number `op` asks for, with its arguments.
 ///
-/// `OPEN` leaves a node that stands for a server in time that opens with what is stored; `TICK` and `HEAR` one that stands
-/// for the step of it at that reading of the clock or on that frame; `TAKE` one without the frame that was taken. The
-/// others change nothing. What each answers, and when, is said in `Calls`.
+/// `OPEN` leaves a node that stands for a server in time that opens with what is stored; `LEARN` one that was told who its
+/// members are; `TICK` and `HEAR` one that stands for the step of it at that reading of the clock or on that frame; `TAKE`
+/// one without the frame that was taken. The others change nothing. What each answers, and when, is said in `Calls`.
 pub fn call(node: &mut Node, op: u32, now: u64, a: u64, b: u64) -> u64
     ensures calls { Calls node.old node.new op now a b result }
 {
@@ -56,15 +57,26 @@ pub fn call(node: &mut Node, op: u32, now: u64, a: u64, b: u64) -> u64
         DATA => node.bytes,
         VIEW => node.view(a),
         ENTRY => node.entry(a, b),
+        LEARN => learn(node, a, b),
         _ => UNKNOWN,
     }
+}
+
+/// Tells the node that the first bytes of a word, so many, are its members.
+fn learn(node: &mut Node, word: u64, count: u64) -> u64
+    ensures learns { Learns node.old node.new (first_bytes count word) result }
+    ensures id { node.new.id ≡ node.old.id }
+    ensures size { node.new.size ≡ node.old.size }
+{
+    let bytes = word.to_le_bytes();
+    node.learn(&bytes[..count.min(8) as usize])
 }
 
 /// The frame with the identifier in the low 32 bits of a word and the number of its bytes above them.
 fn frame_of(head: u64, word: u64) -> Option<Frame>
     ensures some { IsSome result ↔ IsFrame head }
     ensures id { IfSome result (λ frame. frame.id ≡ low head) }
-    ensures bytes { IfSome result (λ frame. frame.bytes.items ≡ take (high head) (to_le_bytes w64 word)) }
+    ensures bytes { IfSome result (λ frame. frame.bytes.items ≡ first_bytes (high head) word) }
 {
     let count = head >> 32;
     if 8 < count {

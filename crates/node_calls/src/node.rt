@@ -1,10 +1,13 @@
-ghost use Rattle.std.specs.Prelude.{◌≡◌, ◌≤◌, slice_index, ℕ};
+ghost use Rattle.std.specs.Prelude.{◌≡◌, ◌≤◌, ◌↔◌, IsTrue, slice_index, ℕ};
 ghost use Rattle.std.specs.Int.{from_le_bytes, w64};
 ghost use Rattle.alloc_spec.specs.Accepted as accepted;
+ghost use Rattle.alloc_spec.specs.Rules.{IsToldAll, rules_by};
+ghost use Rattle.raft_model.specs.Lists.{In};
 ghost use Rattle.transfer_rx.specs.Acceptance.{first_signature};
 
 use alloc_server::{Event, Role, Server, accept_rows};
 use can_frame::{Entry, Kind};
+use cluster_spec::are_members;
 use fd_disk::FdDisk;
 use kv_store::OpenFault;
 
@@ -16,6 +19,10 @@ const NOT_MADE: u64 = 1;
 const CLOSED: u64 = 2;
 
 const FAULT: u64 = 3;
+
+const NOT_ALL_MEMBERS: u64 = 7;
+
+const TOO_LATE: u64 = 8;
 
 const DAMAGED: u64 = 256;
 
@@ -31,6 +38,9 @@ pub struct Node {
     size: u8,
     steps: u64,
 
+    /// It was opened, and has made no step since, nor was it told who its members are.
+    is_new: bool,
+
     /// The bytes of the frame that was taken last.
     pub(crate) bytes: u64,
     ghost least: { 1 ≤ id },
@@ -41,7 +51,7 @@ pub struct Node {
 
 impl Node {
     ghost use Rattle.alloc_server.specs.Server.{event_of};
-    ghost use Rattle.node_calls.specs.At.{Entries, IsNew, Opens, Steps, Takes, Views};
+    ghost use Rattle.node_calls.specs.At.{Entries, IsNew, Learns, MayLearn, Opens, Steps, Takes, Views};
 
     /// A node with this ID, of a cluster of `size` members, on the disk behind a descriptor. It is not open:
     /// nothing was read yet. Where there is no such ID or size, it stays closed for ever.
@@ -54,6 +64,7 @@ impl Node {
                 id: 1,
                 size: 1,
                 steps: 0,
+                is_new: false,
                 bytes: 0,
             };
         }
@@ -64,6 +75,7 @@ impl Node {
             id,
             size,
             steps: 0,
+            is_new: false,
             bytes: 0,
         }
     }
@@ -78,9 +90,47 @@ impl Node {
             return NOT_MADE;
         };
         match server.reopen(self.id, self.size, now, word) {
-            Ok(()) => DONE,
+            Ok(()) => {
+                self.is_new = true;
+                DONE
+            }
             Err(OpenFault::Damaged(key)) => DAMAGED + u64::from(key),
             Err(OpenFault::Fault(_)) => FAULT,
+        }
+    }
+
+    /// Is told all members of its cluster, once, and before its first step.
+    pub(crate) fn learn(&mut self, members: &[u8]) -> u64
+        ensures learns { Learns self.old self.new members.now result }
+        ensures id { self.new.id ≡ self.old.id }
+        ensures size { self.new.size ≡ self.old.size }
+    {
+        let status = self.may_learn(members);
+        if status != DONE {
+            return status;
+        }
+        self.is_new = false;
+        if let Some(server) = &mut self.server {
+            server.learn(members);
+        }
+        DONE
+    }
+
+    /// What it answers when it is told these members.
+    fn may_learn(&self, members: &[u8]) -> u64
+        ensures { MayLearn self.now members.now result }
+    {
+        let Some(server) = &self.server else {
+            return NOT_MADE;
+        };
+        if server.failed() {
+            CLOSED
+        } else if !self.is_new {
+            TOO_LATE
+        } else if !are_all_members(members, self.id, self.size) {
+            NOT_ALL_MEMBERS
+        } else {
+            DONE
         }
     }
 
@@ -97,6 +147,7 @@ impl Node {
             return CLOSED;
         }
         self.steps = self.steps.wrapping_add(1);
+        self.is_new = false;
         match server.step_by(accept, event, self.steps) {
             Ok(_) => DONE,
             Err(_) => FAULT,
@@ -171,6 +222,24 @@ fn accept(kind: Kind, number: u16) -> Option<u64>
     ensures { result ≡ first_signature accepted.rows kind number }
 {
     alloc_server::accept(kind, number)
+}
+
+/// Whether these may be all members of a cluster of this size, with this one among them.
+fn are_all_members(members: &[u8], me: u8, size: u8) -> bool
+    requires some { 1 ≤ size }
+    requires five { size ≤ 5 }
+    ensures { IsTrue result ↔ IsToldAll me (rules_by size members.now) }
+{
+    if members.len() != size as usize {
+        return false;
+    }
+    has(members, me) && are_members(members)
+}
+
+fn has(members: &[u8], node: u8) -> bool
+    ensures { IsTrue result ↔ In node members.now }
+{
+    members.contains(&node)
 }
 
 /// The first eight bytes as a number, the first one lowest, and zeros where there are fewer.

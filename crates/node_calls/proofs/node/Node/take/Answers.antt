@@ -1,4 +1,4 @@
-use Rattle.std.proofs.Common.{◌≡◌, [], rules, ap, sym, refl, ◌∙◌, Some}
+use Rattle.std.proofs.Common.{◌≡◌, [], rules, ap, sym, refl, ◌∙◌, Some, arith}
 use Rattle.alloc_server.specs.Server.{StandsFor, queued}
 use Rattle.transfer_tx.specs.Views.{queued_of}
 use Rattle.node_calls.proofs.Taking.{at_server, if_server, none_goes, waits}
@@ -14,5 +14,7 @@ returns-in_default-pop-clause-takes c =
       bytes = λ t is frame next. absurd (none_goes c.pop.result queued_of (queued server) t.queue frame (search rules) c.pop.ensures.next (waits server t (at_server old server (λ s. StandsFor s t) (search rules) is)) next);
       none = (λ _. if_server old server (λ s. queued s ≡ []) (search rules) (c.pop.ensures.none.0 (search rules)), λ _. refl);
       kept = λ _. (ap Some (c.pop.ensures.unchanged (search rules)) ∙ sym (search rules), refl);
+      some = λ some. absurd (omega (arith, some));
       steps = refl;
+      is_new = refl;
     }

@@ -1,0 +1,3 @@
+pub mod Opening
+pub mod OneRow
+pub mod Following
