@@ -32,11 +32,12 @@ module _ {L D : Type 0} (coming : L → Option (List Received)) (sent : L → Op
       IsCutAsTold coming sent disk links disks mine given w (world_after ids (before ++ during)) (all_rows during w) all place)
       (promise : (ids : List ℕ) (trace : List Event) → AreMembers ids → MayAllHappen trace (cluster ids) → KeepsPromise ids (all_rows trace (cluster ids))) where
     cut_in_traces : (given : Given) (id : ℕ) → Tell coming sent disk links_old disks_old readings_old given →
-        IsCutInTurn coming sent link_faults disk rules turns mine links_old links disks_old disks readings_old readings id → IsCutInTraces coming sent disk links disks rules mine given id
+        IsCutInTurn coming sent link_faults disk rules turns mine links_old links disks_old disks readings_old readings id → IsCutInTraces coming sent disk links disks rules mine given turns id
     cut_in_traces given id tell is =
         let left = is.left given tell in
         let turn = left.turn in record {
           taken = left.taken;
+          fewer = left.fewer;
           place = turn.place;
           within = turn.within;
           id_is = turn.named;
@@ -66,7 +67,7 @@ module _ {L D : Type 0} (coming : L → Option (List Received)) (sent : L → Op
     }
 
     by_end : (given : Given) → Tell coming sent disk links_old disks_old readings_old given → (ended : Status) → IsEnd coming sent link_faults disk rules turns mine links_old links disks_old disks readings_old readings ended →
-        IsDoneInTraces coming sent disk links disks rules mine given turns ⊎ ((id : ℕ) × (AtOpening id ⊎ IsCutInTraces coming sent disk links disks rules mine given id))
+        IsDoneInTraces coming sent disk links disks rules mine given turns ⊎ ((id : ℕ) × (AtOpening id ⊎ IsCutInTraces coming sent disk links disks rules mine given turns id))
     by_end given tell Done end = inl (done_in_traces given tell end)
     by_end given tell (LinkFault id) end = inr (id, inr (cut_in_traces given id tell end.1))
     by_end given tell (DiskFault id) end = inr (

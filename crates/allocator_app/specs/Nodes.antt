@@ -32,10 +32,12 @@ module _ {L D : Type 0} (coming : L → Option (List Received)) (sent : L → Op
         LeavesAsTold sent disk links disks mine given w (world_after ids (before ++ during)) (all_rows during w)
     pub promise : KeepsInTraces (Turning turns 0)
 
-  -- The run was cut off in a turn of the member with this ID: all had taken so many turns, those before its place one
-  -- more. In each trace what was sent and is stored is what the world of its rows says, with a kill in that turn
-  pub record IsCutInTraces (id : ℕ) : Type 0 where
+  -- The run, of so many turns, was cut off in a turn of the member with this ID: all had taken some of the turns, those
+  -- before its place one more. In each trace what was sent and is stored is what the world of its rows says, with a kill
+  -- in that turn
+  pub record IsCutInTraces (turns id : ℕ) : Type 0 where
     pub taken : ℕ
+    pub fewer : taken < turns
     pub place : ℕ
     pub within : place < length mine
     pub id_is : slice_index mine place ≡ id
@@ -58,8 +60,8 @@ pub record RunsInTraces {L D : Type 0} (coming : L → Option (List Received)) (
   pub cut : (given : Given) (id : ℕ) → Tell coming sent disk links_old disks_old readings_old given →
       EndsAt id status →
       IsCutAtOpening disk ids links_old links disks_old disks readings_old readings (KeepsOrOpens disk) id
-      ⊎ IsCutInTraces coming sent disk links disks rules ids given id
+      ⊎ IsCutInTraces coming sent disk links disks rules ids given turns id
   pub broken : (given : Given) → Tell coming sent disk links_old disks_old readings_old given → status ≡ WriteFault →
       IsDoneInTraces coming sent disk links disks rules ids given turns
       ⊎ ((id : ℕ) × (IsCutAtOpening disk ids links_old links disks_old disks readings_old readings (KeepsOrOpens disk) id
-      ⊎ IsCutInTraces coming sent disk links disks rules ids given id))
+      ⊎ IsCutInTraces coming sent disk links disks rules ids given turns id))
