@@ -1,5 +1,5 @@
 -- A run of `node` in a trace from the beginning.
-use Rattle.std.proofs.Common.{◌≡◌, ℕ, ◌<◌, Bool, true, false, List, [], ◌∷◌, ◌++◌, length, append_assoc, append-nil, refl, sym, ap, subst, ◌∙◌, arith, Option, Some, inl, inr}
+use Rattle.std.proofs.Common.{◌≡◌, ℕ, ◌<◌, Bool, true, false, List, [], ◌∷◌, ◌++◌, length, take, append_assoc, append-nil, refl, sym, ap, subst, ◌∙◌, arith, Option, Some, inl, inr}
 use Rattle.std.specs.Prelude.{◌==◌, slice_index, if◌then◌else◌}
 use Rattle.std.proofs.lemmas.Bool.Decides.{eqb_tells}
 use Rattle.disk_model.specs.declared.disk.Disk.{Ghosts}
@@ -11,23 +11,25 @@ use Rattle.raft_model.specs.Members.{HasNoneTwice}
 use Rattle.replay_text.specs.declared.row.Row.{Row}
 use Rattle.cluster_spec.specs.Cluster.{AreMembers, Cluster, after_rows, cluster, is_member, rules_of}
 use Rattle.cluster_spec.specs.Members.{is_running}
-use Rattle.cmd_node.specs.Opening.{Given}
-use Rattle.cmd_node.specs.CutRun.{HoldsStoreInPart, IsCutAtTurn}
+use Rattle.cmd_base.specs.Draws.{next_state, word_at}
+use Rattle.cmd_node.specs.Opening.{Given, opened_at, readings_after}
+use Rattle.cmd_node.specs.CutRun.{HoldsStoreInPart, IsCutAtOpening, IsCutAtTurn, KeepsOrOpens}
 use Rattle.cmd_node.specs.Puts.{tick_puts, turn_puts}
 use Rattle.cmd_node.specs.Turn.{Running, Turning as Turn}
 use Rattle.cmd_node.specs.Turns.{Together, turning_at}
 use Rattle.outside.specs.Readings.{next_reading}
 use Rattle.outside.specs.Traffic.{next_item}
 use Rattle.raft_log.specs.Rules.{StandsForState}
-use Rattle.raft_log.specs.Stored.{AfterSome, Stored}
+use Rattle.raft_log.specs.Stored.{AfterSome, Stored, after_puts, opening_puts}
 use Rattle.alloc_spec.specs.Rules.{Rules, tells}
-use Rattle.cmd_node.specs.WholeRun.{HoldsStore, LeavesAll, after_turns}
-use Rattle.cmd_node_laws.specs.Traces.{Came, Event, MayAllHappen, Silence, all_rows, rows_of}
+use Rattle.cmd_node.specs.WholeRun.{HoldsStore, LeavesAll, Tell, after_turns}
+use Rattle.cmd_node_laws.specs.Traces.{Came, Event, MayAllHappen, MayOpen, Silence, all_rows, rows_of}
 use Rattle.cmd_node_laws.specs.Mirrored.{AreCalm, Carries, IsMirrored, raw_by}
-use Rattle.cmd_node_laws.specs.Processes.{GoesOn, Point, StandAt, place_of, together_at}
+use Rattle.cmd_node_laws.specs.Processes.{GoesOn, IsWaiting, Point, StandAt, place_of, together_at}
 use Rattle.cmd_node_laws.specs.Processes as at_point
-use Rattle.cmd_node_laws.specs.Stands.{IsCutAsTold, IsFollowed, IsFoundKilled, IsRunIn, LeavesAsTold, MayBeKilled, world_after}
-use Rattle.cmd_node_laws.proofs.Final.{at_place, same_ids_of}
+use Rattle.cmd_node_laws.specs.Stands.{IsCutAsTold, IsCutOpeningAsTold, IsFollowed, IsFound, IsFoundKilled, IsRunIn, LeavesAsTold, MayBeKilled, opening_kill_of, world_after}
+use Rattle.cmd_node_laws.proofs.Final.{at_place, same_ids_of, some_found}
+use Rattle.cmd_node_laws.proofs.OpeningKilled.{opened_in_part, opening_killed}
 use Rattle.cmd_node_laws.proofs.Places.{after_both}
 use Rattle.cmd_node_laws.proofs.Running.{ids_of, ids_then}
 
@@ -90,6 +92,12 @@ module _ (laws : FollowLaws) (ids mine : List ℕ) (before during : List Event) 
   stored_there r i low e mirrored =
       sym (laws.stored ids (before ++ during) r is.members is.may (subst (λ (n : ℕ). In n ids) (sym e) (is.among (slice_index mine i) (at_place mine i low))) mirrored)
       ∙ ap (λ (n : ℕ). store_of (v.member n).disk.store) e
+
+-- ---- an opening, in which nothing is sent
+
+nothing_more : {A : Type 0} (xs ys : List A) → xs ≡ xs ++ ys → ys ≡ []
+nothing_more [] ys e = sym e
+nothing_more (x ∷ xs) ys e = nothing_more xs ys (cc (e))
 
 -- ---- a turn in which nothing comes
 
@@ -194,3 +202,65 @@ module _ (laws : FollowLaws) {L D : Type 0} (coming : L → Option (List Receive
       listed : is_member v.ids (all.running place).id ≡ true
       listed = ap (λ (l : List ℕ). is_member l (all.running place).id) (same_ids_of ids (all_rows (before ++ during) (cluster ids)))
           ∙ is_listed ids (all.running place).id (subst (λ (n : ℕ). In n ids) (sym (same_id place)) (is.among (slice_index mine place) (at_place mine place within)))
+
+  -- ---- an opening
+
+  module _ (one_state : (image : List ℕ) (a b : Stored) → StandsForState image a → StandsForState image b → a ≡ b)
+      (keeps : (state : Stored) (count : ℕ) → store_of (after_puts (take count (opening_puts state)) state) ≡ store_of state) where
+    pub opened_as_told : (ids mine : List ℕ) (before during : List Event) (rules : Rules) (given : Given) (links_old links : List L) (disks_old disks : List (Option D))
+        (readings_old readings : Option (List ℕ)) (id : ℕ) → Tell coming sent disk links_old disks_old readings_old given
+        → (cut : IsCutAtOpening disk mine links_old links disks_old disks readings_old readings (KeepsOrOpens disk) id)
+        → IsRunIn ids before during rules mine given (at_point.Opening cut.place)
+        → let w = world_after ids before in IsCutOpeningAsTold disk disks_old disks rules mine given w (world_after ids (before ++ during)) (all_rows during w) cut.place
+    opened_as_told ids mine before during rules given links_old links disks_old disks readings_old readings id tell cut is = record {
+      silent = λ i low. nothing_more (given.sent i) (raw_by (slice_index mine i) (world_after ids before) (all_rows during (world_after ids before))) (follow i low).frames;
+      stored_is = λ i first after low was there.
+          let within : i < length mine = (let more = cut.within in omega (arith, low, more)) in
+          subst (HoldsStore disk after) (stored_there laws ids mine before during rules given to is (opened_at rules mine given i) i within refl ((follow i within).stands.0 low))
+          (cut.stored_is i first after (given.stored i) low was there (tell.stored_is i first was));
+      waiting = λ i high low. (follow i low).stands.1 high;
+      killed = λ first after image was there leaves.
+          let told = tell.stored_is place first was in
+          elim (cut.own_is first after was there told.tells).1 [
+            | inl same ↦ inl (same.images image leaves)
+            | inr part ↦ inr (in_part first image part.0 (one_state (disk.contents first).seen part.0 (given.stored place) part.1 told.stands) (part.2 image leaves))
+          ];
+    }
+      where
+        place : ℕ
+        place = cut.place
+
+        to : Point
+        to = at_point.Opening place
+
+        v : Cluster
+        v = world_after ids (before ++ during)
+
+        n : ℕ
+        n = slice_index mine place
+
+        follow : (i : ℕ) → i < length mine → IsFollowed rules mine given (world_after ids before) v (at_point.Opening 0) to (λ n. raw_by n (world_after ids before) (all_rows during (world_after ids before))) i
+        follow i low = followed laws ids mine before during rules given to is i low
+
+        waits : IsWaiting rules mine given v place
+        waits = (follow place cut.within).stands.1 (omega arith)
+
+        may : MayOpen n v
+        may = (
+          ap (λ (l : List ℕ). is_member l n) (same_ids_of ids (all_rows (before ++ during) (cluster ids))) ∙ is_listed ids n (is.among n (at_place mine place cut.within)),
+          ap is_running waits.down,
+        )
+
+        in_part : (first : D) (image : List ℕ) (state : Stored) → state ≡ given.stored place → AfterSome (StandsForState image) (opening_puts state) state
+            → (puts : ℕ) × IsFound image (after_rows v (rows_of (opening_kill_of rules mine given place puts) v)) n
+        in_part first image state same after =
+            let found = some_found (StandsForState image) (opening_puts state) state after in
+            let ends = opening_killed n (tells rules) (next_reading (readings_after place given.readings)) (word_at (next_state n)) found.0 v (laws.calm ids (before ++ during) is.may) may in (
+              found.0,
+              record {
+                down = ends.dead.down;
+                found = opened_in_part found.0 state;
+                stands = found.1;
+                same = ap store_of ends.stored ∙ keeps (v.member n).disk.store found.0 ∙ waits.stored ∙ ap store_of (sym same) ∙ sym (keeps state found.0);
+              },
+            )

@@ -73,10 +73,10 @@ stop_stopped n w is =
     subst (λ (b : Bool). Finishes n w (if b then Crash n 0 Old ∷ [] else []) (stored_at n w)) (sym (dead_now n w is))
     (record { lawful = tt; dead = is; stored = refl })
 
-pub arm_lawful : (n : ℕ) (w : Cluster) (puts : ℕ) → is_member w.ids n ≡ true → cause w (Crash n (4 * puts + 1) Old) ≡ None
-arm_lawful n w puts member = λ i. or_else (because NoNode (not (member i))) (if not_zero puts i then not_running w n else None)
+pub arm_lawful : (n : ℕ) (w : Cluster) (call : ℕ) → 0 < call → is_member w.ids n ≡ true → cause w (Crash n call Old) ≡ None
+arm_lawful n w call some member = λ i. or_else (because NoNode (not (member i))) (if not_zero call some i then not_running w n else None)
 
-as_stored : (n : ℕ) (w : Cluster) (rows : List Row) (a b : Stored) → a ≡ b → Finishes n w rows a → Finishes n w rows b
+pub as_stored : (n : ℕ) (w : Cluster) (rows : List Row) (a b : Stored) → a ≡ b → Finishes n w rows a → Finishes n w rows b
 as_stored n w rows a b e is = subst (Finishes n w rows) e is
 
 module _ (marks : MarkLaws)
@@ -178,7 +178,7 @@ module _ (marks : MarkLaws)
   unfolding turn_puts
   killed_told w t moment puts came server calm runs same may carries =
       finishes_on n w (ticked_rows puts moment word) (rows_then (while_running n (came_rows n moment came)) (stop_told n) w2) state
-      (arm_lawful n w puts runs.member, (tick_lawful w1 n moment word server arm.0.runs, tt))
+      (arm_lawful n w (4 * puts + 1) (omega arith) runs.member, (tick_lawful w1 n moment word server arm.0.runs, tt))
       (elim (step_cut n w1 server (tick_of moment word) puts arm.0) [
         | inl on ↦
             subst (λ (b : Bool). Finishes n w2 (rows_then (λ v. if b then came_rows n moment came v else []) (stop_told n) w2) state) (sym (running_now n w2 tick.allocator on.more on.runs))

@@ -26,7 +26,7 @@ use Rattle.cmd_node.specs.Frames.{event_in}
 use Rattle.cmd_node.specs.Opening.{Given, together_at_opening, opened_at, readings_after}
 use Rattle.cmd_node.specs.Turn.{Running, Turning, turn_after_hearing, turn_after_frame, turn_after_taking, turn_after_tick, turn}
 use Rattle.cmd_node.specs.Turns.{Together, all_turns, first_turns, turning_after, turning_at}
-use Rattle.cmd_node_laws.specs.Traces.{Came, Event, IsKilled, MayAllHappen, MayHappen, OfAllocatee, Opens, Stops, Turns, all_rows, rows_of}
+use Rattle.cmd_node_laws.specs.Traces.{Came, Event, IsKilled, IsKilledAtOpening, MayAllHappen, MayHappen, OfAllocatee, Opens, Stops, Turns, all_rows, rows_of}
 use Rattle.cmd_node_laws.specs.Mirrored.{AreCalm, Carries, IsMirrored, raw_by}
 use Rattle.cluster_agreement.proofs.Concatenations.{same_ids}
 use Rattle.cluster_agreement.proofs.Lists.{never}
@@ -290,6 +290,8 @@ module _ (marks : MarkLaws)
     next_own w calm by_rules (Stops n) (at_point.Turning taken place) within may after_row stand = absurd after_row
     next_own w calm by_rules (IsKilled n moment word came puts) (at_point.Opening place) within may after_row stand = absurd after_row
     next_own w calm by_rules (IsKilled n moment word came puts) (at_point.Turning taken place) within may after_row stand = absurd after_row
+    next_own w calm by_rules (IsKilledAtOpening n told moment word puts) (at_point.Opening place) within may after_row stand = absurd after_row
+    next_own w calm by_rules (IsKilledAtOpening n told moment word puts) (at_point.Turning taken place) within may after_row stand = absurd after_row
     next_own w calm by_rules (OfAllocatee row) (at_point.Opening place) within may after_row stand = absurd after_row
     next_own w calm by_rules (OfAllocatee row) (at_point.Turning taken place) within may after_row stand = absurd after_row
 

@@ -11,7 +11,7 @@ use Rattle.cluster_spec.specs.Members.MemberStatus.{Down}
 use Rattle.cmd_node.specs.Opening.{Given, together_at_opening, opened_at, readings_after}
 use Rattle.cmd_node.specs.Turn.{Running}
 use Rattle.cmd_node.specs.Turns.{Together, all_turns, first_turns}
-use Rattle.cmd_node_laws.specs.Traces.{Came, Event, OfAllocatee, IsKilled, Opens, Stops, Turns, rows_of}
+use Rattle.cmd_node_laws.specs.Traces.{Came, Event, OfAllocatee, IsKilled, IsKilledAtOpening, Opens, Stops, Turns, rows_of}
 use Rattle.cmd_node_laws.specs.Mirrored.{Carries, IsMirrored}
 
 -- what a process does next: it opens the member at a place, or lets it take its turn, when all have taken so many turns
@@ -32,6 +32,7 @@ place_of (Turning taken place) = place
 -- the member of an event; one of an allocatee is of no member
 abbrev pub whose : Event → Option ℕ
 whose (Opens n told moment word) = Some n
+whose (IsKilledAtOpening n told moment word puts) = Some n
 whose (Turns n moment word came) = Some n
 whose (Stops n) = Some n
 whose (IsKilled n moment word came puts) = Some n

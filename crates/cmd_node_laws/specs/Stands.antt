@@ -1,5 +1,5 @@
 -- What holds of a trace under its premises.
-use Rattle.std.specs.Prelude.{◌≡◌, ℕ, ◌<◌, ◌≤◌, ◌⊎◌, List, ◌++◌, length, Option, None, Some, slice_index, slice_index_or}
+use Rattle.std.specs.Prelude.{◌≡◌, ℕ, ◌<◌, ◌≤◌, ◌⊎◌, List, [], ◌++◌, length, Option, None, Some, slice_index, slice_index_or}
 use Rattle.disk_model.specs.declared.disk.Disk.{Ghosts}
 use Rattle.disk_model.specs.Contents.{MayLeave}
 use Rattle.outside.specs.declared.received.RawFrame.{RawFrame}
@@ -16,11 +16,11 @@ use Rattle.replay_text.specs.declared.row.Row.{Row}
 use Rattle.alloc_spec.specs.Rules.{Rules, tells}
 use Rattle.cluster_spec.specs.Cluster.{AreMembers, Cluster, after_rows, cluster, rules_of}
 use Rattle.cluster_spec.specs.Members.MemberStatus.{Down}
-use Rattle.cmd_node.specs.Opening.{Given}
+use Rattle.cmd_node.specs.Opening.{Given, readings_after}
 use Rattle.cmd_node.specs.Turn.{Running}
 use Rattle.cmd_node.specs.Turns.{Together}
 use Rattle.cmd_node.specs.WholeRun.{HoldsStore}
-use Rattle.cmd_node_laws.specs.Traces.{Came, Event, IsKilled, MayAllHappen, MayHappen, Silence, all_rows, rows_of}
+use Rattle.cmd_node_laws.specs.Traces.{Came, Event, IsKilled, IsKilledAtOpening, MayAllHappen, MayHappen, Silence, all_rows, rows_of}
 use Rattle.cmd_node_laws.specs.Mirrored.{Carries, raw_by}
 use Rattle.cmd_node_laws.specs.Processes.{GoesOn, IsWaiting, Opening, Point, StandsAt, running_at}
 
@@ -99,3 +99,23 @@ pub record IsCutAsTold {L D : Type 0} (coming : L → Option (List Received)) (s
       ((left ≡ Some r.coming) × IsFoundKilled image v r moment Silence) ⊎
       ((left ≡ Some (items_behind r.coming)) × ((came : Came) → Carries v.frames (next_item r.coming) came →
       MayBeKilled v r moment came → IsFoundKilled image v r moment came))
+
+-- the event in which the process of the member at a place is killed while it opens it, after so many puts
+abbrev pub opening_kill_of : Rules → List ℕ → Given → ℕ → ℕ → Event
+opening_kill_of rules mine given place puts = let id = slice_index mine place in
+    IsKilledAtOpening id (tells rules) (next_reading (readings_after place given.readings)) (word_at (next_state id)) puts
+
+-- A run was cut off at the opening of the member at a place, before which its members in the world had sent nothing.
+-- Each disk before its own holds what its member has stored; its member and those behind it wait as they did. Whatever
+-- a stop leaves of its own disk it could leave before the run, or a kill in that opening leaves it in the world.
+pub record IsCutOpeningAsTold {D : Type 0} (disk : Ghosts D) (disks_old disks : List (Option D)) (rules : Rules)
+    (mine : List ℕ) (given : Given) (w v : Cluster) (rows : List Row) (place : ℕ) : Type 0 where
+  pub silent : (i : ℕ) → i < length mine → raw_by (slice_index mine i) w rows ≡ []
+  pub stored_is : (i : ℕ) (before after : D) → i < place → slice_index_or disks_old i None ≡ Some before →
+      slice_index_or disks i None ≡ Some after →
+      HoldsStore disk after (store_of (v.member (slice_index mine i)).disk.store)
+  pub waiting : (i : ℕ) → place ≤ i → i < length mine → IsWaiting rules mine given v i
+  pub killed : (before after : D) (image : List ℕ) → slice_index_or disks_old place None ≡ Some before →
+      slice_index_or disks place None ≡ Some after → MayLeave (disk.contents after) image →
+      MayLeave (disk.contents before) image ⊎ ((puts : ℕ) ×
+      IsFound image (after_rows v (rows_of (opening_kill_of rules mine given place puts) v)) (slice_index mine place))
