@@ -19,7 +19,7 @@ use Rattle.cmd_node_laws.specs.Mirrored.{AreCalm, IsCalm}
 use Rattle.cmd_node_laws.proofs.Armed.{AllPut, IsCutBehind, SomePut, armed, armed_on, cut_behind, stop_behind, stop_is}
 use Rattle.cmd_node_laws.proofs.Calm.{stop_calm, stop_store, written}
 use Rattle.cmd_node_laws.proofs.Places.{own_is}
-use Rattle.cmd_node_laws.proofs.Rows.{Runs, step_state_of}
+use Rattle.cmd_node_laws.proofs.Rows.{Runs, after_event, step_state_of}
 use Rattle.cmd_node_laws.proofs.Stored.{after_noted, after_some, as_many}
 
 -- the disk of a member stops behind so many more puts
@@ -89,9 +89,6 @@ arm_leaves n puts w server calm runs =
 
 is_armed_on : (x : Member) (left : ℕ) → IsArmed x left → x.disk ≡ armed_on (stop_behind left) x.disk.calls.faults x.disk
 is_armed_on x left is = λ i. record x.disk { calls = is.calls i; unsynced = is.nothing_unsynced i }
-
-abbrev pub after_event : ℕ → Cluster → Event → Cluster
-after_event n w event = record (with_member w n (member_after_step (w.rows + 1) event (w.member n).status (w.member n))) { rows = w.rows + 1 }
 
 -- the member went on, or stopped within the step
 pub record GoesOn (n : ℕ) (w v : Cluster) (step_state : StepState) (left : ℕ) : Type 0 where

@@ -89,5 +89,12 @@ module _ (rules : Rules) (mine : List ℕ) (given : Given) where
       (i < place → IsMirrored w (opened_at rules mine given i)) × (place ≤ i → IsWaiting w i)
   StandsAt w (Turning taken place) i = IsMirrored w ((together_at taken place).running i)
 
+  -- the member at a place has stored just what it has in the process, to the origin of each entry
+  abbrev pub HasStoredAt : Cluster → Point → ℕ → Type 0
+  HasStoredAt w (Opening place) i = let stored = (w.member (slice_index mine i)).disk.store in
+      (i < place → stored ≡ (opened_at rules mine given i).stored) × (place ≤ i → stored ≡ given.stored i)
+  HasStoredAt w (Turning taken place) i =
+      (w.member (slice_index mine i)).disk.store ≡ ((together_at taken place).running i).stored
+
   abbrev pub StandAt : Cluster → Point → Type 0
   StandAt w point = (i : ℕ) → i < length mine → StandsAt w point i

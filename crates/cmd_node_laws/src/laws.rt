@@ -19,6 +19,7 @@ ghost use Rattle.cmd_node.specs.Puts.{turn_puts};
 ghost use Rattle.cmd_node.specs.Turn.{Running, Turning as Turn};
 ghost use Rattle.cmd_node.specs.WholeRun.{LeavesAll, Tell, after_turns};
 ghost use Rattle.cmd_node_laws.specs.Traces.{Came, Event, MayAllHappen, all_rows};
+ghost use Rattle.cmd_node_laws.specs.Alike.{Alike, Likeness};
 ghost use Rattle.cmd_node_laws.specs.Example.{first_events, given_then, later_events, two, world_by_then};
 ghost use Rattle.cmd_node_laws.specs.Mirrored.{AreCalm, Carries, IsMirrored, raw_by};
 ghost use Rattle.cmd_node_laws.specs.Processes.{GoesOn, Opening, Point, StandAt, Turning, place_of, together_at};
@@ -84,11 +85,11 @@ pub fn stores_are_followed()
 /// first puts of the turn; and there is an event that leaves just that in the world.
 pub fn kills_are_events()
     ensures { (w : Cluster) (t : Turn) (moment : ℕ) (came : Came) (image : List ℕ)
-        (state : Stored) → AreCalm w → IsMirrored w t.running →
-        store_of (w.member t.running.id).disk.store ≡ store_of state →
+        (state : Stored) (likeness : Likeness) → AreCalm w → IsMirrored w t.running →
+        Alike likeness (w.member t.running.id).disk.store state →
         AfterSome (StandsForState image) (stored_puts (turn_puts moment t) state) state →
         Carries w.frames (next_item t.running.coming) came →
-        MayBeKilled w t.running moment came → IsFoundKilled image w t.running moment came }
+        MayBeKilled w t.running moment came → IsFoundKilled likeness image w t.running moment came }
 {
     deliveries_are_whole_transfers();
     marks_change_marks_alone();
