@@ -11,10 +11,10 @@ use Rattle.cmd_node.specs.CutRun.{IsCutAtOpening, IsCutAtTurn, KeepsImages, Keep
 use Rattle.cmd_node.specs.Nodes.{IsCutInTurn, IsDone, IsEnd, LeavesWith, RunsNodes}
 use Rattle.cmd_node.specs.Opening.{Given}
 use Rattle.cmd_node.specs.WholeRun.{LeavesAll, Tell, after_turns}
-use Rattle.cmd_node_laws.specs.Processes.{Turning, together_at}
-use Rattle.cmd_node_laws.specs.Stands.{IsCutAsTold, IsRunIn, LeavesAsTold, world_after}
+use Rattle.cmd_node_laws.specs.Processes.{Opening, Turning, together_at}
+use Rattle.cmd_node_laws.specs.Stands.{IsCutAsTold, IsCutOpeningAsTold, IsRunIn, LeavesAsTold, world_after}
 use Rattle.cmd_node_laws.specs.Traces.{Event, MayAllHappen, all_rows}
-use Rattle.allocator_app.specs.Nodes.{IsCutInTraces, IsDoneInTraces, RunsInTraces}
+use Rattle.allocator_app.specs.Nodes.{IsCutInTraces, IsCutOpeningInTraces, IsDoneInTraces, RunsInTraces}
 use Rattle.allocator_app.specs.Promise.{KeepsPromise}
 
 module _ {L D : Type 0} (coming : L → Option (List Received)) (sent : L → Option (List RawFrame)) (link_faults : L → ℕ) (disk : Ghosts D)
@@ -30,13 +30,19 @@ module _ {L D : Type 0} (coming : L → Option (List Received)) (sent : L → Op
       place < length mine → IsRunIn ids before during rules mine given (Turning taken place) → let all = together_at rules mine given taken place in
       IsCutAtTurn coming sent disk links disks readings (length mine) all place → let w = world_after ids before in
       IsCutAsTold coming sent disk links disks mine given w (world_after ids (before ++ during)) (all_rows during w) all place)
+      (opening : (ids mine : List ℕ) (before during : List Event) (rules : Rules) (given : Given) (links_old links : List L) (disks_old disks : List (Option D)) (readings_old readings : Option (List ℕ)) (id : ℕ) →
+      Tell coming sent disk links_old disks_old readings_old given →
+      (cut : IsCutAtOpening disk mine links_old links disks_old disks readings_old readings (KeepsOrOpens disk) id) →
+      IsRunIn ids before during rules mine given (Opening cut.place) → let w = world_after ids before in
+      IsCutOpeningAsTold disk disks_old disks rules mine given w (world_after ids (before ++ during)) (all_rows during w) cut.place)
       (promise : (ids : List ℕ) (trace : List Event) → AreMembers ids → MayAllHappen trace (cluster ids) → KeepsPromise ids (all_rows trace (cluster ids))) where
     cut_in_traces : (given : Given) (id : ℕ) → Tell coming sent disk links_old disks_old readings_old given →
-        IsCutInTurn coming sent link_faults disk rules turns mine links_old links disks_old disks readings_old readings id → IsCutInTraces coming sent disk links disks rules mine given id
+        IsCutInTurn coming sent link_faults disk rules turns mine links_old links disks_old disks readings_old readings id → IsCutInTraces coming sent disk links disks rules mine given turns id
     cut_in_traces given id tell is =
         let left = is.left given tell in
         let turn = left.turn in record {
           taken = left.taken;
+          fewer = left.fewer;
           place = turn.place;
           within = turn.within;
           id_is = turn.named;
@@ -46,6 +52,16 @@ module _ {L D : Type 0} (coming : L → Option (List Received)) (sent : L → Op
 
     abbrev AtOpening : ℕ → Type 0
     AtOpening id = IsCutAtOpening disk mine links_old links disks_old disks readings_old readings (KeepsOrOpens disk) id
+
+    abbrev OpeningInTraces : Given → ℕ → Type 0
+    OpeningInTraces given id = IsCutOpeningInTraces coming sent disk links disks rules mine given links_old disks_old readings_old readings id
+
+    opening_in_traces : (given : Given) (id : ℕ) → Tell coming sent disk links_old disks_old readings_old given → AtOpening id → OpeningInTraces given id
+    opening_in_traces given id tell is = record {
+      opening = is;
+      told = λ ids first rest stands. opening ids mine first rest rules given links_old links disks_old disks readings_old readings id tell is stands;
+      promise = λ ids first rest stands. promise ids (first ++ rest) stands.members stands.may;
+    }
 
     widened : (id : ℕ) → IsCutAtOpening disk mine links_old links disks_old disks readings_old readings (KeepsImages disk) id → AtOpening id
     widened id o = record {
@@ -66,17 +82,17 @@ module _ {L D : Type 0} (coming : L → Option (List Received)) (sent : L → Op
     }
 
     by_end : (given : Given) → Tell coming sent disk links_old disks_old readings_old given → (ended : Status) → IsEnd coming sent link_faults disk rules turns mine links_old links disks_old disks readings_old readings ended →
-        IsDoneInTraces coming sent disk links disks rules mine given turns ⊎ ((id : ℕ) × (AtOpening id ⊎ IsCutInTraces coming sent disk links disks rules mine given id))
+        IsDoneInTraces coming sent disk links disks rules mine given turns ⊎ ((id : ℕ) × (OpeningInTraces given id ⊎ IsCutInTraces coming sent disk links disks rules mine given turns id))
     by_end given tell Done end = inl (done_in_traces given tell end)
     by_end given tell (LinkFault id) end = inr (id, inr (cut_in_traces given id tell end.1))
     by_end given tell (DiskFault id) end = inr (
       id,
       elim end.1 [
-        | inl opening ↦ inl opening
+        | inl opening ↦ inl (opening_in_traces given id tell opening)
         | inr turn ↦ inr (cut_in_traces given id tell turn)
       ],
     )
-    by_end given tell (Damaged id key) end = inr (id, inl (widened id end.1))
+    by_end given tell (Damaged id key) end = inr (id, inl (opening_in_traces given id tell (widened id end.1)))
     by_end given tell Usage end = absurd end
     by_end given tell (BadRow row) end = absurd end
     by_end given tell (Unlawful row number) end = absurd end
@@ -99,10 +115,10 @@ module _ {L D : Type 0} (coming : L → Option (List Received)) (sent : L → Op
       cut = λ given id tell ends. elim ends [
         | inl of_link ↦ let left = subst Ended of_link runs.leaves in inr (cut_in_traces given id tell left.end.1)
         | inr (inl of_disk) ↦ let left = subst Ended of_disk runs.leaves in elim left.end.1 [
-          | inl opening ↦ inl opening
+          | inl opening ↦ inl (opening_in_traces given id tell opening)
           | inr turn ↦ inr (cut_in_traces given id tell turn)
         ]
-        | inr (inr damaged) ↦ let left = subst Ended damaged.1 runs.leaves in inl (widened id left.end.1)
+        | inr (inr damaged) ↦ let left = subst Ended damaged.1 runs.leaves in inl (opening_in_traces given id tell (widened id left.end.1))
       ];
       broken = λ given tell is. let left = subst Ended is runs.leaves in by_end given tell left.0 left.1.end;
     }

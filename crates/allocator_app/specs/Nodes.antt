@@ -10,8 +10,8 @@ use Rattle.cmd_node.specs.CutRun.{EndsAt, IsCutAtOpening, KeepsOrOpens}
 use Rattle.cmd_node.specs.Nodes.{RunsNodes}
 use Rattle.cmd_node.specs.Opening.{Given}
 use Rattle.cmd_node.specs.WholeRun.{Tell}
-use Rattle.cmd_node_laws.specs.Processes.{Point, Turning, together_at}
-use Rattle.cmd_node_laws.specs.Stands.{IsCutAsTold, IsRunIn, LeavesAsTold, world_after}
+use Rattle.cmd_node_laws.specs.Processes.{Opening, Point, Turning, together_at}
+use Rattle.cmd_node_laws.specs.Stands.{IsCutAsTold, IsCutOpeningAsTold, IsRunIn, LeavesAsTold, world_after}
 use Rattle.cmd_node_laws.specs.Traces.{Event, all_rows}
 use Rattle.cluster_spec.specs.Cluster.{cluster}
 use Rattle.allocator_app.specs.Promise.{KeepsPromise}
@@ -32,10 +32,23 @@ module _ {L D : Type 0} (coming : L → Option (List Received)) (sent : L → Op
         LeavesAsTold sent disk links disks mine given w (world_after ids (before ++ during)) (all_rows during w)
     pub promise : KeepsInTraces (Turning turns 0)
 
-  -- The run was cut off in a turn of the member with this ID: all had taken so many turns, those before its place one
-  -- more. In each trace what was sent and is stored is what the world of its rows says, with a kill in that turn
-  pub record IsCutInTraces (id : ℕ) : Type 0 where
+  -- The run was cut off at the opening of the member with this ID, and touched no link. In each trace what its members
+  -- have stored is what the world of its rows says, with a kill in that opening
+  pub record IsCutOpeningInTraces (links_old : List L) (disks_old : List (Option D))
+      (readings_old readings : Option (List ℕ)) (id : ℕ) : Type 0 where
+    pub opening : IsCutAtOpening disk mine links_old links disks_old disks readings_old readings (KeepsOrOpens disk) id
+    pub told : (ids : List ℕ) (before during : List Event) →
+        IsRunIn ids before during rules mine given (Opening opening.place) → let w = world_after ids before in
+        IsCutOpeningAsTold disk disks_old disks rules mine given w (world_after ids (before ++ during))
+        (all_rows during w) opening.place
+    pub promise : KeepsInTraces (Opening opening.place)
+
+  -- The run, of so many turns, was cut off in a turn of the member with this ID: all had taken some of the turns, those
+  -- before its place one more. In each trace what was sent and is stored is what the world of its rows says, with a kill
+  -- in that turn
+  pub record IsCutInTraces (turns id : ℕ) : Type 0 where
     pub taken : ℕ
+    pub fewer : taken < turns
     pub place : ℕ
     pub within : place < length mine
     pub id_is : slice_index mine place ≡ id
@@ -57,9 +70,9 @@ pub record RunsInTraces {L D : Type 0} (coming : L → Option (List Received)) (
       IsDoneInTraces coming sent disk links disks rules ids given turns
   pub cut : (given : Given) (id : ℕ) → Tell coming sent disk links_old disks_old readings_old given →
       EndsAt id status →
-      IsCutAtOpening disk ids links_old links disks_old disks readings_old readings (KeepsOrOpens disk) id
-      ⊎ IsCutInTraces coming sent disk links disks rules ids given id
+      IsCutOpeningInTraces coming sent disk links disks rules ids given links_old disks_old readings_old readings id
+      ⊎ IsCutInTraces coming sent disk links disks rules ids given turns id
   pub broken : (given : Given) → Tell coming sent disk links_old disks_old readings_old given → status ≡ WriteFault →
       IsDoneInTraces coming sent disk links disks rules ids given turns
-      ⊎ ((id : ℕ) × (IsCutAtOpening disk ids links_old links disks_old disks readings_old readings (KeepsOrOpens disk) id
-      ⊎ IsCutInTraces coming sent disk links disks rules ids given id))
+      ⊎ ((id : ℕ) × (IsCutOpeningInTraces coming sent disk links disks rules ids given links_old disks_old readings_old
+      readings id ⊎ IsCutInTraces coming sent disk links disks rules ids given turns id))

@@ -2,6 +2,7 @@
 
 ghost use Rattle.std.specs.Prelude.{ℕ, Bool, List};
 ghost use Rattle.audit_laws.specs.Left.{AreLeftBy, AreStoredBy, IsStoredBy};
+ghost use Rattle.cmd_node_laws.specs.Alike.{Likeness};
 ghost use Rattle.cmd_node_laws.specs.Stands.{IsFound, world_after};
 ghost use Rattle.cmd_node_laws.specs.Traces.{Event, MayAllHappen};
 ghost use Rattle.raft_log.specs.declared.stored.Stored.{Stored};
@@ -34,8 +35,8 @@ pub fn stores_of_processes_agree()
     ensures agree { (ids : List ℕ) (trace : List Event) (nodes : List ℕ) (stores : List Stored)
         (place a b : ℕ) → AreMembers ids → MayAllHappen trace (cluster ids) →
         AreStoredBy (world_after ids trace) nodes stores → IsDifference stores place a b → ⊥ }
-    ensures killed { (image : List ℕ) (w : Cluster) (n : ℕ) → IsFound image w n →
-        IsStoredBy w n image }
+    ensures killed { (likeness : Likeness) (image : List ℕ) (w : Cluster) (n : ℕ) →
+        IsFound likeness image w n → IsStoredBy w n image }
 {
     an_image_stands_for_one_state();
     traces_are_lawful();

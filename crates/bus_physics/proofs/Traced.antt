@@ -17,7 +17,7 @@ use Rattle.cluster_spec.specs.Members.MemberStatus.{Down, Failed, Up}
 use Rattle.cluster_agreement.proofs.Concatenations.{ids_stay}
 use Rattle.cluster_agreement.proofs.Lists.{never}
 use Rattle.cluster_agreement.proofs.OneRowMore.{lawful as one_more}
-use Rattle.cmd_node_laws.specs.Traces.{Event, IsForeign, IsKilled, MayAllHappen, MayHappen, OfAllocatee, Opens, Silence, Stops, Turns, WasSent, all_rows, came_rows, rows_of, RowsFrom, while_running}
+use Rattle.cmd_node_laws.specs.Traces.{Event, IsForeign, IsKilled, IsKilledAtOpening, MayAllHappen, MayHappen, OfAllocatee, Opens, Silence, Stops, Turns, WasSent, all_rows, came_rows, rows_of, RowsFrom, while_running}
 use Rattle.cmd_node_laws.proofs.Places.{after_both}
 use Rattle.bus_physics.specs.Physics.{Limits, Timed, rows_in}
 use Rattle.bus_physics.specs.Processes.{MayAllDo, MayDo}
@@ -210,6 +210,7 @@ module _ (limits : Limits) (ids : List ℕ) where
       pub event : (e : Event) (a : List Timed) → rows_in a ≡ rows_of e w → HappenOnBus limits ids before a → MayDo e w
           → MayHappen e w ⊎ LosesFrames ids (before ++ (a ++ rest))
       event (Opens n told moment word) a rows happen may = inl may
+      event (IsKilledAtOpening n told moment word puts) a rows happen may = inl may
       event (Turns n moment word Silence) a rows happen may = inl may
       event (Turns n moment word (WasSent k)) a rows happen may = turn n moment word k a rows happen may
       event (Turns n moment word (IsForeign frame)) a rows happen may = inl may

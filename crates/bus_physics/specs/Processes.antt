@@ -4,10 +4,10 @@ use Rattle.can_frame.specs.Identifier.{identifier_of}
 use Rattle.outside.specs.declared.pattern.Pattern.TheVariants.{Old}
 use Rattle.replay_text.specs.declared.row.Row.TheVariants.{Crash, Tick}
 use Rattle.cluster_spec.specs.declared.unlawful.Unlawful.{Unlawful}
-use Rattle.cluster_spec.specs.Cluster.{Cluster, after_row, after_rows, is_member}
+use Rattle.cluster_spec.specs.Cluster.{Cluster, after_row, after_rows}
 use Rattle.cluster_spec.specs.Lawful.{cause, is_forged, no_such_frame}
 use Rattle.cluster_spec.specs.Members.{is_running}
-use Rattle.cmd_node_laws.specs.Traces.{Came, Event, IsForeign, IsKilled, MayTurn, OfAllocatee, Opens, Silence, Stops, Turns, WasSent, is_of_allocatee, rows_of}
+use Rattle.cmd_node_laws.specs.Traces.{Came, Event, IsForeign, IsKilled, IsKilledAtOpening, MayOpen, MayTurn, OfAllocatee, Opens, Silence, Stops, Turns, WasSent, is_of_allocatee, rows_of}
 use Rattle.bus_physics.specs.Schedule.{is_of_bus}
 
 -- of a frame of the bus: that it was sent, and no more
@@ -17,7 +17,8 @@ MayCome (WasSent k) w = no_such_frame w k ≡ None
 MayCome (IsForeign frame) w = is_forged w.ids (identifier_of frame.id) ≡ false
 
 abbrev pub MayDo : Event → Cluster → Type 0
-MayDo (Opens n told moment word) w = (is_member w.ids n ≡ true) × (is_running (w.member n).status ≡ false)
+MayDo (Opens n told moment word) w = MayOpen n w
+MayDo (IsKilledAtOpening n told moment word puts) w = MayOpen n w
 MayDo (Turns n moment word came) w = MayTurn n w × MayCome came (after_row w (Tick n moment word))
 MayDo (Stops n) w = MayTurn n w
 MayDo (IsKilled n moment word came puts) w =

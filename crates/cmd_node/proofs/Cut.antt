@@ -6,11 +6,14 @@ use Rattle.disk_model.specs.declared.disk.Disk.{Ghosts}
 use Rattle.outside.specs.Readings.{next_reading, readings_behind}
 use Rattle.outside.specs.declared.received.RawFrame.{RawFrame}
 use Rattle.outside.specs.declared.received.Received.{Received}
+use Rattle.raft_core.specs.StoredPuts.{stored_puts}
 use Rattle.raft_log.specs.DurableViews.{durable_state}
+use Rattle.raft_log.specs.Rules.{StandsForState}
+use Rattle.raft_log.specs.Stored.{AfterSome}
 use Rattle.alloc_server.specs.Server.{LeavesSome, StandsFor, durable_of}
 use Rattle.cmd_node.specs.Cut.{PutsAt, StandsAt}
 use Rattle.cmd_node.specs.Ends.{fault_id}
-use Rattle.cmd_node.specs.CutRun.{HoldsStoreInPart, IsCutAt}
+use Rattle.cmd_node.specs.CutRun.{HoldsStateInPart, IsCutAt}
 use Rattle.cmd_node.specs.Puts.{IsCutIn}
 use Rattle.cmd_node.specs.Stands.{Stand, runner_disk}
 use Rattle.cmd_node.specs.Taking.{HasCause}
@@ -21,6 +24,7 @@ use Rattle.cmd_node.specs.declared.runner.Runner.{Runner}
 use Rattle.cmd_node.specs.declared.steps.LastSteps.{LastSteps}
 use Rattle.cmd_node.proofs.Parts.{cut_as}
 use Rattle.cmd_node.proofs.Together.{set_elsewhere, set_here}
+use Rattle.cmd_node.proofs.WholeRun.{same_stored}
 
 -- of the one at a place
 module _ {D F : Type 0} {disk : Ghosts D} {L : Type 0} (runners : List (Runner D F disk)) (links : List L) (place : ℕ)
@@ -47,16 +51,20 @@ module _ {D F : Type 0} {disk : Ghosts D} {L : Type 0} (runners : List (Runner D
         ];
     stored_is = λ i low other r.
         let within : i < length runners = (let size = length-set runners place runner in omega (arith, size, low)) in
-        subst (λ (x : Runner D F disk). StandsFor x.server (before.running i).allocator) (set_elsewhere runners place i runner r other) (stand.each i r some_link within).server;
+        let one = stand.each i r some_link within in
+        subst (λ (x : Runner D F disk). StandsFor x.server (before.running i).allocator × (durable_state (durable_of x.server) ≡ (before.running i).stored))
+        (set_elsewhere runners place i runner r other) (one.server, one.stored);
+    same = λ i low.
+        let within : i < length runners = (let size = length-set runners place runner in omega (arith, size, low)) in
+        let one = stand.each i some some_link within in
+        same_stored one.stored one.server.member.raft.store;
     own_is = λ l.
-        let store = (before.running place).allocator.raft_server.store in
-        cut_as (LeavesSome (slice_index_or runners place some).server runner.server) (PutsAt (slice_set runners place runner) place store)
-        (λ puts leaves r. subst (λ (x : Runner D F disk). disk.tells (runner_disk x) ≡ true → HoldsStoreInPart disk (runner_disk x) store puts)
+        let state = (before.running place).stored in
+        cut_as (LeavesSome (slice_index_or runners place some).server runner.server) (PutsAt (slice_set runners place runner) place state)
+        (λ puts leaves r. subst (λ (x : Runner D F disk). disk.tells (runner_disk x) ≡ true → HoldsStateInPart disk (runner_disk x) state puts)
         (set_here runners place place runner r refl here) (λ told. record {
           tells = told;
-          state = durable_state (durable_of (slice_index_or runners place some).server);
-          store_is = sym (stand.each place some some_link here).server.member.raft.store;
-          stands = leaves (sym tells ∙ told);
+          stands = λ image left. subst (λ s. AfterSome (StandsForState image) (stored_puts puts s) s) (stand.each place some some_link here).stored (leaves (sym tells ∙ told) image left);
         })) (next_reading before.readings) (turning_at place before) (coming (slice_index_or (slice_set links place link) place l))
         (subst (λ x. IsCutIn (next_reading before.readings) (turning_at place before) (coming x) (LeavesSome (slice_index_or runners place some).server runner.server))
         (set_here links place place link l refl there) cut);

@@ -1,34 +1,33 @@
 -- A run that was cut off: from the allocators to what is left of links and disks.
-use Rattle.std.proofs.Common.{◌≡◌, ℕ, ◌<◌, List, length, take, true, refl, sym, ap, ◌∙◌, subst, inl, inr, arith}
+use Rattle.std.proofs.Common.{◌≡◌, ℕ, ◌<◌, List, length, true, refl, sym, ap, ◌∙◌, subst, inl, inr, arith}
 use Rattle.std.specs.Prelude.{Option, Some, None, IsNone, slice_index, slice_index_or}
 use Rattle.can_frame.specs.Log.{IsPrefix}
 use Rattle.disk_model.specs.declared.disk.Disk.{Ghosts}
 use Rattle.outside.specs.Readings.{next_reading}
 use Rattle.outside.specs.declared.received.RawFrame.{RawFrame}
 use Rattle.outside.specs.declared.received.Received.{Received}
-use Rattle.raft_core.specs.StoredPuts.{store_of}
 use Rattle.raft_log.specs.declared.durable.Durable.{Durable}
 use Rattle.raft_log.specs.DurableViews.{durable_disk, durable_fault, durable_state}
-use Rattle.raft_log.specs.Opening.{FailsToOpen, IsReadAs}
+use Rattle.raft_log.specs.Opening.{FailsToOpen}
 use Rattle.raft_log.specs.Rules.{AlwaysStandsForState, StandsForState}
 use Rattle.raft_log.specs.Stored.{Stored, after_puts, opening_puts}
 use Rattle.alloc_server.specs.Server.{durable_of, fault_of}
 use Rattle.alloc_spec.specs.Rules.{Rules}
 use Rattle.cmd_node.specs.Cut.{IsCut, IsCutOpening, IsCutTurning, PutsAt}
-use Rattle.cmd_node.specs.CutRun.{AreCutTurns, HoldsAt, HoldsPartAt, HoldsStoreInPart, IsCutAtOpening, KeepsOrOpens}
+use Rattle.cmd_node.specs.CutRun.{AreCutTurns, HoldsAt, HoldsPartAt, HoldsStateInPart, IsCutAtOpening, KeepsOrOpens}
 use Rattle.cmd_node.specs.Ends.{fault_id}
 use Rattle.cmd_node.specs.Opening.{Given, together_at_opening}
 use Rattle.cmd_node.specs.Run.{AreStopped}
-use Rattle.cmd_node.specs.Stands.{AreOpened}
+use Rattle.cmd_node.specs.Stands.{AreOpened, runner_disk}
 use Rattle.cmd_node.specs.Taking.{HasCause}
 use Rattle.cmd_node.specs.Turns.{all_turns, first_turns, turning_at}
-use Rattle.cmd_node.specs.WholeRun.{HoldsStore, Tell, TellsState, after_turns}
+use Rattle.cmd_node.specs.WholeRun.{HoldsState, Tell, TellsState, after_turns}
 use Rattle.cmd_node.specs.declared.fault.Fault.{Fault}
 use Rattle.cmd_node.specs.declared.runner.Runner.{Runner}
 use Rattle.cmd_node.proofs.Ending.{an_item, some_same}
 use Rattle.cmd_node.proofs.Parts.{cut_as}
 use Rattle.cmd_node.proofs.Sent.{all_begin, cut_begins}
-use Rattle.cmd_node.proofs.WholeRun.{holds_store, opened_store}
+use Rattle.cmd_node.proofs.WholeRun.{holds_state, opened_state}
 
 none_is : {A : Type 0} (o : Option A) → IsNone o → o ≡ None
 none_is None is = refl
@@ -43,22 +42,20 @@ module _ {D F : Type 0} {disk : Ghosts D}
     (durable : (store : Durable D disk) → durable_fault store ≡ None → disk.tells (durable_disk store) ≡ true →
     AlwaysStandsForState (disk.contents (durable_disk store)) (durable_state store))
     (one_state : (image : List ℕ) (a b : Stored) → StandsForState image a → StandsForState image b → a ≡ b)
-    (reads_same : (state : Stored) (count : ℕ) → IsReadAs (after_puts (take count (opening_puts state)) state) state)
     (ids : List ℕ) (runners : List (Runner D F disk)) (disks_old disks last : List (Option D)) (stopped : AreStopped runners disks last) where
   -- the disk of one that was opened
   opened_holds : AreOpened runners disks_old ids → (i : ℕ) (before after : D) (state : Stored) → i < length runners →
       slice_index_or disks_old i None ≡ Some before → slice_index_or last i None ≡ Some after → TellsState disk before state →
-      HoldsStore disk after (store_of state)
+      HoldsState disk after (after_puts (opening_puts state) state)
   opened_holds are i before after state low was is held =
       let some = an_item runners i low in
       let runner = slice_index_or runners i some in
       let one = are i some low in
       let told = one.tells before was ∙ held.tells in
-      subst (λ d. HoldsStore disk d (store_of state)) (some_same (sym (stopped.stopped i some low) ∙ is)) (record {
+      subst (λ d. HoldsState disk d (after_puts (opening_puts state) state)) (some_same (sym (stopped.stopped i some low) ∙ is)) (record {
         tells = told;
-        state = durable_state (durable_of runner.server);
-        stands = durable (durable_of runner.server) (runner.server.kept ∙ none_is (fault_of runner.server) one.works) told;
-        store_is = opened_store one_state reads_same before (durable_of runner.server) state (one.opens before was) held;
+        stands = subst (AlwaysStandsForState (disk.contents (runner_disk runner))) (opened_state one_state before (durable_of runner.server) state (one.opens before was) held)
+            (durable (durable_of runner.server) (runner.server.kept ∙ none_is (fault_of runner.server) one.works) told);
       })
 
   module _ {L : Type 0} (coming : L → Option (List Received)) (sent : L → Option (List RawFrame)) (rules : Rules) (turns : ℕ) (links_old links : List L)
@@ -91,7 +88,7 @@ module _ {D F : Type 0} {disk : Ghosts D}
         let turn = turning.turn in
         let place = turn.place in
         let before = first_turns place (all_turns (length runners) turning.taken (together_at_opening rules ids given)) in
-        let store = (before.running place).allocator.raft_server.store in
+        let state = (before.running place).stored in
         let here = an_item runners place turn.within in
         subst (λ n. AreCutTurns coming sent links readings n (HoldsAt disk last) (HoldsPartAt disk last) (λ k. slice_index ids k ≡ fault_id fault) turns (together_at_opening rules ids given)) cut.all (record {
           taken = turning.taken;
@@ -106,10 +103,11 @@ module _ {D F : Type 0} {disk : Ghosts D}
               sent_is = turn.cut.sent_is;
               stored_is = λ i low other after is.
                   let some = an_item runners i low in
-                  holds_store coming sent durable (slice_index_or runners i some) before i after (turn.cut.stored_is i low other some) (telling i some low)
+                  holds_state coming sent durable (slice_index_or runners i some) (before.running i) after (turn.cut.stored_is i low other some) (telling i some low)
                   (some_same (sym (stopped.stopped i some low) ∙ is));
-              own_is = λ link. cut_as (PutsAt runners place store) (HoldsPartAt disk last place store)
-                  (λ puts part after is. subst (λ d. HoldsStoreInPart disk d store puts) (some_same (sym (stopped.stopped place here turn.within) ∙ is))
+              same = turn.cut.same;
+              own_is = λ link. cut_as (PutsAt runners place state) (HoldsPartAt disk last place state)
+                  (λ puts part after is. subst (λ d. HoldsStateInPart disk d state puts) (some_same (sym (stopped.stopped place here turn.within) ∙ is))
                   (part here (telling place here turn.within))) (next_reading before.readings) (turning_at place before) (coming (slice_index_or links place link)) (turn.cut.own_is link);
             };
           };

@@ -1,5 +1,5 @@
 -- What a run leaves, by how it ended.
-use Rattle.std.proofs.Common.{◌≡◌, ℕ, ◌<◌, List, length, take, true, refl, ap, inl, inr, arith}
+use Rattle.std.proofs.Common.{◌≡◌, ℕ, ◌<◌, List, length, true, refl, ap, inl, inr, arith}
 use Rattle.std.specs.Prelude.{Option, Some, None, IfErr, IsSome, OnOk, Result, Ok, Err, slice_index_or, ⊤}
 use Rattle.std.specs.Io.KnownBytes.{Appends}
 use Rattle.can_frame.specs.Log.{IsPrefix}
@@ -8,9 +8,8 @@ use Rattle.outside.specs.declared.received.RawFrame.{RawFrame}
 use Rattle.outside.specs.declared.received.Received.{Received}
 use Rattle.raft_log.specs.declared.durable.Durable.{Durable}
 use Rattle.raft_log.specs.DurableViews.{durable_disk, durable_fault, durable_state}
-use Rattle.raft_log.specs.Opening.{IsReadAs}
 use Rattle.raft_log.specs.Rules.{AlwaysStandsForState, StandsForState}
-use Rattle.raft_log.specs.Stored.{Stored, after_puts, opening_puts}
+use Rattle.raft_log.specs.Stored.{Stored}
 use Rattle.alloc_spec.specs.Rules.{Rules}
 use Rattle.cmd_base.specs.declared.status.Status.TheVariants.{Memory, WriteFault}
 use Rattle.cmd_node.specs.Cut.{IsCut, IsCutTurning}
@@ -53,7 +52,6 @@ module _ {D F L : Type 0} {disk : Ghosts D} (coming : L → Option (List Receive
     (durable : (store : Durable D disk) → durable_fault store ≡ None → disk.tells (durable_disk store) ≡ true →
     AlwaysStandsForState (disk.contents (durable_disk store)) (durable_state store))
     (one_state : (image : List ℕ) (a b : Stored) → StandsForState image a → StandsForState image b → a ≡ b)
-    (reads_same : (state : Stored) (count : ℕ) → IsReadAs (after_puts (take count (opening_puts state)) state) state)
     (runners : List (Runner D F disk)) (links : List L) (disks last : List (Option D)) (readings : Option (List ℕ)) (steps : LastSteps)
     (stopped : AreStopped runners disks last) where
   in_turn : (fault : Fault) → ((i : ℕ) (before : D) → i < length runners → slice_index_or disks_old i None ≡ Some before → IsWhole disk before) →
@@ -61,7 +59,7 @@ module _ {D F L : Type 0} {disk : Ghosts D} (coming : L → Option (List Receive
       IsCutInTurn coming sent faults disk rules turns ids links_old links disks_old last readings_old readings (fault_id fault)
   in_turn fault whole cut = record {
     whole = λ i before low was. whole i before (let all = cut.all in omega (arith, all, low)) was;
-    left = in_turns durable one_state reads_same ids runners disks_old disks last stopped coming sent rules turns links_old links readings_old readings fault cut;
+    left = in_turns durable one_state ids runners disks_old disks last stopped coming sent rules turns links_old links readings_old readings fault cut;
   }
 
   -- what is known of a run that ended so
@@ -93,7 +91,7 @@ module _ {D F L : Type 0} {disk : Ghosts D} (coming : L → Option (List Receive
   ends (Err (Disk node)) run all stands tells cut = (
     run.failed last stopped,
     elim cut [
-      | inl opening ↦ inl (at_opening durable one_state reads_same ids runners disks_old disks last stopped coming sent rules turns links_old links readings_old readings (Disk node)
+      | inl opening ↦ inl (at_opening durable one_state ids runners disks_old disks last stopped coming sent rules turns links_old links readings_old readings (Disk node)
           (KeepsOrOpens disk) (λ before after told why. unopened before after told why.2) opening)
       | inr turn ↦ inr (in_turn (Disk node) run.whole turn)
     ],
@@ -101,7 +99,7 @@ module _ {D F L : Type 0} {disk : Ghosts D} (coming : L → Option (List Receive
   ends (Err (Damaged node key)) run all stands tells cut = (
     run.failed.0,
     elim cut [
-      | inl opening ↦ at_opening durable one_state reads_same ids runners disks_old disks last stopped coming sent rules turns links_old links readings_old readings (Damaged node key)
+      | inl opening ↦ at_opening durable one_state ids runners disks_old disks last stopped coming sent rules turns links_old links readings_old readings (Damaged node key)
           (KeepsImages disk) (λ before after told why. why.2 told) opening
       | inr turn ↦ absurd (let same = turn.all in let fewer = run.failed.1 in omega (arith, same, fewer))
     ],
@@ -115,7 +113,7 @@ module _ {D F L : Type 0} {disk : Ghosts D} (coming : L → Option (List Receive
       let within : i < length runners = omega (arith, all, low) in
       ((whole_run.running i).sent, ((stands given tell).each i (an_item runners i within) link within).sent_is, all_begin (length ids) 0 whole_run i)
   begins (Err fault) all stands cut given tell i link low =
-      cut_begins_so durable one_state reads_same ids runners disks_old disks last stopped coming sent rules turns links_old links readings_old readings fault given tell each cut i link low
+      cut_begins_so durable one_state ids runners disks_old disks last stopped coming sent rules turns links_old links readings_old readings fault given tell each cut i link low
 
   pub written : (Wrote : List ℕ → Type 0) (ended : Result ⊤ Fault) → Standing ended → OnOk ended ((lines : List (List ℕ)) → Keeps steps lines → Wrote (report turns lines)) →
       IfErr ended (λ fault. Wrote (line_of (fault_status fault))) →

@@ -86,6 +86,7 @@ next_word is next = record {
   running = record {
     id = is.running.id;
     server = is.running.server;
+    stored = is.running.stored;
     draws = next ∙ ap next_state is.running.draws;
     coming_is = is.running.coming_is;
     sent_is = is.running.sent_is;

@@ -13,6 +13,7 @@ use Rattle.raft_log.specs.DurableViews.{durable_disk, durable_fault, durable_sta
 use Rattle.raft_log.specs.Opening.{IsReadAs, OpensTo}
 use Rattle.raft_log.specs.Rules.{AlwaysStandsForState, StandsForState}
 use Rattle.raft_log.specs.Stored.{Stored, after_puts, opening_puts}
+use Rattle.raft_model.specs.Server.{Store}
 use Rattle.alloc_spec.specs.Rules.{Rules, opening_by}
 use Rattle.alloc_server.specs.Server.{StandsFor, durable_of}
 use Rattle.cmd_node.specs.Opening.{Given, together_at_opening, readings_after}
@@ -20,8 +21,9 @@ use Rattle.cmd_node.specs.Run.{AreStopped, AreTelling}
 use Rattle.cmd_node.specs.Stands.{AreOpened, AreOpenedAt, Stand, runner_disk}
 use Rattle.cmd_node.specs.Steps.{Keeps}
 use Rattle.cmd_node.specs.Taking.{KeepsNodes}
+use Rattle.cmd_node.specs.Turn.{Running}
 use Rattle.cmd_node.specs.Turns.{Together}
-use Rattle.cmd_node.specs.WholeRun.{HoldsStore, LeavesAll, Tell, TellsState}
+use Rattle.cmd_node.specs.WholeRun.{HoldsState, LeavesAll, Tell, TellsState}
 use Rattle.cmd_node.specs.declared.runner.Runner.{Runner}
 use Rattle.cmd_node.specs.declared.steps.LastSteps.{LastSteps}
 use Rattle.cmd_node.proofs.Ending.{an_item, some_same, some_value}
@@ -33,18 +35,26 @@ same_store a b is =
     ∙ ap (λ l. record { term = b.term; vote = vote_of b.vote; log = l; commit = a.commit }) is.log
     ∙ ap (λ c. record { term = b.term; vote = vote_of b.vote; log = b.log; commit = c }) is.commit
 
--- an opening leaves what is read of the state as it was
+-- what is stored is what the allocator has
+pub same_stored : {durable stored : Stored} {store : Store} → durable ≡ stored → store ≡ store_of durable → store_of stored ≡ store
+same_stored is has = ap store_of (sym is) ∙ sym has
+
+-- what an opening makes of the state that was handed in
+pub opened_state : {D : Type 0} {disk : Ghosts D} → ((image : List ℕ) (a b : Stored) → StandsForState image a → StandsForState image b → a ≡ b) →
+    (before : D) (durable : Durable D disk) (state : Stored) → OpensTo before durable → TellsState disk before state → durable_state durable ≡ after_puts (opening_puts state) state
+opened_state {disk = disk} one_state before durable state opens told =
+    opens.state ∙ ap (λ s. after_puts (opening_puts s) s) (one_state (disk.contents before).seen opens.found state (opens.finds.state told.tells) told.stands)
+
+-- it leaves what is read of the state as it was
 module _ {D : Type 0} {disk : Ghosts D} (one_state : (image : List ℕ) (a b : Stored) → StandsForState image a → StandsForState image b → a ≡ b)
     (same : (state : Stored) (count : ℕ) → IsReadAs (after_puts (take count (opening_puts state)) state) state) where
   pub opened_store : (before : D) (durable : Durable D disk) (state : Stored) → OpensTo before durable → TellsState disk before state →
       store_of (durable_state durable) ≡ store_of state
   opened_store before durable state opens told =
-      let found = opens.found in
-      let puts = opening_puts found in
-      ap store_of opens.state
-      ∙ ap (λ l. store_of (after_puts l found)) (sym (take_all (length puts) puts (omega arith)))
-      ∙ same_store (after_puts (take (length puts) puts) found) found (same found (length puts))
-      ∙ ap store_of (one_state (disk.contents before).seen found state (opens.finds.state told.tells) told.stands)
+      let puts = opening_puts state in
+      ap store_of (opened_state one_state before durable state opens told)
+      ∙ ap (λ l. store_of (after_puts l state)) (sym (take_all (length puts) puts (omega arith)))
+      ∙ same_store (after_puts (take (length puts) puts) state) state (same state (length puts))
 
   module _ {F L : Type 0} (coming : L → Option (List Received)) (sent : L → Option (List RawFrame)) (rules : Rules) (ids : List ℕ)
       (runners : List (Runner D F disk)) (links : List L) (disks : List (Option D)) (readings : Option (List ℕ)) (given : Given)
@@ -68,6 +78,7 @@ module _ {D : Type 0} {disk : Ghosts D} (one_state : (image : List ℕ) (a b : S
             server = subst (λ n. StandsFor server (opening_by n rules (store_of (given.stored i)) moment (word_at (next_state node)))) one.id_is
                 (subst (λ s. StandsFor server (opening_by id rules s moment (word_at (next_state node)))) store
                 (subst (λ w. StandsFor server (opening_by id rules (store_of (durable_state (durable_of server))) moment (word_at w))) one.draws (at i r low)));
+            stored = opened_state one_state taken.0 (durable_of server) (given.stored i) (one.opens taken.0 taken.1) (tell.stored_is i taken.0 taken.1);
             draws = one.draws;
             coming_is = tell.coming_is i l within;
             sent_is = tell.sent_is i l within;
@@ -91,13 +102,11 @@ module _ {D F L : Type 0} {disk : Ghosts D} (coming : L → Option (List Receive
     (durable : (store : Durable D disk) → durable_fault store ≡ None → disk.tells (durable_disk store) ≡ true →
     AlwaysStandsForState (disk.contents (durable_disk store)) (durable_state store)) where
   -- the disk of an allocator that was stopped
-  pub holds_store : (runner : Runner D F disk) (all : Together) (i : ℕ) (after : D) → StandsFor runner.server (all.running i).allocator →
-      disk.tells (runner_disk runner) ≡ true → runner_disk runner ≡ after → HoldsStore disk after (all.running i).allocator.raft_server.store
-  holds_store runner all i after is told same = subst (λ d. HoldsStore disk d (all.running i).allocator.raft_server.store) same (record {
+  pub holds_state : (runner : Runner D F disk) (r : Running) (after : D) → StandsFor runner.server r.allocator × (durable_state (durable_of runner.server) ≡ r.stored) →
+      disk.tells (runner_disk runner) ≡ true → runner_disk runner ≡ after → HoldsState disk after r.stored
+  holds_state runner r after is told same = subst (λ d. HoldsState disk d r.stored) same (record {
     tells = told;
-    state = durable_state (durable_of runner.server);
-    stands = durable (durable_of runner.server) is.works told;
-    store_is = sym is.member.raft.store;
+    stands = subst (AlwaysStandsForState (disk.contents (runner_disk runner))) is.1 (durable (durable_of runner.server) is.0.works told);
   })
 
   pub leaves_all : (runners : List (Runner D F disk)) (links_before links : List L) (old disks : List (Option D)) (readings : Option (List ℕ))
@@ -112,7 +121,11 @@ module _ {D F L : Type 0} {disk : Ghosts D} (coming : L → Option (List Receive
         stored_is = λ i after low is.
             let some = an_item runners i (within i low) in
             let link = an_item links_before i (omega (arith, each, low)) in
-            holds_store (slice_index_or runners i some) all i after (stand.each i some link (within i low)).server (telling i some (within i low))
+            let one = stand.each i some link (within i low) in
+            holds_state (slice_index_or runners i some) (all.running i) after (one.server, one.stored) (telling i some (within i low))
             (some_same (sym (stopped.stopped i some (within i low)) ∙ is));
+        same = λ i low.
+            let one = stand.each i (an_item runners i (within i low)) (an_item links_before i (omega (arith, each, low))) (within i low) in
+            same_stored one.stored one.server.member.raft.store;
         readings_are = stand.readings_are;
       }

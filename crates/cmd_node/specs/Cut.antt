@@ -5,30 +5,32 @@ use Rattle.disk_model.specs.declared.disk.Disk.{Ghosts}
 use Rattle.outside.specs.declared.received.RawFrame.{RawFrame}
 use Rattle.outside.specs.declared.received.Received.{Received}
 use Rattle.raft_core.specs.StoredPuts.{PutWithOrigin}
-use Rattle.raft_model.specs.Server.{Store}
-use Rattle.alloc_server.specs.Server.{StandsFor}
-use Rattle.alloc_spec.specs.AllocatorState.{AllocatorState}
+use Rattle.raft_log.specs.DurableViews.{durable_state}
+use Rattle.raft_log.specs.Stored.{Stored}
+use Rattle.alloc_server.specs.Server.{StandsFor, durable_of}
 use Rattle.alloc_spec.specs.Rules.{Rules}
-use Rattle.cmd_node.specs.CutRun.{AreCutTurns, HoldsStoreInPart, IsCutRound}
+use Rattle.cmd_node.specs.CutRun.{AreCutTurns, HoldsStateInPart, IsCutRound}
 use Rattle.cmd_node.specs.Ends.{fault_id}
 use Rattle.cmd_node.specs.Opening.{Given, together_at_opening, readings_after}
 use Rattle.cmd_node.specs.Run.{AreTelling}
 use Rattle.cmd_node.specs.Stands.{AreOpened, runner_disk}
 use Rattle.cmd_node.specs.Taking.{IsOf, IsRefused}
+use Rattle.cmd_node.specs.Turn.{Running}
 use Rattle.cmd_node.specs.Turns.{Together}
 use Rattle.cmd_node.specs.WholeRun.{Tell}
 use Rattle.cmd_node.specs.declared.fault.Fault.{Fault}
 use Rattle.cmd_node.specs.declared.runner.Runner.{Runner}
 
 module _ {D F : Type 0} {disk : Ghosts D} (runners : List (Runner D F disk)) where
-  -- the allocator at a place stands for one in time; or, if its disk tells what it holds, that disk holds a store after
-  -- some of the first of some puts
-  abbrev pub StandsAt : ℕ → AllocatorState → Type 0
-  StandsAt i t = (runner : Runner D F disk) → StandsFor (slice_index_or runners i runner).server t
+  -- the allocator at a place stands for one in time, and has stored what that one has; or, if its disk tells what it
+  -- holds, that disk holds a state after some of the first of some puts
+  abbrev pub StandsAt : ℕ → Running → Type 0
+  StandsAt i r = (runner : Runner D F disk) → let server = (slice_index_or runners i runner).server in
+      StandsFor server r.allocator × (durable_state (durable_of server) ≡ r.stored)
 
-  abbrev pub PutsAt : ℕ → Store → List PutWithOrigin → Type 0
-  PutsAt i store puts = (runner : Runner D F disk) → let after = runner_disk (slice_index_or runners i runner) in
-      disk.tells after ≡ true → HoldsStoreInPart disk after store puts
+  abbrev pub PutsAt : ℕ → Stored → List PutWithOrigin → Type 0
+  PutsAt i state puts = (runner : Runner D F disk) → let after = runner_disk (slice_index_or runners i runner) in
+      disk.tells after ≡ true → HoldsStateInPart disk after state puts
 
 module _ {D F : Type 0} {disk : Ghosts D} {L : Type 0} (coming : L → Option (List Received))
     (sent : L → Option (List RawFrame)) (runners : List (Runner D F disk)) (links : List L)

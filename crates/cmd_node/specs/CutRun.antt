@@ -7,17 +7,16 @@ use Rattle.disk_model.specs.Contents.{AddsNoImage, MayLeave}
 use Rattle.outside.specs.declared.received.RawFrame.{RawFrame}
 use Rattle.outside.specs.declared.received.Received.{Received}
 use Rattle.outside.specs.Readings.{next_reading, readings_behind}
-use Rattle.raft_core.specs.StoredPuts.{PutWithOrigin, store_of, stored_puts}
+use Rattle.raft_core.specs.StoredPuts.{PutWithOrigin, stored_puts}
 use Rattle.raft_log.specs.Rules.{StandsForState}
-use Rattle.raft_log.specs.Stored.{AfterSome, Stored, opening_puts}
-use Rattle.raft_model.specs.Server.{Store}
-use Rattle.alloc_spec.specs.AllocatorState.{AllocatorState}
+use Rattle.raft_log.specs.Stored.{AfterSome, Stored, after_puts, opening_puts}
 use Rattle.cmd_base.specs.declared.status.Status.{Status}
 use Rattle.cmd_base.specs.declared.status.Status.TheVariants.{Damaged, DiskFault, LinkFault}
 use Rattle.cmd_node.specs.Opening.{readings_after}
 use Rattle.cmd_node.specs.Puts.{IsCutIn}
-use Rattle.cmd_node.specs.Turns.{Together, all_turns, first_turns, turning_at}
-use Rattle.cmd_node.specs.WholeRun.{HoldsStore, TellsState}
+use Rattle.cmd_node.specs.Turn.{Running}
+use Rattle.cmd_node.specs.Turns.{AreStored, Together, all_turns, first_turns, turning_at}
+use Rattle.cmd_node.specs.WholeRun.{HoldsState, TellsState}
 
 -- the status of a run that ended at this node
 abbrev pub EndsAt : ℕ → Status → Type 0
@@ -38,8 +37,8 @@ KeepsOrOpens disk before after = KeepsImages disk before after ⊎ ((state : Sto
     AfterSome (StandsForState image) (opening_puts state) state))
 
 -- A run ended at the opening of the node with this ID. No link was touched, and the clock was read once for each node
--- up to there. The disks before its own hold what they held when they were handed in, where they stood for a state;
--- this holds of its own, where it tells what it holds; and those behind it are as they were.
+-- up to there. The disks before its own hold what an opening makes of the state that they stood for when they were
+-- handed in, where they did; this holds of its own, where it tells what it holds; and those behind it are as they were.
 pub record IsCutAtOpening {L D : Type 0} (disk : Ghosts D) (ids : List ℕ) (links_old links : List L)
     (disks_old disks : List (Option D)) (readings_old readings : Option (List ℕ)) (Holds : D → D → Type 0)
     (id : ℕ) : Type 0 where
@@ -51,7 +50,7 @@ pub record IsCutAtOpening {L D : Type 0} (disk : Ghosts D) (ids : List ℕ) (lin
       → readings ≡ Some (readings_after (suc place) told)
   pub stored_is : (i : ℕ) (before after : D) (state : Stored) → i < place →
       slice_index_or disks_old i None ≡ Some before → slice_index_or disks i None ≡ Some after →
-      TellsState disk before state → HoldsStore disk after (store_of state)
+      TellsState disk before state → HoldsState disk after (after_puts (opening_puts state) state)
   pub own_is : (before after : D) → slice_index_or disks_old place None ≡ Some before →
       slice_index_or disks place None ≡ Some after → disk.tells before ≡ true →
       (disk.tells after ≡ true) × Holds before after
@@ -59,20 +58,18 @@ pub record IsCutAtOpening {L D : Type 0} (disk : Ghosts D) (ids : List ℕ) (lin
 
 -- ---- in a turn, where links, disks and the clock tell what they have
 
--- the disk tells what it holds, and whatever a stop leaves of it stands for a state that is read as this store, after
--- some of the first of these puts
-pub record HoldsStoreInPart {D : Type 0} (disk : Ghosts D) (after : D) (store : Store)
+-- the disk tells what it holds, and whatever a stop leaves of it stands for this state after some of the first of these
+-- puts
+pub record HoldsStateInPart {D : Type 0} (disk : Ghosts D) (after : D) (state : Stored)
     (puts : List PutWithOrigin) : Type 0 where
   pub tells : disk.tells after ≡ true
-  pub state : Stored
-  pub store_is : store_of state ≡ store
   pub stands : (image : List ℕ) → MayLeave (disk.contents after) image →
       AfterSome (StandsForState image) (stored_puts puts state) state
 
 -- What is stored at a place is said by `Stores` of the others, and by `StoresPart` of the one whose turn it was.
 module _ {L : Type 0} (coming : L → Option (List Received)) (sent : L → Option (List RawFrame)) (links : List L)
-    (readings : Option (List ℕ)) (count : ℕ) (Stores : ℕ → AllocatorState → Type 0)
-    (StoresPart : ℕ → Store → List PutWithOrigin → Type 0) where
+    (readings : Option (List ℕ)) (count : ℕ) (Stores : ℕ → Running → Type 0)
+    (StoresPart : ℕ → Stored → List PutWithOrigin → Type 0) where
   -- in the turn of the one at a place, when all stood like this: no frame was sent in it, its clock was read, and some
   -- first puts of it were made: of its first step alone, where the next item of its link was not taken
   pub record IsCutAt (before : Together) (place : ℕ) : Type 0 where
@@ -81,9 +78,10 @@ module _ {L : Type 0} (coming : L → Option (List Received)) (sent : L → Opti
         coming (slice_index_or links i link) ≡ Some (before.running i).coming
     pub sent_is : (i : ℕ) (link : L) → i < count →
         sent (slice_index_or links i link) ≡ Some (before.running i).sent
-    pub stored_is : (i : ℕ) → i < count → (i ≡ place → ⊥) → Stores i (before.running i).allocator
+    pub stored_is : (i : ℕ) → i < count → (i ≡ place → ⊥) → Stores i (before.running i)
+    pub same : AreStored count before
     pub own_is : (link : L) → IsCutIn (next_reading before.readings) (turning_at place before)
-        (coming (slice_index_or links place link)) (StoresPart place (before.running place).allocator.raft_server.store)
+        (coming (slice_index_or links place link)) (StoresPart place (before.running place).stored)
 
   -- in the turn of one of which this holds: those before its place had taken theirs
   pub record IsCutRound (Named : ℕ → Type 0) (all : Together) : Type 0 where
@@ -100,12 +98,12 @@ module _ {L : Type 0} (coming : L → Option (List Received)) (sent : L → Opti
 
 -- of the disk at a place
 module _ {D : Type 0} (disk : Ghosts D) (disks : List (Option D)) where
-  abbrev pub HoldsAt : ℕ → AllocatorState → Type 0
-  HoldsAt i t = (after : D) → slice_index_or disks i None ≡ Some after → HoldsStore disk after t.raft_server.store
+  abbrev pub HoldsAt : ℕ → Running → Type 0
+  HoldsAt i r = (after : D) → slice_index_or disks i None ≡ Some after → HoldsState disk after r.stored
 
-  abbrev pub HoldsPartAt : ℕ → Store → List PutWithOrigin → Type 0
-  HoldsPartAt i store puts =
-      (after : D) → slice_index_or disks i None ≡ Some after → HoldsStoreInPart disk after store puts
+  abbrev pub HoldsPartAt : ℕ → Stored → List PutWithOrigin → Type 0
+  HoldsPartAt i state puts =
+      (after : D) → slice_index_or disks i None ≡ Some after → HoldsStateInPart disk after state puts
 
 -- the same, of links and disks
 abbrev pub IsCutAtTurn : {L D : Type 0} → (L → Option (List Received)) → (L → Option (List RawFrame)) →

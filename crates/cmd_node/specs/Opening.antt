@@ -5,7 +5,7 @@ use Rattle.outside.specs.declared.received.Received.{Received}
 use Rattle.outside.specs.Readings.{next_reading, readings_behind}
 use Rattle.cmd_base.specs.Draws.{next_state, word_at}
 use Rattle.raft_core.specs.StoredPuts.{store_of}
-use Rattle.raft_log.specs.Stored.{Stored}
+use Rattle.raft_log.specs.Stored.{Stored, after_puts, opening_puts}
 use Rattle.alloc_spec.specs.Rules.{Rules, opening_by}
 use Rattle.cmd_node.specs.Turn.{Running}
 use Rattle.cmd_node.specs.Turns.{Together}
@@ -25,14 +25,16 @@ readings_after (suc count) readings = readings_behind (readings_after count read
 
 -- the generator of an allocator's words stands at its node ID before the first
 abbrev pub opened_at : Rules → List ℕ → Given → ℕ → Running
-opened_at rules ids given place = let id = slice_index ids place in let state = next_state id in record {
-  id = id;
-  allocator = opening_by id rules (store_of (given.stored place))
-      (next_reading (readings_after place given.readings)) (word_at state);
-  draws = state;
-  coming = given.coming place;
-  sent = given.sent place;
-}
+opened_at rules ids given place = let id = slice_index ids place in let state = next_state id in
+    let found = given.stored place in record {
+      id = id;
+      allocator = opening_by id rules (store_of found)
+          (next_reading (readings_after place given.readings)) (word_at state);
+      stored = after_puts (opening_puts found) found;
+      draws = state;
+      coming = given.coming place;
+      sent = given.sent place;
+    }
 
 -- the allocators of these nodes, opened by these rules and before their first turn
 abbrev pub together_at_opening : Rules → List ℕ → Given → Together

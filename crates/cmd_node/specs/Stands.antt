@@ -69,6 +69,7 @@ module _ {D F : Type 0} {disk : Ghosts D} where
       (sent : Option (List RawFrame)) (r : Running) : Type 0 where
     pub id : runner.id ≡ r.id
     pub server : StandsFor runner.server r.allocator
+    pub stored : durable_state (durable_of runner.server) ≡ r.stored
     pub draws : runner.draws ≡ r.draws
     pub coming_is : coming ≡ Some r.coming
     pub sent_is : sent ≡ Some r.sent

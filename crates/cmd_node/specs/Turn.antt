@@ -5,6 +5,8 @@ use Rattle.outside.specs.declared.received.RawFrame.{RawFrame}
 use Rattle.outside.specs.declared.received.Received.{Received}
 use Rattle.outside.specs.Traffic.{items_behind, next_item}
 use Rattle.cmd_base.specs.Draws.{next_state, word_at}
+use Rattle.raft_core.specs.StoredPuts.{stored_puts}
+use Rattle.raft_log.specs.Stored.{Stored, after_puts}
 use Rattle.alloc_spec.specs.Delivered.{StepResult}
 use Rattle.alloc_spec.specs.Step.{Event, Tick, after_pop, step}
 use Rattle.alloc_spec.specs.AllocatorState.{AllocatorState, view_of}
@@ -13,11 +15,12 @@ use Rattle.cluster_spec.specs.Report.{line_of_view}
 use Rattle.cluster_spec.specs.ReportLine.{text_of_line}
 use Rattle.cmd_node.specs.Frames.{event_in, raw_of}
 
--- an allocator that runs: its server, where the generator of its words stands, the items that its link still has
--- for it, and the frames that were sent there
+-- an allocator that runs: its server, what its disk has stored, where the generator of its words stands, the items that
+-- its link still has for it, and the frames that were sent there
 pub record Running : Type 0 where
   pub id : ℕ
   pub allocator : AllocatorState
+  pub stored : Stored
   pub draws : ℕ
   pub coming : List Received
   pub sent : List RawFrame
@@ -32,10 +35,13 @@ abbrev pub step_line : ℕ → ℕ → StepResult → List ℕ
 step_line number id step_result =
     text_of_line number (line_of_view id (view_of step_result.step_state.allocator) step_result)
 
--- what a step came to, with its line behind all others
+-- what a step came to: its puts are stored, and its line stands behind all others
 abbrev pub after_step : ℕ → StepResult → Turning → Turning
 after_step number step_result t = record {
-  running = record t.running { allocator = step_result.step_state.allocator };
+  running = record t.running {
+    allocator = step_result.step_state.allocator;
+    stored = after_puts (stored_puts step_result.step_state.puts t.running.stored) t.running.stored;
+  };
   lines = t.lines ++ step_line number t.running.id step_result ∷ [];
 }
 

@@ -1,6 +1,7 @@
 -- The turns of all allocators that run, over one clock.
-use Rattle.std.specs.Prelude.{ℕ, zero, suc, List}
+use Rattle.std.specs.Prelude.{◌≡◌, ℕ, zero, suc, ◌<◌, List}
 use Rattle.outside.specs.Readings.{next_reading, readings_behind}
+use Rattle.raft_core.specs.StoredPuts.{store_of}
 use Rattle.raft_model.specs.Lists.{at}
 use Rattle.cmd_node.specs.Turn.{Running, Turning, turn}
 
@@ -9,6 +10,11 @@ pub record Together : Type 0 where
   pub running : ℕ → Running
   pub readings : List ℕ
   pub lines : List (List ℕ)
+
+-- what each of so many has stored is what its allocator has, and the origins of entries besides
+abbrev pub AreStored : ℕ → Together → Type 0
+AreStored count all =
+    (i : ℕ) → i < count → store_of (all.running i).stored ≡ (all.running i).allocator.raft_server.store
 
 -- the allocator at a place, whose turn it is
 abbrev pub turning_at : ℕ → Together → Turning

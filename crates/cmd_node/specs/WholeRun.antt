@@ -3,13 +3,11 @@ use Rattle.std.specs.Prelude.{◌≡◌, ℕ, ◌<◌, List, length, Option, Som
 use Rattle.disk_model.specs.declared.disk.Disk.{Ghosts}
 use Rattle.outside.specs.declared.received.RawFrame.{RawFrame}
 use Rattle.outside.specs.declared.received.Received.{Received}
-use Rattle.raft_core.specs.StoredPuts.{store_of}
 use Rattle.raft_log.specs.Rules.{AlwaysStandsForState, StandsForState}
 use Rattle.raft_log.specs.Stored.{Stored}
-use Rattle.raft_model.specs.Server.{Store}
 use Rattle.alloc_spec.specs.Rules.{Rules}
 use Rattle.cmd_node.specs.Opening.{Given, together_at_opening}
-use Rattle.cmd_node.specs.Turns.{Together, all_turns}
+use Rattle.cmd_node.specs.Turns.{AreStored, Together, all_turns}
 
 -- the allocators of these nodes, opened by these rules, after all their turns
 abbrev pub after_turns : Rules → ℕ → List ℕ → Given → Together
@@ -20,12 +18,10 @@ pub record TellsState {D : Type 0} (disk : Ghosts D) (before : D) (state : Store
   pub tells : disk.tells before ≡ true
   pub stands : StandsForState (disk.contents before).seen state
 
--- the disk tells what it holds, and whatever a stop leaves of it stands for a state that is read as this store
-pub record HoldsStore {D : Type 0} (disk : Ghosts D) (after : D) (store : Store) : Type 0 where
+-- the disk tells what it holds, and whatever a stop leaves of it stands for this state
+pub record HoldsState {D : Type 0} (disk : Ghosts D) (after : D) (state : Stored) : Type 0 where
   pub tells : disk.tells after ≡ true
-  pub state : Stored
   pub stands : AlwaysStandsForState (disk.contents after) state
-  pub store_is : store_of state ≡ store
 
 module _ {L D : Type 0} (coming : L → Option (List Received)) (sent : L → Option (List RawFrame))
     (disk : Ghosts D) where
@@ -41,7 +37,7 @@ module _ {L D : Type 0} (coming : L → Option (List Received)) (sent : L → Op
     pub readings_are : readings ≡ Some given.readings
 
   -- what a run of so many allocators leaves that took so many turns each and are these then: each link tells the items
-  -- that are left and the frames that were sent, each disk holds the store of its allocator, and the clock tells the
+  -- that are left and the frames that were sent, each disk holds what its allocator has stored, and the clock tells the
   -- readings that are left
   pub record LeavesAll (links : List L) (disks : List (Option D)) (readings : Option (List ℕ)) (count : ℕ)
       (all : Together) : Type 0 where
@@ -50,5 +46,6 @@ module _ {L D : Type 0} (coming : L → Option (List Received)) (sent : L → Op
     pub sent_is : (i : ℕ) (link : L) → i < count
         → sent (slice_index_or links i link) ≡ Some (all.running i).sent
     pub stored_is : (i : ℕ) (after : D) → i < count → slice_index_or disks i None ≡ Some after →
-        HoldsStore disk after (all.running i).allocator.raft_server.store
+        HoldsState disk after (all.running i).stored
+    pub same : AreStored count all
     pub readings_are : readings ≡ Some all.readings

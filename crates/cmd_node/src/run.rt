@@ -75,7 +75,6 @@ pub fn node<K: Sink, L: Link, D: Disk, C: Clock>(
 {
     a_state_is_durable::<D>();
     an_image_stands_for_one_state();
-    an_opening_goes_on();
     let Some(mut runners) = Runners::new(alloc, accept) else {
         return Status::Memory;
     };

@@ -1,14 +1,14 @@
 -- A disk that stops in place of the first call behind so many puts: these are done, and no other.
-use Rattle.std.proofs.Common.{◌≡◌, ℕ, zero, suc, ◌+◌, ◌*◌, ◌<◌, ◌≤◌, Bool, true, false, List, [], ◌∷◌, length, take, refl, sym, ap, ◌∙◌, arith, inl, inr, ◌⊎◌, None, Some}
+use Rattle.std.proofs.Common.{◌≡◌, ℕ, zero, suc, ◌+◌, ◌*◌, ◌<◌, ◌≤◌, Bool, true, false, List, [], ◌∷◌, length, take, refl, sym, ap, subst, ◌∙◌, arith, inl, inr, ◌⊎◌, None, Some}
 use Rattle.std.specs.Prelude.{◌-◌, ◌==◌, ◌&&◌, ◌||◌, not, if◌then◌else◌}
 use Rattle.std.proofs.lemmas.Bool.Decides.{eqb_tells}
 use Rattle.disk_model.specs.declared.calls.Calls.{Calls}
 use Rattle.disk_model.specs.Calls.{acts, after_call}
-use Rattle.kv_store.specs.KeyDisk.{KeyDisk, after_calls, is_put, turned_to}
+use Rattle.kv_store.specs.KeyDisk.{KeyDisk, after_calls, is_opened, is_put, opened_on, turned_to}
 use Rattle.outside.specs.Faults.{one_more}
 use Rattle.raft_log.specs.DeviceCalls.{key_of}
-use Rattle.raft_log.specs.KeyDisk.{are_put, put_state_on, puts_on}
-use Rattle.raft_log.specs.Stored.{Put, Stored, after_put, after_puts}
+use Rattle.raft_log.specs.KeyDisk.{are_put, is_open_on, opening_on, put_state_on, puts_on}
+use Rattle.raft_log.specs.Stored.{Put, Stored, after_put, after_puts, opening_puts}
 
 -- a stop in place of that call, counted from the next one as 1
 abbrev pub armed : ℕ → ℕ → Calls
@@ -162,3 +162,51 @@ cut_behind (put ∷ puts) (suc stop) key_disk faults = elim (cut_behind puts sto
         ap (λ (n : ℕ). are_put (put ∷ puts) (armed (four n) faults)) is
         ∙ (λ i. put_acts call faults i && are_put puts (four_passed call faults i))
         ∙ ap (λ (n : ℕ). are_put puts (armed n faults)) (sym is)
+
+-- ---- an opening, whose two calls come before its puts
+
+abbrev pub behind_opening : ℕ → ℕ
+behind_opening puts = suc (suc (stop_behind puts))
+
+pub opening_stop_is : (puts : ℕ) → behind_opening puts ≡ 4 * puts + 3
+opening_stop_is puts = let e = stop_is puts in omega (arith, e)
+
+module _ (puts faults : ℕ) where
+  read_acts : acts (armed (suc (stop_behind puts)) faults) ≡ true
+  read_acts = let r = behind_suc puts in ap (λ (call : ℕ). acts (armed (suc call) faults)) r.1 ∙ acts_later r.0 faults
+
+  read_passed : after_call (armed (suc (stop_behind puts)) faults) ≡ armed (stop_behind puts) faults
+  read_passed = let r = behind_suc puts in
+      ap (λ (call : ℕ). after_call (armed (suc call) faults)) r.1 ∙ passed r.0 faults ∙ ap (λ (call : ℕ). armed call faults) (sym r.1)
+
+  both_passed : after_call (after_call (armed (behind_opening puts) faults)) ≡ armed (stop_behind puts) faults
+  both_passed = ap after_call (passed (stop_behind puts) faults) ∙ read_passed
+
+  both_act : is_opened (armed (behind_opening puts) faults) ≡ true
+  both_act = λ i. acts_later (stop_behind puts) faults i && (ap acts (passed (stop_behind puts) faults) ∙ read_acts) i
+
+  module _ (key_disk : KeyDisk Stored) where
+    abbrev begun : KeyDisk Stored
+    begun = armed_on (behind_opening puts) faults key_disk
+
+    abbrev own_puts : List Put
+    own_puts = opening_puts key_disk.store
+
+    opened_path : opened_on begun ≡ armed_on (stop_behind puts) faults key_disk
+    opened_path = λ i.
+        if acts_later (stop_behind puts) faults i then record key_disk { unsynced = None; calls = both_passed i }
+        else record begun { calls = after_call begun.calls }
+
+    opening_path : opening_on begun ≡ puts_on own_puts (armed_on (stop_behind puts) faults key_disk)
+    opening_path = λ i. if both_act i then puts_on own_puts (opened_path i) else opened_on begun
+
+    open_path : is_open_on begun ≡ are_put own_puts (armed (stop_behind puts) faults)
+    open_path = λ i. both_act i && are_put own_puts (both_passed i)
+
+    -- all of its puts are done, and it is open; or those before the stop
+    pub opening_behind : (AllPut own_puts puts key_disk (opening_on begun) faults × (is_open_on begun ≡ true))
+        ⊎ (SomePut own_puts puts key_disk (opening_on begun) faults × (is_open_on begun ≡ false))
+    opening_behind = elim (cut_behind own_puts puts key_disk faults) [
+      | inl all ↦ inl (subst (λ (d : KeyDisk Stored). AllPut own_puts puts key_disk d faults) (sym opening_path) all, open_path ∙ all.all)
+      | inr some ↦ inr (subst (λ (d : KeyDisk Stored). SomePut own_puts puts key_disk d faults) (sym opening_path) some, open_path ∙ some.not_all)
+    ]

@@ -1,7 +1,8 @@
 -- A run of `node` in a trace from the beginning.
-use Rattle.std.proofs.Common.{◌≡◌, ℕ, ◌<◌, Bool, true, false, List, [], ◌∷◌, ◌++◌, length, append_assoc, append-nil, refl, sym, ap, subst, ◌∙◌, arith, Option, Some, inl, inr}
+use Rattle.std.proofs.Common.{◌≡◌, ℕ, ◌<◌, Bool, true, false, List, [], ◌∷◌, ◌++◌, length, take, append_assoc, append-nil, refl, sym, ap, subst, ◌∙◌, arith, Option, Some, inl, inr}
 use Rattle.std.specs.Prelude.{◌==◌, slice_index, if◌then◌else◌}
 use Rattle.std.proofs.lemmas.Bool.Decides.{eqb_tells}
+use Rattle.std.proofs.lemmas.List.{take_all}
 use Rattle.disk_model.specs.declared.disk.Disk.{Ghosts}
 use Rattle.outside.specs.declared.received.RawFrame.{RawFrame}
 use Rattle.outside.specs.declared.received.Received.{Received}
@@ -11,30 +12,33 @@ use Rattle.raft_model.specs.Members.{HasNoneTwice}
 use Rattle.replay_text.specs.declared.row.Row.{Row}
 use Rattle.cluster_spec.specs.Cluster.{AreMembers, Cluster, after_rows, cluster, is_member, rules_of}
 use Rattle.cluster_spec.specs.Members.{is_running}
-use Rattle.cmd_node.specs.Opening.{Given}
-use Rattle.cmd_node.specs.CutRun.{HoldsStoreInPart, IsCutAtTurn}
+use Rattle.cmd_base.specs.Draws.{next_state, word_at}
+use Rattle.cmd_node.specs.Opening.{Given, opened_at, readings_after}
+use Rattle.cmd_node.specs.CutRun.{IsCutAtOpening, IsCutAtTurn, KeepsOrOpens}
 use Rattle.cmd_node.specs.Puts.{tick_puts, turn_puts}
 use Rattle.cmd_node.specs.Turn.{Running, Turning as Turn}
 use Rattle.cmd_node.specs.Turns.{Together, turning_at}
 use Rattle.outside.specs.Readings.{next_reading}
 use Rattle.outside.specs.Traffic.{next_item}
 use Rattle.raft_log.specs.Rules.{StandsForState}
-use Rattle.raft_log.specs.Stored.{AfterSome, Stored}
+use Rattle.raft_log.specs.Stored.{AfterSome, Put, Stored, after_puts, opening_puts}
 use Rattle.alloc_spec.specs.Rules.{Rules, tells}
-use Rattle.cmd_node.specs.WholeRun.{HoldsStore, LeavesAll, after_turns}
-use Rattle.cmd_node_laws.specs.Traces.{Came, Event, MayAllHappen, Silence, all_rows, rows_of}
+use Rattle.cmd_node.specs.WholeRun.{LeavesAll, Tell, after_turns}
+use Rattle.cmd_node_laws.specs.Traces.{Came, Event, MayAllHappen, MayOpen, Silence, all_rows, rows_of}
+use Rattle.cmd_node_laws.specs.Alike.{Alike, AsRead, Likeness, Whole}
 use Rattle.cmd_node_laws.specs.Mirrored.{AreCalm, Carries, IsMirrored, raw_by}
-use Rattle.cmd_node_laws.specs.Processes.{GoesOn, Point, StandAt, place_of, together_at}
+use Rattle.cmd_node_laws.specs.Processes.{GoesOn, HasStoredAt, IsWaiting, Point, StandAt, place_of, together_at}
 use Rattle.cmd_node_laws.specs.Processes as at_point
-use Rattle.cmd_node_laws.specs.Stands.{IsCutAsTold, IsFollowed, IsFoundKilled, IsRunIn, LeavesAsTold, MayBeKilled, world_after}
-use Rattle.cmd_node_laws.proofs.Final.{at_place, same_ids_of}
+use Rattle.cmd_node_laws.specs.Stands.{BeganAlike, IsCutAsTold, IsCutOpeningAsTold, IsFollowed, IsFound, IsFoundKilled, IsRunIn, LeavesAsTold, MayBeKilled, opening_kill_of, world_after}
+use Rattle.cmd_node_laws.proofs.Final.{at_place, same_ids_of, some_found}
+use Rattle.cmd_node_laws.proofs.OpeningKilled.{opened_in_part, opening_killed}
 use Rattle.cmd_node_laws.proofs.Places.{after_both}
 use Rattle.cmd_node_laws.proofs.Running.{ids_of, ids_then}
 
 pub record FollowLaws : Type 0 where
-  pub killed : (w : Cluster) (t : Turn) (moment : ℕ) (came : Came) (image : List ℕ) (state : Stored) → AreCalm w → IsMirrored w t.running
-      → store_of (w.member t.running.id).disk.store ≡ store_of state → AfterSome (StandsForState image) (stored_puts (turn_puts moment t) state) state
-      → Carries w.frames (next_item t.running.coming) came → MayBeKilled w t.running moment came → IsFoundKilled image w t.running moment came
+  pub killed : (w : Cluster) (t : Turn) (moment : ℕ) (came : Came) (image : List ℕ) (state : Stored) (likeness : Likeness) → AreCalm w → IsMirrored w t.running
+      → Alike likeness (w.member t.running.id).disk.store state → AfterSome (StandsForState image) (stored_puts (turn_puts moment t) state) state
+      → Carries w.frames (next_item t.running.coming) came → MayBeKilled w t.running moment came → IsFoundKilled likeness image w t.running moment came
   pub calm : (ids : List ℕ) (trace : List Event) → MayAllHappen trace (cluster ids) → AreCalm (world_after ids trace)
   pub followed : (mine : List ℕ) (given : Given) (rules : Rules) (w : Cluster) (trace : List Event) (from to : Point) → HasNoneTwice mine → rules ≡ rules_of w.ids (tells rules) → AreCalm w → place_of from < length mine
       → MayAllHappen trace w → GoesOn rules mine given w trace from to → StandAt rules mine given w from → (i : ℕ) → i < length mine
@@ -91,6 +95,19 @@ module _ (laws : FollowLaws) (ids mine : List ℕ) (before during : List Event) 
       sym (laws.stored ids (before ++ during) r is.members is.may (subst (λ (n : ℕ). In n ids) (sym e) (is.among (slice_index mine i) (at_place mine i low))) mirrored)
       ∙ ap (λ (n : ℕ). store_of (v.member n).disk.store) e
 
+  -- the same, where the process has stored it: of each likeness
+  pub alike_there : (likeness : Likeness) (r : Running) (i : ℕ) → i < length mine → r.id ≡ slice_index mine i → IsMirrored v r → store_of r.stored ≡ r.allocator.raft_server.store
+      → (HasStoredAt rules mine given w (at_point.Opening 0) i → (v.member (slice_index mine i)).disk.store ≡ r.stored)
+      → BeganAlike likeness w mine given i → Alike likeness (v.member (slice_index mine i)).disk.store r.stored
+  alike_there AsRead r i low e mirrored same stored began = sym (stored_there r i low e mirrored) ∙ sym same
+  alike_there Whole r i low e mirrored same stored began = stored (λ h. absurd (omega (arith, h)), λ h. began)
+
+-- ---- an opening, in which nothing is sent
+
+nothing_more : {A : Type 0} (xs ys : List A) → xs ≡ xs ++ ys → ys ≡ []
+nothing_more [] ys e = sym e
+nothing_more (x ∷ xs) ys e = nothing_more xs ys (cc (e))
+
 -- ---- a turn in which nothing comes
 
 abbrev in_silence : Turn → Turn
@@ -118,7 +135,11 @@ module _ (laws : FollowLaws) {L D : Type 0} (coming : L → Option (List Receive
       → let w = world_after ids before in LeavesAsTold sent disk links disks mine given w (world_after ids (before ++ during)) (all_rows during w)
   left_as_told ids mine before during rules turns given links disks readings is left = record {
     sent_is = λ i link low. left.sent_is i link low ∙ ap (λ (l : List RawFrame). some l) (follow i low).frames;
-    stored_is = λ i after low there. subst (HoldsStore disk after) (stored_there laws ids mine before during rules given to is (now i) i low (same_id i) (follow i low).stands) (left.stored_is i after low there);
+    stored_is = λ likeness i after low began there. record {
+      held = (now i).stored;
+      holds = left.stored_is i after low there;
+      same = alike_there laws ids mine before during rules given to is likeness (now i) i low (same_id i) (follow i low).stands (left.same i low) (follow i low).stored began;
+    };
   }
     where
       to : Point
@@ -142,15 +163,15 @@ module _ (laws : FollowLaws) {L D : Type 0} (coming : L → Option (List Receive
       → let w = world_after ids before in IsCutAsTold coming sent disk links disks mine given w (world_after ids (before ++ during)) (all_rows during w) all place
   cut_as_told ids mine before during rules taken place given links disks readings within is left = record {
     sent_is = λ i link low. left.sent_is i link low ∙ ap (λ (l : List RawFrame). some l) (follow i low).frames;
-    stored_is = λ i after low apart there. subst (HoldsStore disk after) (stored_now i low) (left.stored_is i low apart after there);
-    killed = λ link after image there leaves. elim (left.own_is link) [
+    stored_is = λ likeness i after low began apart there. record { held = (all.running i).stored; holds = left.stored_is i low apart after there; same = alike likeness i low began };
+    killed = λ likeness link after image began there leaves. elim (left.own_is link) [
       | inl h ↦ let part = h.1 after there in inl (
         h.0,
-        laws.killed v (in_silence t) moment Silence image part.state calm (record { server = mirrored.server; runs = mirrored.runs; same = mirrored.same }) (stored_as part)
-            (subst (λ (puts : List PutWithOrigin). AfterSome (StandsForState image) (stored_puts puts part.state) part.state) (sym (silent_puts moment t)) (part.stands image leaves))
+        laws.killed v (in_silence t) moment Silence image state likeness calm (record { server = mirrored.server; runs = mirrored.runs; same = mirrored.same }) (alike_here likeness began)
+            (subst (λ (puts : List PutWithOrigin). AfterSome (StandsForState image) (stored_puts puts state) state) (sym (silent_puts moment t)) (part.stands image leaves))
             tt (λ puts. (record { member = listed; runs = ap is_running mirrored.runs }, λ still. tt)),
       )
-      | inr h ↦ let part = h.1 after there in inr (h.0, λ came carries may. laws.killed v t moment came image part.state calm mirrored (stored_as part) (part.stands image leaves) carries may)
+      | inr h ↦ let part = h.1 after there in inr (h.0, λ came carries may. laws.killed v t moment came image state likeness calm mirrored (alike_here likeness began) (part.stands image leaves) carries may)
     ];
   }
     where
@@ -172,8 +193,11 @@ module _ (laws : FollowLaws) {L D : Type 0} (coming : L → Option (List Receive
       same_id : (i : ℕ) → (all.running i).id ≡ slice_index mine i
       same_id i = ids_then mine given rules taken place i
 
-      stored_now : (i : ℕ) → i < length mine → (all.running i).allocator.raft_server.store ≡ store_of (v.member (slice_index mine i)).disk.store
-      stored_now i low = stored_there laws ids mine before during rules given to is (all.running i) i low (same_id i) (follow i low).stands
+      alike : (likeness : Likeness) (i : ℕ) → i < length mine → BeganAlike likeness (world_after ids before) mine given i → Alike likeness (v.member (slice_index mine i)).disk.store (all.running i).stored
+      alike likeness i low = alike_there laws ids mine before during rules given to is likeness (all.running i) i low (same_id i) (follow i low).stands (left.same i low) (follow i low).stored
+
+      state : Stored
+      state = (all.running place).stored
 
       t : Turn
       t = turning_at place all
@@ -187,10 +211,90 @@ module _ (laws : FollowLaws) {L D : Type 0} (coming : L → Option (List Receive
       mirrored : IsMirrored v (all.running place)
       mirrored = (follow place within).stands
 
-      stored_as : {after : D} {puts : List PutWithOrigin} (part : HoldsStoreInPart disk after (all.running place).allocator.raft_server.store puts)
-          → store_of (v.member (all.running place).id).disk.store ≡ store_of part.state
-      stored_as part = ap (λ (n : ℕ). store_of (v.member n).disk.store) (same_id place) ∙ sym (stored_now place within) ∙ sym part.store_is
+      alike_here : (likeness : Likeness) → BeganAlike likeness (world_after ids before) mine given place → Alike likeness (v.member (all.running place).id).disk.store state
+      alike_here likeness began = subst (λ (n : ℕ). Alike likeness (v.member n).disk.store state) (sym (same_id place)) (alike likeness place within began)
 
       listed : is_member v.ids (all.running place).id ≡ true
       listed = ap (λ (l : List ℕ). is_member l (all.running place).id) (same_ids_of ids (all_rows (before ++ during) (cluster ids)))
           ∙ is_listed ids (all.running place).id (subst (λ (n : ℕ). In n ids) (sym (same_id place)) (is.among (slice_index mine place) (at_place mine place within)))
+
+  -- ---- an opening
+
+  module _ (one_state : (image : List ℕ) (a b : Stored) → StandsForState image a → StandsForState image b → a ≡ b)
+      (keeps : (state : Stored) (count : ℕ) → store_of (after_puts (take count (opening_puts state)) state) ≡ store_of state) where
+    pub opened_as_told : (ids mine : List ℕ) (before during : List Event) (rules : Rules) (given : Given) (links_old links : List L) (disks_old disks : List (Option D))
+        (readings_old readings : Option (List ℕ)) (id : ℕ) → Tell coming sent disk links_old disks_old readings_old given
+        → (cut : IsCutAtOpening disk mine links_old links disks_old disks readings_old readings (KeepsOrOpens disk) id)
+        → IsRunIn ids before during rules mine given (at_point.Opening cut.place)
+        → let w = world_after ids before in IsCutOpeningAsTold disk disks_old disks rules mine given w (world_after ids (before ++ during)) (all_rows during w) cut.place
+    opened_as_told ids mine before during rules given links_old links disks_old disks readings_old readings id tell cut is = record {
+      silent = λ i low. nothing_more (given.sent i) (raw_by (slice_index mine i) (world_after ids before) (all_rows during (world_after ids before))) (follow i low).frames;
+      stored_is = λ likeness i first after low began was there.
+          let within : i < length mine = (let more = cut.within in omega (arith, low, more)) in
+          record {
+            held = (opened_at rules mine given i).stored;
+            holds = cut.stored_is i first after (given.stored i) low was there (tell.stored_is i first was);
+            same = alike_there laws ids mine before during rules given to is likeness (opened_at rules mine given i) i within refl ((follow i within).stands.0 low)
+                (keeps_all (given.stored i)) (λ stored. ((follow i within).stored stored).0 low) began;
+          };
+      waiting = λ i high low. (follow i low).stands.1 high;
+      killed = λ likeness first after image began was there leaves.
+          let told = tell.stored_is place first was in
+          elim (cut.own_is first after was there told.tells).1 [
+            | inl same ↦ inl (same.images image leaves)
+            | inr part ↦ inr (in_part likeness image part.0 (began_here likeness began) (one_state (disk.contents first).seen part.0 (given.stored place) part.1 told.stands) (part.2 image leaves))
+          ];
+    }
+      where
+        place : ℕ
+        place = cut.place
+
+        to : Point
+        to = at_point.Opening place
+
+        v : Cluster
+        v = world_after ids (before ++ during)
+
+        n : ℕ
+        n = slice_index mine place
+
+        follow : (i : ℕ) → i < length mine → IsFollowed rules mine given (world_after ids before) v (at_point.Opening 0) to (λ n. raw_by n (world_after ids before) (all_rows during (world_after ids before))) i
+        follow i low = followed laws ids mine before during rules given to is i low
+
+        waits : IsWaiting rules mine given v place
+        waits = (follow place cut.within).stands.1 (omega arith)
+
+        may : MayOpen n v
+        may = (
+          ap (λ (l : List ℕ). is_member l n) (same_ids_of ids (all_rows (before ++ during) (cluster ids))) ∙ is_listed ids n (is.among n (at_place mine place cut.within)),
+          ap is_running waits.down,
+        )
+
+        keeps_all : (state : Stored) → store_of (after_puts (opening_puts state) state) ≡ store_of state
+        keeps_all state = let puts = opening_puts state in
+            ap (λ (l : List Put). store_of (after_puts l state)) (sym (take_all (length puts) puts (omega arith))) ∙ keeps state (length puts)
+
+        alike_opened : (likeness : Likeness) (count : ℕ) (a b : Stored) → Alike likeness a b → Alike likeness (opened_in_part count a) (opened_in_part count b)
+        alike_opened AsRead count a b e = keeps a count ∙ e ∙ sym (keeps b count)
+        alike_opened Whole count a b e = ap (opened_in_part count) e
+
+        -- it has stored by then what it had stored
+        began_here : (likeness : Likeness) → BeganAlike likeness (world_after ids before) mine given place → Alike likeness (v.member n).disk.store (given.stored place)
+        began_here AsRead began = waits.stored
+        began_here Whole began = ((follow place cut.within).stored (λ h. absurd (omega (arith, h)), λ h. began)).1 (omega arith)
+
+        in_part : (likeness : Likeness) (image : List ℕ) (state : Stored) → Alike likeness (v.member n).disk.store (given.stored place) → state ≡ given.stored place
+            → AfterSome (StandsForState image) (opening_puts state) state
+            → (puts : ℕ) × IsFound likeness image (after_rows v (rows_of (opening_kill_of rules mine given place puts) v)) n
+        in_part likeness image state began same after =
+            let found = some_found (StandsForState image) (opening_puts state) state after in
+            let ends = opening_killed n (tells rules) (next_reading (readings_after place given.readings)) (word_at (next_state n)) found.0 v (laws.calm ids (before ++ during) is.may) may in (
+              found.0,
+              record {
+                down = ends.dead.down;
+                found = opened_in_part found.0 state;
+                stands = found.1;
+                same = subst (λ (stored : Stored). Alike likeness stored (opened_in_part found.0 state)) (sym ends.stored)
+                    (alike_opened likeness found.0 (v.member n).disk.store state (subst (Alike likeness (v.member n).disk.store) (sym same) began));
+              },
+            )

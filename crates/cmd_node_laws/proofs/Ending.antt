@@ -1,5 +1,5 @@
 -- All that happens under the premises is lawful, and leaves disks of which nothing is set to fail.
-use Rattle.std.proofs.Common.{◌≡◌, ℕ, ◌+◌, ◌*◌, Bool, true, List, [], ◌∷◌, ◌++◌, length, refl, sym, subst, None, inl, inr}
+use Rattle.std.proofs.Common.{◌≡◌, ℕ, ◌+◌, ◌*◌, Bool, true, List, [], ◌∷◌, ◌++◌, length, refl, sym, subst, arith, None, inl, inr}
 use Rattle.std.specs.Prelude.{if◌then◌else◌}
 use Rattle.outside.specs.declared.pattern.Pattern.TheVariants.{Old}
 use Rattle.raft_log.specs.Stored.{Stored}
@@ -13,11 +13,12 @@ use Rattle.alloc_spec.specs.AllocatorState.{AllocatorState}
 use Rattle.cluster_spec.specs.Cluster.{Cluster, after_rows, arrival_at, cluster, frame_at, after_row, receipt_of, tick_of}
 use Rattle.cluster_spec.specs.Lawful.{Lawful, cause, arrival_refusal, no_such_frame}
 use Rattle.cluster_spec.specs.Members.{is_running}
-use Rattle.cmd_node_laws.specs.Traces.{Came, Event, IsForeign, IsKilled, MayAllHappen, MayOccur, MayHappen, OfAllocatee, Opens, Silence, Stops, Turns, WasSent, all_rows, came_rows, rows_of, rows_then, while_running}
+use Rattle.cmd_node_laws.specs.Traces.{Came, Event, IsForeign, IsKilled, IsKilledAtOpening, MayAllHappen, MayOccur, MayHappen, OfAllocatee, Opens, Silence, Stops, Turns, WasSent, all_rows, came_rows, rows_of, rows_then, while_running}
 use Rattle.cmd_node_laws.specs.Mirrored.{AreCalm, IsCalm}
 use Rattle.cmd_node_laws.proofs.Killed.{RunsArmed, arm_leaves, step_cut, stored_at}
 use Rattle.cmd_node_laws.proofs.Killing.{Finishes, arm_lawful, dead_now, finishes_on, running_now, stop_running, stop_stopped, stop_told}
 use Rattle.cmd_node_laws.proofs.Lawfully.{foreign_judged, turn_goes}
+use Rattle.cmd_node_laws.proofs.OpeningKilled.{opening_killed}
 use Rattle.cmd_node_laws.proofs.Others.{others_stay}
 use Rattle.cmd_node_laws.proofs.Places.{after_both, lawful_both}
 use Rattle.cmd_node_laws.proofs.Rows.{Runs, ext_lawful, ext_there, step_state_of, open_lawful, open_leaves, open_world, runs_it, rx_lawful, stop_lawful, stop_leaves, tick_lawful}
@@ -80,11 +81,13 @@ module _ (deliveries : (setting : Setting) (sessions : List Session) (arrival : 
       arm = arm_leaves n puts w server calm runs
 
       arm_lawful_one : cause w (Crash n (4 * puts + 1) Old) ≡ None
-      arm_lawful_one = arm_lawful n w puts runs.member
+      arm_lawful_one = arm_lawful n w (4 * puts + 1) (omega arith) runs.member
 
   pub event_fine : (event : Event) (w : Cluster) → AreCalm w → MayHappen event w → AreFine w (rows_of event w)
   event_fine (Opens n told moment word) w calm may =
       record { lawful = (open_lawful w n told moment word may.0 may.1, tt); calm = subst AreCalm (sym (open_world w n told moment word calm)) (open_leaves w n told moment word calm) }
+  event_fine (IsKilledAtOpening n told moment word puts) w calm may =
+      let ends = opening_killed n told moment word puts w calm may in record { lawful = ends.lawful; calm = ends.dead.calm }
   event_fine (Turns n moment word came) w calm may =
       let is = runs_it n w calm may.0 in
       let goes = turn_goes deliveries n w moment word came is.0 calm is.1 may.1 in

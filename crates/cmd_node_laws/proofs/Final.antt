@@ -22,10 +22,11 @@ use Rattle.cluster_agreement.proofs.Concatenations.{same_ids}
 use Rattle.cmd_node.specs.Puts.{turn_puts}
 use Rattle.cmd_node.specs.Turn.{Running, Turning}
 use Rattle.cmd_node_laws.specs.Traces.{Came}
+use Rattle.cmd_node_laws.specs.Alike.{Alike, Likeness}
 use Rattle.cmd_node_laws.specs.Mirrored.{AreCalm, Carries, IsMirrored}
 use Rattle.cmd_node_laws.specs.Stands.{IsFoundKilled, MayBeKilled}
 use Rattle.cmd_node_laws.proofs.Killing.{killed_told}
-use Rattle.cmd_node_laws.proofs.Stored.{after_some, some_alike}
+use Rattle.cmd_node_laws.proofs.Stored.{after_some, alike_some}
 use Rattle.cmd_node_laws.proofs.Turning.{MarkLaws}
 
 -- ---- the fact holds after some of the puts
@@ -82,11 +83,11 @@ same_ids_of ids rows = same_from (cluster ids) rows
 
 module _ (marks : MarkLaws)
     (deliveries : (setting : Setting) (sessions : List Session) (arrival : Arrival) (delivery : Delivery) → answer setting sessions arrival ≡ Gives delivery → IsDelivered setting sessions arrival delivery) where
-  pub kill_found : (w : Cluster) (t : Turning) (moment : ℕ) (came : Came) (image : List ℕ) (state : Stored) → AreCalm w → IsMirrored w t.running
-      → store_of (w.member t.running.id).disk.store ≡ store_of state → AfterSome (StandsForState image) (stored_puts (turn_puts moment t) state) state
+  pub kill_found : (w : Cluster) (t : Turning) (moment : ℕ) (came : Came) (image : List ℕ) (state : Stored) (likeness : Likeness) → AreCalm w → IsMirrored w t.running
+      → Alike likeness (w.member t.running.id).disk.store state → AfterSome (StandsForState image) (stored_puts (turn_puts moment t) state) state
       → Carries w.frames (next_item t.running.coming) came
-      → MayBeKilled w t.running moment came → IsFoundKilled image w t.running moment came
-  kill_found w t moment came image state calm is stores after carries may =
+      → MayBeKilled w t.running moment came → IsFoundKilled likeness image w t.running moment came
+  kill_found w t moment came image state likeness calm is alike after carries may =
       let found = some_found (StandsForState image) (stored_puts (turn_puts moment t) state) state after in
       let told = killed_told marks deliveries t.running.id w t moment found.0 came is.server calm (record { member = (may found.0).0.member; up = is.runs }) is.same (may found.0).1 carries in (
         found.0,
@@ -94,6 +95,7 @@ module _ (marks : MarkLaws)
           down = told.dead.down;
           found = after_some found.0 (turn_puts moment t) state;
           stands = found.1;
-          same = ap store_of told.stored ∙ some_alike found.0 (turn_puts moment t) (w.member t.running.id).disk.store state stores;
+          same = subst (λ (stored : Stored). Alike likeness stored (after_some found.0 (turn_puts moment t) state)) (sym told.stored)
+              (alike_some likeness found.0 (turn_puts moment t) (w.member t.running.id).disk.store state alike);
         },
       )

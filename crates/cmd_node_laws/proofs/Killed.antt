@@ -19,7 +19,7 @@ use Rattle.cmd_node_laws.specs.Mirrored.{AreCalm, IsCalm}
 use Rattle.cmd_node_laws.proofs.Armed.{AllPut, IsCutBehind, SomePut, armed, armed_on, cut_behind, stop_behind, stop_is}
 use Rattle.cmd_node_laws.proofs.Calm.{stop_calm, stop_store, written}
 use Rattle.cmd_node_laws.proofs.Places.{own_is}
-use Rattle.cmd_node_laws.proofs.Rows.{Runs, step_state_of}
+use Rattle.cmd_node_laws.proofs.Rows.{Runs, after_event, step_state_of}
 use Rattle.cmd_node_laws.proofs.Stored.{after_noted, after_some, as_many}
 
 -- the disk of a member stops behind so many more puts
@@ -42,10 +42,10 @@ pub record IsDead (n : ℕ) (w : Cluster) : Type 0 where
 abbrev pub stored_at : ℕ → Cluster → Stored
 stored_at n w = (w.member n).disk.store
 
-others_with : (n : ℕ) (w : Cluster) (x : Member) → ((m : ℕ) → m ≢ n → IsCalm (w.member m)) → (m : ℕ) → m ≢ n → IsCalm ((with_member w n x).member m)
+pub others_with : (n : ℕ) (w : Cluster) (x : Member) → ((m : ℕ) → m ≢ n → IsCalm (w.member m)) → (m : ℕ) → m ≢ n → IsCalm ((with_member w n x).member m)
 others_with n w x others m apart = subst IsCalm (sym (at_other w.member n m x apart)) (others m apart)
 
-all_with : (n : ℕ) (w : Cluster) (x : Member) → ((m : ℕ) → m ≢ n → IsCalm (w.member m)) → IsCalm x → AreCalm (with_member w n x)
+pub all_with : (n : ℕ) (w : Cluster) (x : Member) → ((m : ℕ) → m ≢ n → IsCalm (w.member m)) → IsCalm x → AreCalm (with_member w n x)
 all_with n w x others own m = elim (eqb_tells m n) [
   | inl same ↦ subst IsCalm (sym (at_here w.member n m x same.1)) own
   | inr apart ↦ subst IsCalm (sym (at_other w.member n m x apart.1)) (others m apart.1)
@@ -53,15 +53,18 @@ all_with n w x others own m = elim (eqb_tells m n) [
 
 -- ---- a stop is armed
 
-pub not_zero : (puts : ℕ) → (4 * puts + 1 == 0) ≡ false
-not_zero puts = elim (eqb_tells (4 * puts + 1) 0) [ inl same ↦ absurd (omega (arith, same.1)) | inr apart ↦ apart.0 ]
+pub not_zero : (call : ℕ) → 0 < call → (call == 0) ≡ false
+not_zero call some = elim (eqb_tells call 0) [ inl same ↦ absurd (omega (arith, some, same.1)) | inr apart ↦ apart.0 ]
+
+pub arm_at : (n call : ℕ) (w : Cluster) → 0 < call → after_row w (Crash n call Old) ≡ record (with_member w n (armed_member call Old (w.member n))) { rows = w.rows + 1 }
+arm_at n call w some = λ i. record (with_member w n (if not_zero call some i then stopped_with Old (w.member n).disk (w.member n) else armed_member call Old (w.member n))) { rows = w.rows + 1 }
 
 abbrev with_stop : ℕ → Member → Member
 with_stop puts x = record x { disk = record x.disk { calls = record x.disk.calls { stop_in = stop_behind puts } }; pattern = Old }
 
 pub arm_world : (n puts : ℕ) (w : Cluster) → after_row w (Crash n (4 * puts + 1) Old) ≡ record (with_member w n (with_stop puts (w.member n))) { rows = w.rows + 1 }
 arm_world n puts w =
-    (λ i. record (with_member w n (if not_zero puts i then stopped_with Old (w.member n).disk (w.member n) else armed_member (4 * puts + 1) Old (w.member n))) { rows = w.rows + 1 })
+    arm_at n (4 * puts + 1) w (omega arith)
     ∙ ap (λ (call : ℕ). record (with_member w n (armed_member call Old (w.member n))) { rows = w.rows + 1 }) (sym (stop_is puts))
 
 stop_arms : (puts : ℕ) (x : Member) → IsCalm x → IsArmed (with_stop puts x) puts
@@ -86,9 +89,6 @@ arm_leaves n puts w server calm runs =
 
 is_armed_on : (x : Member) (left : ℕ) → IsArmed x left → x.disk ≡ armed_on (stop_behind left) x.disk.calls.faults x.disk
 is_armed_on x left is = λ i. record x.disk { calls = is.calls i; unsynced = is.nothing_unsynced i }
-
-abbrev pub after_event : ℕ → Cluster → Event → Cluster
-after_event n w event = record (with_member w n (member_after_step (w.rows + 1) event (w.member n).status (w.member n))) { rows = w.rows + 1 }
 
 -- the member went on, or stopped within the step
 pub record GoesOn (n : ℕ) (w v : Cluster) (step_state : StepState) (left : ℕ) : Type 0 where

@@ -36,7 +36,7 @@ use Rattle.cmd_node_laws.proofs.Lawfully.{foreign_judged}
 use Rattle.cmd_node_laws.proofs.Places.{after_both, lawful_both}
 use Rattle.cmd_node_laws.proofs.Rows.{Runs, ext_frame, ext_lawful, ext_there, step_state_of, rx_lawful, stop_lawful, tick_lawful}
 use Rattle.cmd_node_laws.proofs.Stored.{after_noted, after_some, all_of, some_of_first, some_of_rest}
-use Rattle.cmd_node_laws.proofs.Turning.{MarkLaws, same_event}
+use Rattle.cmd_node_laws.proofs.Turning.{MarkLaws, puts_as, same_event}
 
 -- lawful rows after which the member is dead, and this is stored
 pub record Finishes (n : ℕ) (w : Cluster) (rows : List Row) (state : Stored) : Type 0 where
@@ -73,20 +73,15 @@ stop_stopped n w is =
     subst (λ (b : Bool). Finishes n w (if b then Crash n 0 Old ∷ [] else []) (stored_at n w)) (sym (dead_now n w is))
     (record { lawful = tt; dead = is; stored = refl })
 
-pub arm_lawful : (n : ℕ) (w : Cluster) (puts : ℕ) → is_member w.ids n ≡ true → cause w (Crash n (4 * puts + 1) Old) ≡ None
-arm_lawful n w puts member = λ i. or_else (because NoNode (not (member i))) (if not_zero puts i then not_running w n else None)
+pub arm_lawful : (n : ℕ) (w : Cluster) (call : ℕ) → 0 < call → is_member w.ids n ≡ true → cause w (Crash n call Old) ≡ None
+arm_lawful n w call some member = λ i. or_else (because NoNode (not (member i))) (if not_zero call some i then not_running w n else None)
 
-as_stored : (n : ℕ) (w : Cluster) (rows : List Row) (a b : Stored) → a ≡ b → Finishes n w rows a → Finishes n w rows b
+pub as_stored : (n : ℕ) (w : Cluster) (rows : List Row) (a b : Stored) → a ≡ b → Finishes n w rows a → Finishes n w rows b
 as_stored n w rows a b e is = subst (Finishes n w rows) e is
 
 module _ (marks : MarkLaws)
     (deliveries : (setting : Setting) (sessions : List Session) (arrival : Arrival) (delivery : Delivery) → answer setting sessions arrival ≡ Gives delivery → IsDelivered setting sessions arrival delivery)
     (n : ℕ) where
-  -- the same puts
-  puts_as : (server allocator : AllocatorState) (row number : ℕ) (e f : Event) → unmarked_server server ≡ unmarked_server allocator → unmarked_event e ≡ unmarked_event f
-      → (step server row e).step_state.puts ≡ (step allocator number f).step_state.puts
-  puts_as server allocator row number e f same events = ap (λ (s : StepResult). s.step_state.puts) (marks.step server allocator row number e f same events)
-
   server_as : (server allocator : AllocatorState) (row number : ℕ) (e f : Event) → unmarked_server server ≡ unmarked_server allocator → unmarked_event e ≡ unmarked_event f
       → unmarked_server (step server row e).step_state.allocator ≡ unmarked_server (step allocator number f).step_state.allocator
   server_as server allocator row number e f same events = ap (λ (s : StepResult). s.step_state.allocator) (marks.step server allocator row number e f same events)
@@ -143,13 +138,13 @@ module _ (marks : MarkLaws)
   came_finishes w t moment Nothing Silence server left is same may carries = silence w server left [] is refl
   came_finishes w t moment (Item raw) (WasSent k) server left is same may carries =
       rx_finishes w k moment server left (item_puts moment (Item raw) t) is may.0 may.1
-      (puts_as server t.running.allocator (w.rows + 1) (suc (length t.lines)) (receipt_of w k moment) (receipt moment raw) same (same_event marks deliveries n raw (frame_at w.frames k) moment carries)
+      (puts_as marks deliveries n server t.running.allocator (w.rows + 1) (suc (length t.lines)) (receipt_of w k moment) (receipt moment raw) same (same_event marks deliveries n raw (frame_at w.frames k) moment carries)
       ∙ of_frame raw moment t carries.frame)
   came_finishes w t moment (Item raw) (IsForeign frame) server left is same may carries =
       finishes_on n w (Ext frame ∷ []) (Rx n (length w.frames + 1) moment ∷ stop_told n (after_row out (Rx n (length w.frames + 1) moment))) (after_some left (item_puts moment (Item raw) t) (stored_at n w)) (ext_lawful w frame may, tt)
       (rx_finishes out (length w.frames + 1) moment server left (item_puts moment (Item raw) t) (record { runs = record { member = is.runs.member; up = is.runs.up }; arm = is.arm; others = is.others })
       (ext_there w frame) (foreign_judged deliveries n w frame moment server is.runs may)
-      (puts_as server t.running.allocator (w.rows + 1 + 1) (suc (length t.lines)) (Comes (arrival_at last moment)) (receipt moment raw) same
+      (puts_as marks deliveries n server t.running.allocator (w.rows + 1 + 1) (suc (length t.lines)) (Comes (arrival_at last moment)) (receipt moment raw) same
       (ap (λ (q : Queued). unmarked_event (Comes (arrival_at q moment))) (ext_frame w.frames outside) ∙ same_event marks deliveries n raw outside moment carries)
       ∙ of_frame raw moment t carries.frame))
     where
@@ -178,7 +173,7 @@ module _ (marks : MarkLaws)
   unfolding turn_puts
   killed_told w t moment puts came server calm runs same may carries =
       finishes_on n w (ticked_rows puts moment word) (rows_then (while_running n (came_rows n moment came)) (stop_told n) w2) state
-      (arm_lawful n w puts runs.member, (tick_lawful w1 n moment word server arm.0.runs, tt))
+      (arm_lawful n w (4 * puts + 1) (omega arith) runs.member, (tick_lawful w1 n moment word server arm.0.runs, tt))
       (elim (step_cut n w1 server (tick_of moment word) puts arm.0) [
         | inl on ↦
             subst (λ (b : Bool). Finishes n w2 (rows_then (λ v. if b then came_rows n moment came v else []) (stop_told n) w2) state) (sym (running_now n w2 tick.allocator on.more on.runs))
@@ -214,7 +209,7 @@ module _ (marks : MarkLaws)
       heard = heard_puts moment (turn_after_tick moment t)
 
       ticked : tick.puts ≡ tick_puts moment t
-      ticked = puts_as server t.running.allocator (w1.rows + 1) (suc (length t.lines)) (tick_of moment word) (tick_of moment word) same refl
+      ticked = puts_as marks deliveries n server t.running.allocator (w1.rows + 1) (suc (length t.lines)) (tick_of moment word) (tick_of moment word) same refl
 
       state : Stored
       state = after_some puts (tick_puts moment t ++ heard) (stored_at n w)

@@ -8,6 +8,7 @@ pub mod Armed
 pub mod Stored
 pub mod Killed
 pub mod Killing
+pub mod OpeningKilled
 pub mod Ending
 pub mod Others
 pub mod Running

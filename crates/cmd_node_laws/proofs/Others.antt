@@ -11,7 +11,7 @@ use Rattle.cluster_spec.specs.Cluster.{Cluster, after_rows, in_list, after_row}
 use Rattle.cluster_agreement.proofs.Lists.{never}
 use Rattle.cluster_spec.specs.Members.{is_running, next_frame}
 use Rattle.cmd_node.specs.Frames.{raw_of}
-use Rattle.cmd_node_laws.specs.Traces.{Came, Event, IsForeign, IsKilled, MayHappen, OfAllocatee, Opens, Silence, Stops, Turns, WasSent, came_rows, is_of_allocatee, out_rows, rows_of, send_if, while_running}
+use Rattle.cmd_node_laws.specs.Traces.{Came, Event, IsForeign, IsKilled, IsKilledAtOpening, MayHappen, OfAllocatee, Opens, Silence, Stops, Turns, WasSent, came_rows, is_of_allocatee, out_rows, rows_of, send_if, while_running}
 use Rattle.cmd_node_laws.specs.Mirrored.{raw_by, sent_by, sent_in}
 use Rattle.cmd_node_laws.specs.Processes.{whose}
 
@@ -112,6 +112,10 @@ allocatee_at (AEnd a) is = (tt, tt)
 
 event_at : (event : Event) (w : Cluster) → MayHappen event w → AreAt (whose event) (rows_of event w)
 event_at (Opens n told moment word) w may = (refl, tt)
+event_at (IsKilledAtOpening n told moment word puts) w may = (refl, (refl, if_at n (is_running (w2.member n).status) (Crash n 0 Old ∷ []) (refl, tt)))
+  where
+    w2 : Cluster
+    w2 = after_rows w (Crash n (4 * puts + 3) Old ∷ Open n told moment word ∷ [])
 event_at (Turns n moment word came) w may = (refl, both_at (Some n) (came_rows n moment came w1) (out_rows n w2) (came_at n moment came w1) (send_at n (next_frame (w2.member n).status)))
   where
     w1 : Cluster

@@ -13,12 +13,13 @@ use Rattle.alloc_spec.specs.AllocatorState.{AllocatorState}
 use Rattle.cluster_spec.specs.declared.unlawful.Unlawful.TheVariants.{Forged, NoFrame, NoNode, Running, Stopped}
 use Rattle.cluster_spec.specs.Cluster.{Cluster, arrival_at, frame_at, from_outside, in_list, is_member, after_row, no_frame, rules_of, with_member}
 use Rattle.cluster_spec.specs.Lawful.{because, cause, is_forged, arrival_refusal, no_such_frame, nothing_to_send, or_else}
-use Rattle.cluster_spec.specs.Members.{MemberStatus, Member, after_sending, is_running, next_frame, member_after_step, stopped_with}
+use Rattle.cluster_spec.specs.Members.{MemberStatus, Member, after_sending, is_running, next_frame, member_after_step, puts_of, stopped_with}
 use Rattle.cluster_spec.specs.Members.MemberStatus.{Down, Failed, Up}
 use Rattle.cmd_node_laws.specs.Traces.{MayTurn}
 use Rattle.cmd_node_laws.specs.Mirrored.{AreCalm, HasWorked}
-use Rattle.cmd_node_laws.proofs.Calm.{opened_calm, opened_member, opening_done, step_calm, step_done, stop_calm, written}
+use Rattle.cmd_node_laws.proofs.Calm.{opened_calm, opened_member, opening_done, puts_left, step_calm, step_done, stop_calm, written}
 use Rattle.cmd_node_laws.proofs.Places.{calm_with, own_is}
+use Rattle.cmd_node_laws.proofs.Stored.{after_noted}
 
 -- a member of the cluster, which runs this server
 pub record Runs (n : ℕ) (w : Cluster) (server : AllocatorState) : Type 0 where
@@ -53,8 +54,10 @@ step_member w n server event calm runs =
 abbrev pub after_step : Cluster → ℕ → AllocatorState → Event → Cluster
 after_step w n server event = record (with_member w n (written (w.member n) (step_state_of w server event))) { rows = w.rows + 1 }
 
-pub step_world : (w : Cluster) (n : ℕ) (server : AllocatorState) (event : Event) → AreCalm w → Runs n w server
-    → record (with_member w n (member_after_step (w.rows + 1) event (w.member n).status (w.member n))) { rows = w.rows + 1 } ≡ after_step w n server event
+abbrev pub after_event : ℕ → Cluster → Event → Cluster
+after_event n w event = record (with_member w n (member_after_step (w.rows + 1) event (w.member n).status (w.member n))) { rows = w.rows + 1 }
+
+pub step_world : (w : Cluster) (n : ℕ) (server : AllocatorState) (event : Event) → AreCalm w → Runs n w server → after_event n w event ≡ after_step w n server event
 step_world w n server event calm runs = ap (λ (x : Member). record (with_member w n x) { rows = w.rows + 1 }) (step_member w n server event calm runs)
 
 pub step_leaves : (w : Cluster) (n : ℕ) (server : AllocatorState) (event : Event) → AreCalm w → Runs n w server
@@ -63,6 +66,14 @@ step_leaves w n server event calm runs = (
   calm_with w n (written (w.member n) (step_state_of w server event)) calm (step_calm (w.member n) (step_state_of w server event) (calm n)),
   record { member = runs.member; up = ap (λ (x : Member). x.status) (own_is w n (written (w.member n) (step_state_of w server event))) },
 )
+
+-- what its disk has stored
+pub step_stored : (w : Cluster) (n : ℕ) (server : AllocatorState) (event : Event) → AreCalm w → Runs n w server
+    → ((after_event n w event).member n).disk.store ≡ after_noted (step_state_of w server event).puts (w.member n).disk.store
+step_stored w n server event calm runs =
+    ap (λ (v : Cluster). (v.member n).disk.store) (step_world w n server event calm runs)
+    ∙ ap (λ (x : Member). x.disk.store) (own_is w n (written (w.member n) (step_state_of w server event)))
+    ∙ (puts_left (puts_of (w.member n) (step_state_of w server event)) (w.member n).disk (w.member n).disk.calls.faults (calm n).calls (calm n).nothing_unsynced).store
 
 pub tick_lawful : (w : Cluster) (n moment word : ℕ) (server : AllocatorState) → Runs n w server → cause w (Tick n moment word) ≡ None
 tick_lawful w n moment word server runs = λ i. or_else (because NoNode (not (runs.member i))) (because Stopped (not (running n w server runs i)))

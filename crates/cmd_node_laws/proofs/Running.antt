@@ -26,12 +26,12 @@ use Rattle.cmd_node.specs.Frames.{event_in}
 use Rattle.cmd_node.specs.Opening.{Given, together_at_opening, opened_at, readings_after}
 use Rattle.cmd_node.specs.Turn.{Running, Turning, turn_after_hearing, turn_after_frame, turn_after_taking, turn_after_tick, turn}
 use Rattle.cmd_node.specs.Turns.{Together, all_turns, first_turns, turning_after, turning_at}
-use Rattle.cmd_node_laws.specs.Traces.{Came, Event, IsKilled, MayAllHappen, MayHappen, OfAllocatee, Opens, Stops, Turns, all_rows, rows_of}
+use Rattle.cmd_node_laws.specs.Traces.{Came, Event, IsKilled, IsKilledAtOpening, MayAllHappen, MayHappen, OfAllocatee, Opens, Stops, Turns, all_rows, rows_of}
 use Rattle.cmd_node_laws.specs.Mirrored.{AreCalm, Carries, IsMirrored, raw_by}
 use Rattle.cluster_agreement.proofs.Concatenations.{same_ids}
 use Rattle.cluster_agreement.proofs.Lists.{never}
 use Rattle.replay_text.specs.declared.row.Row.{Row}
-use Rattle.cmd_node_laws.specs.Processes.{ComesNext, GoesOn, IsWaiting, OneOf, Point, StandAt, StandsAt, TakesTurn, is_of_these, next_point, place_of, running_at, together_at, whose}
+use Rattle.cmd_node_laws.specs.Processes.{ComesNext, GoesOn, HasStoredAt, IsWaiting, OneOf, Point, StandAt, StandsAt, TakesTurn, is_of_these, next_point, place_of, running_at, together_at, whose}
 use Rattle.cmd_node_laws.specs.Processes as at_point
 use Rattle.cmd_node_laws.specs.Stands.{IsFollowed}
 use Rattle.cmd_node_laws.proofs.Calm.{opened_member, opened_store}
@@ -120,6 +120,13 @@ module _ (marks : MarkLaws)
         still_mirrored w v ((together_at rules mine given taken place).running i)
         (subst (λ (n : ℕ). v.member n ≡ w.member n) (sym (ids_at taken place i)) e) is
 
+    abbrev HasStored : Cluster → Point → ℕ → Type 0
+    HasStored w point i = HasStoredAt rules mine given w point i
+
+    still_stored : (w v : Cluster) (point : Point) (i : ℕ) → v.member (slice_index mine i) ≡ w.member (slice_index mine i) → HasStored w point i → HasStored v point i
+    still_stored w v (at_point.Opening place) i e is = (λ low. ap (λ (x : Member). x.disk.store) e ∙ is.0 low, λ high. ap (λ (x : Member). x.disk.store) e ∙ is.1 high)
+    still_stored w v (at_point.Turning taken place) i e is = ap (λ (x : Member). x.disk.store) e ∙ is
+
     abbrev pub Follows : Cluster → Cluster → Point → Point → (ℕ → List RawFrame) → ℕ → Type 0
     Follows w v from to sent i = IsFollowed rules mine given w v from to sent i
 
@@ -135,6 +142,7 @@ module _ (marks : MarkLaws)
       stands = still_stands w (after w event) point i (others_stay event w (slice_index mine i) may apart) is;
       frames = sym (ap (λ (l : List RawFrame). (running_at rules mine given point i).sent ++ l) (others_send event w (slice_index mine i) may apart)
           ∙ append-nil (running_at rules mine given point i).sent);
+      stored = still_stored w (after w event) point i (others_stay event w (slice_index mine i) may apart);
     }
 
     -- ---- its own
@@ -164,6 +172,17 @@ module _ (marks : MarkLaws)
             ∙ ap (λ (l : List Put). store_of (after_puts l (w.member id).disk.store)) (sym (take_all (length disk_puts) disk_puts (omega arith)))
             ∙ keeps (w.member id).disk.store (length disk_puts) ∙ waits.stored
 
+    -- and what was stored is stored as an opening makes it
+    opened_as : (w : Cluster) → AreCalm w → (place moment word : ℕ) → (w.member (slice_index mine place)).disk.store ≡ given.stored place
+        → ((after_row w (Open (slice_index mine place) (tells rules) moment word)).member (slice_index mine place)).disk.store ≡ (opened_at rules mine given place).stored
+    opened_as w calm place moment word is =
+        ap (λ (v : Cluster). (v.member id).disk.store) (open_world w id (tells rules) moment word calm)
+        ∙ ap (λ (x : Member). x.disk.store) (own_is w id (opened_member id (rules_of w.ids (tells rules)) moment word (w.member id)))
+        ∙ opened_store (w.member id) (calm id) ∙ ap (λ (state : Stored). after_puts (opening_puts state) state) is
+      where
+        id : ℕ
+        id = slice_index mine place
+
     -- a point, and the next one by its number
     by_number : (P : Point → Type 0) (a b : Point) (m : ℕ) → (m ≡ count → P a) → ((m ≡ count → ⊥) → P b) → P (if m == count then a else b)
     by_number P a b m f g = elim (eqb_tells m count) [
@@ -176,8 +195,8 @@ module _ (marks : MarkLaws)
         MayHappen event w → StandAt rules mine given w (at_point.Opening place) → Own w event (at_point.Opening place)
     opens_own w calm by_rules place within may all i low =
         by_number (λ (p : Point). Follows w v (at_point.Opening place) p (sent_then w event) i) (at_point.Turning 0 0) (at_point.Opening (suc place)) (suc place)
-        (λ e. record { stands = later.0 (omega (arith, e)); frames = sym (append-nil (given.sent i)) })
-        (λ e. record { stands = later; frames = sym (append-nil (given.sent i)) })
+        (λ e. record { stands = later.0 (omega (arith, e)); frames = sym (append-nil (given.sent i)); stored = λ is. (stored_later is).0 (omega (arith, e)) })
+        (λ e. record { stands = later; frames = sym (append-nil (given.sent i)); stored = stored_later })
       where
         id : ℕ
         id = slice_index mine place
@@ -195,8 +214,22 @@ module _ (marks : MarkLaws)
           same = refl;
         })
 
+        away : i ≢ place → v.member (slice_index mine i) ≡ w.member (slice_index mine i)
+        away apart = others_stay event w (slice_index mine i) may (λ e. apart (once i place low within (cc (e))))
+
         there : i ≢ place → Stands v (at_point.Opening place) i
-        there apart = still_stands w v (at_point.Opening place) i (others_stay event w (slice_index mine i) may (λ e. apart (once i place low within (cc (e))))) (all i low)
+        there apart = still_stands w v (at_point.Opening place) i (away apart) (all i low)
+
+        stored_here : i ≡ place → HasStored w (at_point.Opening place) i → (v.member (slice_index mine i)).disk.store ≡ (opened_at rules mine given i).stored
+        stored_here e is = subst (λ (j : ℕ). (v.member (slice_index mine j)).disk.store ≡ (opened_at rules mine given j).stored) (sym e)
+            (opened_as w calm place (next_reading (readings_after place given.readings)) (word_at (next_state id)) ((subst (HasStored w (at_point.Opening place)) e is).1 (omega arith)))
+
+        stored_later : HasStored w (at_point.Opening place) i → HasStored v (at_point.Opening (suc place)) i
+        stored_later is = elim (eqb_tells i place) [
+          | inl same ↦ (λ h. stored_here same.1 is, λ h. absurd (omega (arith, same.1, h)))
+          | inr apart ↦ let still = still_stored w v (at_point.Opening place) i (away apart.1) is in
+              (λ h. still.0 (let n : i ≢ place = apart.1 in omega (arith, h)), λ h. still.1 (let n : i ≢ place = apart.1 in omega (arith, h)))
+        ]
 
         later : Stands v (at_point.Opening (suc place)) i
         later = elim (eqb_tells i place) [
@@ -210,8 +243,8 @@ module _ (marks : MarkLaws)
         → StandAt rules mine given w (at_point.Turning taken place) → Own w event (at_point.Turning taken place)
     turns_own w calm taken place came within may carries stand i low =
         by_number (λ (p : Point). Follows w v (at_point.Turning taken place) p (sent_then w event) i) (at_point.Turning (suc taken) 0) (at_point.Turning taken (suc place)) (suc place)
-        (λ e. let r = subst To (ap (λ (places : ℕ). (first_turns places base).running i) e) later in record { stands = r.0; frames = r.1 })
-        (λ e. record { stands = later.0; frames = later.1 })
+        (λ e. let r = subst To (ap (λ (places : ℕ). (first_turns places base).running i) e) later in record { stands = r.0; frames = r.1; stored = r.2 })
+        (λ e. record { stands = later.0; frames = later.1; stored = later.2 })
       where
         id : ℕ
         id = slice_index mine place
@@ -233,6 +266,7 @@ module _ (marks : MarkLaws)
 
         To : Running → Type 0
         To r = IsMirrored v r × (r.sent ≡ (all.running i).sent ++ sent_then w event (slice_index mine i))
+            × (HasStored w (at_point.Turning taken place) i → (v.member (slice_index mine i)).disk.store ≡ r.stored)
 
         own : IsMirrored w (all.running place)
         own = stand place within
@@ -252,11 +286,15 @@ module _ (marks : MarkLaws)
 
         later : To ((first_turns (suc place) base).running i)
         later = elim (eqb_tells i place) [
-          | inl same ↦ subst To (sym (at_here all.running place i done.running same.1))
-              (mirrored, told.sent ∙ ap (λ (j : ℕ). (all.running j).sent ++ sent_then w event (slice_index mine j)) (sym same.1))
+          | inl same ↦ subst To (sym (at_here all.running place i done.running same.1)) (
+            mirrored,
+            told.sent ∙ ap (λ (j : ℕ). (all.running j).sent ++ sent_then w event (slice_index mine j)) (sym same.1),
+            subst (λ (j : ℕ). HasStored w (at_point.Turning taken place) j → (v.member (slice_index mine j)).disk.store ≡ done.running.stored) (sym same.1) told.stored,
+          )
           | inr apart ↦ subst To (sym (at_other all.running place i done.running apart.1)) (
             still_mirrored w v (all.running i) (subst (λ (n : ℕ). v.member n ≡ w.member n) (sym (ids_at taken place i)) (others_stay event w (slice_index mine i) may (away apart.1))) (stand i low),
             sym (ap (λ (l : List RawFrame). (all.running i).sent ++ l) (others_send event w (slice_index mine i) may (away apart.1)) ∙ append-nil (all.running i).sent),
+            λ is. ap (λ (x : Member). x.disk.store) (others_stay event w (slice_index mine i) may (away apart.1)) ∙ is,
           )
         ]
           where
@@ -290,6 +328,8 @@ module _ (marks : MarkLaws)
     next_own w calm by_rules (Stops n) (at_point.Turning taken place) within may after_row stand = absurd after_row
     next_own w calm by_rules (IsKilled n moment word came puts) (at_point.Opening place) within may after_row stand = absurd after_row
     next_own w calm by_rules (IsKilled n moment word came puts) (at_point.Turning taken place) within may after_row stand = absurd after_row
+    next_own w calm by_rules (IsKilledAtOpening n told moment word puts) (at_point.Opening place) within may after_row stand = absurd after_row
+    next_own w calm by_rules (IsKilledAtOpening n told moment word puts) (at_point.Turning taken place) within may after_row stand = absurd after_row
     next_own w calm by_rules (OfAllocatee row) (at_point.Opening place) within may after_row stand = absurd after_row
     next_own w calm by_rules (OfAllocatee row) (at_point.Turning taken place) within may after_row stand = absurd after_row
 
@@ -311,13 +351,14 @@ module _ (marks : MarkLaws)
     joined w v u from mid to first rest i a b = record {
       stands = b.stands;
       frames = b.frames ∙ ap (λ (l : List RawFrame). l ++ rest (slice_index mine i)) a.frames ∙ append_assoc (running_at rules mine given from i).sent (first (slice_index mine i)) (rest (slice_index mine i));
+      stored = λ is. b.stored (a.stored is);
     }
 
     pub goes_on : (trace : List Event) (w : Cluster) (from to : Point) → AreCalm w → rules ≡ rules_of w.ids (tells rules) → place_of from < count → MayAllHappen trace w
         → GoesOn rules mine given w trace from to → StandAt rules mine given w from
         → (i : ℕ) → i < count → Follows w (after_rows w (all_rows trace w)) from to (λ n. raw_by n w (all_rows trace w)) i
     goes_on [] w from to calm by_rules within may goes stand i low =
-        subst (λ (p : Point). Follows w w from p (λ n. []) i) goes (record { stands = stand i low; frames = sym (append-nil (running_at rules mine given from i).sent) })
+        subst (λ (p : Point). Follows w w from p (λ n. []) i) goes (record { stands = stand i low; frames = sym (append-nil (running_at rules mine given from i).sent); stored = λ is. is })
     goes_on (first ∷ rest) w from to calm by_rules within may goes stand i low =
         by (is_of_these mine (whose first)) refl goes (λ p lies g all. goes_on rest v p to calm_then rules_then lies may.1 g all i low)
       where
@@ -337,6 +378,7 @@ module _ (marks : MarkLaws)
             record {
               stands = subst (λ (u : Cluster). Stands u to i) (sym (after_both w rows more)) j.stands;
               frames = j.frames ∙ ap (λ (l : List RawFrame). (running_at rules mine given from i).sent ++ l) (sym (sent_both (slice_index mine i) w rows more));
+              stored = λ is. subst (λ (u : Cluster). HasStored u to i) (sym (after_both w rows more)) (j.stored is);
             }
 
         calm_then : AreCalm v

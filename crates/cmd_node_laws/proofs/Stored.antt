@@ -6,6 +6,7 @@ use Rattle.raft_log.specs.Stored.{Put, Stored, after_put, after_puts}
 use Rattle.raft_model.specs.Server.{Store}
 use Rattle.raft_model.specs.Server.Put.{PutCommit, PutEntry, PutLonger, PutShorter, PutTerm, PutVote}
 use Rattle.raft_model.specs.Server as machine
+use Rattle.cmd_node_laws.specs.Alike.{Alike, AsRead, Likeness, Whole}
 
 pub as_many : (puts : List PutWithOrigin) (state : Stored) → length (stored_puts puts state) ≡ length puts
 as_many [] state = refl
@@ -49,3 +50,8 @@ pub some_alike : (count : ℕ) (puts : List PutWithOrigin) (a b : Stored) → st
 some_alike zero puts a b e = e
 some_alike (suc count) [] a b e = e
 some_alike (suc count) (put ∷ puts) a b e = some_alike count puts (after_put (stored_put put a) a) (after_put (stored_put put b) b) (one_alike put a b e)
+
+-- the same of each likeness
+pub alike_some : (likeness : Likeness) (count : ℕ) (puts : List PutWithOrigin) (a b : Stored) → Alike likeness a b → Alike likeness (after_some count puts a) (after_some count puts b)
+alike_some AsRead count puts a b e = some_alike count puts a b e
+alike_some Whole count puts a b e = ap (after_some count puts) e

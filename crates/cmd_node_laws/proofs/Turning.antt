@@ -8,8 +8,9 @@ use Rattle.outside.specs.declared.received.Received.{Received}
 use Rattle.outside.specs.declared.received.Received.TheVariants.{Frame as Item, Junk, Nothing}
 use Rattle.outside.specs.Traffic.{items_behind, next_item}
 use Rattle.cmd_base.specs.Draws.{next_state, word_at}
+use Rattle.raft_log.specs.Stored.{Stored}
 use Rattle.replay_text.specs.declared.row.Row.{Row}
-use Rattle.replay_text.specs.declared.row.Row.TheVariants.{Send, Tick}
+use Rattle.replay_text.specs.declared.row.Row.TheVariants.{Ext, Send, Tick}
 use Rattle.transfer_rx.specs.Reassembly.{Arrival, Delivery, Setting, answer}
 use Rattle.transfer_rx.specs.Reassembly.Answer.{Gives}
 use Rattle.transfer_rx.specs.Sessions.{Session}
@@ -22,14 +23,16 @@ use Rattle.alloc_spec.specs.Step.Event.{Rx as Comes}
 use Rattle.alloc_spec.specs.AllocatorState.{AllocatorState}
 use Rattle.alloc_ghost_erasure.specs.Unmarked.{unmarked_event, unmarked_frame, unmarked_server, unmarked_step_result}
 use Rattle.cluster_spec.specs.Cluster.{Cluster, after_rows, arrival_at, frame_at, from_outside, in_list, after_row, receipt_of, tick_of}
-use Rattle.cluster_spec.specs.Members.{next_frame}
+use Rattle.cluster_spec.specs.Members.{Member, next_frame}
+use Rattle.cluster_spec.specs.Members.MemberStatus.{Up}
 use Rattle.cmd_node.specs.Frames.{event_in, is_frame, raw_of, receipt}
 use Rattle.cmd_node.specs.Turn.{Running, Turning, turn_after_hearing, turn_after_step, turn_after_sending, turn_after_frame, turn_after_taking, turn_after_tick, turn}
 use Rattle.cmd_node_laws.specs.Traces.{Came, IsForeign, MayOccur, Silence, RowsFrom, Turns, WasSent, came_rows, out_rows, rows_of, send_if, rows_then}
 use Rattle.cmd_node_laws.specs.Mirrored.{AreCalm, Carries, IsOnLink, raw_by}
 use Rattle.cmd_node_laws.proofs.Lawfully.{Goes, came_goes, goes_on, send_goes, tick_goes}
-use Rattle.cmd_node_laws.proofs.Places.{sent_both}
-use Rattle.cmd_node_laws.proofs.Rows.{Runs, ext_frame}
+use Rattle.cmd_node_laws.proofs.Places.{after_both, own_is, sent_both}
+use Rattle.cmd_node_laws.proofs.Rows.{Runs, after_event, ext_frame, send_world, step_stored}
+use Rattle.cmd_node_laws.proofs.Stored.{after_noted}
 
 pub record MarkLaws : Type 0 where
   pub step : (t u : AllocatorState) (m n : ℕ) (e f : Event) → unmarked_server t ≡ unmarked_server u → unmarked_event e ≡ unmarked_event f → unmarked_step_result (step t m e) ≡ unmarked_step_result (step u n f)
@@ -41,6 +44,7 @@ pub record Tells (n : ℕ) (w : Cluster) (rows : List Row) (r s : Running) : Typ
   pub goes : Goes n w rows
   pub same : unmarked_server goes.server ≡ unmarked_server s.allocator
   pub sent : s.sent ≡ r.sent ++ raw_by n w rows
+  pub stored : (w.member n).disk.store ≡ r.stored → ((after_rows w rows).member n).disk.store ≡ s.stored
 
 pub tells_on : (n : ℕ) (w : Cluster) (first rest : RowsFrom) (r s u : Running) → Tells n w (first w) r s → Tells n (after_rows w (first w)) (rest (after_rows w (first w))) s u
     → Tells n w (rows_then first rest w) r u
@@ -50,6 +54,7 @@ tells_on n w first rest r s u a b = record {
   sent = b.sent ∙ ap (λ (l : List RawFrame). l ++ raw_by n (after_rows w (first w)) (rest (after_rows w (first w)))) a.sent
       ∙ append_assoc r.sent (raw_by n w (first w)) (raw_by n (after_rows w (first w)) (rest (after_rows w (first w))))
       ∙ ap (λ (l : List RawFrame). r.sent ++ l) (sym (sent_both n w (first w) (rest (after_rows w (first w)))));
+  stored = λ is. ap (λ (v : Cluster). (v.member n).disk.store) (after_both w (first w) (rest (after_rows w (first w)))) ∙ b.stored (a.stored is);
 }
 
 module _ (marks : MarkLaws)
@@ -60,12 +65,25 @@ module _ (marks : MarkLaws)
       → unmarked_server (step server row e).step_state.allocator ≡ unmarked_server (step allocator number f).step_state.allocator
   step_as server allocator row number e f same events = ap (λ (s : StepResult). s.step_state.allocator) (marks.step server allocator row number e f same events)
 
+  -- the same puts
+  pub puts_as : (server allocator : AllocatorState) (row number : ℕ) (e f : Event) → unmarked_server server ≡ unmarked_server allocator → unmarked_event e ≡ unmarked_event f
+      → (step server row e).step_state.puts ≡ (step allocator number f).step_state.puts
+  puts_as server allocator row number e f same events = ap (λ (s : StepResult). s.step_state.puts) (marks.step server allocator row number e f same events)
+
+  -- so the same is stored
+  stored_as : (w : Cluster) (server allocator : AllocatorState) (number : ℕ) (e f : Event) (stored : Stored) → AreCalm w → Runs n w server
+      → unmarked_server server ≡ unmarked_server allocator → unmarked_event e ≡ unmarked_event f → (w.member n).disk.store ≡ stored
+      → ((after_event n w e).member n).disk.store ≡ after_noted (step allocator number f).step_state.puts stored
+  stored_as w server allocator number e f stored calm runs same events is =
+      step_stored w n server e calm runs ∙ (λ i. after_noted (puts_as server allocator (w.rows + 1) number e f same events i) (is i))
+
   tick_told : (w : Cluster) (t : Turning) (moment : ℕ) (server : AllocatorState) → AreCalm w → Runs n w server → unmarked_server server ≡ unmarked_server t.running.allocator
       → Tells n w (Tick n moment (word_at (next_state t.running.draws)) ∷ []) t.running (turn_after_tick moment t).running
   tick_told w t moment server calm runs same = record {
     goes = tick_goes deliveries n w moment (word_at (next_state t.running.draws)) server calm runs;
     same = step_as server t.running.allocator (w.rows + 1) (suc (length t.lines)) (tick_of moment word) (tick_of moment word) same refl;
     sent = sym (append-nil t.running.sent);
+    stored = stored_as w server t.running.allocator (suc (length t.lines)) (tick_of moment word) (tick_of moment word) t.running.stored calm runs same refl;
   }
     where
       word : ℕ
@@ -96,6 +114,7 @@ module _ (marks : MarkLaws)
     goes = record { lawful = tt; calm = calm; server = server; runs = runs };
     same = same;
     sent = sym (append-nil r.sent);
+    stored = λ is. is;
   }
 
   came_told : (w : Cluster) (t : Turning) (moment : ℕ) (item : Received) (came : Came) (server : AllocatorState) → AreCalm w → Runs n w server → unmarked_server server ≡ unmarked_server t.running.allocator
@@ -109,13 +128,16 @@ module _ (marks : MarkLaws)
         goes = came_goes deliveries n w moment (WasSent k) server calm runs may;
         same = step_as server t.running.allocator (w.rows + 1) (suc (length t.lines)) (receipt_of w k moment) (receipt moment raw) same (same_event raw (frame_at w.frames k) moment carries);
         sent = sym (append-nil t.running.sent);
+        stored = stored_as w server t.running.allocator (suc (length t.lines)) (receipt_of w k moment) (receipt moment raw) t.running.stored calm runs same
+            (same_event raw (frame_at w.frames k) moment carries);
       })
   came_told w t moment (Item raw) (IsForeign frame) server calm runs same may carries =
       subst (λ (u : Turning). Tells n w (came_rows n moment (IsForeign frame) w) t.running u.running) (sym (taken_step raw moment t carries.frame)) (record {
         goes = came_goes deliveries n w moment (IsForeign frame) server calm runs may;
-        same = step_as server t.running.allocator (w.rows + 1 + 1) (suc (length t.lines)) (Comes (arrival_at last moment)) (receipt moment raw) same
-            (ap (λ (q : Queued). unmarked_event (Comes (arrival_at q moment))) (ext_frame w.frames outside) ∙ same_event raw outside moment carries);
+        same = step_as server t.running.allocator (w.rows + 1 + 1) (suc (length t.lines)) (Comes (arrival_at last moment)) (receipt moment raw) same events;
         sent = sym (append-nil t.running.sent);
+        stored = stored_as (after_row w (Ext frame)) server t.running.allocator (suc (length t.lines)) (Comes (arrival_at last moment)) (receipt moment raw) t.running.stored
+            calm (record { member = runs.member; up = runs.up }) same events;
       })
     where
       outside : Queued
@@ -123,6 +145,9 @@ module _ (marks : MarkLaws)
 
       last : Queued
       last = frame_at (w.frames ++ outside ∷ []) (length w.frames + 1)
+
+      events : unmarked_event (Comes (arrival_at last moment)) ≡ unmarked_event (receipt moment raw)
+      events = ap (λ (q : Queued). unmarked_event (Comes (arrival_at q moment))) (ext_frame w.frames outside) ∙ same_event raw outside moment carries
   came_told w t moment Junk (WasSent k) server calm runs same may carries = absurd carries
   came_told w t moment Junk (IsForeign frame) server calm runs same may carries = absurd carries
   came_told w t moment Nothing (WasSent k) server calm runs same may carries = absurd carries
@@ -149,6 +174,9 @@ module _ (marks : MarkLaws)
     goes = send_goes deliveries n w server frame calm runs e;
     same = marks.popped server t.running.allocator same;
     sent = ap (λ (l : List RawFrame). t.running.sent ++ l) (sym (out_sent w server frame runs e ∙ ap (λ (q : Queued). raw_of q ∷ []) alike));
+    stored = λ is.
+        ap (λ (v : Cluster). (v.member n).disk.store) (send_world w n server frame runs e)
+        ∙ ap (λ (x : Member). x.disk.store) (own_is w n (record (w.member n) { status = Up (after_pop server) })) ∙ is;
   }
     where
       alike : unmarked_frame frame ≡ unmarked_frame other
@@ -187,7 +215,7 @@ module _ (marks : MarkLaws)
       b' = came_told w1 behind moment (next_item t.running.coming) came a.goes.server a.goes.calm a.goes.runs a.same may carries
 
       b : Tells n w1 (came_rows n moment came w1) (turn_after_tick moment t).running (turn_after_hearing moment (turn_after_tick moment t)).running
-      b = record { goes = b'.goes; same = b'.same; sent = b'.sent }
+      b = record { goes = b'.goes; same = b'.same; sent = b'.sent; stored = b'.stored }
 
       c : Tells n (after_rows w1 (came_rows n moment came w1)) (out_rows n (after_rows w1 (came_rows n moment came w1))) (turn_after_hearing moment (turn_after_tick moment t)).running (turn_after_sending (turn_after_hearing moment (turn_after_tick moment t))).running
       c = out_told (after_rows w1 (came_rows n moment came w1)) (turn_after_hearing moment (turn_after_tick moment t)) b.goes.server b.goes.calm b.goes.runs b.same

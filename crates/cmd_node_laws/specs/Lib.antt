@@ -1,4 +1,5 @@
 pub mod Traces
+pub mod Alike
 pub mod Example
 pub mod Mirrored
 pub mod Processes

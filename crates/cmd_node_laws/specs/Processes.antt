@@ -11,7 +11,7 @@ use Rattle.cluster_spec.specs.Members.MemberStatus.{Down}
 use Rattle.cmd_node.specs.Opening.{Given, together_at_opening, opened_at, readings_after}
 use Rattle.cmd_node.specs.Turn.{Running}
 use Rattle.cmd_node.specs.Turns.{Together, all_turns, first_turns}
-use Rattle.cmd_node_laws.specs.Traces.{Came, Event, OfAllocatee, IsKilled, Opens, Stops, Turns, rows_of}
+use Rattle.cmd_node_laws.specs.Traces.{Came, Event, OfAllocatee, IsKilled, IsKilledAtOpening, Opens, Stops, Turns, rows_of}
 use Rattle.cmd_node_laws.specs.Mirrored.{Carries, IsMirrored}
 
 -- what a process does next: it opens the member at a place, or lets it take its turn, when all have taken so many turns
@@ -32,6 +32,7 @@ place_of (Turning taken place) = place
 -- the member of an event; one of an allocatee is of no member
 abbrev pub whose : Event → Option ℕ
 whose (Opens n told moment word) = Some n
+whose (IsKilledAtOpening n told moment word puts) = Some n
 whose (Turns n moment word came) = Some n
 whose (Stops n) = Some n
 whose (IsKilled n moment word came puts) = Some n
@@ -87,6 +88,13 @@ module _ (rules : Rules) (mine : List ℕ) (given : Given) where
   StandsAt w (Opening place) i =
       (i < place → IsMirrored w (opened_at rules mine given i)) × (place ≤ i → IsWaiting w i)
   StandsAt w (Turning taken place) i = IsMirrored w ((together_at taken place).running i)
+
+  -- the member at a place has stored just what it has in the process, to the origin of each entry
+  abbrev pub HasStoredAt : Cluster → Point → ℕ → Type 0
+  HasStoredAt w (Opening place) i = let stored = (w.member (slice_index mine i)).disk.store in
+      (i < place → stored ≡ (opened_at rules mine given i).stored) × (place ≤ i → stored ≡ given.stored i)
+  HasStoredAt w (Turning taken place) i =
+      (w.member (slice_index mine i)).disk.store ≡ ((together_at taken place).running i).stored
 
   abbrev pub StandAt : Cluster → Point → Type 0
   StandAt w point = (i : ℕ) → i < length mine → StandsAt w point i

@@ -1,5 +1,5 @@
 -- What holds of a trace under its premises.
-use Rattle.std.specs.Prelude.{◌≡◌, ℕ, ◌<◌, ◌≤◌, ◌⊎◌, List, ◌++◌, length, Option, None, Some, slice_index, slice_index_or}
+use Rattle.std.specs.Prelude.{◌≡◌, ℕ, ◌<◌, ◌≤◌, ◌⊎◌, List, [], ◌++◌, length, Option, None, Some, slice_index, slice_index_or}
 use Rattle.disk_model.specs.declared.disk.Disk.{Ghosts}
 use Rattle.disk_model.specs.Contents.{MayLeave}
 use Rattle.outside.specs.declared.received.RawFrame.{RawFrame}
@@ -7,7 +7,6 @@ use Rattle.outside.specs.declared.received.Received.{Received}
 use Rattle.outside.specs.Readings.{next_reading}
 use Rattle.outside.specs.Traffic.{items_behind, next_item}
 use Rattle.cmd_base.specs.Draws.{next_state, word_at}
-use Rattle.raft_core.specs.StoredPuts.{store_of}
 use Rattle.raft_log.specs.Rules.{StandsForState}
 use Rattle.raft_log.specs.Stored.{Stored}
 use Rattle.raft_model.specs.Lists.{In}
@@ -16,32 +15,34 @@ use Rattle.replay_text.specs.declared.row.Row.{Row}
 use Rattle.alloc_spec.specs.Rules.{Rules, tells}
 use Rattle.cluster_spec.specs.Cluster.{AreMembers, Cluster, after_rows, cluster, rules_of}
 use Rattle.cluster_spec.specs.Members.MemberStatus.{Down}
-use Rattle.cmd_node.specs.Opening.{Given}
+use Rattle.cmd_node.specs.Opening.{Given, readings_after}
 use Rattle.cmd_node.specs.Turn.{Running}
 use Rattle.cmd_node.specs.Turns.{Together}
-use Rattle.cmd_node.specs.WholeRun.{HoldsStore}
-use Rattle.cmd_node_laws.specs.Traces.{Came, Event, IsKilled, MayAllHappen, MayHappen, Silence, all_rows, rows_of}
+use Rattle.cmd_node_laws.specs.Traces.{Came, Event, IsKilled, IsKilledAtOpening, MayAllHappen, MayHappen, Silence, all_rows, rows_of}
+use Rattle.cmd_node_laws.specs.Alike.{Alike, HoldsAlike, Likeness}
 use Rattle.cmd_node_laws.specs.Mirrored.{Carries, raw_by}
-use Rattle.cmd_node_laws.specs.Processes.{GoesOn, IsWaiting, Opening, Point, StandsAt, running_at}
+use Rattle.cmd_node_laws.specs.Processes.{GoesOn, HasStoredAt, IsWaiting, Opening, Point, StandsAt, running_at}
 
 -- the world of a trace
 abbrev pub world_after : List ℕ → List Event → Cluster
 world_after ids trace = after_rows (cluster ids) (all_rows trace (cluster ids))
 
 -- A process went from one point to another, and the world from one to another. The member at a place is in the world
--- what it is in the process, and its link was sent what the member of the world sent.
+-- what it is in the process, and its link was sent what the member of the world sent. Where it had stored just what it
+-- had in the process, it has so then.
 pub record IsFollowed (rules : Rules) (mine : List ℕ) (given : Given) (w v : Cluster) (from to : Point)
     (sent : ℕ → List RawFrame) (i : ℕ) : Type 0 where
   pub stands : StandsAt rules mine given v to i
   pub frames : (running_at rules mine given to i).sent
       ≡ (running_at rules mine given from i).sent ++ sent (slice_index mine i)
+  pub stored : HasStoredAt rules mine given w from i → HasStoredAt rules mine given v to i
 
--- a member is stopped, with what an image stands for
-pub record IsFound (image : List ℕ) (w : Cluster) (n : ℕ) : Type 0 where
+-- a member is stopped, and what an image stands for is like what it has stored
+pub record IsFound (likeness : Likeness) (image : List ℕ) (w : Cluster) (n : ℕ) : Type 0 where
   pub down : (w.member n).status ≡ Down
   pub found : Stored
   pub stands : StandsForState image found
-  pub same : store_of (w.member n).disk.store ≡ store_of found
+  pub same : Alike likeness (w.member n).disk.store found
 
 -- ---- a run of `node` in a trace
 
@@ -59,23 +60,28 @@ pub record IsRunIn (ids : List ℕ) (before during : List Event) (rules : Rules)
   pub waiting : (i : ℕ) → i < length mine → IsWaiting rules mine given (world_after ids before) i
   pub goes : GoesOn rules mine given (world_after ids before) during (Opening 0) to
 
+-- what the member at a place had stored is like what was handed in
+abbrev pub BeganAlike : Likeness → Cluster → List ℕ → Given → ℕ → Type 0
+BeganAlike likeness w mine given i = Alike likeness (w.member (slice_index mine i)).disk.store (given.stored i)
+
 -- Each link was sent, behind what it was sent before, what these rows send of its member; and whatever a stop leaves of
--- each disk stands for what the member has stored in the world.
+-- each disk stands for what is like what the member has stored in the world, where it was so before.
 pub record LeavesAsTold {L D : Type 0} (sent : L → Option (List RawFrame)) (disk : Ghosts D) (links : List L)
     (disks : List (Option D)) (mine : List ℕ) (given : Given) (w v : Cluster) (rows : List Row) : Type 0 where
   pub sent_is : (i : ℕ) (link : L) → i < length mine →
       sent (slice_index_or links i link) ≡ Some (given.sent i ++ raw_by (slice_index mine i) w rows)
-  pub stored_is : (i : ℕ) (after : D) → i < length mine → slice_index_or disks i None ≡ Some after →
-      HoldsStore disk after (store_of (v.member (slice_index mine i)).disk.store)
+  pub stored_is : (likeness : Likeness) (i : ℕ) (after : D) → i < length mine → BeganAlike likeness w mine given i →
+      slice_index_or disks i None ≡ Some after →
+      HoldsAlike likeness disk after (v.member (slice_index mine i)).disk.store
 
 -- the event of its next turn, in which it is killed after so many puts
 abbrev pub kill_of : Running → ℕ → Came → ℕ → Event
 kill_of r moment came puts = IsKilled r.id moment (word_at (next_state r.draws)) came puts
 
 -- for some number of puts it leaves the member with what the image stands for
-abbrev pub IsFoundKilled : List ℕ → Cluster → Running → ℕ → Came → Type 0
-IsFoundKilled image w r moment came =
-    (puts : ℕ) × IsFound image (after_rows w (rows_of (kill_of r moment came puts) w)) r.id
+abbrev pub IsFoundKilled : Likeness → List ℕ → Cluster → Running → ℕ → Came → Type 0
+IsFoundKilled likeness image w r moment came =
+    (puts : ℕ) × IsFound likeness image (after_rows w (rows_of (kill_of r moment came puts) w)) r.id
 
 -- the premises hold of it
 abbrev pub MayBeKilled : Cluster → Running → ℕ → Came → Type 0
@@ -90,12 +96,33 @@ pub record IsCutAsTold {L D : Type 0} (coming : L → Option (List Received)) (s
     (rows : List Row) (all : Together) (place : ℕ) : Type 0 where
   pub sent_is : (i : ℕ) (link : L) → i < length mine →
       sent (slice_index_or links i link) ≡ Some (given.sent i ++ raw_by (slice_index mine i) w rows)
-  pub stored_is : (i : ℕ) (after : D) → i < length mine → (i ≡ place → ⊥) →
-      slice_index_or disks i None ≡ Some after →
-      HoldsStore disk after (store_of (v.member (slice_index mine i)).disk.store)
-  pub killed : (link : L) (after : D) (image : List ℕ) → slice_index_or disks place None ≡ Some after →
-      MayLeave (disk.contents after) image → let r = all.running place in let moment = next_reading all.readings in
+  pub stored_is : (likeness : Likeness) (i : ℕ) (after : D) → i < length mine → BeganAlike likeness w mine given i →
+      (i ≡ place → ⊥) → slice_index_or disks i None ≡ Some after →
+      HoldsAlike likeness disk after (v.member (slice_index mine i)).disk.store
+  pub killed : (likeness : Likeness) (link : L) (after : D) (image : List ℕ) → BeganAlike likeness w mine given place →
+      slice_index_or disks place None ≡ Some after → MayLeave (disk.contents after) image →
+      let r = all.running place in let moment = next_reading all.readings in
       let left = coming (slice_index_or links place link) in
-      ((left ≡ Some r.coming) × IsFoundKilled image v r moment Silence) ⊎
+      ((left ≡ Some r.coming) × IsFoundKilled likeness image v r moment Silence) ⊎
       ((left ≡ Some (items_behind r.coming)) × ((came : Came) → Carries v.frames (next_item r.coming) came →
-      MayBeKilled v r moment came → IsFoundKilled image v r moment came))
+      MayBeKilled v r moment came → IsFoundKilled likeness image v r moment came))
+
+-- the event in which the process of the member at a place is killed while it opens it, after so many puts
+abbrev pub opening_kill_of : Rules → List ℕ → Given → ℕ → ℕ → Event
+opening_kill_of rules mine given place puts = let id = slice_index mine place in
+    IsKilledAtOpening id (tells rules) (next_reading (readings_after place given.readings)) (word_at (next_state id)) puts
+
+-- A run was cut off at the opening of the member at a place, before which its members in the world had sent nothing.
+-- Each disk before its own holds what its member has stored; its member and those behind it wait as they did. Whatever
+-- a stop leaves of its own disk it could leave before the run, or a kill in that opening leaves it in the world.
+pub record IsCutOpeningAsTold {D : Type 0} (disk : Ghosts D) (disks_old disks : List (Option D)) (rules : Rules)
+    (mine : List ℕ) (given : Given) (w v : Cluster) (rows : List Row) (place : ℕ) : Type 0 where
+  pub silent : (i : ℕ) → i < length mine → raw_by (slice_index mine i) w rows ≡ []
+  pub stored_is : (likeness : Likeness) (i : ℕ) (before after : D) → i < place → BeganAlike likeness w mine given i →
+      slice_index_or disks_old i None ≡ Some before → slice_index_or disks i None ≡ Some after →
+      HoldsAlike likeness disk after (v.member (slice_index mine i)).disk.store
+  pub waiting : (i : ℕ) → place ≤ i → i < length mine → IsWaiting rules mine given v i
+  pub killed : (likeness : Likeness) (before after : D) (image : List ℕ) → BeganAlike likeness w mine given place →
+      slice_index_or disks_old place None ≡ Some before → slice_index_or disks place None ≡ Some after →
+      MayLeave (disk.contents after) image → MayLeave (disk.contents before) image ⊎ ((puts : ℕ) ×
+      IsFound likeness image (after_rows v (rows_of (opening_kill_of rules mine given place puts) v)) (slice_index mine place))

@@ -2,7 +2,7 @@
 -- on their bus, in the order of time; and the rows that each event stands for.
 --
 -- A process opens its members and lets each take its turns (`cmd_node`). It ends or is killed at any moment: then its
--- members stop, between two turns, or one of them in a turn, wherever in the writes of its store.
+-- members stop, between two turns, or one of them in its opening or in a turn, wherever in the writes of its store.
 use Rattle.std.specs.Prelude.{◌≡◌, ⊤, ℕ, ◌+◌, ◌*◌, Bool, true, false, List, [], ◌∷◌, ◌++◌, length, Option, Some, None, if◌then◌else◌}
 use Rattle.can_frame.specs.declared.frame.Frame.{Frame}
 use Rattle.can_frame.specs.Identifier.{identifier_of}
@@ -26,6 +26,8 @@ pub data Came : Type 0 where
 pub data Event : Type 0 where
   -- the process of a member opens it, and may have told it the list of members
   Opens : (n : ℕ) (told : Bool) (moment word : ℕ) → Event
+  -- the process of a member is killed while it opens it, when so many puts of the opening are done
+  IsKilledAtOpening : (n : ℕ) (told : Bool) (moment word puts : ℕ) → Event
   -- a member takes a turn to its end
   Turns : (n moment word : ℕ) (came : Came) → Event
   -- a member stops between two turns: its process ended, or was killed
@@ -74,9 +76,12 @@ abbrev pub while_running : ℕ → RowsFrom → RowsFrom
 while_running n rows w = if is_running (w.member n).status then rows w else []
 
 -- A put is four calls of a disk. A stop in place of call 4 * puts + 1, counted over both steps of the turn, leaves the
--- first `puts` of its puts done and no other.
+-- first `puts` of its puts done and no other. An opening syncs and reads before its puts, which are two calls more.
 abbrev pub rows_of : Event → RowsFrom
 rows_of (Opens n told moment word) w = Open n told moment word ∷ []
+rows_of (IsKilledAtOpening n told moment word puts) w =
+    rows_then (λ w. Crash n (4 * puts + 3) Old ∷ Open n told moment word ∷ [])
+    (while_running n (λ w. Crash n 0 Old ∷ [])) w
 rows_of (Turns n moment word came) w =
     rows_then (λ w. Tick n moment word ∷ []) (rows_then (came_rows n moment came) (out_rows n)) w
 rows_of (Stops n) w = Crash n 0 Old ∷ []
@@ -101,12 +106,16 @@ MayOccur n moment (WasSent k) w =
     (no_such_frame w k ≡ None) × (arrival_refusal (w.member n).status (arrival_at (frame_at w.frames k) moment) ≡ None)
 MayOccur n moment (IsForeign frame) w = is_forged w.ids (identifier_of frame.id) ≡ false
 
+abbrev pub MayOpen : ℕ → Cluster → Type 0
+MayOpen n w = (is_member w.ids n ≡ true) × (is_running (w.member n).status ≡ false)
+
 pub record MayTurn (n : ℕ) (w : Cluster) : Type 0 where
   pub member : is_member w.ids n ≡ true
   pub runs : is_running (w.member n).status ≡ true
 
 abbrev pub MayHappen : Event → Cluster → Type 0
-MayHappen (Opens n told moment word) w = (is_member w.ids n ≡ true) × (is_running (w.member n).status ≡ false)
+MayHappen (Opens n told moment word) w = MayOpen n w
+MayHappen (IsKilledAtOpening n told moment word puts) w = MayOpen n w
 MayHappen (Turns n moment word came) w = MayTurn n w × MayOccur n moment came (after_row w (Tick n moment word))
 MayHappen (Stops n) w = MayTurn n w
 MayHappen (IsKilled n moment word came puts) w =

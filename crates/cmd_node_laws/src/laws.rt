@@ -13,16 +13,17 @@ ghost use Rattle.cluster_agreement.specs.Safe.{AreSafe};
 ghost use Rattle.alloc_spec.specs.Rules.{Rules, rules_by, tells};
 ghost use Rattle.cluster_spec.specs.Cluster.{AreMembers, Cluster, after_rows, cluster, rules_of};
 ghost use Rattle.cluster_spec.specs.Lawful.{Lawful};
-ghost use Rattle.cmd_node.specs.CutRun.{IsCutAtTurn};
+ghost use Rattle.cmd_node.specs.CutRun.{IsCutAtOpening, IsCutAtTurn, KeepsOrOpens};
 ghost use Rattle.cmd_node.specs.Opening.{Given};
 ghost use Rattle.cmd_node.specs.Puts.{turn_puts};
 ghost use Rattle.cmd_node.specs.Turn.{Running, Turning as Turn};
-ghost use Rattle.cmd_node.specs.WholeRun.{LeavesAll, after_turns};
+ghost use Rattle.cmd_node.specs.WholeRun.{LeavesAll, Tell, after_turns};
 ghost use Rattle.cmd_node_laws.specs.Traces.{Came, Event, MayAllHappen, all_rows};
+ghost use Rattle.cmd_node_laws.specs.Alike.{Alike, Likeness};
 ghost use Rattle.cmd_node_laws.specs.Example.{first_events, given_then, later_events, two, world_by_then};
 ghost use Rattle.cmd_node_laws.specs.Mirrored.{AreCalm, Carries, IsMirrored, raw_by};
-ghost use Rattle.cmd_node_laws.specs.Processes.{GoesOn, Point, StandAt, Turning, place_of, together_at};
-ghost use Rattle.cmd_node_laws.specs.Stands.{IsCutAsTold, IsFollowed, IsFoundKilled, IsRunIn};
+ghost use Rattle.cmd_node_laws.specs.Processes.{GoesOn, Opening, Point, StandAt, Turning, place_of, together_at};
+ghost use Rattle.cmd_node_laws.specs.Stands.{IsCutAsTold, IsCutOpeningAsTold, IsFollowed, IsFoundKilled, IsRunIn};
 ghost use Rattle.cmd_node_laws.specs.Stands.{LeavesAsTold, MayBeKilled, world_after};
 
 use alloc_ghost_erasure::laws::marks_change_marks_alone;
@@ -31,6 +32,7 @@ use cluster_agreement::headline::{rows_are_safe, the_headline};
 use disk_model::Disk;
 use outside::Link;
 use raft_core::laws::an_opening_keeps_the_store;
+use raft_log::laws::an_image_stands_for_one_state;
 use transfer_rx::laws::deliveries_are_whole_transfers;
 
 /// Every trace of a cluster of processes that meets the premises stands for a list of lawful rows. So along
@@ -83,18 +85,18 @@ pub fn stores_are_followed()
 /// first puts of the turn; and there is an event that leaves just that in the world.
 pub fn kills_are_events()
     ensures { (w : Cluster) (t : Turn) (moment : ℕ) (came : Came) (image : List ℕ)
-        (state : Stored) → AreCalm w → IsMirrored w t.running →
-        store_of (w.member t.running.id).disk.store ≡ store_of state →
+        (state : Stored) (likeness : Likeness) → AreCalm w → IsMirrored w t.running →
+        Alike likeness (w.member t.running.id).disk.store state →
         AfterSome (StandsForState image) (stored_puts (turn_puts moment t) state) state →
         Carries w.frames (next_item t.running.coming) came →
-        MayBeKilled w t.running moment came → IsFoundKilled image w t.running moment came }
+        MayBeKilled w t.running moment came → IsFoundKilled likeness image w t.running moment came }
 {
     deliveries_are_whole_transfers();
     marks_change_marks_alone();
 }
 
-/// A run of `node` in a trace, to its end or cut off in a turn: what it leaves on links and disks is what
-/// its members of the world sent and have stored.
+/// A run of `node` in a trace, to its end or cut off in a turn or at an opening: what it leaves on links and
+/// disks is what its members of the world sent and have stored.
 pub fn runs_of_node_are_rows<L: Link, D: Disk>()
     ensures done { (ids mine : List ℕ) (before during : List Event) (rules : Rules) (turns : ℕ)
         (given : Given) (links : List L) (disks : List (Option D)) (readings : Option (List ℕ)) →
@@ -111,7 +113,18 @@ pub fn runs_of_node_are_rows<L: Link, D: Disk>()
         let w = world_after ids before in
         IsCutAsTold L.coming L.sent D.Disk links disks mine given w
         (world_after ids (before ++ during)) (all_rows during w) all place }
+    ensures opening { (ids mine : List ℕ) (before during : List Event) (rules : Rules) (given : Given)
+        (links_old links : List L) (disks_old disks : List (Option D))
+        (readings_old readings : Option (List ℕ)) (id : ℕ) →
+        Tell L.coming L.sent D.Disk links_old disks_old readings_old given →
+        (cut : IsCutAtOpening D.Disk mine links_old links disks_old disks readings_old readings
+        (KeepsOrOpens D.Disk) id) →
+        IsRunIn ids before during rules mine given (Opening cut.place) → let w = world_after ids before in
+        IsCutOpeningAsTold D.Disk disks_old disks rules mine given w
+        (world_after ids (before ++ during)) (all_rows during w) cut.place }
 {
+    an_image_stands_for_one_state();
+    an_opening_keeps_the_store();
     traces_are_lawful();
     kills_are_events();
     processes_are_followed();

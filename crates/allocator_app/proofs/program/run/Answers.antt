@@ -58,7 +58,7 @@ returns-clause-nodes g c = λ told base turns ids asks.
     inr (in_traces g.L.Link.coming g.L.Link.sent g.L.Link.faults g.D.Disk (rules_of told) turns ids c.args.links.now c.follow.new.links
     c.args.disks.now c.follow.new.disks (g.C.Clock.readings c.args.clock.now) (g.C.Clock.readings c.follow.new.clock)
     (g.K.Sink.faults c.args.sink.now) (g.K.Sink.faults c.follow.new.sink) (g.K.Sink.written c.args.sink.now) (g.K.Sink.written c.follow.new.sink) c.follow.result
-    c.runs_of_node_are_rows.ensures.done c.runs_of_node_are_rows.ensures.cut (λ ids trace members may. record {
+    c.runs_of_node_are_rows.ensures.done c.runs_of_node_are_rows.ensures.cut c.runs_of_node_are_rows.ensures.opening (λ ids trace members may. record {
       headline = c.traces_are_lawful.ensures.headline ids trace members may;
       allocatees = c.traces_are_lawful.ensures.allocatees ids trace members may;
       safe = c.traces_are_lawful.ensures.safe ids trace members may;

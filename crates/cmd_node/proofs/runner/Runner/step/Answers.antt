@@ -1,5 +1,7 @@
 use Rattle.std.proofs.Common.{◌≡◌, suc, ◌∷◌, [], ◌++◌, length, ap, ◌∙◌, subst, arith}
 use Rattle.std.specs.Prelude.{Ok}
+use Rattle.raft_core.specs.StoredPuts.{stored_puts}
+use Rattle.raft_log.specs.Stored.{after_puts}
 use Rattle.alloc_spec.specs.Step.{step as step_of}
 use Rattle.alloc_spec.specs.AllocatorState.{view_of}
 use Rattle.cluster_spec.specs.ReportLine.{text_of_line}
@@ -22,6 +24,7 @@ returns-in-Ok-clause-stepped g c = λ t coming sent is.
       running = record {
         id = is.running.id;
         server = does.stands;
+        stored = does.put.state ∙ ap (λ s. after_puts (stored_puts step_result.step_state.puts s) s) is.running.stored;
         draws = is.running.draws;
         coming_is = is.running.coming_is;
         sent_is = is.running.sent_is;
