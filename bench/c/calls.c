@@ -86,6 +86,7 @@ int main(void) {
     printf("take, where nothing waits: %.3f us\n", (microseconds() - begun) / ROUNDS);
     hear_frames("a frame that is not wanted", unwanted);
     hear_frames("a NodeStatus", status);
+    ms += 4000; /* while node 9 is online, and has not told its unique ID, no device is given an ID */
     for (k = 0; k < DEVICES; k++) {
         total += allocation(k);
     }
