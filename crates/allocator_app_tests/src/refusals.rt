@@ -68,7 +68,7 @@ fn a_row_that_is_not_taken_ends_the_report(rt: HostRuntime) -> Result<(), Fail> 
 
 #[test]
 fn other_words_do_nothing(rt: HostRuntime) -> Result<(), Fail> {
-    const CASES: [&str; 27] = [
+    const CASES: [&str; 30] = [
         "replay 0 1",
         "replay 1000001 1",
         "replay 10 1 1",
