@@ -248,6 +248,7 @@ ssize_t recvfrom(UNUSED int a, UNUSED void *b, UNUSED size_t c, UNUSED int d, UN
     return fails(NO_SUCH_CALL);
 }
 int rattle_set_nonblocking(UNUSED int a, UNUSED bool b) { return fails(NO_SUCH_CALL); }
+int poll(UNUSED void *a, UNUSED unsigned long b, UNUSED int c) { return fails(NO_SUCH_CALL); }
 int nanosleep(UNUSED const void *a, UNUSED void *b) { return 0; }
 long __sysv_signal(UNUSED int a, UNUSED long b) { return 0; }
 long lseek(UNUSED int a, UNUSED long b, UNUSED int c) { return fails(CANNOT_SEEK); }
