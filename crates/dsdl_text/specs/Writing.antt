@@ -1,5 +1,5 @@
--- The bits of numbers under a layout: the other way round from `Numbers`, and without reading anything in order. Bits of
--- no meaning may be any, so it is a relation.
+-- The bits of numbers under a layout: the other way round from `Numbers`, and without reading anything in order.
+-- Bits of no meaning may be any, so it is a relation.
 use Rattle.std.specs.Prelude.{◌≡◌, ◌<◌, ◌≤◌, ℕ, zero, suc, Bool, true, false, nat_le, List, [], ◌∷◌, ◌++◌, length}
 use Rattle.dsdl_text.specs.Layout.{Layout, nothing, void, number, pair, exactly, up_to}
 use Rattle.dsdl_text.specs.Numbers.{bits_of, count_width, least_bits, number_of}
@@ -9,7 +9,8 @@ abbrev pub IsEmpty : List ℕ → List Bool → Type 0
 IsEmpty numbers bits = (numbers ≡ []) × (bits ≡ [])
 
 -- numbers and bits of one thing, and those of another behind them
-pub record HasBoth (First Second : List ℕ → List Bool → Type 0) (numbers : List ℕ) (bits : List Bool) : Type 0 where
+pub record HasBoth (First Second : List ℕ → List Bool → Type 0)
+    (numbers : List ℕ) (bits : List Bool) : Type 0 where
   pub front : List ℕ
   pub back : List ℕ
   pub front_bits : List Bool
@@ -30,7 +31,8 @@ HasTimesToLast zero One Last numbers bits = IsEmpty numbers bits
 HasTimesToLast (suc count) One Last numbers bits = HasBoth (HasTimes count One) Last numbers bits
 
 -- a count, and so many elements behind it
-pub record HasCount (most : ℕ) (Elements : ℕ → List ℕ → List Bool → Type 0) (numbers : List ℕ) (bits : List Bool) : Type 0 where
+pub record HasCount (most : ℕ) (Elements : ℕ → List ℕ → List Bool → Type 0)
+    (numbers : List ℕ) (bits : List Bool) : Type 0 where
   pub count : ℕ
   pub rest : List ℕ
   pub count_bits : List Bool
@@ -43,7 +45,8 @@ pub record HasCount (most : ℕ) (Elements : ℕ → List ℕ → List Bool → 
   pub elements : Elements count rest rest_bits
 
 -- so many elements with no count in front of their bits
-pub record HasTail (most : ℕ) (One : List ℕ → List Bool → Type 0) (numbers : List ℕ) (bits : List Bool) : Type 0 where
+pub record HasTail (most : ℕ) (One : List ℕ → List Bool → Type 0)
+    (numbers : List ℕ) (bits : List Bool) : Type 0 where
   pub count : ℕ
   pub rest : List ℕ
   pub numbers_are : numbers ≡ count ∷ rest
@@ -68,7 +71,8 @@ Writes (up_to most element) numbers bits = HasCount most (λ count. HasTimes cou
 abbrev pub WritesLast : Layout → List ℕ → List Bool → Type 0
 WritesLast (pair front nothing) numbers bits = WritesLast front numbers bits
 WritesLast (pair front back) numbers bits = HasBoth (Writes front) (WritesLast back) numbers bits
-WritesLast (exactly count element) numbers bits = HasTimesToLast count (Writes element) (WritesLast element) numbers bits
+WritesLast (exactly count element) numbers bits =
+    HasTimesToLast count (Writes element) (WritesLast element) numbers bits
 WritesLast (up_to most element) numbers bits = InForm (nat_le 8 (least_bits element)) (HasTail most (Writes element))
     (HasCount most (λ count. HasTimesToLast count (Writes element) (WritesLast element))) numbers bits
 WritesLast layout numbers bits = Writes layout numbers bits

@@ -16,9 +16,10 @@
 //! A node is offline once its last status (`uavcan.protocol.NodeStatus`) is more than 3,000 ms old. Nodes are asked by
 //! `uavcan.protocol.GetNodeInfo`; a query waits 1,000 ms for its answer, and a node is asked again no
 //! sooner. A node that has answered none of five queries or more is silent 1,000 ms after the last of
-//! them; [`Counting`] says whether those of its spell count, or those since its last answer. Who is asked next, whether someone is unknown and who is silent are said twice, as
-//! functions of the list and as relations, and [`laws`] say that these are one. Node IDs of devices are 1 to 125; 126
-//! and 127 are kept for tools.
+//! them; [`Counting`] says whether those of its spell count, or those since its last answer. Who is asked
+//! next, whether someone is unknown and who is silent are said twice, as functions of the list and as
+//! relations, and [`laws`] say that these are one. Node IDs of devices are 1 to 125; 126 and 127 are kept
+//! for tools.
 #![tactic(auto)]
 
 mod counting;
