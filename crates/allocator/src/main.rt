@@ -2,15 +2,16 @@
 //!
 //! The source is standard input, the sink is standard output, the clock is the system's, and the exit
 //! code is that of the status. For the words of `node` each member has its link over UDP, and its disk
-//! in the file `alloc-<id>.store`. The words of `can` are those of `node` without a base: standard input is
-//! a raw CAN socket then (`can_link`), and the links of all members are on it. Where the members are told a list of them, links are strict, a missing
-//! file is refused, and a process whose members ran before waits until no frame of the time before is on its
-//! way; where they are told a number, a missing file is made, and nothing waits. The words of `new` have the disks
-//! alone, in files that are made for them: where one is there already, or `run` does not come to its end, none
-//! of those that were made stays. Those of `audit` have the disks alone, in files that are there, and only
-//! read them. Where one of these cannot be opened the exit code is 12. A standard stream that is closed
-//! stays so for `run`: its descriptor never becomes that of a link or a disk. A word that is not UTF-8 is
-//! none that the program reads.
+//! in the file `alloc-<id>.store`. The words of `can` are those of `node` without a base: standard
+//! input is a raw CAN socket then (`can_link`), and the links of all members are on it. Where the
+//! members are told a list of them, links are strict, a missing file is refused, and a process whose
+//! members ran before waits until no frame of the time before is on its way; where they are told a
+//! number, a missing file is made, and nothing waits. The words of `new` have the disks alone, in files
+//! that are made for them: where one is there already, or `run` does not come to its end, none of those
+//! that were made stays. Those of `audit` have the disks alone, in files that are there, and only read
+//! them. Where one of these cannot be opened the exit code is 12. A standard stream that is closed
+//! stays so for `run`: its descriptor never becomes that of a link or a disk. A word that is not UTF-8
+//! is none that the program reads.
 #![tactic(auto)]
 
 use allocator_app::{Plan, Status, Told, plan, run};

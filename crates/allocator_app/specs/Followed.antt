@@ -24,8 +24,8 @@ module _ {L D : Type 0} (coming : L → Option (List Received)) (sent : L → Op
     (before now : Option (List ℕ)) (status : Status) where
   abbrev pub IsFollowed : Plan → Type 0
   IsFollowed (Replay rows ids) = Replays rows ids.items left_old left before now status
-  IsFollowed (Node told base turns ids) = RunsNodes coming sent link_faults disk (rules_of told) turns ids.items links_old
-      links disks_old disks readings_old readings sink_old sink before now status
+  IsFollowed (Node told base turns ids) = RunsNodes coming sent link_faults disk (rules_of told) turns ids.items
+      links_old links disks_old disks readings_old readings sink_old sink before now status
   IsFollowed (Soak told seed rounds size) = Soaks told seed rounds size sink_old sink before now status
   IsFollowed (New ids) = MakesStores disk ids.items disks_old disks before now status
   IsFollowed (Audit ids) = Audits disk ids.items disks_old disks before now status

@@ -14,8 +14,8 @@ use replay_text::{read_bytes, read_number};
 
 /// The plan of the words, without the program's name; `None` where they are none of
 /// `replay <rows> <id>..`, `node <members> <base> <turns> <id>..`, `soak <seed> <rounds> <size>`,
-/// `soak <seed> <rounds> configured <size>`, /// `new <id>..`, `audit <id>..`, `watch <format> <lines> <id>..`, `convert <format> <format> <lines>` and
-/// `decode <name> <part> <hex>`.
+/// `soak <seed> <rounds> configured <size>`, `new <id>..`, `audit <id>..`, `watch <format> <lines> <id>..`,
+/// `convert <format> <format> <lines>` and `decode <name> <part> <hex>`.
 pub fn plan(words: &[String]) -> Option<Plan>
     ensures some { IfSome result (λ plan. IsPlan plan (map string_bytes words.now)) }
     ensures none { IsNone result → (plan : Plan) → IsPlan plan (map string_bytes words.now) → ⊥ }

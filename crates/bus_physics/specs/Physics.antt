@@ -97,6 +97,10 @@ ArePhysical limits all a past w (timed ∷ rest) = RowIsPhysical limits all a pa
 abbrev pub joining_span : Limits → ℕ
 joining_span limits = limits.hold + 2000 + limits.drift
 
+-- two holds and the drift are over before a transfer ID of vote requests comes round, which takes 21 s
+abbrev pub HoldsAreShort : Limits → Type 0
+HoldsAreShort limits = 2 * limits.hold + limits.drift < 21000
+
 -- so far apart, one way or the other
 abbrev pub AreApart : ℕ → ℕ → ℕ → Type 0
 AreApart width m n = (m + width < n) ⊎ (n + width < m)
@@ -178,7 +182,8 @@ pub record IsResponseOf (number source dest : ℕ) (frame : Queued) : Type 0 whe
 -- call of the service
 abbrev pub AnswersInOrder : ℕ → List Queued → Queued → Type 0
 AnswersInOrder n heard frame = (other : Queued) (number source : ℕ) → source ≢ n → In other heard
-    → is_members_service number ≡ true → IsResponseOf number source n other → IsResponseOf number source n frame → other.mark.re < frame.mark.re
+    → is_members_service number ≡ true → IsResponseOf number source n other → IsResponseOf number source n frame
+    → other.mark.re < frame.mark.re
 
 -- a call of these was answered: the first one, or one that the member made later to the same node, of the same service
 pub record IsAnswered (made : List SentTransfer) (heard : List Queued) (first : SentTransfer) : Type 0 where

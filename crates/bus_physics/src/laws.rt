@@ -15,7 +15,7 @@ ghost use Rattle.bus_physics.specs.Physics.{AllComeInTurn, ComesInTurn, ComesOnc
 ghost use Rattle.bus_physics.specs.Physics.{AllocatesApart, AnswersInOrder, ArePhysical, ClockGoesOn, ComeInOrder};
 ghost use Rattle.bus_physics.specs.Physics.{ComeInOrderToDevice, ComesInOrderToDevice, device_heard_by};
 ghost use Rattle.bus_physics.specs.Physics.{ComesInOrder, FramesComeInTime};
-ghost use Rattle.bus_physics.specs.Physics.{ClockIsNotFast, Limits, RestsWhenOpened, Timed, UsesIdsApart, WaitsForAnswers, heard_by};
+ghost use Rattle.bus_physics.specs.Physics.{ClockIsNotFast, HoldsAreShort, Limits, RestsWhenOpened, Timed, UsesIdsApart, WaitsForAnswers, heard_by};
 ghost use Rattle.bus_physics.specs.Physics.{rows_in};
 ghost use Rattle.bus_physics.specs.Example.{at_allocatee, at_member, before as first_rows, everything, limits as some_limits, two};
 ghost use Rattle.bus_physics.specs.Reuse.{IsStaleAt, IsTornAt, IsTornAtDevice, LacksFrames};
@@ -86,7 +86,7 @@ pub fn a_device_puts_nothing_together_of_two()
 /// round after 32 s, vote requests after 21 s.
 pub fn calls_come_round_late()
     ensures { (limits : Limits) (ids : List ℕ) (before : List Timed) (now : Timed) (n : ℕ) → AreMembers ids →
-        2 * limits.hold + limits.drift < 21000 → Lawful (cluster ids) (rows_in before) →
+        HoldsAreShort limits → Lawful (cluster ids) (rows_in before) →
         ClockIsNotFast limits n [] (cluster ids) before →
         RestsWhenOpened limits (before ++ now ∷ []) (transfers_of_rows (cluster ids) (rows_in before) []) n →
         WaitsForAnswers limits (before ++ now ∷ []) (transfers_of_rows (cluster ids) (rows_in before) [])
@@ -118,7 +118,7 @@ pub fn answers_come_in_order()
 /// where frames come to each member in order and once, and where a member that is opened rests.
 pub fn no_response_outlives_its_transfer_id()
     ensures { (limits : Limits) (ids : List ℕ) (before : List Timed) (now : Timed) (n k ms : ℕ) →
-        AreMembers ids → 2 * limits.hold + limits.drift < 21000 → now.row ≡ Rx n k ms →
+        AreMembers ids → HoldsAreShort limits → now.row ≡ Rx n k ms →
         Lawful (cluster ids) (rows_in before) →
         FramesComeInTime limits (before ++ now ∷ []) (cluster ids) (before ++ now ∷ []) →
         ClockGoesOn limits n [] (cluster ids) (before ++ now ∷ []) → ClockIsNotFast limits n [] (cluster ids) before →
@@ -187,7 +187,7 @@ pub fn premises_can_be_met()
 /// again.
 pub fn schedules_on_a_bus_are_lawful()
     ensures { (limits : Limits) (ids : List ℕ) (all : List Timed) → AreMembers ids →
-        2 * limits.hold + limits.drift < 21000 → HappenOnBus limits ids [] all → LawfulButForBus (cluster ids) (rows_in all) →
+        HoldsAreShort limits → HappenOnBus limits ids [] all → LawfulButForBus (cluster ids) (rows_in all) →
         Lawful (cluster ids) (rows_in all) ⊎ LosesFrames ids all }
 {
     a_device_puts_nothing_together_of_two();
@@ -199,10 +199,10 @@ pub fn schedules_on_a_bus_are_lawful()
 /// but where frames are lost. So the headline needs no premise on what is torn or stale.
 pub fn traces_on_a_bus_may_happen()
     ensures may { (limits : Limits) (ids : List ℕ) (trace : List Event) (all : List Timed) → AreMembers ids →
-        2 * limits.hold + limits.drift < 21000 → rows_in all ≡ all_rows trace (cluster ids) → HappenOnBus limits ids [] all →
+        HoldsAreShort limits → rows_in all ≡ all_rows trace (cluster ids) → HappenOnBus limits ids [] all →
         MayAllDo trace (cluster ids) → MayAllHappen trace (cluster ids) ⊎ LosesFrames ids all }
     ensures headline { (limits : Limits) (ids : List ℕ) (trace : List Event) (all : List Timed) → AreMembers ids →
-        2 * limits.hold + limits.drift < 21000 → rows_in all ≡ all_rows trace (cluster ids) → HappenOnBus limits ids [] all →
+        HoldsAreShort limits → rows_in all ≡ all_rows trace (cluster ids) → HappenOnBus limits ids [] all →
         MayAllDo trace (cluster ids) → HasHeadline ids (all_rows trace (cluster ids)) ⊎ LosesFrames ids all }
 {
     a_device_puts_nothing_together_of_two();

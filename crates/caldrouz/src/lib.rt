@@ -4,7 +4,10 @@
 //! memory the caller owes what the `requires` say, and that no two calls on one node run at one time.
 #![tactic(auto)]
 
+ghost use denote.Param.{layout};
+ghost use prog.Memory.{capped, size};
 ghost use Rattle.std.specs.Borrow.{full_share, sem};
+ghost use Rattle.std.specs.Prelude.{◌≡◌};
 ghost use Rattle.std.specs.Ptr.{lies_at, room_at};
 ghost use Rattle.node_calls.specs.At.{Calls, IsNew};
 ghost use Rattle.node_calls.specs.contracts.node.Node.{the_row};
@@ -13,9 +16,11 @@ ghost use Rattle.node_calls.specs.declared.node.Node.{Node};
 use node_calls::Node;
 use std::mem::size_of;
 
-/// How many bytes a node takes. Its memory is aligned to 8.
+/// How many bytes a node takes: those of the room that `caldrouz_make` asks for. Its memory is aligned to 8.
 #[unsafe(no_mangle)]
-pub extern "C" fn caldrouz_size() -> usize {
+pub extern "C" fn caldrouz_size() -> usize
+    ensures { result ≡ capped (size (layout the_row)) }
+{
     size_of::<Node>()
 }
 

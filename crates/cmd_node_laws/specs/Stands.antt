@@ -48,8 +48,8 @@ pub record IsFound (likeness : Likeness) (image : List ℕ) (w : Cluster) (n : �
 
 -- The run of these members stands in the trace of a cluster: some events came before it, and some while it went on to a
 -- point. Its members were stopped when it began, and had stored what was handed in.
-pub record IsRunIn (ids : List ℕ) (before during : List Event) (rules : Rules) (mine : List ℕ) (given : Given) (to : Point)
-    : Type 0 where
+pub record IsRunIn (ids : List ℕ) (before during : List Event) (rules : Rules) (mine : List ℕ)
+    (given : Given) (to : Point) : Type 0 where
   pub members : AreMembers ids
   -- they were told how many members there are, or also who
   pub rules_are : rules ≡ rules_of ids (tells rules)
@@ -110,7 +110,8 @@ pub record IsCutAsTold {L D : Type 0} (coming : L → Option (List Received)) (s
 -- the event in which the process of the member at a place is killed while it opens it, after so many puts
 abbrev pub opening_kill_of : Rules → List ℕ → Given → ℕ → ℕ → Event
 opening_kill_of rules mine given place puts = let id = slice_index mine place in
-    IsKilledAtOpening id (tells rules) (next_reading (readings_after place given.readings)) (word_at (next_state id)) puts
+    IsKilledAtOpening id (tells rules) (next_reading (readings_after place given.readings))
+    (word_at (next_state id)) puts
 
 -- A run was cut off at the opening of the member at a place, before which its members in the world had sent nothing.
 -- Each disk before its own holds what its member has stored; its member and those behind it wait as they did. Whatever
@@ -125,4 +126,5 @@ pub record IsCutOpeningAsTold {D : Type 0} (disk : Ghosts D) (disks_old disks : 
   pub killed : (likeness : Likeness) (before after : D) (image : List ℕ) → BeganAlike likeness w mine given place →
       slice_index_or disks_old place None ≡ Some before → slice_index_or disks place None ≡ Some after →
       MayLeave (disk.contents after) image → MayLeave (disk.contents before) image ⊎ ((puts : ℕ) ×
-      IsFound likeness image (after_rows v (rows_of (opening_kill_of rules mine given place puts) v)) (slice_index mine place))
+      IsFound likeness image (after_rows v (rows_of (opening_kill_of rules mine given place puts) v))
+      (slice_index mine place))

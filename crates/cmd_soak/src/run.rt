@@ -24,10 +24,9 @@ const FRAMES_PER_ROUND: u64 = 41;
 const MEMBERS: [u8; 5] = [1, 2, 3, 4, 5];
 
 /// Runs a cluster of 1 to 5 members over the rows that a seed makes, for so many rounds, 20,000 at the
-/// most, and writes six lines. Each member is told who the members are when it opens, or their number alone. The
-/// lines say how many rounds there were, how many frames are on the bus, how many rows
-/// told of a stop, how many rows were refused, how many pairs the longest committed list has, and the
-/// rounds again.
+/// most, and writes six lines. Each member is told who the members are when it opens, or their number
+/// alone. The lines say how many rounds there were, how many frames are on the bus, how many rows told of a
+/// stop, how many rows were refused, how many pairs the longest committed list has, and the rounds again.
 ///
 /// `Done` comes with exactly these lines. `WriteFault` comes exactly where the sink failed, and it then has
 /// a front of them. With `Memory` nothing is written: all memory is taken before the first row.

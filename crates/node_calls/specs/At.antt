@@ -67,7 +67,7 @@ pub record IsNew (node : Node) (id size : ℕ) : Type 0 where
 pub record Opens (old new : Node) (now word result : ℕ) : Type 0 where
   pub done : result ≡ 0 → MatchOption new.server ⊥ (λ server. StandsFor server
       (opening old.id old.size (store_of (durable_state (durable_of server))) now word))
-  -- it may be told who its members are
+  -- a node that is open may be told who the members of its cluster are
   pub may_learn : result ≡ 0 → new.is_new ≡ true
   -- 1 exactly where it is not made
   pub not_made : (result ≡ 1) ↔ IsNotMade old

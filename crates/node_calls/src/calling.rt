@@ -36,9 +36,10 @@ const OUTSIDE: Mark = Mark {
 
 /// Does what the number `op` asks for, with its arguments.
 ///
-/// `OPEN` leaves a node that stands for a server in time that opens with what is stored; `LEARN` one that was told who its
-/// members are; `TICK` and `HEAR` one that stands for the step of it at that reading of the clock or on that frame; `TAKE`
-/// one without the frame that was taken. The others change nothing. What each answers, and when, is said in `Calls`.
+/// `OPEN` leaves a node that stands for an allocator that opens with what is stored; `LEARN` one that was told
+/// who its members are; `TICK` and `HEAR` one that stands for the step of it at that reading of the clock or on
+/// that frame; `TAKE` one without the frame that was taken. The others change nothing. What each answers, and
+/// when, is said in `Calls`.
 pub fn call(node: &mut Node, op: u32, now: u64, a: u64, b: u64) -> u64
     ensures calls { Calls node.old node.new op now a b result }
 {

@@ -108,7 +108,7 @@ got_by (Hears now a b) node = []
 got_by (Learns now a b) node = []
 got_by (Tells op now a b result) node = []
 
--- and by all of these, of the nodes `at`
+-- what the caller gets by these calls, in order, where the node is `at 0` before the first of them, and `at k` after k
 abbrev pub got_in : List Call → (ℕ → Node) → List (ℕ × ℕ)
 got_in [] at = []
 got_in (call ∷ calls) at = got_by call (at 1) ++ got_in calls (λ k. at (suc k))
