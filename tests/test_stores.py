@@ -167,7 +167,8 @@ class Listening(unittest.TestCase):
         frames.append(wire.Frame(0x1E1E8281, b"\0\0\5\0\0\0\0\x80"))
         told = self.told_of([wire.to_datagram(frame) for frame in frames])
         self.assertRegex(told[0], r"^[1-9]\d* frames in 1 s$")
-        self.assertEqual(told[1:3], ["node 1: up 7 s, leads in term 5", "node 2: no status heard"])
+        self.assertEqual(told[1], "node 1: up 7 s, leads in term 5")
+        self.assertRegex(told[2], r"^node 2: no status heard, [1-9]\d* Discoveries of a cluster of 3$")
 
     def test_what_is_no_frame_is_passed_over(self) -> None:
         short = b"\x1e\1\x55\1"
