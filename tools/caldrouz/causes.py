@@ -94,7 +94,7 @@ def _lists(scene: Scene, _: Sequence[NamedStore]) -> Iterator[Cause]:
             "another-size",
             f"The cluster is taken to have {size} members ({_ids(agree)} say so), and {told}: they never find each "
             "other",
-            "give all members the same SIZE, or the same list of members, and start those again that had another",
+            "give all members the same CLUSTER, a number or a list, and start those again that had another",
         )
     elif short:
         yield _missing(short, members, size or 0)
