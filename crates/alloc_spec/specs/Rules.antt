@@ -3,6 +3,7 @@ use Rattle.std.specs.Prelude.{◌≡◌, ℕ, ◌≤◌, Bool, nat_lt, List, [],
 use Rattle.cluster_discovery.specs.Members.{Event, Heard}
 use Rattle.node_discovery.specs.declared.counting.Counting.{Counting}
 use Rattle.node_discovery.specs.declared.counting.Counting.TheVariants.{SinceAnswer}
+use Rattle.raft_core.specs.Times.{Times}
 use Rattle.raft_model.specs.Lists.{In}
 use Rattle.raft_model.specs.Members.{HasNoneTwice}
 use Rattle.raft_model.specs.Server.{Store}
@@ -39,10 +40,18 @@ abbrev pub counting_with : List ℕ → Counting → Counting
 counting_with [] counting = counting
 counting_with (node ∷ nodes) counting = SinceAnswer
 
+-- who is told its members waits with a blank until a quorum has its log
+abbrev pub times_with : List ℕ → Times → Times
+times_with [] times = times
+times_with (node ∷ nodes) times = record times { waits = true }
+
 -- an allocator that is told these members
 abbrev pub with_told : List ℕ → AllocatorState → AllocatorState
-with_told nodes t =
-    record t { heard = heard_with t.size nodes t.heard; counting = counting_with nodes t.counting }
+with_told nodes t = record t {
+  heard = heard_with t.size nodes t.heard;
+  counting = counting_with nodes t.counting;
+  times = times_with nodes t.times;
+}
 
 -- a server that was opened with this store by these rules: before its first step it knows itself, and whom it was told
 abbrev pub opening_by : ℕ → Rules → Store → ℕ → ℕ → AllocatorState

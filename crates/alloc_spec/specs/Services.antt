@@ -11,7 +11,7 @@ use Rattle.dsdl_codec.specs.AppendAnswer.{append_answer_bytes}
 use Rattle.dsdl_codec.specs.NodeInfo.{node_info_bytes}
 use Rattle.dsdl_codec.specs.VoteAnswer.{vote_answer_bytes}
 use Rattle.node_discovery.specs.Watch.{after_info}
-use Rattle.raft_core.specs.Handled.{answer_of, append_request_of, vote_request_of}
+use Rattle.raft_core.specs.Handled.{answer_of, append_request_of, vote_request_of, with_blank}
 use Rattle.raft_core.specs.Times.{given_at, is_awaited}
 use Rattle.raft_model.specs.Decisions.{grants, verdict_on}
 use Rattle.raft_model.specs.Messages.{Request}
@@ -83,10 +83,13 @@ answers_vote_request step d request g =
 abbrev pub takes_vote_request : ℕ → Delivery → VoteRequest → StepState → StepState
 takes_vote_request step d request g = if is_listed d g.allocator then answers_vote_request step d request g else g
 
--- an answer is taken by the call that waits for it, and is the answer to that call
+-- an answer is taken by the call that waits for it, and is the answer to that call; by it the moment for a leader's
+-- blank may come
 abbrev pub answers_call : ℕ → (Request → Move) → Option Request → StepState → StepState
 answers_call step move None g = g
-answers_call step move (Some request) g = with_moves step (given_at g.allocator.now) (move request ∷ []) g
+answers_call step move (Some request) g =
+    let t = g.allocator in with_moves step (given_at t.now)
+    (with_blank (members_of t) t.me step t.times t.raft_server (move request ∷ [])) g
 
 abbrev pub vote_answered : Delivery → VoteAnswer → Request → Move
 vote_answered d answer request =

@@ -50,11 +50,11 @@ status_phase step g =
 
 -- ---- the tick of Raft
 
-abbrev pub election_moves : AllocatorState → List Move
-election_moves t = moves_of_tick (knows_all t) t.now t.raft_server t.times
+abbrev pub election_moves : ℕ → AllocatorState → List Move
+election_moves step t = moves_of_tick (members_of t) t.me step (knows_all t) t.now t.raft_server t.times
 
 abbrev pub election_phase : ℕ → ℕ → StepState → StepState
-election_phase step word g = with_moves step (given_tick g.allocator.now word) (election_moves g.allocator) g
+election_phase step word g = with_moves step (given_tick g.allocator.now word) (election_moves step g.allocator) g
 
 -- ---- the log: a leader records a pair, or keeps back a node ID
 
@@ -70,7 +70,8 @@ reserves step node g = proposes step 3 zeros node g
 -- a node that told its unique ID, or stays silent; and that is online, and not known
 abbrev pub is_candidate : AllocatorState → ℕ → Bool
 is_candidate t node =
-    not (is_known t node) && (is_some (identity (history node t.watch) t.now) || is_silent t.counting (history node t.watch) t.now)
+    not (is_known t node)
+    && (is_some (identity (history node t.watch) t.now) || is_silent t.counting (history node t.watch) t.now)
 
 -- the least such node
 abbrev pub candidate : AllocatorState → Option ℕ
@@ -100,7 +101,7 @@ record_phase step g = if may_propose g.allocator then records_node step (candida
 
 abbrev pub with_query : ℕ → ℕ → StepState → StepState
 with_query node id g =
-    record g { allocator = record g.allocator { watch = of_node node (Asked id g.allocator.now) ∷ g.allocator.watch } }
+    let t = g.allocator in record g { allocator = record t { watch = of_node node (Asked id t.now) ∷ t.watch } }
 
 -- a query that fitted is noted; any other is owed again
 abbrev pub with_query_if : Bool → ℕ → ℕ → StepState → StepState

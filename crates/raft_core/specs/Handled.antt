@@ -1,28 +1,26 @@
 -- What a call of a member does: it makes moves of the message machine.
-use Rattle.std.specs.Prelude.{◌≡◌, ℕ, Bool, true, false, ◌&&◌, List, [], ◌∷◌, ◌++◌, Option, None, IfNone}
+use Rattle.std.specs.Prelude.{◌≡◌, ℕ, Bool, true, false, not, ◌&&◌, if◌then◌else◌, List, [], ◌∷◌, ◌++◌, Option, None, IfNone}
 use Rattle.disk_model.specs.declared.disk.Disk.{Ghosts}
 use Rattle.kv_store.specs.declared.fault.Fault.{Fault}
 use Rattle.dsdl_codec.specs.declared.append_request.AppendRequest.{AppendRequest}
 use Rattle.dsdl_codec.specs.declared.vote_request.VoteRequest.{VoteRequest}
-use Rattle.raft_log.specs.declared.origin.TheConstants.{LEADER, WIN}
+use Rattle.raft_log.specs.declared.origin.TheConstants.{LEADER}
 use Rattle.raft_log.specs.declared.durable.Durable.{Durable}
 use Rattle.raft_log.specs.DurableViews.{durable_state}
 use Rattle.raft_model.specs.Handlers.{server_after, server_after_all, puts_of_all}
 use Rattle.raft_model.specs.Messages.{Answer, Request}
-use Rattle.raft_model.specs.Duty.{tick_phase}
-use Rattle.raft_model.specs.Moves.{Move, puts}
-use Rattle.raft_model.specs.Moves.Move.{TimeOut, TakeVoteAnswer, ProposeEntry, GiveUp}
+use Rattle.raft_model.specs.Duty.{blank_moves, is_heard, tick_phase}
+use Rattle.raft_model.specs.Moves.{Move, is_leader, puts}
+use Rattle.raft_model.specs.Moves.Move.{ProposeEntry, GiveUp}
 use Rattle.raft_model.specs.Server.{RaftServer}
 use Rattle.raft_core.specs.declared.raft.Raft.{Raft}
 use Rattle.raft_core.specs.Stands.{StandsFor}
 use Rattle.raft_core.specs.StoredPuts.{CallWrites, PutWithOrigin, with_origin, puts_alone}
 use Rattle.raft_core.specs.Times.{Given, Times, has_waited, times_after_all}
 
--- the origin of the entry that a move puts: the blank of a win, an entry that is proposed with the origin that was
--- given, and what a leader sent
+-- the origin of the entry that a move puts: an entry that is proposed with the origin that was given, and what a leader
+-- sent
 abbrev pub origin_of : Given → Move → ℕ
-origin_of given TimeOut = WIN
-origin_of given (TakeVoteAnswer answer) = WIN
 origin_of given (ProposeEntry entry) = given.origin
 origin_of given move = LEADER
 
@@ -85,9 +83,26 @@ abbrev pub answer_of : ℕ → ℕ → Request → ℕ → Bool → Answer
 answer_of step from request term success =
     record { step = step; from = from; request = request; term = term; success = success }
 
+-- whether it is the moment for a leader's blank, where moves led from one server to another: a member that waits with
+-- it adds it once a quorum has its log, any other as soon as it leads
+abbrev pub is_moment : List ℕ → ℕ → Times → RaftServer → RaftServer → Bool
+is_moment members member times before after =
+    if times.waits then is_heard members member after else not (is_leader before.memory.role)
+
+abbrev pub blank_behind : Bool → RaftServer → List Move
+blank_behind moment server = if moment then blank_moves server else []
+
+-- moves of a step, and behind them a blank where its moment has come; no moves make no moment
+abbrev pub with_blank : List ℕ → ℕ → ℕ → Times → RaftServer → List Move → List Move
+with_blank members member step times server [] = []
+with_blank members member step times server (move ∷ moves) =
+    let after = server_after_all members member step server (move ∷ moves) in (move ∷ moves)
+    ++ blank_behind (is_moment members member times server after) after
+
 -- a tick: whoever has waited, and knows all members, stands for election, if there is a next term and it does not lead
-abbrev pub moves_of_tick : Bool → ℕ → RaftServer → Times → List Move
-moves_of_tick complete now server times = tick_phase (complete && has_waited times now) server
+abbrev pub moves_of_tick : List ℕ → ℕ → ℕ → Bool → ℕ → RaftServer → Times → List Move
+moves_of_tick members member step complete now server times =
+    with_blank members member step times server (tick_phase (complete && has_waited times now) server)
 
 -- the members that a tick counts: those of the election that it begins, else those of the last one
 abbrev pub counted_at : List Move → List ℕ → List ℕ → List ℕ

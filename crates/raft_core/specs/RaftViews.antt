@@ -1,5 +1,5 @@
 -- What the contracts see of a member.
-use Rattle.std.specs.Prelude.{ℕ, List}
+use Rattle.std.specs.Prelude.{ℕ, Bool, List}
 use Rattle.can_frame.specs.declared.step.Role.{Role}
 use Rattle.raft_core.specs.declared.peer.Peer.{Peer}
 use Rattle.raft_core.specs.declared.raft.Raft.{Raft}
@@ -25,6 +25,10 @@ raft_since raft = raft.since
 
 abbrev pub raft_word : Raft → ℕ
 raft_word raft = raft.word
+
+-- whether a leader's blank waits until a quorum has its log
+abbrev pub raft_waits : Raft → Bool
+raft_waits raft = raft.waits
 
 -- the members of the last election, itself first
 abbrev pub raft_members : Raft → List ℕ

@@ -10,7 +10,7 @@ use Rattle.raft_core.specs.declared.peer.Asked.TheVariants.{Vote, Append}
 use Rattle.raft_core.specs.declared.peer.Waiting.{Waiting}
 use Rattle.raft_core.specs.declared.peer.Peer.{Peer}
 use Rattle.raft_core.specs.declared.raft.Raft.{Raft}
-use Rattle.raft_core.specs.RaftViews.{raft_members, raft_peers, raft_role, raft_since, raft_told, raft_word}
+use Rattle.raft_core.specs.RaftViews.{raft_members, raft_peers, raft_role, raft_since, raft_told, raft_waits, raft_word}
 use Rattle.raft_core.specs.StoredPuts.{store_of}
 use Rattle.raft_core.specs.Times.{Sending, Times}
 
@@ -57,5 +57,6 @@ pub record StandsFor (raft : Raft) (members : List ℕ) (state : Stored) (server
   pub known : raft_role raft ≢ Follower → raft_members raft ≡ members
   pub since : times.since ≡ raft_since raft
   pub word : times.word ≡ raft_word raft
+  pub waits : times.waits ≡ raft_waits raft
   pub peers : (node : ℕ) (none : Peer) → node < 128 →
       Tells (slice_index_or (raft_peers raft) node none) server times node

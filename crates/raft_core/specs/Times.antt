@@ -2,6 +2,7 @@
 -- A move changes it as it changes the memory of the machine (`raft_model`, `memory_after`).
 use Rattle.std.specs.Prelude.{ℕ, ◌+◌, ◌-◌, ◌%◌, ◌&&◌, ◌==◌, Bool, true, false, not, if◌then◌else◌, nat_lt, nat_le, List, [], ◌∷◌, Option, Some, None}
 use Rattle.can_frame.specs.Timing.{call_timeout, election_spread, election_wait, heartbeat_interval}
+use Rattle.raft_log.specs.declared.origin.TheConstants.{WIN}
 use Rattle.raft_model.specs.Lists.{at}
 use Rattle.raft_model.specs.Messages.{Request}
 use Rattle.raft_model.specs.Server.{RaftServer, Role}
@@ -28,6 +29,8 @@ pub record Times : Type 0 where
   pub appended : ℕ → Option ℕ
   -- for each pending call
   pub sending : ℕ → Option Sending
+  -- whether a blank waits until a quorum has the leader's log, and is not added as soon as the member leads
+  pub waits : Bool
 
 -- what the caller hands in: the moment, the word of a tick, the transfer ID of a call, and the origin of an entry
 -- that is proposed
@@ -37,12 +40,12 @@ pub record Given : Type 0 where
   pub id : ℕ
   pub origin : ℕ
 
--- a moment alone, that of a tick, that of a call, and that of a proposal
+-- a moment alone, that of a tick, that of a call, and that of a proposal; a leader's blank is of a win
 abbrev pub given_at : ℕ → Given
-given_at now = record { now = now; word = 0; id = 0; origin = 0 }
+given_at now = record { now = now; word = 0; id = 0; origin = WIN }
 
 abbrev pub given_tick : ℕ → ℕ → Given
-given_tick now word = record { now = now; word = word; id = 0; origin = 0 }
+given_tick now word = record { now = now; word = word; id = 0; origin = WIN }
 
 abbrev pub given_call : ℕ → ℕ → Given
 given_call now id = record { now = now; word = 0; id = id; origin = 0 }
@@ -52,8 +55,14 @@ given_proposal now origin = record { now = now; word = 0; id = 0; origin = origi
 
 -- a member that opens
 abbrev pub opened_times : ℕ → ℕ → Times
-opened_times now word =
-    record { since = now; word = word; answered = λ node. false; appended = λ node. None; sending = λ node. None }
+opened_times now word = record {
+  since = now;
+  word = word;
+  answered = λ node. false;
+  appended = λ node. None;
+  sending = λ node. None;
+  waits = false;
+}
 
 -- ---- how long
 

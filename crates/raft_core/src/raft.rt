@@ -37,6 +37,9 @@ pub struct Raft {
     /// The word that the wait takes.
     pub(crate) word: u32,
 
+    /// Whether a leader's blank waits until a quorum has the leader's log.
+    pub(crate) waits: bool,
+
     /// All members, itself first, since the last election.
     pub(crate) members: ArrayVec<u8, 5>,
 
@@ -97,10 +100,25 @@ impl Raft {
             told: 0,
             since: now,
             word,
+            waits: false,
             members: ArrayVec::new(),
             peers: [Peer::new(1); 128],
             calls_since: u64::MAX,
         }
+    }
+
+    /// From now on a leader adds its blank only once a quorum of the members, the leader included, has
+    /// answered that it has the leader's whole log. So an election whose leader cannot reach a quorum takes
+    /// no room in the log. Else the blank is added as soon as the member leads.
+    pub fn wait_until_heard(&mut self)
+        ensures stands { (members : List ℕ) (state : Stored) (server : RaftServer) (times : Times) →
+            StandsFor self.old members state server times →
+            StandsFor self.new members state server (record times { waits = true }) }
+        ensures fits { (state : Stored) → Fits self.old state → Fits self.new state }
+        ensures me { raft_me self.new ≡ raft_me self.old }
+        ensures size { raft_size self.new ≡ raft_size self.old }
+    {
+        self.waits = true;
     }
 
     pub fn role(&self) -> Role

@@ -95,7 +95,7 @@ abbrev pub may_propose : RaftServer → Entry → Bool
 may_propose server entry = is_leader server.memory.role
     && (nat_lt (length server.store.log) log_limit
     && ((entry.term == server.store.term)
-    && ((is_pair entry || is_reservation entry) && is_injective (server.store.log ++ (entry ∷ [])))))
+    && (is_well_formed entry && is_injective (server.store.log ++ (entry ∷ [])))))
 
 -- Commit.
 

@@ -1,20 +1,35 @@
 -- What a server owes that finishes its step: the phases of a step as moves, and what they leave.
-use Rattle.std.specs.Prelude.{◌≡◌, ◌≢◌, ℕ, ◌+◌, ◌<◌, ◌≤◌, ◌&&◌, Bool, true, false, not, List, [], ◌∷◌, ◌⊎◌, if◌then◌else◌, Option, Some, None, nat_lt}
+use Rattle.std.specs.Prelude.{◌≡◌, ◌≢◌, ℕ, ◌+◌, ◌<◌, ◌≤◌, ◌&&◌, Bool, true, false, not, List, [], ◌∷◌, ◌⊎◌, if◌then◌else◌, Option, Some, None, length, nat_lt}
 use Rattle.std.specs.Str.{bytes_eq}
 use Rattle.can_frame.specs.declared.entry.Entry.{Entry}
+use Rattle.can_frame.specs.Log.{blank, last_term, log_limit}
 use Rattle.can_frame.specs.Zeros.{zeros}
 use Rattle.raft_model.specs.Messages.{Message}
 use Rattle.raft_model.specs.Messages.Message.{Pairs}
-use Rattle.raft_model.specs.Server.{RaftServer}
+use Rattle.raft_model.specs.Server.{Store, RaftServer}
 use Rattle.raft_model.specs.Server.Role.{Follower, Candidate}
-use Rattle.raft_model.specs.Moves.{Move, CanCommit, has_quorum, is_leader, next_entry, term_limit, pair_at}
-use Rattle.raft_model.specs.Moves.Move.{TimeOut, CommitTo, TellPair, TellNothing}
+use Rattle.raft_model.specs.Moves.{Move, CanCommit, has_matched, has_quorum, is_leader, next_entry, term_limit, pair_at}
+use Rattle.raft_model.specs.Moves.Move.{TimeOut, ProposeEntry, CommitTo, TellPair, TellNothing}
 use Rattle.raft_model.specs.Decisions.{commit_index}
 
 -- a tick: who is no Leader and has waited stands for election, where there is a next term
 abbrev pub tick_phase : Bool → RaftServer → List Move
 tick_phase waited server =
     if waited && (not (is_leader server.memory.role) && nat_lt server.store.term term_limit) then TimeOut ∷ [] else []
+
+-- there is something that is not committed, and room for a blank
+abbrev pub takes_blank : Store → Bool
+takes_blank store = nat_lt store.commit (length store.log) && nat_lt (length store.log) log_limit
+
+-- a Leader adds a blank of its term: by it the entries of earlier terms are committed
+abbrev pub blank_moves : RaftServer → List Move
+blank_moves server =
+    if is_leader server.memory.role && takes_blank server.store then ProposeEntry (blank server.store.term) ∷ [] else []
+
+-- a quorum, this server included, has matched its whole log, whose last entry is of an earlier term
+abbrev pub is_heard : List ℕ → ℕ → RaftServer → Bool
+is_heard members member server = nat_lt (last_term server.store.log) server.store.term
+    && has_quorum members (has_matched member server (length server.store.log))
 
 abbrev pub commit_moves : Option ℕ → List Move
 commit_moves None = []

@@ -67,13 +67,9 @@ module _ (members : List ℕ) (member : ℕ) (server : RaftServer) where
   -- the puts of a move, in order; the other moves have none
   abbrev pub puts : Move → List Put
   puts TimeOut = stand_puts member server.store
-      ++ (if has_quorum members (own_vote member)
-      then win_puts (put_all server.store (stand_puts member server.store)) else [])
   puts (TakeVoteRequest request granted) = term_puts server.store request.term
       ++ grant_puts (with_term server.store request.term) request granted
-  puts (TakeVoteAnswer answer) =
-      if nat_lt server.store.term answer.term then term_puts server.store answer.term
-      else (if counts server answer then counting_puts members server answer else [])
+  puts (TakeVoteAnswer answer) = term_puts server.store answer.term
   puts (TakeAppendRequest request verdict) = term_puts server.store request.term
       ++ append_puts (with_term server.store request.term) request verdict
   puts (TakeAppendAnswer answer) = term_puts server.store answer.term
@@ -127,15 +123,11 @@ calls (CallToAppend peer previous with_entry) = peer ∷ []
 calls move = []
 
 -- what the model remembers as soon as a put of it is done, where `store` is what was stored before it:
--- a candidacy and a granted vote with the put of that vote, a win and a leader's entry with the put of last
+-- a candidacy and a granted vote with the put of that vote, a leader's entry with the put of last
 abbrev pub put_history : ℕ → Move → Store → Put → History → History
 put_history member TimeOut store (PutVote (Some candidate)) history = with_candidacy history member store.term store.log
-put_history member TimeOut store (PutLonger entry) history =
-    with_leader history member store.term (store.log ++ (entry ∷ []))
 put_history member (TakeVoteRequest request granted) store (PutVote (Some candidate)) history =
     with_vote_kept history member request.from request.term store.log
-put_history member (TakeVoteAnswer answer) store (PutLonger entry) history = with_leader history member store.term
-    (store.log ++ (entry ∷ []))
 put_history member (ProposeEntry entry) store (PutLonger added) history = with_longer_list history store.term added
 put_history member move store change history = history
 
@@ -145,11 +137,11 @@ puts_history member move store (first ∷ rest) history = puts_history member mo
     (put_history member move store first history)
 
 module _ (members : List ℕ) (member : ℕ) (server : RaftServer) where
-  -- what the model remembers besides when the move is done: a win without a blank, and a vote granted again
+  -- what the model remembers besides when the move is done: a win, and a vote granted again
   abbrev pub move_history : Move → History → History
   move_history TimeOut history =
       if has_quorum members (own_vote member)
-      then win_history member (put_all server.store (stand_puts member server.store)) history
+      then with_leader history member (server.store.term + 1) server.store.log
       else history
   move_history (TakeVoteRequest request granted) history =
       grant_history member (with_term server.store request.term) request granted history

@@ -1,12 +1,12 @@
 -- What the moves of an election change: a higher term, standing and winning, votes.
 use Rattle.std.specs.Prelude.{◌≡◌, ℕ, ◌+◌, Bool, true, false, List, [], ◌∷◌, length, ◌==◌, ◌&&◌, ◌⊎◌, Option, Some, None, nat_le, nat_lt, if◌then◌else◌}
 use Rattle.raft_model.specs.Lists.{at, how_many}
-use Rattle.can_frame.specs.Log.{blank, last_term, log_limit}
+use Rattle.can_frame.specs.Log.{last_term}
 use Rattle.raft_model.specs.Log.{NotAbove}
 use Rattle.raft_model.specs.Messages.{Request, Answer}
 use Rattle.raft_model.specs.Server.{Role, Store, Memory, RaftServer, quorum, Put, put_all}
 use Rattle.raft_model.specs.Server.Role.{Follower, Candidate, Leader}
-use Rattle.raft_model.specs.Server.Put.{PutTerm, PutVote, PutEntry, PutLonger}
+use Rattle.raft_model.specs.Server.Put.{PutTerm, PutVote}
 use Rattle.raft_model.specs.History.{History, with_vote_kept, with_leader}
 
 -- no term is above it
@@ -52,13 +52,6 @@ own_vote member peer = peer == member
 abbrev pub stand_memory : ℕ → Memory → Memory
 stand_memory member memory = record memory { role = Candidate; votes = own_vote member; pending = λ peer. None }
 
--- a new leader adds a blank where something is not committed and there is room
-abbrev pub adds_blank : Store → Bool
-adds_blank store = nat_lt store.commit (length store.log) && nat_lt (length store.log) log_limit
-
-abbrev pub win_puts : Store → List Put
-win_puts store = if adds_blank store then PutEntry (blank store.term) ∷ PutLonger (blank store.term) ∷ [] else []
-
 abbrev pub win_memory : Store → Memory → Memory
 win_memory store memory = record memory {
   role = Leader;
@@ -67,10 +60,6 @@ win_memory store memory = record memory {
   matched = λ peer. 0;
   pending = λ peer. None;
 }
-
--- a win that has no put is remembered when its move is done
-abbrev pub win_history : ℕ → Store → History → History
-win_history member store history = if adds_blank store then history else with_leader history member store.term store.log
 
 -- Votes.
 
@@ -123,10 +112,6 @@ stepped_down memory peer = record (memory_without_call memory peer) { role = Fol
 abbrev pub with_vote : Memory → Answer → Memory
 with_vote memory answer = record (memory_without_call memory answer.from) { votes = votes_with memory answer }
 
-abbrev pub counting_puts : List ℕ → RaftServer → Answer → List Put
-counting_puts members server answer =
-    if has_quorum members (votes_with server.memory answer) then win_puts server.store else []
-
 abbrev pub counting_memory : List ℕ → RaftServer → Answer → Memory
 counting_memory members server answer =
     if has_quorum members (votes_with server.memory answer)
@@ -134,4 +119,5 @@ counting_memory members server answer =
 
 abbrev pub counting_history : List ℕ → ℕ → RaftServer → Answer → History → History
 counting_history members member server answer history =
-    if has_quorum members (votes_with server.memory answer) then win_history member server.store history else history
+    if has_quorum members (votes_with server.memory answer)
+    then with_leader history member server.store.term server.store.log else history

@@ -2,18 +2,18 @@
 use Rattle.std.specs.Prelude.{◌≡◌, ◌≢◌, ℕ, ◌<◌, ◌≤◌, Bool, true, false, List, [], ◌∷◌, ◌++◌, length, ◌==◌, ◌⊎◌, slice_index_or, Option, Some, None, nat_le, nat_lt, if◌then◌else◌}
 use Rattle.raft_model.specs.Lists.{In, at, how_many}
 use Rattle.can_frame.specs.declared.entry.Entry.{Entry}
-use Rattle.can_frame.specs.Log.{IsInjective, IsPair, IsReservation, blank, last_term, log_limit}
+use Rattle.can_frame.specs.Log.{IsInjective, IsWellFormed, blank, last_term, log_limit}
 use Rattle.raft_model.specs.Log.{term_at}
 use Rattle.raft_model.specs.Messages.{Request, Answer, Pair}
 use Rattle.raft_model.specs.Server.{Store, Memory, RaftServer, quorum}
 use Rattle.raft_model.specs.Server.Role.{Leader}
 
--- a pair or a reservation of its term, for which there is room and which keeps the log injective
+-- a blank, a pair or a reservation of its term, for which there is room and which keeps the log injective
 pub record MayPropose (server : RaftServer) (entry : Entry) : Type 0 where
   pub leads : server.memory.role ≡ Leader
   pub room : length server.store.log < log_limit
   pub own_term : entry.term ≡ server.store.term
-  pub kind : IsPair entry ⊎ IsReservation entry
+  pub kind : IsWellFormed entry
   pub injective : IsInjective (server.store.log ++ (entry ∷ []))
 
 -- the leader itself, and each peer whose matched index is as high
