@@ -9,7 +9,7 @@ use Rattle.raft_model.specs.Log.{Same, term_at}
 use Rattle.raft_model.specs.Messages.{Request, Answer, reach}
 use Rattle.raft_model.specs.Lists.{at, at_here, at_other}
 use Rattle.raft_model.specs.History.{KeptVote}
-use Rattle.raft_model.proofs.Micro.{State, Holds, Micro, did, May, MayGrant, MayCut, MayWin, MayPropose, log_won, answer_of}
+use Rattle.raft_model.proofs.Micro.{State, Holds, Micro, did, May, MayGrant, MayCut, MayWin, MayPropose, answer_of}
 use Rattle.raft_model.proofs.Micro.Micro.{Raise, Stand, Grant, Deny, Win, Cut, Grow, Accept, Propose}
 use Rattle.raft_model.proofs.Facts.{Facts, Acked, Off, Acks}
 use Rattle.raft_model.proofs.Lists.{same_less, same_get, same_length, same_append, term_at_less, list_more, longer}
@@ -294,23 +294,22 @@ acks_propose s m e h f = record {
             (λ i n up y. y) w above z
 
 -- a win: its term was not led
-pub acks_win : (s : State) (m : ℕ) (b : Bool) → MayWin s m b → Facts s
-    → Acks (at s.led (s.term m) true) (at s.leader (s.term m) m) (at s.list (s.term m) (log_won s m b)) s.answers s.term
-    (at s.log m (log_won s m b)) s.kept
-acks_win s m b h f = record {
+pub acks_win : (s : State) (m : ℕ) → MayWin s m → Facts s
+    → Acks (at s.led (s.term m) true) (at s.leader (s.term m) m) (at s.list (s.term m) (s.log m)) s.answers s.term
+    s.log s.kept
+acks_win s m h f = record {
   own_log = λ i t j a. elim (split i t j a) [
     | inl z ↦
-        let here : at s.log m (log_won s m b) i ≡ log_won s m b = at_here s.log m i (log_won s m b) z.1 in
-        let there : at s.list (s.term m) (log_won s m b) t ≡ log_won s m b = at_here s.list (s.term m) t (log_won s m b) z.0 in
-        (at_here s.led (s.term m) t true z.0, z.2, omega (arith, z.0, ap s.term z.1), inl (ap (take j) (here ∙ sym there)))
+        let there : at s.list (s.term m) (s.log m) t ≡ s.log m = at_here s.list (s.term m) t (s.log m) z.0 in
+        (at_here s.led (s.term m) t true z.0, z.2, omega (arith, z.0, ap s.term z.1), inl (ap (take j) (ap s.log z.1 ∙ sym there)))
     | inr z ↦
         let k = f.acks.own_log i t j z.1 in
-        let same_list : at s.list (s.term m) (log_won s m b) t ≡ s.list t = at_other s.list (s.term m) t (log_won s m b) z.0 in (
+        let same_list : at s.list (s.term m) (s.log m) t ≡ s.list t = at_other s.list (s.term m) t (s.log m) z.0 in (
           at_other s.led (s.term m) t true z.0 ∙ k.0,
           subst (λ (x : List Entry). j ≤ length x) (sym same_list) k.1,
           k.2,
           elim k.3 [
-            | inl same ↦ inl (log_more i j (same_length j (s.log i) (s.list t) k.1 same) ∙ (same ∙ sym (ap (take j) same_list)))
+            | inl same ↦ inl (same ∙ sym (ap (take j) same_list))
             | inr o ↦ inr (off_lasts t j (s.term i + 1) z.0 o)
           ],
         )
@@ -319,7 +318,7 @@ acks_win s m b h f = record {
     | inl z ↦ let same : s.term k.voter ≡ s.term m = ap s.term z.1 in
         absurd (elim (f.bound.votes k i) [ inl lt ↦ omega (arith, lt, same, z.0, c) | inr eq ↦ omega (arith, eq.0, same, z.0, c) ])
     | inr z ↦ elim (f.acks.voted k t j i none z.1 c) [
-      | inl same ↦ inl (same ∙ sym (ap (take j) (at_other s.list (s.term m) t (log_won s m b) z.0)))
+      | inl same ↦ inl (same ∙ sym (ap (take j) (at_other s.list (s.term m) t (s.log m) z.0)))
       | inr o ↦ inr (off_lasts t j k.term z.0 o)
     ]
   ];
@@ -334,17 +333,9 @@ acks_win s m b h f = record {
     not_first : (w : ℕ) → s.led w ≡ true → w ≢ s.term m
     not_first w l e = two (sym l ∙ (ap s.led e ∙ first))
 
-    won_more : (c : Bool) (j : ℕ) → j ≤ length (s.log m) → Same j (log_won s m c) (s.log m)
-    won_more true j l = same_append j (s.log m) (blank (s.term m) ∷ []) l
-    won_more false j l = refl
-
-    log_more : (i j : ℕ) → j ≤ length (s.log i) → Same j (at s.log m (log_won s m b) i) (s.log i)
-    log_more i j l = at_each (λ k x. j ≤ length (s.log k) → Same j x (s.log k)) s.log m (log_won s m b) (λ c. won_more b j c)
-        (λ k n c. refl) i l
-
     split : (i t j : ℕ)
-        → Acked (at s.led (s.term m) true) (at s.leader (s.term m) m) (at s.list (s.term m) (log_won s m b)) s.answers i t j →
-        ((t ≡ s.term m) × (i ≡ m) × (j ≤ length (at s.list (s.term m) (log_won s m b) t)))
+        → Acked (at s.led (s.term m) true) (at s.leader (s.term m) m) (at s.list (s.term m) (s.log m)) s.answers i t j →
+        ((t ≡ s.term m) × (i ≡ m) × (j ≤ length (at s.list (s.term m) (s.log m) t)))
         ⊎ ((t ≢ s.term m) × Acked s.led s.leader s.list s.answers i t j)
     split i t j a = elim a [
       | inr x ↦
@@ -360,14 +351,14 @@ acks_win s m b h f = record {
                 sym (at_other s.led (s.term m) t true g.1) ∙ l.0,
                 sym (at_other s.leader (s.term m) t m g.1)
                     ∙ l.1,
-                subst (λ (x : List Entry). j ≤ length x) (at_other s.list (s.term m) t (log_won s m b) g.1) l.2,
+                subst (λ (x : List Entry). j ≤ length x) (at_other s.list (s.term m) t (s.log m) g.1) l.2,
               ),
             )
       ]
     ]
 
     off_lasts : (t j u : ℕ) → t ≢ s.term m → Off s.led s.list t j u
-        → Off (at s.led (s.term m) true) (at s.list (s.term m) (log_won s m b)) t j u
+        → Off (at s.led (s.term m) true) (at s.list (s.term m) (s.log m)) t j u
     off_lasts t j u n o =
         let w = not_first o.0 o.3 in (
           o.0,
@@ -375,8 +366,8 @@ acks_win s m b h f = record {
           o.2,
           at_other s.led (s.term m) o.0 true w
               ∙ o.3,
-          λ z. o.4 (sym (ap (take j) (at_other s.list (s.term m) o.0 (log_won s m b) w))
-              ∙ (z ∙ ap (take j) (at_other s.list (s.term m) t (log_won s m b) n))),
+          λ z. o.4 (sym (ap (take j) (at_other s.list (s.term m) o.0 (s.log m) w))
+              ∙ (z ∙ ap (take j) (at_other s.list (s.term m) t (s.log m) n))),
         )
 
 -- acknowledgements last
@@ -387,7 +378,7 @@ acks_keeps s (Stand m) may f = acks_stand s m f
 acks_keeps s (Grant m n r) may f = acks_grant s m n r may f
 acks_keeps s (Deny m n r) may f = acks_deny s (answer_of s m n r false) (λ o p. absurd (cc)) f
 acks_keeps s (Accept m n r) may f = acks_accept s m n r may f
-acks_keeps s (Win m b) may f = acks_win s m b may f
+acks_keeps s (Win m) may f = acks_win s m may f
 acks_keeps s (Cut m r e) may f = acks_cut s m r e may f
 acks_keeps s (Grow m r e) may f = acks_grow s m e f
 acks_keeps s (Propose m e) may f = acks_propose s m e may f

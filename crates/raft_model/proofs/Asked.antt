@@ -9,7 +9,7 @@ use Rattle.raft_model.specs.Messages.{Request}
 use Rattle.raft_model.specs.Lists.{In, at, at_other}
 use Rattle.raft_model.specs.History.{Candidacy}
 use Rattle.raft_model.specs.Moves.{entry_after}
-use Rattle.raft_model.proofs.Micro.{State, Micro, did, May, log_won}
+use Rattle.raft_model.proofs.Micro.{State, Micro, did, May}
 use Rattle.raft_model.proofs.Micro.Micro.{Stand, Win, Propose, CallVote, CallAppend}
 use Rattle.raft_model.proofs.Facts.{Facts, Asked}
 use Rattle.raft_model.proofs.Quorum.{tell}
@@ -43,20 +43,20 @@ asked_keeps s (Stand m) may f = record {
   entry = f.asked.entry;
   vote = λ r i k. let c = f.asked.vote r i k in (c.0, inr c.1, c.2, c.3, c.4, c.5);
 }
-asked_keeps s (Win m b) may f = record {
+asked_keeps s (Win m) may f = record {
   other = f.asked.other;
   vote = f.asked.vote;
-  append = λ r i k. let q = f.asked.append r i k in let n = not_first s f m b may r.term q.0 in
-      let same : s.list r.term ≡ at s.list (s.term m) (log_won s m b) r.term = sym (at_other s.list (s.term m) r.term (log_won s m b) n) in (
+  append = λ r i k. let q = f.asked.append r i k in let n = not_first s f m may r.term q.0 in
+      let same : s.list r.term ≡ at s.list (s.term m) (s.log m) r.term = sym (at_other s.list (s.term m) r.term (s.log m) n) in (
         led_more s (s.term m) r.term q.0,
         at_other s.leader (s.term m) r.term m n
             ∙ q.1,
         subst (λ (x : List Entry). r.previous ≤ length x) same q.2,
         subst (λ (x : List Entry). term_at x r.previous ≡ r.previous_term) same q.3,
       );
-  entry = λ r e i k h. let q = f.asked.append r i k in let n = not_first s f m b may r.term q.0 in
+  entry = λ r e i k h. let q = f.asked.append r i k in let n = not_first s f m may r.term q.0 in
       subst (λ (x : List Entry). (r.previous < length x) × (get_or x r.previous (blank 0) ≡ e))
-      (sym (at_other s.list (s.term m) r.term (log_won s m b) n)) (f.asked.entry r e i k h);
+      (sym (at_other s.list (s.term m) r.term (s.log m) n)) (f.asked.entry r e i k h);
 }
 asked_keeps s (Propose m e) may f = record {
   other = f.asked.other;

@@ -75,7 +75,7 @@ calls_keeps s (Count m a) may f = calls_all s.role s.term (at s.pending m (at (s
 calls_keeps s (Drop m q) may f = calls_all s.role s.term (at s.pending m (at (s.pending m) q None)) s.requests
     (at_each (λ i p. Calling s.requests i (s.role i) (s.term i) p) s.pending m (at (s.pending m) q None) (dropped s f m q)
     (λ i n. calls_one s f i))
-calls_keeps s (Win m b) may f = calls_all (at s.role m Leader) s.term (at s.pending m (λ q. None)) s.requests
+calls_keeps s (Win m) may f = calls_all (at s.role m Leader) s.term (at s.pending m (λ q. None)) s.requests
     (at2_each (λ i r p. Calling s.requests i r (s.term i) p) s.role s.pending m Leader (λ q. None) (free s.requests m (s.term m) Leader)
     (λ i n. calls_one s f i))
 calls_keeps s (Yield m) may f = calls_all (at s.role m Follower) s.term s.pending s.requests

@@ -12,7 +12,7 @@ use Rattle.raft_model.specs.Log.{Same, term_at}
 use Rattle.raft_model.specs.Messages.{Request, Answer, reach, Message}
 use Rattle.raft_model.specs.Lists.{at, any, how_many, at_other}
 use Rattle.raft_model.specs.Messages.Message.{Answers}
-use Rattle.raft_model.proofs.Micro.{State, Micro, did, May, MayWin, MayCommit, MayAdvance, log_won}
+use Rattle.raft_model.proofs.Micro.{State, Micro, did, May, MayWin, MayCommit, MayAdvance}
 use Rattle.raft_model.specs.Ledger.{ledger_after, stamps_after}
 use Rattle.raft_model.proofs.Micro.Micro.{Raise, Win, Cut, Grow, Advance, Propose, Commit, CallVote, CallAppend, Post}
 use Rattle.raft_model.proofs.Facts.{Facts, Committed, IsSettled, Firm, has_acked, is_ack}
@@ -105,37 +105,33 @@ firm_post s g t k a = record {
       omega (arith, a.held, more);
 }
 
-pub committed_win : (s : State) (m : ℕ) (b : Bool) → MayWin s m b → Facts s
-    → Committed s.members (at s.led (s.term m) true) (at s.leader (s.term m) m) (at s.list (s.term m) (log_won s m b)) s.bag s.term s.commit
-    (at s.log m (log_won s m b)) s.requests s.ledger s.stamps
-committed_win s m b h f = committed_move s f (at s.led (s.term m) true) (at s.leader (s.term m) m) (at s.list (s.term m) (log_won s m b))
-    s.bag s.term (at s.log m (log_won s m b))
+pub committed_win : (s : State) (m : ℕ) → MayWin s m → Facts s
+    → Committed s.members (at s.led (s.term m) true) (at s.leader (s.term m) m) (at s.list (s.term m) (s.log m)) s.bag s.term s.commit
+    s.log s.requests s.ledger s.stamps
+committed_win s m h f = committed_move s f (at s.led (s.term m) true) (at s.leader (s.term m) m) (at s.list (s.term m) (s.log m))
+    s.bag s.term s.log
     (λ t k a. let n = not_first t a.there in record {
       there = at_other s.led (s.term m) t true n ∙ a.there;
       low = a.low;
-      inside = subst (λ (x : List Entry). k ≤ length x) (sym (at_other s.list (s.term m) t (log_won s m b) n)) a.inside;
-      own_term = ap (λ (x : List Entry). term_at x k) (at_other s.list (s.term m) t (log_won s m b) n) ∙ a.own_term;
+      inside = subst (λ (x : List Entry). k ≤ length x) (sym (at_other s.list (s.term m) t (s.log m) n)) a.inside;
+      own_term = ap (λ (x : List Entry). term_at x k) (at_other s.list (s.term m) t (s.log m) n) ∙ a.own_term;
       held = let more : how_many (has_acked s.leader s.bag t k) s.members
           ≤ how_many (has_acked (at s.leader (s.term m) m) s.bag t k) s.members = count_grows (has_acked s.leader s.bag t k)
           (has_acked (at s.leader (s.term m) m) s.bag t k) s.members
           (λ q c. ap (λ (x : ℕ). if x == q then true else any (is_ack q t k) s.bag) (at_other s.leader (s.term m) t m n) ∙ c) in omega
           (arith, a.held, more);
     })
-    (λ t j l c. ap (take j) (at_other s.list (s.term m) t (log_won s m b) (not_first t l)))
+    (λ t j l c. ap (take j) (at_other s.list (s.term m) t (s.log m) (not_first t l)))
     (λ t l. subst (λ (x : List Entry). length (s.list t) ≤ length x) (sym
-    (at_other s.list (s.term m) t (log_won s m b) (not_first t l))) (omega arith))
+    (at_other s.list (s.term m) t (s.log m) (not_first t l))) (omega arith))
     (λ i. omega arith)
-    (at_each (λ i x. Same (s.commit i) x (s.log i)) s.log m (log_won s m b) (won b) (λ i n. refl))
+    (λ i. refl)
   where
     not_first : (w : ℕ) → s.led w ≡ true → w ≢ s.term m
     not_first w l e = two (sym l ∙ (ap s.led e ∙ alone s f m h.role h.votes))
       where
         two : true ≡ false → ⊥
         two e = cc
-
-    won : (c : Bool) → Same (s.commit m) (log_won s m c) (s.log m)
-    won true = same_append (s.commit m) (s.log m) (blank (s.term m) ∷ []) (f.stored.within m)
-    won false = refl
 
 pub committed_propose : (s : State) (m : ℕ) (e : Entry) → Facts s
     → Committed s.members s.led s.leader (at s.list (s.term m) (s.list (s.term m) ++ (e ∷ []))) s.bag s.term s.commit
@@ -376,7 +372,7 @@ pub committed_keeps : (s : State) (e : Micro) → May s e → Facts s
     (did s e).requests (did s e).ledger (did s e).stamps
 committed_keeps s (Raise m t) may f = committed_move s f s.led s.leader s.list s.bag (at s.term m t) s.log (λ t k a. a) (λ t j a b. refl)
     (λ t a. omega arith) (at_each (λ i c. s.term i ≤ c) s.term m t (omega (arith, may.1)) (λ i n. omega arith)) (λ i. refl)
-committed_keeps s (Win m b) may f = committed_win s m b may f
+committed_keeps s (Win m) may f = committed_win s m may f
 committed_keeps s (Propose m e) may f = committed_propose s m e f
 committed_keeps s (Cut m r e) may f = committed_log s f m (take r.previous (s.log m))
     (take-take (s.commit m) r.previous (s.log m) may.after_commit)

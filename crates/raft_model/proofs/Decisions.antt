@@ -297,7 +297,7 @@ propose_decided server entry = told
     (both (leader_decided server.memory.role)
     (both (less (length server.store.log) log_limit)
     (both (equal entry.term server.store.term)
-    (both (either (pair_decided entry) (reservation_decided entry)) (injective_decided (server.store.log ++ (entry ∷ [])))))))
+    (both (well_formed_decided entry) (injective_decided (server.store.log ++ (entry ∷ [])))))))
 
 pub proposal : (server : RaftServer) (entry : Entry) → (may_propose server entry ≡ true) ↔ MayPropose server entry
 proposal server entry = propose_decided server entry

@@ -1,26 +1,28 @@
 -- The phases of a step are moves that may come, and do what is owed.
-use Rattle.std.proofs.Common.{◌≡◌, ◌≢◌, ℕ, ◌<◌, Bool, true, false, List, [], ◌∷◌, length, refl, arith, ap, inl, inr, Option, Some, None, get_or}
-use Rattle.std.specs.Prelude.{if◌then◌else◌, ◌&&◌, ◌==◌, not, nat_lt}
+use Rattle.std.proofs.Common.{◌≡◌, ◌≢◌, ℕ, ◌<◌, ◌≤◌, Bool, true, false, List, [], ◌∷◌, length, refl, arith, ap, inl, inr, Option, Some, None, get_or}
+use Rattle.std.specs.Prelude.{if◌then◌else◌, ◌&&◌, ◌==◌, ◌↔◌, not, nat_le, nat_lt}
 use Rattle.std.specs.Str.{bytes_eq}
 use Rattle.std.proofs.lemmas.Slice.Eq.{bytes_eq-Decides}
 use Rattle.can_frame.specs.declared.entry.Entry.{Entry}
-use Rattle.can_frame.specs.Log.{blank, log_limit}
+use Rattle.can_frame.specs.Log.{IsInjective, blank, last_term, log_limit}
 use Rattle.can_frame.specs.Zeros.{zeros}
+use Rattle.raft_model.specs.Lists.{how_many}
 use Rattle.raft_model.specs.Messages.{Message}
-use Rattle.raft_model.specs.Server.{Role, Store, RaftServer, put_all}
+use Rattle.raft_model.specs.Server.{Role, RaftServer, quorum}
 use Rattle.raft_model.specs.Server.Role.{Follower, Candidate, Leader}
-use Rattle.raft_model.specs.Moves.{Move, IsEnabled, MayPropose, has_quorum, own_vote, counts, votes_with, is_leader, term_limit, adds_blank, win_puts, stand_puts}
+use Rattle.raft_model.specs.Moves.{Move, IsEnabled, MayPropose, has_quorum, own_vote, counts, votes_with, has_matched, is_leader, term_limit}
 use Rattle.raft_model.specs.Moves.Move.{TimeOut, TakeVoteRequest, TakeVoteAnswer, TakeAppendRequest, TakeAppendAnswer, TellPair}
 use Rattle.raft_model.specs.Moves.Verdict.{Outdated, Refused, Held, Added}
 use Rattle.raft_model.specs.Stops.{LocalState, AllEnabled}
 use Rattle.raft_model.specs.Decisions.{commit_index}
 use Rattle.raft_model.specs.Handlers.{server_after, server_after_all, offers_of_all}
-use Rattle.raft_model.specs.Duty.{tick_phase, commit_moves, commit_phase, tell_phase, TickDuty, CommitDuty, TellDuty, WinDuty}
+use Rattle.raft_model.specs.Duty.{tick_phase, takes_blank, blank_moves, is_heard, commit_moves, commit_phase, tell_phase, TickDuty, BlankDuty, CommitDuty, TellDuty, WinDuty}
 use Rattle.raft_model.proofs.Complete.{and_left, and_right}
 use Rattle.raft_model.proofs.Decisions.{commit, no_commit, refuted}
 use Rattle.raft_model.proofs.Leading.{leader_is}
 use Rattle.raft_model.proofs.Quorum.{tell}
-use Rattle.raft_model.proofs.Whole.{lt_tells}
+use Rattle.raft_model.proofs.Stored.{inj_blank}
+use Rattle.raft_model.proofs.Whole.{at_most, below, lt_tells, le_tells}
 
 -- Ticks.
 
@@ -28,6 +30,17 @@ no_leader : (role : Role) → not (is_leader role) ≡ true → role ≢ Leader
 no_leader Follower h e = cc
 no_leader Candidate h e = cc
 no_leader Leader h e = cc
+
+is_not_leader : (role : Role) → role ≢ Leader → is_leader role ≡ false
+is_not_leader Follower n = refl
+is_not_leader Candidate n = refl
+is_not_leader Leader n = absurd (n refl)
+
+is_below : (a b : ℕ) → a < b → nat_lt a b ≡ true
+is_below a b low = elim (lt_tells a b) [ inl z ↦ z.0 | inr z ↦ absurd (omega (arith, z.1, low)) ]
+
+is_not_below : (a b : ℕ) → b ≤ a → nat_lt a b ≡ false
+is_not_below a b high = elim (lt_tells a b) [ inl z ↦ absurd (omega (arith, z.1, high)) | inr z ↦ z.0 ]
 
 pub tick_comes : (members : List ℕ) (member step : ℕ) (bag : List Message) (waited : Bool) (local_state : LocalState)
     → AllEnabled members member step bag local_state (tick_phase waited local_state.raft_server)
@@ -38,28 +51,67 @@ tick_comes members member step bag true local_state = elim (tell (not (is_leader
 ]
   where
     low : nat_lt local_state.raft_server.store.term term_limit ≡ true → local_state.raft_server.store.term < term_limit
-    low e = elim (lt_tells local_state.raft_server.store.term term_limit) [ inl z ↦ z.1 | inr z ↦ absurd (cc (e, z.0)) ]
-
-win_term : (store : Store) → (put_all store (win_puts store)).term ≡ store.term
-win_term store = elim (tell (adds_blank store)) [ inl h ↦ rw (h) refl | inr h ↦ rw (h) refl ]
+    low = below local_state.raft_server.store.term term_limit
 
 time_out : (members : List ℕ) (member step : ℕ) (server : RaftServer) → TickDuty server (server_after members member step server TimeOut)
-time_out members member step server = elim (tell (has_quorum members (own_vote member))) [
-  | inl h ↦ rw (h) (record { stands = λ e. cc; next = win_term (put_all server.store (stand_puts member server.store)) })
-  | inr h ↦ rw (h) (record { stands = λ e. cc; next = refl })
-]
+time_out members member step server = elim (tell (has_quorum members (own_vote member)))
+    [ inl h ↦ rw (h) (record { stands = λ e. cc; next = refl }) | inr h ↦ rw (h) (record { stands = λ e. cc; next = refl }) ]
 
 pub tick_duty : (members : List ℕ) (member step : ℕ) (server : RaftServer) → server.memory.role ≢ Leader → server.store.term < term_limit
     → TickDuty server (server_after_all members member step server (tick_phase true server))
 tick_duty members member step server role low = elim (lt_tells server.store.term term_limit) [
-  | inl z ↦ rw (is_not server.memory.role role) (rw (z.0) (time_out members member step server))
+  | inl z ↦ rw (is_not_leader server.memory.role role) (rw (z.0) (time_out members member step server))
   | inr z ↦ absurd (omega (arith, z.1, low))
 ]
+
+-- Blanks.
+
+pub blank_comes : (members : List ℕ) (member step : ℕ) (bag : List Message) (local_state : LocalState)
+    → IsInjective local_state.raft_server.store.log
+    → AllEnabled members member step bag local_state (blank_moves local_state.raft_server)
+blank_comes members member step bag local_state injective = elim (tell (is_leader local_state.raft_server.memory.role && takes_blank local_state.raft_server.store)) [
+  | inr h ↦ rw (h) tt
+  | inl h ↦ rw (h) (may (and_left _ _ h) (and_right _ _ (and_right _ _ h)), tt)
+]
   where
-    is_not : (r : Role) → r ≢ Leader → is_leader r ≡ false
-    is_not Follower n = refl
-    is_not Candidate n = refl
-    is_not Leader n = absurd (n refl)
+    log : List Entry
+    log = local_state.raft_server.store.log
+
+    may : is_leader local_state.raft_server.memory.role ≡ true → nat_lt (length log) log_limit ≡ true
+        → MayPropose local_state.raft_server (blank local_state.raft_server.store.term)
+    may leads room = record {
+      leads = leader_is local_state.raft_server.memory.role leads;
+      room = below (length log) log_limit room;
+      own_term = refl;
+      kind = inl (refl, refl);
+      injective = inj_blank log local_state.raft_server.store.term injective;
+    }
+
+pub blank_duty : (members : List ℕ) (member step : ℕ) (server : RaftServer)
+    → BlankDuty server (server_after_all members member step server (blank_moves server))
+blank_duty members member step server = record {
+  adds = λ leads more room. rw (ap is_leader leads) (rw (is_below _ _ more) (rw (is_below _ _ room) refl));
+  committed = λ all. elim (tell (is_leader server.memory.role)) [
+    | inl h ↦ rw (h) (rw (is_not_below _ _ all) refl)
+    | inr h ↦ rw (h) refl
+  ];
+  full = λ all. rw (is_not_below (length server.store.log) log_limit all) (elim (tell (is_leader server.memory.role)) [
+    | inr h ↦ rw (h) refl
+    | inl h ↦ rw (h) (elim (tell (nat_lt server.store.commit (length server.store.log))) [ inl k ↦ rw (k) refl | inr k ↦ rw (k) refl ])
+  ]);
+  other = λ n. rw (is_not_leader server.memory.role n) refl;
+}
+
+pub heard_tells : (members : List ℕ) (member : ℕ) (server : RaftServer) → (is_heard members member server ≡ true)
+    ↔ ((last_term server.store.log < server.store.term)
+    × (quorum members ≤ how_many (has_matched member server (length server.store.log)) members))
+heard_tells members member server = (
+  λ h. (below _ _ (and_left _ _ h), at_most _ _ (and_right (nat_lt (last_term server.store.log) server.store.term) _ h)),
+  λ h. rw (is_below _ _ h.0) (is_at_most _ _ h.1),
+)
+  where
+    is_at_most : (a b : ℕ) → a ≤ b → nat_le a b ≡ true
+    is_at_most a b low = elim (le_tells a b) [ inl z ↦ z.0 | inr z ↦ absurd (omega (arith, z.1, low)) ]
 
 -- Commits.
 

@@ -13,14 +13,13 @@ use Rattle.raft_model.specs.History.{with_vote_kept}
 use Rattle.raft_model.specs.Ledger.{ledger_with}
 use Rattle.raft_model.specs.Moves.{Move, IsEnabled, has_quorum, own_vote, stand_puts, is_candidate, counts, votes_with, vote_puts, vote_history, answer_to}
 use Rattle.raft_model.specs.Moves.Move.{TimeOut, TakeVoteRequest, TakeVoteAnswer}
-use Rattle.raft_model.proofs.Micro.Micro.{Raise, Clear, Stand, Grant, Deny, Count, Drop}
+use Rattle.raft_model.proofs.Micro.Micro.{Raise, Clear, Stand, Grant, Deny, Count, Drop, Win}
 use Rattle.raft_model.proofs.Focus.{Focus, focused}
 use Rattle.raft_model.proofs.Here.{MayHere, SaidHere}
 use Rattle.raft_model.proofs.Walk.{Leg, Covered, ledger_stays, join}
 use Rattle.raft_model.proofs.Walk.Mark.{Silent, Puts}
-use Rattle.raft_model.proofs.Whole.{Whole, lt_tells}
+use Rattle.raft_model.proofs.Whole.{Whole, at_most, lt_tells}
 use Rattle.raft_model.proofs.Terms.{same_commit, term_focus, leg_term, term_log, term_up}
-use Rattle.raft_model.proofs.Winning.{Won, win_of}
 use Rattle.raft_model.proofs.Quorum.{tell}
 use Rattle.raft_model.proofs.Complete.{and_left, and_right}
 
@@ -58,27 +57,21 @@ leg_stand members m f up c = record {
 pub time_out : (members : List ℕ) (m n : ℕ) (f : Focus) → f.raft_server.memory.up ≡ true → Covered f.ledger f.raft_server.store
     → Whole members m n f TimeOut
 time_out members m n f up c = elim (tell (has_quorum members (own_vote m))) [
-  | inl h ↦
-      let g : Focus = stood_focus m f in
-      let won : Won members m TimeOut (stood_focus m f)
-      = win_of members m TimeOut (stood_focus m f) (record { entry = λ s e x. refl; longer = λ s e x. refl }) up refl h
-      (same_commit f.ledger f.raft_server.store (stood_focus m f).raft_server.store c refl) in
-      rw (h) (record {
-        between = won.between;
-        leg = join members m TimeOut f (stood_focus m f) won.between _ _ (leg_stand members m f up c) won.leg;
-        rest = won.rest;
-        lawful = won.lawful;
-        store = won.store;
-        ledger = won.ledger;
-        history = rw (h) won.history;
-        memory = won.memory;
-        bag = won.bag;
-        said = λ x i. absurd i;
-      })
+  | inl h ↦ rw (h) (record {
+    between = stood_focus m f;
+    leg = leg_stand members m f up c;
+    rest = Win m ∷ [];
+    lawful = (record { up = up; role = refl; votes = at_most _ _ h }, tt);
+    store = refl;
+    ledger = refl;
+    history = rw (h) refl;
+    memory = refl;
+    bag = refl;
+    said = λ x i. absurd i;
+  })
   | inr h ↦ rw (h) (record {
     between = stood_focus m f;
-    leg = subst (λ (l : List Put). Leg members m TimeOut f (stood_focus m f) l) (sym (append-nil (stand_puts m f.raft_server.store)))
-        (leg_stand members m f up c);
+    leg = leg_stand members m f up c;
     rest = [];
     lawful = tt;
     store = refl;
@@ -259,22 +252,18 @@ vote_answer_lawful members m n f a up c h = elim (lt_tells f.raft_server.store.t
         bag = refl;
         said = λ x i. absurd i;
       })
-      | inl q ↦
-          let won : Won members m (TakeVoteAnswer a) (focused m f (Count m a))
-          = win_of members m (TakeVoteAnswer a) (focused m f (Count m a)) (record { entry = λ s e x. refl; longer = λ s e x. refl }) up
-          (candidate_is f.raft_server.memory.role (and_left (is_candidate f.raft_server.memory.role) _ k)) q c in
-          rw (q) (record {
-            between = won.between;
-            leg = join members m (TakeVoteAnswer a) f (focused m f (Count m a)) won.between [] _ (leg_count k) won.leg;
-            rest = won.rest;
-            lawful = won.lawful;
-            store = won.store;
-            ledger = won.ledger;
-            history = rw (z.0) (rw (k) (rw (q) won.history));
-            memory = won.memory;
-            bag = won.bag;
-            said = λ x i. absurd i;
-          })
+      | inl q ↦ rw (q) (record {
+        between = focused m f (Count m a);
+        leg = leg_count k;
+        rest = Win m ∷ [];
+        lawful = (record { up = up; role = stands k; votes = at_most _ _ q }, tt);
+        store = refl;
+        ledger = refl;
+        history = rw (z.0) (rw (k) (rw (q) refl));
+        memory = refl;
+        bag = refl;
+        said = λ x i. absurd i;
+      })
     ])
   ])
 ]
@@ -282,16 +271,18 @@ vote_answer_lawful members m n f a up c h = elim (lt_tells f.raft_server.store.t
     stays : (u : Store) → u.commit ≡ f.raft_server.store.commit → f.ledger ≡ ledger_with f.ledger u
     stays u e = sym (ledger_stays f.ledger u (same_commit f.ledger f.raft_server.store u c e))
 
+    stands : counts f.raft_server a ≡ true → f.raft_server.memory.role ≡ Candidate
+    stands k = candidate_is f.raft_server.memory.role (and_left (is_candidate f.raft_server.memory.role) _ k)
+
     leg_count : counts f.raft_server a ≡ true → Leg members m (TakeVoteAnswer a) f (focused m f (Count m a)) []
     leg_count k =
-        let role : f.raft_server.memory.role ≡ Candidate = candidate_is f.raft_server.memory.role (and_left (is_candidate f.raft_server.memory.role) _ k) in
         let more : ((a.term == f.raft_server.store.term) && a.success) ≡ true = and_right (is_candidate f.raft_server.memory.role) _ k in
         record {
           marks = Silent (Count m a) ∷ [];
           walk = (
             record {
               up = up;
-              role = role;
+              role = stands k;
               in_bag = h.0;
               kind = h.2;
               mine = h.1;

@@ -94,7 +94,7 @@ lawful = (
                   leads = refl;
                   room = omega arith;
                   own_term = refl;
-                  kind = inl is_pair;
+                  kind = inr (inr is_pair);
                   injective = one_injective entry;
                 },
                 tt,
@@ -208,7 +208,7 @@ lawful_further = (
     refl,
     omega arith,
     (
-      record { leads = refl; room = omega arith; own_term = refl; kind = inr is_reservation; injective = two_injective },
+      record { leads = refl; room = omega arith; own_term = refl; kind = inr (inl is_reservation); injective = two_injective },
       ((refl, omega arith, record { other = λ e. cc; listed = inr (inl refl); free = refl; first = λ i. i }), tt),
     ),
     λ g i. i,

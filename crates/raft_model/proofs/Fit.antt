@@ -1,12 +1,11 @@
 -- Every move keeps a server fit.
 use Rattle.std.proofs.Common.{◌≡◌, ◌≢◌, ℕ, ◌≤◌, Bool, true, false, List, [], ◌∷◌, ◌++◌, length, refl, arith, sym, ◌∙◌, ap, subst, inl, inr, Option, Some, None, min, take, length-append}
 use Rattle.std.specs.Prelude.{◌&&◌, ◌==◌}
-use Rattle.can_frame.specs.Log.{blank}
 use Rattle.raft_model.specs.Lists.{at}
 use Rattle.raft_model.specs.Messages.{Request, Answer, Message, reach}
 use Rattle.raft_model.specs.Server.{Role, Store, Memory, RaftServer, put_all, memory_when_down, memory_when_opened}
 use Rattle.raft_model.specs.Server.Role.{Follower, Candidate, Leader}
-use Rattle.raft_model.specs.Moves.{Move, Verdict, IsEnabled, IsJudged, is_candidate, append_memory, term_puts, with_term, term_memory, stand_puts, stand_memory, has_quorum, own_vote, adds_blank, win_puts, win_memory, grant_puts, vote_puts, counts, votes_with, memory_without_call, is_leader, advance_puts, append_puts, matched_memory, matched_after, next_after, vote_request, append_request}
+use Rattle.raft_model.specs.Moves.{Move, Verdict, IsEnabled, IsJudged, is_candidate, append_memory, term_puts, with_term, term_memory, stand_puts, stand_memory, has_quorum, own_vote, win_memory, grant_puts, vote_puts, counts, votes_with, memory_without_call, is_leader, advance_puts, append_puts, matched_memory, matched_after, next_after, vote_request, append_request}
 use Rattle.raft_model.specs.Moves.Move.{TimeOut, TakeVoteRequest, TakeVoteAnswer, TakeAppendRequest, TakeAppendAnswer, ProposeEntry, CommitTo, TellPair, TellNothing, CallForVote, CallToAppend, AnswerAgain, GiveUp}
 use Rattle.raft_model.specs.Moves.Verdict.{Outdated, Refused, Held, Added}
 use Rattle.raft_model.specs.Handlers.{server_after}
@@ -42,29 +41,16 @@ opens_fit member store = follower member store memory_when_opened refl (omega ar
 pub loses_fit : (member : ℕ) (store : Store) → IsFit member (Both store memory_when_down)
 loses_fit member store = follower member store memory_when_down refl (omega arith)
 
--- a server that wins, with the blank or without it
+-- a server that wins
 won : (member : ℕ) (store : Store) (memory : Memory) → store.vote ≡ Some member → 1 ≤ store.term
-    → IsFit member (Both (put_all store (win_puts store)) (win_memory store memory))
-won member store memory vote term = elim (tell (adds_blank store)) [
-  | inl a ↦ rw (a) (record {
-    told = omega arith;
-    vote = λ n. vote;
-    term = λ n. term;
-    peers = λ leads peer. record {
-      least = omega arith;
-      most = omega (arith, length-append store.log (blank store.term ∷ []));
-      acknowledged = omega arith;
-      reached = λ request e. absurd (none_some request e);
-    };
-  })
-  | inr a ↦ rw (a) (record {
-    told = omega arith;
-    vote = λ n. vote;
-    term = λ n. term;
-    peers = λ leads peer. record
-        { least = omega arith; most = omega arith; acknowledged = omega arith; reached = λ request e. absurd (none_some request e) };
-  })
-]
+    → IsFit member (Both store (win_memory store memory))
+won member store memory vote term = record {
+  told = omega arith;
+  vote = λ n. vote;
+  term = λ n. term;
+  peers = λ leads peer. record
+      { least = omega arith; most = omega arith; acknowledged = omega arith; reached = λ request e. absurd (none_some request e) };
+}
 
 -- a higher term makes a Follower, and changes neither log nor commit
 raised : (member : ℕ) (server : RaftServer) (term : ℕ) → IsFit member server

@@ -193,7 +193,7 @@ of m (Grant _ n r) = Grant m n r
 of m (Deny _ n r) = Deny m n r
 of m (Count _ a) = Count m a
 of m (Drop _ q) = Drop m q
-of m (Win _ b) = Win m b
+of m (Win _) = Win m
 of m (Yield _) = Yield m
 of m (Write _ e) = Write m e
 of m (Cut _ r e) = Cut m r e
@@ -219,9 +219,6 @@ with_memory f x = record f { raft_server = record { store = f.raft_server.store;
 abbrev pub with_both : Focus → Store → Memory → Bool → Focus
 with_both f s x fresh = record f { raft_server = record { store = s; memory = x }; fresh = fresh }
 
-abbrev pub log_won_here : Store → Bool → List Entry
-log_won_here s b = if b then s.log ++ (blank s.term ∷ []) else s.log
-
 -- what a micro move does at its server
 abbrev pub focused : ℕ → Focus → Micro → Focus
 focused m f (Open _) = with_both f f.raft_server.store memory_when_opened false
@@ -235,9 +232,8 @@ focused m f (Grant _ n r) = record (with_both f (put f.raft_server.store (PutVot
 focused m f (Deny _ n r) = record f { answers = answer_to m n f.raft_server.store r false ∷ f.answers }
 focused m f (Count _ a) = with_memory f (record (memory_without_call f.raft_server.memory a.from) { votes = votes_with f.raft_server.memory a })
 focused m f (Drop _ q) = with_memory f (memory_without_call f.raft_server.memory q)
-focused m f (Win _ b) = record
-    (with_both f (record f.raft_server.store { log = log_won_here f.raft_server.store b }) (win_memory f.raft_server.store f.raft_server.memory) f.fresh)
-    { history = with_leader f.history m f.raft_server.store.term (log_won_here f.raft_server.store b) }
+focused m f (Win _) = record (with_memory f (win_memory f.raft_server.store f.raft_server.memory))
+    { history = with_leader f.history m f.raft_server.store.term f.raft_server.store.log }
 focused m f (Yield _) = with_memory f (record f.raft_server.memory { role = Follower })
 focused m f (Write _ e) = f
 focused m f (Cut _ r e) = with_store f (put f.raft_server.store (PutShorter r.previous))
@@ -312,8 +308,7 @@ did_here z m (Count _ a) = ap
     (λ (x : State). record x { votes = at z.votes m (at (z.votes m) a.from true); pending = at z.pending m (at (z.pending m) a.from None) })
     (sym (settled z m))
 did_here z m (Drop _ q) = ap (λ (x : State). record x { pending = at z.pending m (at (z.pending m) q None) }) (sym (settled z m))
-did_here z m (Win _ b) = ap (λ (x : State). record x {
-  log = at z.log m (log_won_here (focus_of z m).raft_server.store b);
+did_here z m (Win _) = ap (λ (x : State). record x {
   role = at z.role m Leader;
   told = at z.told m (z.commit m);
   next = at z.next m (λ q. length (z.log m) + 1);
@@ -321,7 +316,7 @@ did_here z m (Win _ b) = ap (λ (x : State). record x {
   pending = at z.pending m (λ q. None);
   led = at z.led (z.term m) true;
   leader = at z.leader (z.term m) m;
-  list = at z.list (z.term m) (log_won_here (focus_of z m).raft_server.store b);
+  list = at z.list (z.term m) (z.log m);
 }) (sym (settled z m))
 did_here z m (Yield _) = ap (λ (x : State). record x { role = at z.role m Follower }) (sym (settled z m))
 did_here z m (Write _ e) = sym (settled z m)

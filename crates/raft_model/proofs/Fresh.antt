@@ -6,7 +6,7 @@ use Rattle.raft_model.specs.Lists.{In, at}
 use Rattle.raft_model.specs.Server.{Role}
 use Rattle.raft_model.specs.History.{KeptVote, Candidacy}
 use Rattle.raft_model.specs.Server.Role.{Follower, Candidate, Leader}
-use Rattle.raft_model.proofs.Micro.{State, Micro, did, May, log_won}
+use Rattle.raft_model.proofs.Micro.{State, Micro, did, May}
 use Rattle.raft_model.proofs.Micro.Micro.{Open, Halt, Raise, Stand, Grant, Win, Yield, Cut, Grow, Propose}
 use Rattle.raft_model.proofs.Facts.{Facts, Fresh}
 use Rattle.raft_model.proofs.At.{at_each, at2_each, at3_each}
@@ -94,9 +94,9 @@ fresh_keeps s (Grant m n0 r) may f = fresh_all (at s.fresh m false) s.role s.ter
       stood = λ c. f.fresh.stood i c;
       votes = λ k e j v. elim j [ inl g ↦ absurd (n (sym v ∙ ap (λ (z : KeptVote). z.voter) g)) | inr j2 ↦ f.fresh.votes i k e j2 v ];
     }))
-fresh_keeps s (Win m b) may f = fresh_all s.fresh (at s.role m Leader) s.term (at s.log m (log_won s m b)) s.kept s.candidacies
-    (at2_each (λ i r l. IsFresh (s.fresh i) r (s.term i) l s.kept s.candidacies i) s.role s.log m Leader (log_won s m b)
-    (not_fresh (s.fresh m) Leader (s.term m) (log_won s m b) s.kept s.candidacies m
+fresh_keeps s (Win m) may f = fresh_all s.fresh (at s.role m Leader) s.term s.log s.kept s.candidacies
+    (at_each (λ i r. IsFresh (s.fresh i) r (s.term i) (s.log i) s.kept s.candidacies i) s.role m Leader
+    (not_fresh (s.fresh m) Leader (s.term m) (s.log m) s.kept s.candidacies m
     (λ e. candidate_no_follower (s.role m) may.role (f.fresh.follower m e)))
     (λ i n. fresh_one s f i))
 fresh_keeps s (Yield m) may f = fresh_all s.fresh (at s.role m Follower) s.term s.log s.kept s.candidacies

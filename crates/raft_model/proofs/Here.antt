@@ -75,7 +75,7 @@ may_here z m (Count _ a) h = record {
   pending = h.pending;
 }
 may_here z m (Drop _ q) h = h
-may_here z m (Win _ b) h = record { up = h.up; role = h.role; votes = h.votes; room = h.room }
+may_here z m (Win _) h = record { up = h.up; role = h.role; votes = h.votes }
 may_here z m (Yield _) h = h
 may_here z m (Write _ e) h = h
 may_here z m (Cut _ r e) h = record

@@ -9,7 +9,7 @@ use Rattle.can_frame.specs.Log.{blank}
 use Rattle.raft_model.specs.Lists.{at, at_other}
 use Rattle.raft_model.specs.Log.{Same}
 use Rattle.raft_model.specs.Messages.{reach}
-use Rattle.raft_model.proofs.Micro.{State, Micro, did, May, MayCommit, run, Lawful, log_won}
+use Rattle.raft_model.proofs.Micro.{State, Micro, did, May, MayCommit, run, Lawful}
 use Rattle.raft_model.specs.Ledger.{ledger_after}
 use Rattle.raft_model.proofs.Micro.Micro.{Win, Cut, Grow, Advance, Propose, Commit}
 use Rattle.raft_model.proofs.Facts.{Facts, IsSettled, Later}
@@ -23,16 +23,16 @@ use Rattle.raft_model.proofs.Firm.{settled_same}
 use Rattle.raft_model.proofs.Committed.{ledger_stays, firm_commit}
 
 pub led_later : (s : State) (e : Micro) → May s e → Facts s → (t : ℕ) → s.led t ≡ true → (did s e).led t ≡ true
-led_later s (Win m b) may f t h = led_more s (s.term m) t h
+led_later s (Win m) may f t h = led_more s (s.term m) t h
 led_later s _ may f t h = h
 
 pub leader_later : (s : State) (e : Micro) → May s e → Facts s → (t : ℕ) → s.led t ≡ true → (did s e).leader t ≡ s.leader t
-leader_later s (Win m b) may f t h = at_other s.leader (s.term m) t m (not_first s f m b may t h)
+leader_later s (Win m) may f t h = at_other s.leader (s.term m) t m (not_first s f m may t h)
 leader_later s _ may f t h = refl
 
 pub list_later : (s : State) (e : Micro) → May s e → Facts s → (t : ℕ) → s.led t ≡ true
     → (length (s.list t) ≤ length ((did s e).list t)) × Same (length (s.list t)) ((did s e).list t) (s.list t)
-list_later s (Win m b) may f t h = let q = at_other s.list (s.term m) t (log_won s m b) (not_first s f m b may t h) in
+list_later s (Win m) may f t h = let q = at_other s.list (s.term m) t (s.log m) (not_first s f m may t h) in
     (subst (λ (x : List Entry). length (s.list t) ≤ length x) (sym q) (omega arith), ap (take (length (s.list t))) q)
 list_later s (Propose m e) may f t h =
     (longer s.list (s.term m) e t, list_more s.list (s.term m) e t (length (s.list t)) (omega arith))
@@ -41,9 +41,9 @@ list_later s _ may f t h = (omega arith, refl)
 -- an entry that a list gains has its term
 pub gains_later : (s : State) (e : Micro) → May s e → Facts s → (t i : ℕ) → s.led t ≡ true → length (s.list t) ≤ i
     → i < length ((did s e).list t) → (get_or ((did s e).list t) i (blank 0)).term ≡ t
-gains_later s (Win m b) may f t i h above below =
-    let q = at_other s.list (s.term m) t (log_won s m b) (not_first s f m b may t h) in
-    let n : length (at s.list (s.term m) (log_won s m b) t) ≡ length (s.list t) = ap length q in
+gains_later s (Win m) may f t i h above below =
+    let q = at_other s.list (s.term m) t (s.log m) (not_first s f m may t h) in
+    let n : length (at s.list (s.term m) (s.log m) t) ≡ length (s.list t) = ap length q in
     absurd (omega (arith, above, below, n))
 gains_later s (Propose m e) may f t i h above below = at_each
     (λ u l. length (s.list u) ≤ i → i < length l → (get_or l i (blank 0)).term ≡ u) s.list (s.term m) (s.list (s.term m) ++ (e ∷ []))
@@ -61,11 +61,6 @@ commit_later s (Commit m k) may f = at_each (λ i c. s.commit i ≤ c) s.commit 
 commit_later s _ may f = λ i. omega arith
 
 pub log_later : (s : State) (e : Micro) → May s e → Facts s → (m : ℕ) → Same (s.commit m) ((did s e).log m) (s.log m)
-log_later s (Win m b) may f = at_each (λ i x. Same (s.commit i) x (s.log i)) s.log m (log_won s m b) (won b) (λ i n. refl)
-  where
-    won : (c : Bool) → Same (s.commit m) (log_won s m c) (s.log m)
-    won true = same_append (s.commit m) (s.log m) (blank (s.term m) ∷ []) (f.stored.within m)
-    won false = refl
 log_later s (Cut m r e) may f = at_each (λ i x. Same (s.commit i) x (s.log i)) s.log m (take r.previous (s.log m))
     (take-take (s.commit m) r.previous (s.log m) may.after_commit) (λ i n. refl)
 log_later s (Grow m r e) may f = λ i. list_more s.log m e i (s.commit i) (f.stored.within i)

@@ -2,7 +2,6 @@
 use Rattle.std.proofs.Common.{◌≡◌, ℕ, true, List, [], ◌∷◌, refl, sym, inl, inr, None}
 use Rattle.std.specs.Prelude.{◌&&◌, ◌==◌}
 use Rattle.std.proofs.lemmas.Bool.{eqb-true}
-use Rattle.std.proofs.Math.Logic.{⊎_swap}
 use Rattle.raft_model.specs.Messages.{Answer}
 use Rattle.raft_model.specs.Messages.Message.{Requests, Pairs}
 use Rattle.raft_model.specs.Server.{Role, Store, put}
@@ -127,7 +126,7 @@ move_lawful members m n f called (ProposeEntry e) up c h = record {
           role = h.leads;
           room = h.room;
           own_term = h.own_term;
-          well_formed = inr (⊎_swap h.kind);
+          well_formed = h.kind;
           injective = h.injective;
         },
         refl,

@@ -9,7 +9,7 @@ use Rattle.raft_model.specs.Log.{IsRising}
 use Rattle.raft_model.specs.Lists.{In, at, any, how_many, at_here}
 use Rattle.raft_model.specs.Server.{quorum}
 use Rattle.raft_model.specs.History.{KeptVote, Candidacy}
-use Rattle.raft_model.proofs.Micro.{State, Micro, did, May, MayWin, MayPropose, log_won}
+use Rattle.raft_model.proofs.Micro.{State, Micro, did, May, MayWin, MayPropose}
 use Rattle.raft_model.proofs.Micro.Micro.{Stand, Grant, Win, Propose}
 use Rattle.raft_model.specs.Invariants.{is_vote}
 use Rattle.raft_model.proofs.Facts.{Facts, Led}
@@ -36,23 +36,20 @@ votes_more s k f t h =
     let old = f.led.votes t h in
     omega (arith, old, more)
 
-pub not_first : (s : State) → Facts s → (m : ℕ) (b : Bool) → MayWin s m b → (w : ℕ) → s.led w ≡ true → w ≢ s.term m
-not_first s f m b h w l e = clash (s.led w) l (ap s.led e ∙ alone s f m h.role h.votes)
+pub not_first : (s : State) → Facts s → (m : ℕ) → MayWin s m → (w : ℕ) → s.led w ≡ true → w ≢ s.term m
+not_first s f m h w l e = clash (s.led w) l (ap s.led e ∙ alone s f m h.role h.votes)
 
-pub led_win : (s : State) (m : ℕ) (b : Bool) → MayWin s m b → Facts s
-    → Led s.members (at s.led (s.term m) true) (at s.leader (s.term m) m) (at s.list (s.term m) (log_won s m b)) s.candidacies s.kept
-led_win s m b h f =
-    let after = stored_keeps s (Win m b) h f in
-    let here : at s.log m (log_won s m b) m ≡ log_won s m b = at_here s.log m m (log_won s m b) refl in
+pub led_win : (s : State) (m : ℕ) → MayWin s m → Facts s
+    → Led s.members (at s.led (s.term m) true) (at s.leader (s.term m) m) (at s.list (s.term m) (s.log m)) s.candidacies s.kept
+led_win s m h f =
     record {
       candidacy = at3_each
           (λ t d l x. d ≡ true
           → (c : Candidacy) × (rest : List Entry) × In c s.candidacies × (c.candidate ≡ l) × (c.term ≡ t) × (x ≡ c.log ++ rest)
           × ((i : ℕ) → i < length rest → (get_or rest i (blank 0)).term ≡ t))
-          s.led s.leader s.list (s.term m) true m (log_won s m b)
+          s.led s.leader s.list (s.term m) true m (s.log m)
           (λ e. let c = f.running.stands m h.role in
-          let w = won b in
-          (c.0, w.0, c.1, c.2, c.3, w.1 ∙ ap (λ (l : List Entry). l ++ w.0) (sym c.4), w.2))
+          (c.0, [], c.1, c.2, c.3, sym c.4 ∙ sym (append-nil c.0.log), λ i h. absurd (omega (arith, h))))
           (λ t n. f.led.candidacy t);
       votes = at2_each (λ t d l. d ≡ true → quorum s.members ≤ how_many (λ v. any (is_vote v l t) s.kept) s.members) s.led s.leader
           (s.term m) true m
@@ -60,26 +57,17 @@ led_win s m b h f =
           = count_grows (s.votes m) (λ v. any (is_vote v m (s.term m)) s.kept) s.members counted in
           omega (arith, more, h.votes))
           (λ t n. f.led.votes t);
-      rising = at_each (λ t x. IsRising x t) s.list (s.term m) (log_won s m b)
-          (subst (λ (x : List Entry). IsRising x (s.term m)) here (after.rising m)) (λ t n. f.led.rising t);
-      log_limit = at_each (λ t x. length x ≤ log_limit) s.list (s.term m) (log_won s m b)
-          (subst (λ (x : List Entry). length x ≤ log_limit) here (after.log_limit m)) (λ t n. f.led.log_limit t);
-      well_formed = at_each (λ t x. (i : ℕ) → i < length x → IsWellFormed (get_or x i (blank 0))) s.list (s.term m) (log_won s m b)
-          (subst (λ (x : List Entry). (i : ℕ) → i < length x → IsWellFormed (get_or x i (blank 0))) here (after.well_formed m))
+      rising = at_each (λ t x. IsRising x t) s.list (s.term m) (s.log m)
+          (f.stored.rising m) (λ t n. f.led.rising t);
+      log_limit = at_each (λ t x. length x ≤ log_limit) s.list (s.term m) (s.log m)
+          (f.stored.log_limit m) (λ t n. f.led.log_limit t);
+      well_formed = at_each (λ t x. (i : ℕ) → i < length x → IsWellFormed (get_or x i (blank 0))) s.list (s.term m) (s.log m)
+          (f.stored.well_formed m)
           (λ t n. f.led.well_formed t);
-      injective = at_each (λ t x. IsInjective x) s.list (s.term m) (log_won s m b) (subst IsInjective here (after.injective m))
+      injective = at_each (λ t x. IsInjective x) s.list (s.term m) (s.log m) (f.stored.injective m)
           (λ t n. f.led.injective t);
     }
   where
-    won : (c : Bool)
-        → (rest : List Entry) × (log_won s m c ≡ s.log m ++ rest) × ((i : ℕ) → i < length rest → (get_or rest i (blank 0)).term ≡ s.term m)
-    won true = (blank (s.term m) ∷ [], refl, λ i. first i)
-      where
-        first : (i : ℕ) → i < length (blank (s.term m) ∷ []) → (get_or (blank (s.term m) ∷ []) i (blank 0)).term ≡ s.term m
-        first zero h = refl
-        first (suc i) h = absurd (omega (arith, h))
-    won false = ([], sym (append-nil (s.log m)), λ i h. absurd (omega (arith, h)))
-
     counted : (v : ℕ) → s.votes m v ≡ true → any (is_vote v m (s.term m)) s.kept ≡ true
     counted v c =
         let k = f.running.counted m v h.role c in
@@ -150,6 +138,6 @@ led_keeps s (Grant m n r) may f = record {
   well_formed = f.led.well_formed;
   injective = f.led.injective;
 }
-led_keeps s (Win m b) may f = led_win s m b may f
+led_keeps s (Win m) may f = led_win s m may f
 led_keeps s (Propose m e) may f = led_propose s m e may f
 led_keeps s _ may f = f.led

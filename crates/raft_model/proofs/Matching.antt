@@ -8,7 +8,7 @@ use Rattle.raft_model.specs.Log.{Same}
 use Rattle.raft_model.specs.Messages.{Request}
 use Rattle.raft_model.specs.Lists.{at, at_here, at_other}
 use Rattle.raft_model.specs.History.{KeptVote, Candidacy}
-use Rattle.raft_model.proofs.Micro.{State, Micro, did, May, MayGrow, MayWin, MayPropose, log_won}
+use Rattle.raft_model.proofs.Micro.{State, Micro, did, May, MayGrow, MayWin, MayPropose}
 use Rattle.raft_model.proofs.Micro.Micro.{Stand, Grant, Win, Cut, Grow, Propose}
 use Rattle.raft_model.proofs.Facts.{Facts, Matching, IsMatching}
 use Rattle.raft_model.proofs.Lists.{same_append, list_more, longer}
@@ -64,13 +64,12 @@ matching_snoc led list l e h there inside same i b =
           n r
     ]
 
-pub matching_win : (s : State) (m : ℕ) (b : Bool) → MayWin s m b → Facts s
-    → Matching (at s.led (s.term m) true) (at s.list (s.term m) (log_won s m b)) (at s.log m (log_won s m b)) s.candidacies s.kept
-matching_win s m b h f = record {
-  logs = at_each (λ i l. IsMatching (at s.led (s.term m) true) (at s.list (s.term m) (log_won s m b)) l) s.log m (log_won s m b)
-      (won b refl) (λ i n. more (s.log i) (f.matching.logs i));
-  lists = at_each (λ i l. IsMatching (at s.led (s.term m) true) (at s.list (s.term m) (log_won s m b)) l) s.list (s.term m) (log_won s m b)
-      (won b refl) (λ i n. more (s.list i) (f.matching.lists i));
+pub matching_win : (s : State) (m : ℕ) → MayWin s m → Facts s
+    → Matching (at s.led (s.term m) true) (at s.list (s.term m) (s.log m)) s.log s.candidacies s.kept
+matching_win s m h f = record {
+  logs = λ i. more (s.log i) (f.matching.logs i);
+  lists = at_each (λ i l. IsMatching (at s.led (s.term m) true) (at s.list (s.term m) (s.log m)) l) s.list (s.term m) (s.log m)
+      (more (s.log m) (f.matching.logs m)) (λ i n. more (s.list i) (f.matching.lists i));
   stood = λ c i. more c.log (f.matching.stood c i);
   voted = λ k i. more k.log (f.matching.voted k i);
 }
@@ -78,26 +77,16 @@ matching_win s m b h f = record {
     two : true ≡ false → ⊥
     two e = cc
 
-    more : (l : List Entry) → IsMatching s.led s.list l → IsMatching (at s.led (s.term m) true) (at s.list (s.term m) (log_won s m b)) l
+    more : (l : List Entry) → IsMatching s.led s.list l → IsMatching (at s.led (s.term m) true) (at s.list (s.term m) (s.log m)) l
     more l g i c =
         let k = g i c in
         let n : (get_or l i (blank 0)).term ≢ s.term m = λ e. two (sym k.0 ∙ (ap s.led e ∙ alone s f m h.role h.votes)) in
-        let q = at_other s.list (s.term m) (get_or l i (blank 0)).term (log_won s m b) n in (
+        let q = at_other s.list (s.term m) (get_or l i (blank 0)).term (s.log m) n in (
           at_other s.led (s.term m) (get_or l i (blank 0)).term true n ∙ k.0,
           subst (λ (x : List Entry). i < length x) (sym q) k.1,
           k.2
               ∙ sym (ap (take (i + 1)) q),
         )
-
-    won : (c : Bool) → c ≡ b → IsMatching (at s.led (s.term m) true) (at s.list (s.term m) (log_won s m b)) (log_won s m c)
-    won false e = more (s.log m) (f.matching.logs m)
-    won true e =
-        let q : at s.list (s.term m) (log_won s m b) (s.term m) ≡ s.log m ++ (blank (s.term m) ∷ [])
-        = at_here s.list (s.term m) (s.term m) (log_won s m b) refl ∙ ap (log_won s m) (sym e) in
-        matching_snoc (at s.led (s.term m) true) (at s.list (s.term m) (log_won s m b)) (s.log m) (blank (s.term m))
-        (more (s.log m) (f.matching.logs m)) (at_here s.led (s.term m) (s.term m) true refl)
-        (subst (λ (x : List Entry). length (s.log m) < length x) (sym q) (omega (arith, length-append (s.log m) (blank (s.term m) ∷ []))))
-        (ap (take (length (s.log m) + 1)) (sym q))
 
 pub matching_propose : (s : State) (m : ℕ) (e : Entry) → MayPropose s m e → Facts s
     → Matching s.led (at s.list (s.term m) (s.list (s.term m) ++ (e ∷ []))) (at s.log m (s.log m ++ (e ∷ []))) s.candidacies s.kept
@@ -166,7 +155,7 @@ matching_keeps s (Grant m n r) may f = record {
   voted = λ k i. elim i
       [ inl e ↦ subst (λ (z : KeptVote). IsMatching s.led s.list z.log) (sym e) (f.matching.logs m) | inr j ↦ f.matching.voted k j ];
 }
-matching_keeps s (Win m b) may f = matching_win s m b may f
+matching_keeps s (Win m) may f = matching_win s m may f
 matching_keeps s (Propose m e) may f = matching_propose s m e may f
 matching_keeps s (Cut m r e) may f = record {
   logs = at_each (λ i l. IsMatching s.led s.list l) s.log m (take r.previous (s.log m))

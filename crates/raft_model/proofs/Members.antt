@@ -9,6 +9,7 @@ use Rattle.raft_model.specs.Moves.{Move, IsEnabled, CanCommit, MayCall, puts, me
 use Rattle.raft_model.specs.Moves.Move.{TimeOut, TakeVoteRequest, TakeVoteAnswer, TakeAppendRequest, TakeAppendAnswer, ProposeEntry, CommitTo, TellPair, TellNothing, CallForVote, CallToAppend, AnswerAgain, GiveUp}
 use Rattle.raft_model.specs.Members.{IsAll, counts_votes}
 use Rattle.raft_model.specs.Decisions.{can_commit, greatest_to, commit_index}
+use Rattle.raft_model.specs.Duty.{is_heard}
 use Rattle.raft_model.proofs.Apart.{candidate_no_follower, leader_no_follower}
 use Rattle.raft_model.proofs.Quorum.{tell}
 
@@ -60,11 +61,6 @@ same_quorum list members votes h = ap (λ (n : ℕ). nat_le (n / 2 + 1) (how_man
 
 pub same_puts : (list members : List ℕ) (member : ℕ) (server : RaftServer) (move : Move) → (counts_votes server move ≡ true → IsAll list members)
     → puts list member server move ≡ puts members member server move
-same_puts list members member server TimeOut h = rw (same_quorum list members (own_vote member) (h refl)) refl
-same_puts list members member server (TakeVoteAnswer answer) h = elim (tell (counts server answer)) [
-  | inl c ↦ rw (same_quorum list members (votes_with server.memory answer) (h c)) refl
-  | inr c ↦ rw (c) refl
-]
 same_puts list members member server _ h = refl
 
 pub same_memory : (list members : List ℕ) (member step : ℕ) (server : RaftServer) (move : Move)
@@ -106,6 +102,10 @@ calls_over : (list members : List ℕ) (member : ℕ) (called : List ℕ) (serve
     → MayCall list member called server peer → MayCall members member called server peer
 calls_over list members member called server peer all may = record
     { other = may.other; listed = all.among peer may.listed; free = may.free; first = may.first }
+
+pub same_heard : (list members : List ℕ) (member : ℕ) (server : RaftServer) → IsAll list members
+    → is_heard list member server ≡ is_heard members member server
+same_heard list members member server h = rw (same_quorum list members (has_matched member server (length server.store.log)) h) refl
 
 -- a move that may come by a list of all members may come
 pub same_come : (list members : List ℕ) (member : ℕ) (bag : List Message) (called : List ℕ) (server : RaftServer) (move : Move)

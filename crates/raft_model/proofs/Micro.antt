@@ -53,7 +53,7 @@ pub data Micro : Type 0 where
   Deny : (m n : ℕ) (r : Request) → Micro
   Count : (m : ℕ) (a : Answer) → Micro
   Drop : (m q : ℕ) → Micro
-  Win : (m : ℕ) (with_blank : Bool) → Micro
+  Win : (m : ℕ) → Micro
   Yield : (m : ℕ) → Micro
   Write : (m : ℕ) (e : Entry) → Micro
   Cut : (m : ℕ) (r : Request) (e : Entry) → Micro
@@ -102,9 +102,6 @@ answer_of s m n r success = record { step = n; from = m; request = r; term = s.t
 abbrev pub pair_of : State → ℕ → ℕ → ℕ → Pair
 pair_of s m n i = record { step = n; from = m; uid = (get_or (s.log m) i (blank 0)).uid; node = (get_or (s.log m) i (blank 0)).node }
 
-abbrev pub log_won : State → ℕ → Bool → List Entry
-log_won s m with_blank = if with_blank then s.log m ++ (blank (s.term m) ∷ []) else s.log m
-
 abbrev pub did : State → Micro → State
 did s (Open m) = record s {
   up = at s.up m true;
@@ -146,8 +143,7 @@ did s (Grant m n r) = record s {
 did s (Deny m n r) = record s { answers = answer_of s m n r false ∷ s.answers }
 did s (Count m a) = record s { votes = at s.votes m (at (s.votes m) a.from true); pending = at s.pending m (at (s.pending m) a.from None) }
 did s (Drop m q) = record s { pending = at s.pending m (at (s.pending m) q None) }
-did s (Win m with_blank) = record s {
-  log = at s.log m (log_won s m with_blank);
+did s (Win m) = record s {
   role = at s.role m Leader;
   told = at s.told m (s.commit m);
   next = at s.next m (λ q. length (s.log m) + 1);
@@ -155,7 +151,7 @@ did s (Win m with_blank) = record s {
   pending = at s.pending m (λ q. None);
   led = at s.led (s.term m) true;
   leader = at s.leader (s.term m) m;
-  list = at s.list (s.term m) (log_won s m with_blank);
+  list = at s.list (s.term m) (s.log m);
 }
 did s (Yield m) = record s { role = at s.role m Follower }
 did s (Write m e) = s
@@ -225,11 +221,10 @@ pub record MayCount (s : State) (m : ℕ) (a : Answer) : Type 0 where
   pub success : a.success ≡ true
   pub pending : s.pending m a.from ≡ Some a.request
 
-pub record MayWin (s : State) (m : ℕ) (with_blank : Bool) : Type 0 where
+pub record MayWin (s : State) (m : ℕ) : Type 0 where
   pub up : s.up m ≡ true
   pub role : s.role m ≡ Candidate
   pub votes : quorum s.members ≤ how_many (s.votes m) s.members
-  pub room : with_blank ≡ true → length (s.log m) < log_limit
 
 pub record MayCut (s : State) (m : ℕ) (r : Request) (e : Entry) : Type 0 where
   pub fits : HasPrevious s m r
@@ -299,7 +294,7 @@ May s (Grant m n r) = MayGrant s m r
 May s (Deny m n r) = (s.up m ≡ true) × In (Requests r) s.bag × (r.to ≡ m)
 May s (Count m a) = MayCount s m a
 May s (Drop m q) = s.up m ≡ true
-May s (Win m with_blank) = MayWin s m with_blank
+May s (Win m) = MayWin s m
 May s (Yield m) = (s.up m ≡ true) × (s.role m ≢ Leader)
 May s (Write m e) = s.up m ≡ true
 May s (Cut m r e) = MayCut s m r e

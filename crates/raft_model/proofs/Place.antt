@@ -6,7 +6,7 @@ use Rattle.raft_model.specs.Messages.{Request}
 use Rattle.raft_model.specs.Lists.{at, at_here, at_other}
 use Rattle.raft_model.specs.Server.{Role}
 use Rattle.raft_model.specs.Server.Role.{Follower, Candidate, Leader}
-use Rattle.raft_model.proofs.Micro.{State, Micro, did, May, HasPrevious, log_won}
+use Rattle.raft_model.proofs.Micro.{State, Micro, did, May, HasPrevious}
 use Rattle.raft_model.proofs.Micro.Micro.{Open, Halt, Raise, Stand, Win, Yield, Cut, Grow, Propose}
 use Rattle.raft_model.proofs.Facts.{Facts, Place}
 use Rattle.raft_model.proofs.At.{at_each, at2_each}
@@ -84,22 +84,22 @@ place_keeps s (Propose m e) may f = place_all s.led s.leader (at s.list (s.term 
         let o = place_one s f i t l g in
         let other : t ≢ s.term m = λ z. n (sym g ∙ (ap s.leader z ∙ (f.running.leads m may.role).1)) in
         (o.0, λ c. ((o.1 c).0, (o.1 c).1 ∙ sym (at_other s.list (s.term m) t (s.list (s.term m) ++ (e ∷ [])) other)))
-place_keeps s (Win m b) may f = place_all (at s.led (s.term m) true) (at s.leader (s.term m) m) (at s.list (s.term m) (log_won s m b))
-    s.term (at s.role m Leader) (at s.log m (log_won s m b)) each
+place_keeps s (Win m) may f = place_all (at s.led (s.term m) true) (at s.leader (s.term m) m) (at s.list (s.term m) (s.log m))
+    s.term (at s.role m Leader) s.log each
   where
     leader_no_candidate : Leader ≢ Candidate
     leader_no_candidate e = cc
 
     each : (i t : ℕ) → at s.led (s.term m) true t ≡ true → at s.leader (s.term m) m t ≡ i
-        → Stands (at s.list (s.term m) (log_won s m b)) t (s.term i) (at s.role m Leader i) (at s.log m (log_won s m b) i)
+        → Stands (at s.list (s.term m) (s.log m)) t (s.term i) (at s.role m Leader i) (s.log i)
     each i t l g = elim (eqb_tells t (s.term m)) [
       | inl z ↦
           let im : i ≡ m = sym g ∙ at_here s.leader (s.term m) t m z.1 in (
             omega (arith, z.1, ap s.term im),
             λ c. (
               λ d. leader_no_candidate (sym (at_here s.role m i Leader im) ∙ d),
-              at_here s.log m i (log_won s m b) im
-                  ∙ sym (at_here s.list (s.term m) t (log_won s m b) z.1),
+              ap s.log im
+                  ∙ sym (at_here s.list (s.term m) t (s.log m) z.1),
             ),
           )
       | inr z ↦
@@ -110,8 +110,7 @@ place_keeps s (Win m b) may f = place_all (at s.led (s.term m) true) (at s.leade
             λ c.
                 let im : i ≢ m = λ d. z.1 (sym c ∙ ap s.term d) in (
                   λ d. (o.1 c).0 (sym (at_other s.role m i Leader im) ∙ d),
-                  at_other s.log m i (log_won s m b) im
-                      ∙ ((o.1 c).1 ∙ sym (at_other s.list (s.term m) t (log_won s m b) z.1)),
+                  (o.1 c).1 ∙ sym (at_other s.list (s.term m) t (s.log m) z.1),
                 ),
           )
     ]

@@ -7,7 +7,7 @@ use Rattle.raft_model.specs.Lists.{In, at, at_here, at_other}
 use Rattle.raft_model.specs.Server.{Role}
 use Rattle.raft_model.specs.History.{KeptVote, Candidacy}
 use Rattle.raft_model.specs.Server.Role.{Follower, Candidate, Leader}
-use Rattle.raft_model.proofs.Micro.{State, Micro, did, May, log_won}
+use Rattle.raft_model.proofs.Micro.{State, Micro, did, May}
 use Rattle.raft_model.proofs.Micro.Micro.{Open, Halt, Raise, Stand, Grant, Count, Win, Yield, Cut, Grow, Propose}
 use Rattle.raft_model.proofs.Facts.{Facts, Running}
 use Rattle.raft_model.proofs.At.{at_each, at2_each}
@@ -90,25 +90,25 @@ running_keeps s (Count m a) may f = record {
       (k.0, k.1, k.2, k.3 ∙ may.mine, k.4 ∙ (sym o.0 ∙ may.own_term))) (λ p n z. f.running.counted m p e z) q h)
       (λ i n q. f.running.counted i q);
 }
-running_keeps s (Win m b) may f = record {
-  leads = at2_each
-      (λ i r l. r ≡ Leader
+running_keeps s (Win m) may f = record {
+  leads = at_each
+      (λ i r. r ≡ Leader
       → (at s.led (s.term m) true (s.term i) ≡ true) × (at s.leader (s.term m) m (s.term i) ≡ i)
-      × (l ≡ at s.list (s.term m) (log_won s m b) (s.term i)))
-      s.role s.log m Leader (log_won s m b)
+      × (s.log i ≡ at s.list (s.term m) (s.log m) (s.term i)))
+      s.role m Leader
       (λ e. (
         at_here s.led (s.term m) (s.term m) true refl,
         at_here s.leader (s.term m) (s.term m) m refl,
-        sym (at_here s.list (s.term m) (s.term m) (log_won s m b) refl),
+        sym (at_here s.list (s.term m) (s.term m) (s.log m) refl),
       ))
       (λ i n e. let o = f.running.leads i e in
-      let z = not_first s f m b may (s.term i) o.0 in (
+      let z = not_first s f m may (s.term i) o.0 in (
         led_more s (s.term m) (s.term i) o.0,
         at_other s.leader (s.term m) (s.term i) m z ∙ o.1,
         o.2
-            ∙ sym (at_other s.list (s.term m) (s.term i) (log_won s m b) z),
+            ∙ sym (at_other s.list (s.term m) (s.term i) (s.log m) z),
       ));
-  stands = at2_each (λ i r l. StandsFor s.candidacies i r (s.term i) l) s.role s.log m Leader (log_won s m b) (λ e. absurd (l_no_c e))
+  stands = at_each (λ i r. StandsFor s.candidacies i r (s.term i) (s.log i)) s.role m Leader (λ e. absurd (l_no_c e))
       (λ i n. f.running.stands i);
   counted = at_each (λ i r. Counts s.kept i r (s.term i) (s.votes i)) s.role m Leader (λ q e. absurd (l_no_c e))
       (λ i n q. f.running.counted i q);

@@ -6,7 +6,7 @@ use Rattle.raft_model.specs.Messages.Message.{Requests}
 use Rattle.raft_model.specs.Server.{Store, RaftServer, Put, put, put_all, committed, memory_when_down}
 use Rattle.raft_model.specs.Server.Put.{PutTerm, PutVote, PutEntry, PutLonger, PutShorter, PutCommit}
 use Rattle.raft_model.specs.Ledger.{Ledger, ledger_through}
-use Rattle.raft_model.specs.Moves.{Move, Verdict, IsEnabled, puts, term_puts, with_term, win_puts, adds_blank, has_quorum, own_vote, counts, votes_with, stand_puts, grant_puts, vote_puts, append_puts, advance_puts, cut_puts}
+use Rattle.raft_model.specs.Moves.{Move, Verdict, IsEnabled, puts, term_puts, with_term, grant_puts, vote_puts, append_puts, advance_puts, cut_puts}
 use Rattle.raft_model.specs.Moves.Move.{TimeOut, TakeVoteRequest, TakeVoteAnswer, TakeAppendRequest, TakeAppendAnswer, ProposeEntry, CommitTo, TellPair, TellNothing, CallForVote, CallToAppend, AnswerAgain, GiveUp}
 use Rattle.raft_model.specs.Moves.Verdict.{Outdated, Refused, Held, Added}
 use Rattle.raft_model.specs.Stops.{LocalState, state_after_move, AllEnabled}
@@ -16,7 +16,6 @@ use Rattle.raft_model.specs.Invariants.{Invariants}
 use Rattle.raft_model.specs.Safety.{IsSafe}
 use Rattle.raft_model.proofs.Joined.{joined_moves}
 use Rattle.raft_model.proofs.Prefixes.{stop_comes, lawful_then_one, run_then_one}
-use Rattle.raft_model.proofs.Quorum.{tell}
 use Rattle.raft_model.proofs.Run.{keeps_invariants, is_safe}
 use Rattle.raft_model.proofs.Terms.{same_commit}
 use Rattle.raft_model.proofs.Walk.{Covered, ledger_stays}
@@ -83,9 +82,6 @@ take_low top (suc count) (PutCommit place ∷ xs) low = (low.0, take_low top cou
 term_low : (top : ℕ) (store : Store) (term : ℕ) → EachLow top (term_puts store term)
 term_low top store term = elim (lt_tells store.term term) [ inl h ↦ rw (h.0) tt | inr h ↦ rw (h.0) tt ]
 
-win_low : (top : ℕ) (store : Store) → EachLow top (win_puts store)
-win_low top store = elim (tell (adds_blank store)) [ inl h ↦ rw (h) tt | inr h ↦ rw (h) tt ]
-
 grant_low : (top : ℕ) (store : Store) (request : Request) (granted : Bool) → EachLow top (grant_puts store request granted)
 grant_low top store request false = tt
 grant_low top store request true = vote_low store.vote
@@ -114,23 +110,11 @@ puts_low : (members : List ℕ) (member : ℕ) (bag : List Message) (called : Li
     → IsEnabled members member bag called server move →
     ((request : Request) → In (Requests request) bag → request.append ≡ true → request.commit ≤ top) → ((index : ℕ) → move ≢ CommitTo index)
     → EachLow top (puts members member server move)
-puts_low members member bag called server TimeOut top comes low other = elim (tell (has_quorum members (own_vote member))) [
-  | inl h ↦ rw (h) (win_low top (put_all server.store (stand_puts member server.store)))
-  | inr h ↦ rw (h) tt
-]
+puts_low members member bag called server TimeOut top comes low other = tt
 puts_low members member bag called server (TakeVoteRequest request granted) top comes low other =
     both_low top (term_puts server.store request.term) (grant_puts (with_term server.store request.term) request granted)
     (term_low top server.store request.term) (grant_low top (with_term server.store request.term) request granted)
-puts_low members member bag called server (TakeVoteAnswer answer) top comes low other = elim (lt_tells server.store.term answer.term) [
-  | inl h ↦ rw (h.0) tt
-  | inr h ↦ rw (h.0) (elim (tell (counts server answer)) [
-    | inl k ↦
-        rw (k)
-        (elim (tell (has_quorum members (votes_with server.memory answer)))
-        [ inl q ↦ rw (q) (win_low top server.store) | inr q ↦ rw (q) tt ])
-    | inr k ↦ rw (k) tt
-  ])
-]
+puts_low members member bag called server (TakeVoteAnswer answer) top comes low other = term_low top server.store answer.term
 puts_low members member bag called server (TakeAppendRequest request verdict) top comes low other =
     both_low top (term_puts server.store request.term) (append_puts (with_term server.store request.term) request verdict)
     (term_low top server.store request.term)

@@ -9,7 +9,7 @@ use Rattle.raft_model.specs.Log.{IsRising}
 use Rattle.raft_model.specs.Messages.{reach}
 use Rattle.raft_model.specs.Lists.{at}
 use Rattle.raft_model.specs.Server.Role.{Follower, Candidate, Leader}
-use Rattle.raft_model.proofs.Micro.{State, Micro, did, May, log_won}
+use Rattle.raft_model.proofs.Micro.{State, Micro, did, May}
 use Rattle.raft_model.proofs.Micro.Micro.{Raise, Win, Cut, Grow, Advance, Propose, Commit}
 use Rattle.raft_model.proofs.Facts.{Facts, Stored}
 use Rattle.raft_model.proofs.Lists.{term_at_less}
@@ -165,20 +165,6 @@ stored_keeps s (Raise m t) may f = stored_all s.log (at s.term m t) s.commit
       rising = rising_up (s.log m) (s.term m) t (omega (arith, may.1)) g.rising;
     })
     (λ i n. good s f i))
-stored_keeps s (Win m b) may f = stored_all (at s.log m (log_won s m b)) s.term s.commit
-    (at_each (λ i l. Good l (s.term i) (s.commit i)) s.log m (log_won s m b) (won b refl) (λ i n. good s f i))
-  where
-    low : 1 ≤ s.term m
-    low = f.roles.terms m (λ e. follows (sym may.role ∙ e))
-      where
-        follows : Candidate ≡ Follower → ⊥
-        follows e = cc
-
-    won : (c : Bool) → b ≡ c → Good (log_won s m c) (s.term m) (s.commit m)
-    won false e = good s f m
-    won true e = good_snoc (s.log m) (blank (s.term m)) (s.term m) (s.commit m) (good s f m) (may.room e)
-        (inl (refl, refl)) (last_below (s.log m) (s.term m) (f.stored.rising m)) low (omega arith)
-        (inj_blank (s.log m) (s.term m) (f.stored.injective m))
 stored_keeps s (Cut m r e) may f = stored_all (at s.log m (take r.previous (s.log m))) s.term s.commit
     (at_each (λ i l. Good l (s.term i) (s.commit i)) s.log m (take r.previous (s.log m))
     (let g = good s f m in

@@ -6,7 +6,7 @@ use Rattle.can_frame.specs.Log.{blank}
 use Rattle.can_frame.specs.Zeros.{zeros}
 use Rattle.raft_model.specs.Messages.{Pair, reach}
 use Rattle.raft_model.specs.Lists.{at}
-use Rattle.raft_model.proofs.Micro.{State, Micro, did, May, log_won, pair_of}
+use Rattle.raft_model.proofs.Micro.{State, Micro, did, May, pair_of}
 use Rattle.raft_model.proofs.Micro.Micro.{Win, Cut, Grow, Advance, Propose, Commit, Tell, Again}
 use Rattle.raft_model.proofs.Facts.{Facts, Told}
 use Rattle.raft_model.proofs.At.{at_each}
@@ -41,11 +41,6 @@ told_new s f m n k b z = record {
 }
 
 pub told_keeps : (s : State) (e : Micro) → May s e → Facts s → Told (did s e).pairs (did s e).commit (did s e).log
-told_keeps s (Win m b) may f = told_log s f m (log_won s m b) (won b)
-  where
-    won : (c : Bool) → (i : ℕ) → i < s.commit m → get_or (log_won s m c) i (blank 0) ≡ get_or (s.log m) i (blank 0)
-    won false i h = refl
-    won true i h = get_or_append_left (s.log m) (blank (s.term m) ∷ []) (blank 0) i (let w = f.stored.within m in omega (arith, h, w))
 told_keeps s (Cut m r e) may f = told_log s f m (take r.previous (s.log m))
     (λ i b. get_or-take r.previous (s.log m) i (blank 0) (omega (arith, b, may.after_commit)))
 told_keeps s (Grow m r e) may f = told_snoc s f m e

@@ -84,7 +84,7 @@ votes_keeps s (Grant m n r) may f = record {
       | inr x ↦
           elim may.free [ inl z ↦ absurd (some_none (s.vote m) y.candidate z x.1) | inr z ↦ some_same y.candidate r.from (sym x.1 ∙ z) ]
     ]
-votes_keeps s (Win m b) may f = record {
+votes_keeps s (Win m) may f = record {
   one = f.votes.one;
   candidacy = f.votes.candidacy;
   rising = f.votes.rising;

@@ -2,20 +2,19 @@
 use Rattle.std.proofs.Common.{◌≡◌, ℕ, Bool, true, false, List, [], ◌∷◌, ◌++◌, length, min, refl, inl, inr, Option, Some, None}
 use Rattle.raft_model.specs.Messages.{Request, reach}
 use Rattle.can_frame.specs.declared.entry.Entry.{Entry}
-use Rattle.raft_model.specs.Server.{Store, RaftServer, Put, AreWritten, put_all}
+use Rattle.raft_model.specs.Server.{Store, RaftServer, Put, AreWritten}
 use Rattle.raft_model.specs.Server.Put.{PutTerm, PutVote, PutEntry, PutLonger, PutShorter, PutCommit}
 use Rattle.raft_model.specs.Handlers.{server_after, puts_of_all}
-use Rattle.raft_model.specs.Moves.{Move, Verdict, puts, term_puts, with_term, win_puts, adds_blank, has_quorum, own_vote, counts, votes_with, stand_puts, grant_puts, vote_puts, append_puts, advance_puts}
+use Rattle.raft_model.specs.Moves.{Move, Verdict, puts, term_puts, with_term, grant_puts, vote_puts, append_puts, advance_puts}
 use Rattle.raft_model.specs.Moves.Move.{TimeOut, TakeVoteRequest, TakeVoteAnswer, TakeAppendRequest, TakeAppendAnswer, ProposeEntry, CommitTo, TellPair, TellNothing, CallForVote, CallToAppend, AnswerAgain, GiveUp}
 use Rattle.raft_model.specs.Moves.Verdict.{Outdated, Refused, Held, Added}
-use Rattle.raft_model.proofs.Quorum.{tell}
 use Rattle.raft_model.proofs.Whole.{lt_tells}
 
 term_then : (store : Store) (term : ℕ) (rest : List Put) → AreWritten None rest → AreWritten None (term_puts store term ++ rest)
 term_then store term rest h = elim (lt_tells store.term term) [ inl z ↦ rw (z.0) h | inr z ↦ rw (z.0) h ]
 
-win_written : (store : Store) → AreWritten None (win_puts store)
-win_written store = elim (tell (adds_blank store)) [ inl h ↦ rw (h) (refl, tt) | inr h ↦ rw (h) tt ]
+term_written : (store : Store) (term : ℕ) → AreWritten None (term_puts store term)
+term_written store term = elim (lt_tells store.term term) [ inl z ↦ rw (z.0) tt | inr z ↦ rw (z.0) tt ]
 
 advance_written : (store : Store) (request : Request) → AreWritten None (advance_puts store request)
 advance_written store request = elim (lt_tells store.commit (min request.commit (reach request)))
@@ -39,28 +38,15 @@ append_written store request (Added entry) = elim (lt_tells request.previous (le
 ]
 
 pub puts_written : (members : List ℕ) (member : ℕ) (server : RaftServer) (move : Move) → AreWritten None (puts members member server move)
-puts_written members member server TimeOut = elim (tell (has_quorum members (own_vote member))) [
-  | inl h ↦ rw (h) (win_written (put_all server.store (stand_puts member server.store)))
-  | inr h ↦ rw (h) tt
-]
+puts_written members member server TimeOut = tt
 puts_written members member server (TakeVoteRequest request granted) =
     term_then server.store request.term (grant_puts (with_term server.store request.term) request granted)
     (grant_written (with_term server.store request.term) request granted)
-puts_written members member server (TakeVoteAnswer answer) = elim (lt_tells server.store.term answer.term) [
-  | inl z ↦ rw (z.0) tt
-  | inr z ↦ rw (z.0) (elim (tell (counts server answer)) [
-    | inl k ↦
-        rw (k)
-        (elim (tell (has_quorum members (votes_with server.memory answer)))
-        [ inl q ↦ rw (q) (win_written server.store) | inr q ↦ rw (q) tt ])
-    | inr k ↦ rw (k) tt
-  ])
-]
+puts_written members member server (TakeVoteAnswer answer) = term_written server.store answer.term
 puts_written members member server (TakeAppendRequest request verdict) =
     term_then server.store request.term (append_puts (with_term server.store request.term) request verdict)
     (append_written (with_term server.store request.term) request verdict)
-puts_written members member server (TakeAppendAnswer answer) = elim (lt_tells server.store.term answer.term)
-    [ inl z ↦ rw (z.0) tt | inr z ↦ rw (z.0) tt ]
+puts_written members member server (TakeAppendAnswer answer) = term_written server.store answer.term
 puts_written members member server (ProposeEntry entry) = (refl, tt)
 puts_written members member server (CommitTo index) = tt
 puts_written members member server TellPair = tt

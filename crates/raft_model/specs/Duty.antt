@@ -1,5 +1,5 @@
 -- What a server owes that finishes its step: the phases of a step as moves, and what they leave.
-use Rattle.std.specs.Prelude.{◌≡◌, ◌≢◌, ℕ, ◌+◌, ◌<◌, ◌≤◌, ◌&&◌, Bool, true, false, not, List, [], ◌∷◌, ◌⊎◌, if◌then◌else◌, Option, Some, None, length, nat_lt}
+use Rattle.std.specs.Prelude.{◌≡◌, ◌≢◌, ℕ, ◌+◌, ◌<◌, ◌≤◌, ◌&&◌, Bool, true, false, not, List, [], ◌∷◌, ◌++◌, ◌⊎◌, if◌then◌else◌, Option, Some, None, length, nat_lt}
 use Rattle.std.specs.Str.{bytes_eq}
 use Rattle.can_frame.specs.declared.entry.Entry.{Entry}
 use Rattle.can_frame.specs.Log.{blank, last_term, log_limit}
@@ -7,7 +7,7 @@ use Rattle.can_frame.specs.Zeros.{zeros}
 use Rattle.raft_model.specs.Messages.{Message}
 use Rattle.raft_model.specs.Messages.Message.{Pairs}
 use Rattle.raft_model.specs.Server.{Store, RaftServer}
-use Rattle.raft_model.specs.Server.Role.{Follower, Candidate}
+use Rattle.raft_model.specs.Server.Role.{Follower, Candidate, Leader}
 use Rattle.raft_model.specs.Moves.{Move, CanCommit, has_matched, has_quorum, is_leader, next_entry, term_limit, pair_at}
 use Rattle.raft_model.specs.Moves.Move.{TimeOut, ProposeEntry, CommitTo, TellPair, TellNothing}
 use Rattle.raft_model.specs.Decisions.{commit_index}
@@ -53,6 +53,18 @@ tell_phase room server =
 pub record TickDuty (before after : RaftServer) : Type 0 where
   pub stands : after.memory.role ≢ Follower
   pub next : after.store.term ≡ before.store.term + 1
+
+-- a Leader's log has a blank of its term behind it where something is not committed and there is room for it; besides
+-- nothing changes
+pub record BlankDuty (before after : RaftServer) : Type 0 where
+  pub adds : before.memory.role ≡ Leader → before.store.commit < length before.store.log
+      → length before.store.log < log_limit
+      → after ≡ record before {
+        store = record before.store { log = before.store.log ++ (blank before.store.term ∷ []) };
+      }
+  pub committed : length before.store.log ≤ before.store.commit → after ≡ before
+  pub full : log_limit ≤ length before.store.log → after ≡ before
+  pub other : before.memory.role ≢ Leader → after ≡ before
 
 -- commit is the greatest index above the former one that can be committed; where there is none it is unchanged
 pub record CommitDuty (members : List ℕ) (member : ℕ) (before after : RaftServer) : Type 0 where

@@ -5,20 +5,21 @@
 
 ghost use Rattle.std.specs.Prelude.{ℕ, Bool, true, false, List, [], ◌++◌, ◌∷◌, ◌≡◌, ◌≢◌, ◌↔◌, ◌<◌, ◌≤◌, length, take, get_or, Some, None};
 ghost use Rattle.can_frame.specs.declared.entry.Entry.{Entry};
-ghost use Rattle.can_frame.specs.Log.{blank, log_limit};
+ghost use Rattle.can_frame.specs.Log.{IsInjective, blank, last_term, log_limit};
 ghost use Rattle.can_frame.specs.Zeros.{zeros};
 ghost use Rattle.raft_model.specs.Lists.{In, how_many};
 ghost use Rattle.raft_model.specs.Messages.{Answer, Message, Pair, Request};
 ghost use Rattle.raft_model.specs.Messages.Message.{Answers, Pairs, Requests};
-ghost use Rattle.raft_model.specs.Server.{AreWritten, RaftServer, Store, memory_when_opened, put_all};
+ghost use Rattle.raft_model.specs.Server.{AreWritten, RaftServer, Store, memory_when_opened, put_all, quorum};
 ghost use Rattle.raft_model.specs.Server.Role.{Candidate, Follower, Leader};
-ghost use Rattle.raft_model.specs.Moves.{CanCommit, IsEnabled, IsCommitIndex, IsGranted, IsJudged, MayCall, MayPropose, Move, Verdict, memory_after, puts, term_limit, with_term};
+ghost use Rattle.raft_model.specs.Moves.{CanCommit, IsEnabled, IsCommitIndex, IsGranted, IsJudged, MayCall, MayPropose, Move, Verdict, has_matched, memory_after, puts, term_limit, with_term};
 ghost use Rattle.raft_model.specs.Moves.Move.{AnswerAgain, CallForVote, CallToAppend, CommitTo, GiveUp, ProposeEntry, TakeAppendAnswer, TakeAppendRequest, TakeVoteAnswer, TakeVoteRequest, TellNothing, TellPair, TimeOut};
 ghost use Rattle.raft_model.specs.Decisions.{commit_index, grants, verdict_on, may_propose};
 ghost use Rattle.raft_model.specs.Members.{IsAll, KnowsEnough, counts_votes};
 ghost use Rattle.raft_model.specs.Handlers.{IsBreak, IsCut, calls_of_all, offers_of_all, server_after, server_after_all, puts_of_all};
 ghost use Rattle.raft_model.specs.Fit.{IsFit};
-ghost use Rattle.raft_model.specs.Duty.{CommitDuty, TellDuty, TickDuty, WinDuty, commit_phase, tell_phase, tick_phase};
+ghost use Rattle.raft_model.specs.Duty.{BlankDuty, CommitDuty, TellDuty, TickDuty, WinDuty};
+ghost use Rattle.raft_model.specs.Duty.{blank_moves, commit_phase, is_heard, tell_phase, tick_phase};
 ghost use Rattle.raft_model.specs.Stops.{AllEnabled, LocalState, state_after_moves};
 ghost use Rattle.raft_model.specs.Runs.{Event, FromEachMoment, InEveryRun, Lawful, MayOccur, World, after, initial_world, run, local_state_after};
 ghost use Rattle.raft_model.specs.Runs.Event.{Steps, Stops, StopsWithin};
@@ -250,6 +251,8 @@ pub fn law_members()
         → memory_after list member step server move ≡ memory_after members member step server move }
     ensures commit { (list members : List ℕ) (member : ℕ) (server : RaftServer) → IsAll list members
         → commit_index list member server ≡ commit_index members member server }
+    ensures heard { (list members : List ℕ) (member : ℕ) (server : RaftServer) → IsAll list members
+        → is_heard list member server ≡ is_heard members member server }
     ensures come { (list members : List ℕ) (member : ℕ) (bag : List Message) (called : List ℕ)
         (server : RaftServer) (move : Move)
         → (server.memory.role ≢ Follower → IsAll list members)
@@ -302,6 +305,14 @@ pub fn law_duty()
     ensures tick { (members : List ℕ) (member step : ℕ) (server : RaftServer)
         → server.memory.role ≢ Leader → server.store.term < term_limit
         → TickDuty server (server_after_all members member step server (tick_phase true server)) }
+    ensures blank_comes { (members : List ℕ) (member step : ℕ) (bag : List Message) (local_state : LocalState)
+        → IsInjective local_state.raft_server.store.log
+        → AllEnabled members member step bag local_state (blank_moves local_state.raft_server) }
+    ensures blank { (members : List ℕ) (member step : ℕ) (server : RaftServer)
+        → BlankDuty server (server_after_all members member step server (blank_moves server)) }
+    ensures heard { (members : List ℕ) (member : ℕ) (server : RaftServer)
+        → (is_heard members member server ≡ true) ↔ ((last_term server.store.log < server.store.term)
+        × (quorum members ≤ how_many (has_matched member server (length server.store.log)) members)) }
     ensures commit_comes { (members : List ℕ) (member step : ℕ) (bag : List Message) (local_state : LocalState)
         → AllEnabled members member step bag local_state (commit_phase members member local_state.raft_server) }
     ensures commit { (members : List ℕ) (member step : ℕ) (server : RaftServer)

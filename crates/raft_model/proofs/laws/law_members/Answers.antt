@@ -1,5 +1,5 @@
 use Rattle.raft_model.proofs.Listed.{all_after, all_puts, all_offers, all_local_state, all_come}
-use Rattle.raft_model.proofs.Members.{same_count, same_puts, same_memory, same_commit, same_come}
+use Rattle.raft_model.proofs.Members.{same_count, same_puts, same_memory, same_commit, same_heard, same_come}
 use Rattle.raft_model.proofs.laws.law_members.Goals as goal
 
 pub returns : goal.returns
@@ -8,6 +8,7 @@ returns c = record {
   puts = same_puts;
   memory = same_memory;
   commit = same_commit;
+  heard = same_heard;
   come = same_come;
   all_after = all_after;
   all_puts = all_puts;
