@@ -1,5 +1,5 @@
 -- The phases of a step are moves that may come, and do what is owed.
-use Rattle.std.proofs.Common.{◌≡◌, ◌≢◌, ℕ, ◌<◌, ◌≤◌, Bool, true, false, List, [], ◌∷◌, length, refl, arith, ap, inl, inr, Option, Some, None, get_or}
+use Rattle.std.proofs.Common.{◌≡◌, ◌≢◌, ℕ, ◌-◌, ◌<◌, ◌≤◌, Bool, true, false, List, [], ◌∷◌, length, refl, arith, ap, inl, inr, Option, Some, None, get_or}
 use Rattle.std.specs.Prelude.{if◌then◌else◌, ◌&&◌, ◌==◌, ◌↔◌, not, nat_le, nat_lt}
 use Rattle.std.specs.Str.{bytes_eq}
 use Rattle.std.proofs.lemmas.Slice.Eq.{bytes_eq-Decides}
@@ -7,10 +7,11 @@ use Rattle.can_frame.specs.declared.entry.Entry.{Entry}
 use Rattle.can_frame.specs.Log.{IsInjective, blank, last_term, log_limit}
 use Rattle.can_frame.specs.Zeros.{zeros}
 use Rattle.raft_model.specs.Lists.{how_many}
+use Rattle.raft_model.specs.Log.{IsRising, term_at}
 use Rattle.raft_model.specs.Messages.{Message}
 use Rattle.raft_model.specs.Server.{Role, RaftServer, quorum}
 use Rattle.raft_model.specs.Server.Role.{Follower, Candidate, Leader}
-use Rattle.raft_model.specs.Moves.{Move, IsEnabled, MayPropose, has_quorum, own_vote, counts, votes_with, has_matched, is_leader, term_limit}
+use Rattle.raft_model.specs.Moves.{Move, IsEnabled, CanCommit, MayPropose, has_quorum, own_vote, counts, votes_with, has_matched, is_leader, term_limit}
 use Rattle.raft_model.specs.Moves.Move.{TimeOut, TakeVoteRequest, TakeVoteAnswer, TakeAppendRequest, TakeAppendAnswer, TellPair}
 use Rattle.raft_model.specs.Moves.Verdict.{Outdated, Refused, Held, Added}
 use Rattle.raft_model.specs.Stops.{LocalState, AllEnabled}
@@ -20,8 +21,9 @@ use Rattle.raft_model.specs.Duty.{tick_phase, takes_blank, blank_moves, is_heard
 use Rattle.raft_model.proofs.Complete.{and_left, and_right}
 use Rattle.raft_model.proofs.Decisions.{commit, no_commit, refuted}
 use Rattle.raft_model.proofs.Leading.{leader_is}
+use Rattle.raft_model.proofs.Lists.{term_at_less}
 use Rattle.raft_model.proofs.Quorum.{tell}
-use Rattle.raft_model.proofs.Stored.{inj_blank}
+use Rattle.raft_model.proofs.Stored.{below_last, inj_blank}
 use Rattle.raft_model.proofs.Whole.{at_most, below, lt_tells, le_tells}
 
 -- Ticks.
@@ -89,6 +91,7 @@ blank_comes members member step bag local_state injective = elim (tell (is_leade
 
 pub blank_duty : (members : List ℕ) (member step : ℕ) (server : RaftServer)
     → BlankDuty server (server_after_all members member step server (blank_moves server))
+    (offers_of_all members member step server (blank_moves server))
 blank_duty members member step server = record {
   adds = λ leads more room. rw (ap is_leader leads) (rw (is_below _ _ more) (rw (is_below _ _ room) refl));
   committed = λ all. elim (tell (is_leader server.memory.role)) [
@@ -100,6 +103,7 @@ blank_duty members member step server = record {
     | inl h ↦ rw (h) (elim (tell (nat_lt server.store.commit (length server.store.log))) [ inl k ↦ rw (k) refl | inr k ↦ rw (k) refl ])
   ]);
   other = λ n. rw (is_not_leader server.memory.role n) refl;
+  silent = elim (tell (is_leader server.memory.role && takes_blank server.store)) [ inl h ↦ rw (h) refl | inr h ↦ rw (h) refl ];
 }
 
 pub heard_tells : (members : List ℕ) (member : ℕ) (server : RaftServer) → (is_heard members member server ≡ true)
@@ -112,6 +116,17 @@ heard_tells members member server = (
   where
     is_at_most : (a b : ℕ) → a ≤ b → nat_le a b ≡ true
     is_at_most a b low = elim (le_tells a b) [ inl z ↦ z.0 | inr z ↦ absurd (omega (arith, z.1, low)) ]
+
+-- no place has a later term than the last, and the last is of an earlier term than the server's
+pub heard_waits : (members : List ℕ) (member : ℕ) (server : RaftServer) (index : ℕ) → IsRising server.store.log server.store.term
+    → is_heard members member server ≡ true → CanCommit members member server index → ⊥
+heard_waits members member server index rising heard can =
+    let low : last_term server.store.log < server.store.term = ((heard_tells members member server).0 heard).0 in
+    let here : term_at server.store.log index ≡ (get_or server.store.log (index - 1) (blank 0)).term
+    = term_at_less server.store.log index (omega (arith, can.above)) in
+    let most : (get_or server.store.log (index - 1) (blank 0)).term ≤ last_term server.store.log
+    = below_last server.store.log server.store.term (index - 1) rising (omega (arith, can.above, can.inside)) in
+    omega (arith, low, here, most, can.own_term)
 
 -- Commits.
 

@@ -2,8 +2,6 @@
 use Rattle.std.proofs.Common.{◌≡◌, ℕ, ◌+◌, Bool, true, false, List, [], ◌∷◌, ◌++◌, refl, sym, ◌∙◌, ap, inl, inr, take, length, Some, None, min, if◌then◌else◌}
 use Rattle.std.proofs.lemmas.Bool.Decides.{eqb_tells}
 use Rattle.raft_model.specs.Lists.{at, at_here}
-use Rattle.can_frame.specs.declared.entry.Entry.{Entry}
-use Rattle.can_frame.specs.Log.{blank}
 use Rattle.raft_model.specs.Messages.{Request, reach, Answer, Pair, Message}
 use Rattle.raft_model.specs.Server.{Store, Memory, RaftServer, put, memory_when_down, memory_when_opened}
 use Rattle.raft_model.specs.Server.Role.{Follower, Candidate, Leader}

@@ -1,5 +1,5 @@
 -- What lasts from one moment of a run to every later one.
-use Rattle.std.proofs.Common.{◌≡◌, ℕ, suc, ◌+◌, ◌-◌, ◌<◌, ◌≤◌, Bool, true, false, List, [], ◌∷◌, ◌++◌, length, refl, arith, sym, ◌∙◌, ap, subst, inl, inr, take, get_or, length-append, if◌then◌else◌, min}
+use Rattle.std.proofs.Common.{◌≡◌, ℕ, suc, ◌+◌, ◌-◌, ◌<◌, ◌≤◌, Bool, true, List, [], ◌∷◌, ◌++◌, length, refl, arith, sym, ◌∙◌, ap, subst, inl, inr, take, get_or, length-append, if◌then◌else◌, min}
 use Rattle.std.proofs.lemmas.Bool.{le-leb}
 use Rattle.std.proofs.Math.Nat.{min-le_left}
 use Rattle.std.proofs.Math.Seq.{get_or-append_seam}
@@ -13,7 +13,7 @@ use Rattle.raft_model.proofs.Micro.{State, Micro, did, May, MayCommit, run, Lawf
 use Rattle.raft_model.specs.Ledger.{ledger_after}
 use Rattle.raft_model.proofs.Micro.Micro.{Win, Cut, Grow, Advance, Propose, Commit}
 use Rattle.raft_model.proofs.Facts.{Facts, IsSettled, Later}
-use Rattle.raft_model.proofs.Lists.{same_less, same_get, same_append, list_more, longer}
+use Rattle.raft_model.proofs.Lists.{same_less, same_get, list_more, longer}
 use Rattle.raft_model.proofs.Complete.{less_or}
 use Rattle.raft_model.proofs.At.{at_each}
 use Rattle.raft_model.proofs.Votes.{led_more}

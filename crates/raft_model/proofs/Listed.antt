@@ -95,7 +95,7 @@ module _ (list members : List ℕ) (member step : ℕ) where
   same_after : (server : RaftServer) (move : Move) → (counts_votes server move ≡ true → IsAll list members)
       → server_after list member step server move ≡ server_after members member step server move
   same_after server move all = λ i. record {
-    store = put_all server.store (same_puts list members member server move all i);
+    store = put_all server.store (same_puts list members member server move i);
     memory = same_memory list members member step server move all i;
   }
 
@@ -113,7 +113,7 @@ module _ (list members : List ℕ) (member step : ℕ) where
   same_moved local_state move all = λ i. record {
     raft_server = same_after local_state.raft_server move all i;
     history = remembered i;
-    ledger = ledger_through local_state.ledger local_state.raft_server.store (same_puts list members member local_state.raft_server move all i);
+    ledger = ledger_through local_state.ledger local_state.raft_server.store (same_puts list members member local_state.raft_server move i);
     offered = offers member step local_state.raft_server move ++ local_state.offered;
     called = calls move ++ local_state.called;
   }
@@ -124,7 +124,7 @@ module _ (list members : List ℕ) (member step : ℕ) where
           (puts_history member move local_state.raft_server.store (puts members member local_state.raft_server move) local_state.history)
       remembered = same_history local_state.raft_server move (puts_history member move local_state.raft_server.store (puts list member local_state.raft_server move) local_state.history) all
           ∙ ap (λ (xs : List Put). move_history members member local_state.raft_server move
-          (puts_history member move local_state.raft_server.store xs local_state.history)) (same_puts list members member local_state.raft_server move all)
+          (puts_history member move local_state.raft_server.store xs local_state.history)) (same_puts list members member local_state.raft_server move)
 
   -- ---- all of them
 
@@ -140,7 +140,7 @@ module _ (list members : List ℕ) (member step : ℕ) where
   all_puts server [] knows = refl
   all_puts server (move ∷ moves) knows =
       ap (λ (xs : List Put). xs ++ puts_of_all list member step (server_after list member step server move) moves)
-      (same_puts list members member server move (counted_over_all server move moves knows))
+      (same_puts list members member server move)
       ∙ ap (λ (xs : List Put). puts members member server move ++ xs)
       (all_puts (server_after list member step server move) moves (knows_later server move moves knows)
       ∙ ap (λ (p : RaftServer). puts_of_all members member step p moves) (same_after server move (counted_over_all server move moves knows)))

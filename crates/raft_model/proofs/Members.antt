@@ -59,9 +59,9 @@ pub same_quorum : (list members : List ℕ) (votes : ℕ → Bool) → IsAll lis
 same_quorum list members votes h = ap (λ (n : ℕ). nat_le (n / 2 + 1) (how_many votes list)) h.as_many
     ∙ ap (λ (n : ℕ). nat_le (quorum members) n) (same_count list members votes h)
 
-pub same_puts : (list members : List ℕ) (member : ℕ) (server : RaftServer) (move : Move) → (counts_votes server move ≡ true → IsAll list members)
+pub same_puts : (list members : List ℕ) (member : ℕ) (server : RaftServer) (move : Move)
     → puts list member server move ≡ puts members member server move
-same_puts list members member server _ h = refl
+same_puts list members member server _ = refl
 
 pub same_memory : (list members : List ℕ) (member step : ℕ) (server : RaftServer) (move : Move)
     → (counts_votes server move ≡ true → IsAll list members)

@@ -3,7 +3,7 @@ use Rattle.std.proofs.Common.{◌≡◌, ◌≢◌, ℕ, zero, suc, ◌≤◌, t
 use Rattle.raft_model.specs.Lists.{In, at_here}
 use Rattle.raft_model.specs.Messages.{Message, Request, reach}
 use Rattle.raft_model.specs.Messages.Message.{Requests}
-use Rattle.raft_model.specs.Server.{Store, RaftServer, Put, put, put_all, committed, memory_when_down}
+use Rattle.raft_model.specs.Server.{Store, RaftServer, Put, put, committed, memory_when_down}
 use Rattle.raft_model.specs.Server.Put.{PutTerm, PutVote, PutEntry, PutLonger, PutShorter, PutCommit}
 use Rattle.raft_model.specs.Ledger.{Ledger, ledger_through}
 use Rattle.raft_model.specs.Moves.{Move, Verdict, IsEnabled, puts, term_puts, with_term, grant_puts, vote_puts, append_puts, advance_puts, cut_puts}

@@ -1,5 +1,5 @@
 -- What is stored stays sound through every micro move.
-use Rattle.std.proofs.Common.{◌≡◌, ◌≢◌, ℕ, ◌-◌, ◌<◌, ◌≤◌, Bool, true, false, List, [], ◌∷◌, ◌++◌, length, refl, arith, sym, ◌∙◌, ap, subst, inl, inr, take, get_or, length-append, length-take, get_or-take, min}
+use Rattle.std.proofs.Common.{◌≡◌, ◌≢◌, ℕ, ◌-◌, ◌<◌, ◌≤◌, List, [], ◌∷◌, ◌++◌, length, refl, arith, sym, ◌∙◌, ap, subst, inl, inr, take, get_or, length-append, length-take, get_or-take, min}
 use Rattle.std.proofs.lemmas.List.{get_or_append_left}
 use Rattle.std.proofs.Math.Seq.{get_or-append_seam}
 use Rattle.std.proofs.Math.Nat.{min-le_right}
@@ -8,9 +8,9 @@ use Rattle.can_frame.specs.Log.{AreDistinct, IsBlank, IsInjective, IsWellFormed,
 use Rattle.raft_model.specs.Log.{IsRising}
 use Rattle.raft_model.specs.Messages.{reach}
 use Rattle.raft_model.specs.Lists.{at}
-use Rattle.raft_model.specs.Server.Role.{Follower, Candidate, Leader}
+use Rattle.raft_model.specs.Server.Role.{Follower, Leader}
 use Rattle.raft_model.proofs.Micro.{State, Micro, did, May}
-use Rattle.raft_model.proofs.Micro.Micro.{Raise, Win, Cut, Grow, Advance, Propose, Commit}
+use Rattle.raft_model.proofs.Micro.Micro.{Raise, Cut, Grow, Advance, Propose, Commit}
 use Rattle.raft_model.proofs.Facts.{Facts, Stored}
 use Rattle.raft_model.proofs.Lists.{term_at_less}
 use Rattle.raft_model.proofs.At.{at_each}

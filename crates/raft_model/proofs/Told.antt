@@ -1,5 +1,5 @@
 -- Told pairs last through every micro move.
-use Rattle.std.proofs.Common.{◌≡◌, ◌≢◌, ℕ, ◌<◌, Bool, true, false, List, [], ◌∷◌, ◌++◌, refl, arith, sym, ◌∙◌, ap, subst, inl, inr, take, get_or, get_or-take, min}
+use Rattle.std.proofs.Common.{◌≡◌, ◌≢◌, ℕ, ◌<◌, List, [], ◌∷◌, ◌++◌, refl, arith, sym, ◌∙◌, ap, subst, inl, inr, take, get_or, get_or-take, min}
 use Rattle.std.proofs.lemmas.List.{get_or_append_left}
 use Rattle.can_frame.specs.declared.entry.Entry.{Entry}
 use Rattle.can_frame.specs.Log.{blank}
@@ -7,7 +7,7 @@ use Rattle.can_frame.specs.Zeros.{zeros}
 use Rattle.raft_model.specs.Messages.{Pair, reach}
 use Rattle.raft_model.specs.Lists.{at}
 use Rattle.raft_model.proofs.Micro.{State, Micro, did, May, pair_of}
-use Rattle.raft_model.proofs.Micro.Micro.{Win, Cut, Grow, Advance, Propose, Commit, Tell, Again}
+use Rattle.raft_model.proofs.Micro.Micro.{Cut, Grow, Advance, Propose, Commit, Tell, Again}
 use Rattle.raft_model.proofs.Facts.{Facts, Told}
 use Rattle.raft_model.proofs.At.{at_each}
 

@@ -1,5 +1,6 @@
 -- What a server decides, as functions, for handlers to cite. `law_decisions` says that they are what the moves ask for.
-use Rattle.std.specs.Prelude.{ℕ, zero, suc, ◌+◌, Bool, true, List, [], ◌∷◌, ◌++◌, length, ◌==◌, ◌&&◌, ◌||◌, not, if◌then◌else◌, take, Option, Some, None, nat_le, nat_lt}
+use Rattle.std.specs.Prelude.{ℕ, zero, suc, ◌+◌, Bool, true, List, [], ◌∷◌, ◌++◌, length, ◌==◌, ◌&&◌, ◌||◌, not}
+use Rattle.std.specs.Prelude.{if◌then◌else◌, take, Option, Some, None, nat_le, nat_lt}
 use Rattle.std.specs.Str.{bytes_eq}
 use Rattle.can_frame.specs.declared.entry.Entry.{Entry}
 use Rattle.can_frame.specs.Log.{last_term, log_limit}

@@ -1,5 +1,6 @@
 -- What a server owes that finishes its step: the phases of a step as moves, and what they leave.
-use Rattle.std.specs.Prelude.{◌≡◌, ◌≢◌, ℕ, ◌+◌, ◌<◌, ◌≤◌, ◌&&◌, Bool, true, false, not, List, [], ◌∷◌, ◌++◌, ◌⊎◌, if◌then◌else◌, Option, Some, None, length, nat_lt}
+use Rattle.std.specs.Prelude.{◌≡◌, ◌≢◌, ℕ, ◌+◌, ◌<◌, ◌≤◌, ◌&&◌, Bool, true, false, not, List, [], ◌∷◌, ◌++◌, ◌⊎◌}
+use Rattle.std.specs.Prelude.{if◌then◌else◌, Option, Some, None, length, nat_lt}
 use Rattle.std.specs.Str.{bytes_eq}
 use Rattle.can_frame.specs.declared.entry.Entry.{Entry}
 use Rattle.can_frame.specs.Log.{blank, last_term, log_limit}
@@ -54,9 +55,9 @@ pub record TickDuty (before after : RaftServer) : Type 0 where
   pub stands : after.memory.role ≢ Follower
   pub next : after.store.term ≡ before.store.term + 1
 
--- a Leader's log has a blank of its term behind it where something is not committed and there is room for it; besides
--- nothing changes
-pub record BlankDuty (before after : RaftServer) : Type 0 where
+-- behind a Leader's log comes a blank of its term where something is not committed and there is room for it; nothing
+-- else changes, and nothing is offered
+pub record BlankDuty (before after : RaftServer) (offered : List Message) : Type 0 where
   pub adds : before.memory.role ≡ Leader → before.store.commit < length before.store.log
       → length before.store.log < log_limit
       → after ≡ record before {
@@ -65,6 +66,7 @@ pub record BlankDuty (before after : RaftServer) : Type 0 where
   pub committed : length before.store.log ≤ before.store.commit → after ≡ before
   pub full : log_limit ≤ length before.store.log → after ≡ before
   pub other : before.memory.role ≢ Leader → after ≡ before
+  pub silent : offered ≡ []
 
 -- commit is the greatest index above the former one that can be committed; where there is none it is unchanged
 pub record CommitDuty (members : List ℕ) (member : ℕ) (before after : RaftServer) : Type 0 where

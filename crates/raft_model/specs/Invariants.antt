@@ -1,5 +1,6 @@
 -- What holds after every event of a run, and after every prefix of a step's puts.
-use Rattle.std.specs.Prelude.{◌≡◌, ◌≢◌, ℕ, ◌+◌, ◌<◌, ◌≤◌, Bool, true, false, List, ◌++◌, length, ◌==◌, ◌&&◌, if◌then◌else◌, ◌⊎◌, take, slice_index_or, Some, nat_le, not}
+use Rattle.std.specs.Prelude.{◌≡◌, ◌≢◌, ℕ, ◌+◌, ◌<◌, ◌≤◌, Bool, true, false, List, ◌++◌, length, ◌==◌, ◌&&◌}
+use Rattle.std.specs.Prelude.{if◌then◌else◌, ◌⊎◌, take, slice_index_or, Some, nat_le, not}
 use Rattle.raft_model.specs.Lists.{In, any, how_many}
 use Rattle.can_frame.specs.declared.entry.Entry.{Entry}
 use Rattle.can_frame.specs.Log.{IsInjective, IsPrefix, IsWellFormed, blank, last_term, log_limit}

@@ -1,5 +1,6 @@
 -- One plain server: what it has stored, what it has in memory, and the puts that change what is stored.
-use Rattle.std.specs.Prelude.{◌≡◌, ⊤, ℕ, ◌/◌, ◌+◌, Bool, false, true, List, [], ◌∷◌, ◌++◌, length, take, Option, None, Some}
+use Rattle.std.specs.Prelude.{◌≡◌, ⊤, ℕ, ◌/◌, ◌+◌, Bool, false, true, List, [], ◌∷◌, ◌++◌, length, take, Option, None}
+use Rattle.std.specs.Prelude.{Some}
 use Rattle.can_frame.specs.declared.entry.Entry.{Entry}
 use Rattle.raft_model.specs.Messages.{Request}
 

@@ -3,28 +3,37 @@
 //! A run is any list of events that may come, from empty stores on: openings, whole steps, and stops between
 //! any two puts of a step. A law of every run holds after each event of it, stops included.
 
-ghost use Rattle.std.specs.Prelude.{ℕ, Bool, true, false, List, [], ◌++◌, ◌∷◌, ◌≡◌, ◌≢◌, ◌↔◌, ◌<◌, ◌≤◌, length, take, get_or, Some, None};
+ghost use Rattle.std.specs.Prelude.{ℕ, Bool, true, false, List, [], ◌++◌, ◌∷◌, ◌≡◌, ◌≢◌, ◌↔◌, ◌<◌, ◌≤◌, length, take};
+ghost use Rattle.std.specs.Prelude.{get_or, Some, None};
 ghost use Rattle.can_frame.specs.declared.entry.Entry.{Entry};
 ghost use Rattle.can_frame.specs.Log.{IsInjective, blank, last_term, log_limit};
 ghost use Rattle.can_frame.specs.Zeros.{zeros};
 ghost use Rattle.raft_model.specs.Lists.{In, how_many};
+ghost use Rattle.raft_model.specs.Log.{IsRising};
 ghost use Rattle.raft_model.specs.Messages.{Answer, Message, Pair, Request};
 ghost use Rattle.raft_model.specs.Messages.Message.{Answers, Pairs, Requests};
 ghost use Rattle.raft_model.specs.Server.{AreWritten, RaftServer, Store, memory_when_opened, put_all, quorum};
 ghost use Rattle.raft_model.specs.Server.Role.{Candidate, Follower, Leader};
-ghost use Rattle.raft_model.specs.Moves.{CanCommit, IsEnabled, IsCommitIndex, IsGranted, IsJudged, MayCall, MayPropose, Move, Verdict, has_matched, memory_after, puts, term_limit, with_term};
-ghost use Rattle.raft_model.specs.Moves.Move.{AnswerAgain, CallForVote, CallToAppend, CommitTo, GiveUp, ProposeEntry, TakeAppendAnswer, TakeAppendRequest, TakeVoteAnswer, TakeVoteRequest, TellNothing, TellPair, TimeOut};
+ghost use Rattle.raft_model.specs.Moves.{CanCommit, IsEnabled, IsCommitIndex, IsGranted, IsJudged, MayCall, MayPropose};
+ghost use Rattle.raft_model.specs.Moves.{Move, Verdict, has_matched, memory_after, puts, term_limit, with_term};
+ghost use Rattle.raft_model.specs.Moves.Move.{AnswerAgain, CallForVote, CallToAppend, CommitTo, GiveUp, ProposeEntry};
+ghost use Rattle.raft_model.specs.Moves.Move.{TakeAppendAnswer, TakeAppendRequest, TakeVoteAnswer, TakeVoteRequest};
+ghost use Rattle.raft_model.specs.Moves.Move.{TellNothing, TellPair, TimeOut};
 ghost use Rattle.raft_model.specs.Decisions.{commit_index, grants, verdict_on, may_propose};
 ghost use Rattle.raft_model.specs.Members.{IsAll, KnowsEnough, counts_votes};
-ghost use Rattle.raft_model.specs.Handlers.{IsBreak, IsCut, calls_of_all, offers_of_all, server_after, server_after_all, puts_of_all};
+ghost use Rattle.raft_model.specs.Handlers.{IsBreak, IsCut, calls_of_all, offers_of_all, server_after};
+ghost use Rattle.raft_model.specs.Handlers.{server_after_all, puts_of_all};
 ghost use Rattle.raft_model.specs.Fit.{IsFit};
 ghost use Rattle.raft_model.specs.Duty.{BlankDuty, CommitDuty, TellDuty, TickDuty, WinDuty};
 ghost use Rattle.raft_model.specs.Duty.{blank_moves, commit_phase, is_heard, tell_phase, tick_phase};
 ghost use Rattle.raft_model.specs.Stops.{AllEnabled, LocalState, state_after_moves};
-ghost use Rattle.raft_model.specs.Runs.{Event, FromEachMoment, InEveryRun, Lawful, MayOccur, World, after, initial_world, run, local_state_after};
+ghost use Rattle.raft_model.specs.Runs.{Event, FromEachMoment, InEveryRun, Lawful, MayOccur, World, after};
+ghost use Rattle.raft_model.specs.Runs.{initial_world, run, local_state_after};
 ghost use Rattle.raft_model.specs.Runs.Event.{Steps, Stops, StopsWithin};
 ghost use Rattle.raft_model.specs.Rows.{IsAtWork, IsReady, MayTake};
-ghost use Rattle.raft_model.specs.Invariants.{AcknowledgedKept, AcknowledgedVoted, CallsSound, CommitsSettled, Invariants, LeadersComplete, LeadersElected, LogsMatch, StaysSettled, StoresSound, VotesBound};
+ghost use Rattle.raft_model.specs.Invariants.{AcknowledgedKept, AcknowledgedVoted, CallsSound, CommitsSettled};
+ghost use Rattle.raft_model.specs.Invariants.{Invariants, LeadersComplete, LeadersElected, LogsMatch, StaysSettled};
+ghost use Rattle.raft_model.specs.Invariants.{StoresSound, VotesBound};
 ghost use Rattle.raft_model.specs.Safety.{IsGivenOnce, IsSafe, Lasts};
 
 use can_frame::laws::node_ids_are_given_once;
@@ -236,7 +245,8 @@ pub fn law_decisions()
 {}
 
 /// A server that knows all members counts over its own list what the machine counts over all of them, and a
-/// move that may come by this list may come. A move that counts no votes needs no list, nor does a Follower.
+/// move that may come by this list may come. A move that counts no votes needs no list, nor does a Follower,
+/// and no move needs one for its puts.
 /// So the moves of a step told over its own list are those over all members: the same server after them, the
 /// same puts, messages and memory of the model, and they may come. A Follower that does not stand for election
 /// needs no list of all for it.
@@ -244,7 +254,6 @@ pub fn law_members()
     ensures count { (list members : List ℕ) (test : ℕ → Bool) → IsAll list members
         → how_many test list ≡ how_many test members }
     ensures puts { (list members : List ℕ) (member : ℕ) (server : RaftServer) (move : Move)
-        → (counts_votes server move ≡ true → IsAll list members)
         → puts list member server move ≡ puts members member server move }
     ensures memory { (list members : List ℕ) (member step : ℕ) (server : RaftServer) (move : Move)
         → (counts_votes server move ≡ true → IsAll list members)
@@ -297,7 +306,9 @@ pub fn law_fit()
 /// The phases of a finished step may come at any server, and do what is owed: a server that has waited
 /// stands for the next term, a leader's commit is the greatest, a committed pair is told where there is
 /// room, a full log takes no proposal, and a Candidate that counts a quorum leads: after each move, and in
-/// every run.
+/// every run. A blank is proposed like any entry, at a log that is injective: by a Leader, where something is
+/// not committed and there is room. A Leader is heard where a quorum has matched its whole log and the last
+/// entry is of an earlier term: then it can commit nothing before it adds an entry of its own term.
 pub fn law_duty()
     ensures tick_comes { (members : List ℕ) (member step : ℕ) (bag : List Message) (waited : Bool)
         (local_state : LocalState)
@@ -309,10 +320,14 @@ pub fn law_duty()
         → IsInjective local_state.raft_server.store.log
         → AllEnabled members member step bag local_state (blank_moves local_state.raft_server) }
     ensures blank { (members : List ℕ) (member step : ℕ) (server : RaftServer)
-        → BlankDuty server (server_after_all members member step server (blank_moves server)) }
+        → BlankDuty server (server_after_all members member step server (blank_moves server))
+        (offers_of_all members member step server (blank_moves server)) }
     ensures heard { (members : List ℕ) (member : ℕ) (server : RaftServer)
         → (is_heard members member server ≡ true) ↔ ((last_term server.store.log < server.store.term)
         × (quorum members ≤ how_many (has_matched member server (length server.store.log)) members)) }
+    ensures heard_waits { (members : List ℕ) (member : ℕ) (server : RaftServer) (index : ℕ)
+        → IsRising server.store.log server.store.term → is_heard members member server ≡ true
+        → CanCommit members member server index → ⊥ }
     ensures commit_comes { (members : List ℕ) (member step : ℕ) (bag : List Message) (local_state : LocalState)
         → AllEnabled members member step bag local_state (commit_phase members member local_state.raft_server) }
     ensures commit { (members : List ℕ) (member step : ℕ) (server : RaftServer)

@@ -2,8 +2,8 @@
 //!
 //! The members take moves and exchange messages that may be lost, repeated or late; a member may stop
 //! anywhere, also between two of its puts. The moves are those of the Raft paper (Ongaro and Ousterhout,
-//! "In Search of an Understandable Consensus Algorithm", figure 2), with one entry a request, the blank entry
-//! of a new leader, the limits and the stored commit index of our profile.
+//! "In Search of an Understandable Consensus Algorithm", figure 2), with one entry a request, the blank that a
+//! leader proposes, the limits and the stored commit index of our profile.
 //!
 //! What a reader must believe, in this order: `specs/Log`, `Messages`, `Server` (a plain server and its puts),
 //! `History` and `Ledger` (what the model alone remembers), `Moves` (the table, row by row, over

@@ -1,5 +1,6 @@
 -- What the moves of an election change: a higher term, standing and winning, votes.
-use Rattle.std.specs.Prelude.{◌≡◌, ℕ, ◌+◌, Bool, true, false, List, [], ◌∷◌, length, ◌==◌, ◌&&◌, ◌⊎◌, Option, Some, None, nat_le, nat_lt, if◌then◌else◌}
+use Rattle.std.specs.Prelude.{◌≡◌, ℕ, ◌+◌, Bool, true, false, List, [], ◌∷◌, length, ◌==◌, ◌&&◌, ◌⊎◌, Option, Some}
+use Rattle.std.specs.Prelude.{None, nat_le, nat_lt, if◌then◌else◌}
 use Rattle.raft_model.specs.Lists.{at, how_many}
 use Rattle.can_frame.specs.Log.{last_term}
 use Rattle.raft_model.specs.Log.{NotAbove}
