@@ -48,12 +48,9 @@ pub tick_comes : (members : List ℕ) (member step : ℕ) (bag : List Message) (
     → AllEnabled members member step bag local_state (tick_phase waited local_state.raft_server)
 tick_comes members member step bag false local_state = tt
 tick_comes members member step bag true local_state = elim (tell (not (is_leader local_state.raft_server.memory.role) && nat_lt local_state.raft_server.store.term term_limit)) [
-  | inl h ↦ rw (h) ((no_leader local_state.raft_server.memory.role (and_left _ _ h), low (and_right _ _ h)), tt)
+  | inl h ↦ rw (h) ((no_leader local_state.raft_server.memory.role (and_left _ _ h), below _ _ (and_right _ _ h)), tt)
   | inr h ↦ rw (h) tt
 ]
-  where
-    low : nat_lt local_state.raft_server.store.term term_limit ≡ true → local_state.raft_server.store.term < term_limit
-    low = below local_state.raft_server.store.term term_limit
 
 time_out : (members : List ℕ) (member step : ℕ) (server : RaftServer) → TickDuty server (server_after members member step server TimeOut)
 time_out members member step server = elim (tell (has_quorum members (own_vote member)))
