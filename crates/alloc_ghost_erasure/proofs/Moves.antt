@@ -155,9 +155,6 @@ origin_same given (GiveUp peer) = refl
 
 -- ---- a move, and all moves, of servers that differ in their calls' numbers alone
 
-raft_server_of : Store → Memory → RaftServer
-raft_server_of store memory = record { store = store; memory = memory }
-
 after_same : (members : List ℕ) (me s r : ℕ) (p : RaftServer) (move : Move)
     → unmarked_raft_server (server_after members me s p move) ≡ unmarked_raft_server (server_after members me r (unmarked_raft_server p) (unnumbered_move move))
 after_same members me s r p move = λ i. record { store = put_all p.store (puts_same members me p move i); memory = memory_same members me s r p move i }

@@ -39,9 +39,6 @@ use Rattle.alloc_ghost_erasure.proofs.Twice.{twice, twice_server}
 
 -- ---- the beginning: calls are given up
 
-expire_same : (nodes : List ℕ) → SameMoves (moves_of_expire nodes) (moves_of_expire nodes)
-expire_same nodes = refl
-
 gives_up_same : (s r : ℕ) (g : StepState) → Same (expiry_phase s g) (expiry_phase r (unmarked_step_state g))
 gives_up_same s r g =
     takes_same s r (given_at g.allocator.now) (moves_of_expire (overdue g.allocator.times g.allocator.now all_nodes)) (moves_of_expire (overdue g.allocator.times g.allocator.now all_nodes)) g (unmarked_step_state g) refl (itself g)

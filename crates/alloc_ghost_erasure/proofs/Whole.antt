@@ -28,11 +28,6 @@ answer_same s r (Gives d) g = delivers_same s r d g
 answer_same s r Continues g = λ i. record { seen = Part; step_state = itself g i }
 answer_same s r (Drops why) g = λ i. record { seen = Dropped why; step_state = itself g i }
 
-twice_answer : (a : Answer) → unmarked_answer (unmarked_answer a) ≡ unmarked_answer a
-twice_answer (Gives d) = refl
-twice_answer Continues = refl
-twice_answer (Drops why) = refl
-
 answers_alike : (s r : ℕ) (a b : Answer) (g h : StepState) → unmarked_answer a ≡ unmarked_answer b → Same g h → SameSight (with_answer s a g) (with_answer r b h)
 answers_alike s r a b g h e f =
     answer_same s 0 a g ∙ (λ i. unmarked_step_result (with_answer 0 (e i) (f i))) ∙ sym (answer_same r 0 b h)
@@ -77,10 +72,6 @@ module _ (answers : (setting : Setting) (a b : List Session) (x y : Arrival) →
 
       event_again : (h : StepState) → SameSight (event_phase r (unmarked_event event) h) (event_phase 0 (unmarked_event event) (unmarked_step_state h))
       event_again h = event_same r 0 (unmarked_event event) h ∙ ap (λ (e : Event). unmarked_step_result (event_phase 0 e (unmarked_step_state h))) (twice_event event)
-
-  twice_events : (e : Event) → unmarked_event (unmarked_event e) ≡ unmarked_event e
-  twice_events (Tick now word) = refl
-  twice_events (Rx arrival) = refl
 
   pub steps_same : (t u : AllocatorState) (m n : ℕ) (e f : Event) → unmarked_server t ≡ unmarked_server u → unmarked_event e ≡ unmarked_event f
       → unmarked_step_result (step t m e) ≡ unmarked_step_result (step u n f)

@@ -19,12 +19,5 @@ read node uid short =
     ap (λ (b : Bool). pair_of_allocation (cond b (Some (record { node = (node * 2 + 0) / 2; first_part = nat_eq ((node * 2 + 0) % 2) 1; uid = record { items = uid } })) None)) (at_most (length uid) short)
     ∙ ap (λ (n : ℕ). given_as n uid) (half node)
 
-both_hold : (node size : ℕ) → 1 ≤ node → size ≡ 16 → (nat_le 1 node && nat_eq size 16) ≡ true
-both_hold node size least whole = grind (arith, nat_tests)
-
 pub nobody_is_given : (bytes : List ℕ) → length bytes ≤ 16 → pair_in Alloc (allocation_payload 0 bytes) ≡ None
 nobody_is_given bytes short = read 0 bytes short
-
-pub pair_is_given : (node : ℕ) (uid : List ℕ) → 1 ≤ node → length uid ≡ 16 → pair_in Alloc (allocation_payload node uid) ≡ Some ((uid, node))
-pair_is_given node uid least whole =
-    read node uid (omega arith) ∙ ap (λ (b : Bool). if b then Some ((uid, node)) else None) (both_hold node (length uid) least whole)

@@ -24,10 +24,6 @@ pub not_true : (b : Bool) → not b ≡ true → b ≡ false
 not_true true h = absurd (cc)
 not_true false h = refl
 
-pub or_left : (a b : Bool) → (if a then true else b) ≡ false → a ≡ false
-or_left true b h = h
-or_left false b h = refl
-
 pub lt_tells : (a b : ℕ) → ((nat_lt a b ≡ true) × (a < b)) ⊎ ((nat_lt a b ≡ false) × (b ≤ a))
 lt_tells a b = grind (arith, leb_tells)
 

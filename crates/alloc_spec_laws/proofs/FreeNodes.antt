@@ -84,10 +84,6 @@ or_true : (a b : Bool) → (a || b) ≡ true → (a ≡ true) ⊎ (b ≡ true)
 or_true true b e = inl refl
 or_true false b e = inr e
 
-and_none : (a b : Bool) → (a && b) ≡ false → a ≡ true → b ≡ false
-and_none true b e is = e
-and_none false b e is = absurd (cc (is))
-
 is_not : (b : Bool) → not b ≡ false → b ≡ true
 is_not true e = refl
 is_not false e = absurd (cc (e))

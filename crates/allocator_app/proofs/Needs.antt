@@ -7,11 +7,6 @@ use Rattle.allocator_app.specs.declared.plans.Plan.TheVariants.{Replay, Node, So
 use Rattle.allocator_app.specs.Words.{AreGiven, AreNone, AreStored, HasObjects, IsPlan, UsesDisks, UsesLinks}
 use Rattle.allocator_app.proofs.OnePlan.{only}
 
--- all plans of some words need the same objects
-pub same_objects : {L D : Type 0} (p q : Plan) (words : List (List ℕ)) (links : List L) (disks : List (Option D)) → IsPlan p words → IsPlan q words
-    → HasObjects q links disks → HasObjects p links disks
-same_objects p q words links disks a b h = subst (λ plan. HasObjects plan links disks) (sym (only p words a q b)) h
-
 some_given : {L D : Type 0} (ids : List ℕ) (links : List L) (disks : List (Option D)) → 1 ≤ length ids → AreGiven ids links disks → AreNone links disks → ⊥
 some_given ids links disks some given none =
     let count = given.links_count in let empty : length links ≡ 0 = ap length none.no_links in omega (arith, some, count, empty)

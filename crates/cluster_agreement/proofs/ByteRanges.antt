@@ -66,10 +66,6 @@ module _ (ids : List ℕ) where
   either true xs ys a b = a
   either false xs ys a b = b
 
-  either_when : (b : Bool) (xs ys : List Put) → (b ≡ true → ArePutsWritable xs) → ArePutsWritable ys → ArePutsWritable (if b then xs else ys)
-  either_when true xs ys a b = a refl
-  either_when false xs ys a b = b
-
   -- ---- entries
 
   -- a blank is of node 0

@@ -127,17 +127,6 @@ dest_of me n what to (inr broadcast) at e = subst (λ (k : Kind). IsDestination 
 
 -- ---- keys
 
-pub not_anonymous : (what : What) → is_anonymous (kind_of what) ≡ false
-not_anonymous Alloc = refl
-not_anonymous Disc = refl
-not_anonymous Stat = refl
-not_anonymous InfoQ = refl
-not_anonymous Info = refl
-not_anonymous VoteQ = refl
-not_anonymous Vote = refl
-not_anonymous AppQ = refl
-not_anonymous App = refl
-
 kinds : (a b : Kind) → same_kind a b ≡ true → a ≡ b
 kinds Message Message e = refl
 kinds Anonymous Anonymous e = refl

@@ -15,10 +15,6 @@ prefix_take a b k e h = sym (take-take k (length a) b h) ∙ ap (take k) e
 pub prefix_get : (a b : List Entry) (i : ℕ) → IsPrefix a b → i < length a → slice_index_or b i (blank 0) ≡ slice_index_or a i (blank 0)
 prefix_get a b i e h = sym (get_or-take (length a) b i (blank 0) h) ∙ ap (λ (l : List Entry). slice_index_or l i (blank 0)) e
 
-pub prefix_entry : (a b : List Entry) (k : ℕ) → IsPrefix a b → k ≤ length a → entry_at b k ≡ entry_at a k
-prefix_entry a b zero e h = refl
-prefix_entry a b (suc i) e h = prefix_get a b i e (omega (arith, h))
-
 pub prefix_joined : (a b c : List Entry) → IsPrefix a b → IsPrefix b c → IsPrefix a c
 prefix_joined a b c e f = prefix_take b c (length a) f (prefix_length a b e) ∙ e
 

@@ -161,9 +161,6 @@ module _ (laws : FrameLaws) (ids : List ℕ) (made : List SentTransfer) (are : A
   last_step : last.mark.step ≡ (get 0).mark.step
   last_step = ap (λ (a : Arrival). a.mark.step) (sym last_is) ∙ (mark_at (length front) (omega (arith, count))).0
 
-  last_place : last.mark.place ≡ length front
-  last_place = ap (λ (a : Arrival). a.mark.place) (sym last_is) ∙ (mark_at (length front) (omega (arith, count))).1
-
   -- a piece that came is one of its transfer
   piece_is : (arrival : Arrival) (is : IsFrom made me key arrival) → piece_in arrival ≡ slice_index_or (theirs is.whose) arrival.mark.place no_piece
   piece_is arrival is = piece_read laws is.whose arrival is.piece (are.ranges is.whose is.was_made).id

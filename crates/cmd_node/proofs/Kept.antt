@@ -13,9 +13,6 @@ module _ {A B : Type 0} (f : A → B) (n : ℕ) (items : List A) (all : List B) 
   before : ℕ
   before = length all - n
 
-  gone : ℕ
-  gone = length (items ++ x ∷ []) - n
-
   count : length items ≡ length all - (length all - n)
   count = sym (length-map items f) ∙ ap length kept ∙ length-drop (length all - n) all
 

@@ -35,10 +35,6 @@ module _ {T E : Type 0} where
   on_err (Ok value) goes holds = tt
   on_err (Err error) goes holds = goes holds
 
-  pub at_ok : {A : Type 0} (result : Result T E) (value : T) → OnOk result A → result ≡ Ok value → A
-  at_ok (Ok other) value holds is = holds
-  at_ok (Err error) value holds is = absurd (cc (is))
-
 -- ---- numbers of a list
 
 pub in_at : (ids : List ℕ) (i : ℕ) → i < length ids → In (slice_index_or ids i 0) ids

@@ -35,9 +35,6 @@ skip : {A : Type 0} (b c : Bool) (x y z : A) → (b ≡ false → c ≡ false) �
 skip true c x y z h = refl
 skip false c x y z h = rw (h refl) refl
 
-pick : {A : Type 0} (b c : Bool) (x y z : A) → b ≡ false → c ≡ true → y ≡ (if b then x else (if c then y else z))
-pick b c x y z low so = rw (low, so) refl
-
 and_false : (c q : Bool) → c ≡ false → (c && q) ≡ false
 and_false c q e = rw e refl
 

@@ -34,9 +34,6 @@ pub allowed : (s : Store) (r : Request) (granted : Bool) → IsGranted s r grant
 allowed s r true h may = refl
 allowed s r false h may = absurd (h may)
 
-pub first_vote : (vote node : ℕ) → vote ≡ 0 → vote_puts (vote_of vote) node ≡ PutVote (Some node) ∷ []
-first_vote vote node none = subst (λ n. vote_puts (vote_of n) node ≡ PutVote (Some node) ∷ []) (sym none) refl
-
 pub no_vote : (vote node : ℕ) → vote ≢ 0 → vote_puts (vote_of vote) node ≡ []
 no_vote zero node some = absurd (some refl)
 no_vote (suc vote) node some = refl
