@@ -116,13 +116,6 @@ module _ (p M : ℕ) where
     abbrev After : Given → Move → Type 0
     After given move = Open b (memory_after members me number server move) (times_after members me given server move times) now
 
-    -- the wait begins anew where another role becomes follower
-    down_since : (role : Role) → server.memory.role ≡ role → (floor b ≤ (step_down now role times).since) × ((step_down now role times).since ≤ now)
-        × ((step_down now role times).sending ≡ times.sending)
-    down_since Follower e = (o.follower e, o.since, refl)
-    down_since Candidate e = (o.low, omega arith, refl)
-    down_since Leader e = (o.low, omega arith, refl)
-
     -- a call that ended
     ended : (q : ℕ) (same : Bool) → (p == q) ≡ same
         → ((if same then None else server.memory.pending p) ≡ server.memory.pending p) × ((if same then None else times.sending p) ≡ times.sending p)

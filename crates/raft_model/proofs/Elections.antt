@@ -111,9 +111,6 @@ vote_request_lawful members m n f r true up c h = by_vote (term_focus f r.term).
     mv : Move
     mv = TakeVoteRequest r true
 
-    f1 : Focus
-    f1 = term_focus f r.term
-
     may : MayHere members m (term_focus f r.term) (Grant m n r)
     may = record {
       up = term_up f.raft_server r.term ∙ up;
