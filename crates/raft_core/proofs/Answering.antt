@@ -1,35 +1,29 @@
 -- An answer of a peer: the call ends, a higher term counts, and else what the answer says.
-use Rattle.std.proofs.Common.{◌≡◌, ℕ, None, Bool, true, false, List, [], ◌∷◌, ◌++◌, refl, sym, subst, ◌∙◌}
-use Rattle.std.specs.Result.{result_err}
-use Rattle.std.specs.Prelude.{Some, Result, Err, if◌then◌else◌, ◌&&◌, ◌==◌, nat_lt}
+use Rattle.std.proofs.Common.{◌≡◌, ℕ, None, Bool, true, false, List, [], ◌∷◌, refl, sym, subst, ◌∙◌}
+use Rattle.std.specs.Prelude.{if◌then◌else◌, ◌&&◌, ◌==◌, nat_lt}
 use Rattle.disk_model.specs.declared.disk.Disk.{Ghosts}
-use Rattle.kv_store.specs.declared.fault.Fault.{Fault}
 use Rattle.can_frame.specs.declared.step.Role.{Role}
 use Rattle.can_frame.specs.declared.step.Role.TheVariants.{Follower, Candidate, Leader}
-use Rattle.raft_log.specs.declared.origin.TheConstants.{LEADER, WIN}
+use Rattle.raft_log.specs.declared.origin.TheConstants.{LEADER}
 use Rattle.raft_log.specs.declared.durable.Durable.{Durable}
 use Rattle.raft_log.specs.DurableViews.{durable_state}
 use Rattle.raft_log.specs.Stored.{Stored}
 use Rattle.raft_model.specs.Messages.{Answer}
-use Rattle.raft_model.specs.Moves.{memory_after, puts}
+use Rattle.raft_model.specs.Moves.{memory_after}
 use Rattle.raft_model.specs.Moves.Appending.{matched_memory}
-use Rattle.raft_model.specs.Moves.Elections.{votes_with, counts, memory_without_call, has_quorum, is_leader, term_memory, term_puts, win_memory, win_puts, with_term}
+use Rattle.raft_model.specs.Moves.Elections.{votes_with, counts, memory_without_call, has_quorum, is_leader, term_memory, term_puts, with_term}
 use Rattle.raft_model.specs.Moves.Move.{TakeAppendAnswer, TakeVoteAnswer}
-use Rattle.raft_model.specs.Server.{Memory, RaftServer, Put, Store, put_all, Role as MachineRole}
+use Rattle.raft_model.specs.Server.{Memory, RaftServer, put_all, Role as MachineRole}
 use Rattle.raft_model.specs.Server.Put.{PutTerm, PutVote}
 use Rattle.raft_core.specs.declared.raft.Raft.{Raft}
 use Rattle.raft_core.specs.Handled.{MakesMoves}
 use Rattle.raft_core.specs.Stands.{StandsFor, role_of}
 use Rattle.raft_core.specs.StoredPuts.{CallWrites, with_origin}
 use Rattle.raft_core.specs.Times.{Given, Times, end_call, end_vote_call, raise, step_down, win}
-use Rattle.raft_core.proofs.Moving.{one_move, one_move_failed}
-use Rattle.raft_core.proofs.VoteAnswer.{CountsVotes, votes_puts}
+use Rattle.raft_core.proofs.Moving.{one_move}
+use Rattle.raft_core.proofs.VoteAnswer.{CountsVotes}
 
 -- ---- choices
-
-twice : {A : Type 0} (b : Bool) (x z : A) → (if b then x else z) ≡ (if b then (if b then x else z) else z)
-twice true x z = refl
-twice false x z = refl
 
 skip : {A : Type 0} (b c : Bool) (x y z : A) → (b ≡ false → c ≡ false) → (if b then x else z) ≡ (if b then x else (if c then y else z))
 skip true c x y z h = refl
@@ -78,30 +72,19 @@ module _ {D : Type 0} {disk : Ghosts D} (members : List ℕ) (m n : ℕ) (given 
   Raised t1 = StandsFor raft2 members (durable_state new) (record { store = with_term p.store a.term; memory = term_memory (record p { memory = memory_without_call p.memory a.from }) a.term }) (raise given.now a.term (record p { memory = memory_without_call p.memory a.from }) t1)
 
   -- a vote that does not count
-  pub no_vote_counted : (nat_lt p.store.term a.term ≡ false → counts p a ≡ false) → CallWrites (with_origin WIN (term_puts p.store a.term)) old new None → Raised (end_vote_call a.from t)
+  pub no_vote_counted : (nat_lt p.store.term a.term ≡ false → counts p a ≡ false) → CallWrites (with_origin LEADER (term_puts p.store a.term)) old new None → Raised (end_vote_call a.from t)
       → MakesMoves members m n given (TakeVoteAnswer a ∷ []) p t old new raft2 None
-  no_vote_counted none made after = one_move members m n given (TakeVoteAnswer a) p t old new raft2
-      (subst (λ (l : List Put). CallWrites (with_origin WIN l) old new None) same_puts made)
-      (subst (λ (x : Times). StandsFor raft2 members (durable_state new) (record { store = put_all p.store (puts members m p (TakeVoteAnswer a)); memory = memory_after members m n p (TakeVoteAnswer a) }) x)
+  no_vote_counted none made after = one_move members m n given (TakeVoteAnswer a) p t old new raft2 made
+      (subst (λ (x : Times). StandsFor raft2 members (durable_state new) (record { store = with_term p.store a.term; memory = memory_after members m n p (TakeVoteAnswer a) }) x)
       (skip higher (counts p a && has_quorum members (votes_with p.memory a)) (step_down given.now p.memory.role (end_vote_call a.from t)) (win (end_vote_call a.from t)) (end_vote_call a.from t) (λ low. and_false (counts p a) _ (none low)))
-      (subst (λ (x : Memory). StandsFor raft2 members (durable_state new) (record { store = put_all p.store (puts members m p (TakeVoteAnswer a)); memory = x }) (raise given.now a.term p1 (end_vote_call a.from t)))
-      (skip higher (counts p a) (record (memory_without_call p.memory a.from) { role = MachineRole.Follower }) _ (memory_without_call p.memory a.from) none)
-      (subst (λ (l : List Put). StandsFor raft2 members (durable_state new) (record { store = put_all p.store l; memory = term_memory p1 a.term }) (raise given.now a.term p1 (end_vote_call a.from t))) same_puts after)))
-    where
-      same_puts : term_puts p.store a.term ≡ puts members m p (TakeVoteAnswer a)
-      same_puts = twice higher _ [] ∙ skip higher (counts p a) (term_puts p.store a.term) (if has_quorum members (votes_with p.memory a) then win_puts p.store else []) [] none
+      (subst (λ (x : Memory). StandsFor raft2 members (durable_state new) (record { store = with_term p.store a.term; memory = x }) (raise given.now a.term p1 (end_vote_call a.from t)))
+      (skip higher (counts p a) (record (memory_without_call p.memory a.from) { role = MachineRole.Follower }) _ (memory_without_call p.memory a.from) none) after))
 
   -- one that counts
-  pub vote_counted : nat_lt p.store.term a.term ≡ false → counts p a ≡ true → CallWrites (with_origin WIN (votes_puts members p1 t (votes_with p.memory a) old new raft2)) old new None
-      → CountsVotes members p1 (end_vote_call a.from t) (votes_with p.memory a) old new raft2
+  pub vote_counted : nat_lt p.store.term a.term ≡ false → counts p a ≡ true → CallWrites (with_origin LEADER (term_puts p.store a.term)) old new None
+      → CountsVotes members (record p { memory = memory_without_call p.memory a.from }) (end_vote_call a.from t) (votes_with p.memory a) (durable_state new) raft2
       → MakesMoves members m n given (TakeVoteAnswer a ∷ []) p t old new raft2 None
-  vote_counted low so made after = one_move members m n given (TakeVoteAnswer a) p t old new raft2 (rw (low, so) made) (rw (low, so) (by_quorum (has_quorum members (votes_with p.memory a)) after))
-    where
-      by_quorum : (q : Bool)
-          → (StandsFor raft2 members (durable_state new) (if q then record { store = put_all p.store (win_puts p.store); memory = win_memory p.store (record p1.memory { votes = votes_with p.memory a }) } else record p1 { memory = record p1.memory { votes = votes_with p.memory a } }) (if q then win (end_vote_call a.from t) else end_vote_call a.from t))
-          → (StandsFor raft2 members (durable_state new) (record { store = put_all p.store (if q then win_puts p.store else []); memory = if q then win_memory p.store (record p1.memory { votes = votes_with p.memory a }) else record p1.memory { votes = votes_with p.memory a } }) (if q then win (end_vote_call a.from t) else end_vote_call a.from t))
-      by_quorum true h = h
-      by_quorum false h = h
+  vote_counted low so made after = one_move members m n given (TakeVoteAnswer a) p t old new raft2 made (rw (low, so) after)
 
   -- an append answer that does not count
   pub not_matched : (nat_lt p.store.term a.term ≡ false → (is_leader p.memory.role && (a.term == p.store.term)) ≡ false) → CallWrites (with_origin LEADER (term_puts p.store a.term)) old new None → Raised (end_call a.from t)
@@ -115,24 +98,3 @@ module _ {D : Type 0} {disk : Ghosts D} (members : List ℕ) (m n : ℕ) (given 
       → StandsFor raft2 members (durable_state new) (record p { memory = matched_memory p.memory a }) (end_call a.from t)
       → MakesMoves members m n given (TakeAppendAnswer a ∷ []) p t old new raft2 None
   matched low so made after = one_move members m n given (TakeAppendAnswer a) p t old new raft2 made (rw (low, so) after)
-
-  -- the votes were not stored
-  pub count_failed : {T : Type 0} (result : Result T Fault) (fault : Fault) → result ≡ Err fault → nat_lt p.store.term a.term ≡ false → counts p a ≡ true → CallWrites (with_origin WIN (votes_puts members p1 t (votes_with p.memory a) old new raft2)) old new (Some fault)
-      → MakesMoves members m n given (TakeVoteAnswer a ∷ []) p t old new raft2 (result_err result)
-  count_failed result fault failed low so made = one_move_failed members m n given (TakeVoteAnswer a) p t old new raft2 result fault failed (rw (low, so) made)
-
-  -- what is put besides the term
-  abbrev pub rest : List Put
-  rest = if nat_lt p.store.term a.term then [] else (if counts p a then (if has_quorum members (votes_with p.memory a) then win_puts p.store else []) else [])
-
-  -- the term was not stored
-  pub term_failed : {T : Type 0} (result : Result T Fault) (fault : Fault) → result ≡ Err fault → CallWrites (with_origin WIN (term_puts p.store a.term ++ rest)) old new (Some fault) → MakesMoves members m n given (TakeVoteAnswer a ∷ []) p t old new raft2 (result_err result)
-  term_failed result fault failed made = one_move_failed members m n given (TakeVoteAnswer a) p t old new raft2 result fault failed (subst (λ (l : List Put). CallWrites (with_origin WIN l) old new (Some fault)) (joins higher _) made)
-    where
-      joins : (b : Bool) (more : List Put) → (if b then PutTerm a.term ∷ PutVote None ∷ [] else []) ++ (if b then [] else more) ≡ (if b then (if b then PutTerm a.term ∷ PutVote None ∷ [] else []) else more)
-      joins true more = refl
-      joins false more = refl
-
--- the puts of a term that is not higher are none
-pub low_puts : (s : Store) (term : ℕ) (more : List Put) → nat_lt s.term term ≡ false → term_puts s term ++ more ≡ more
-low_puts s term more low = rw low refl

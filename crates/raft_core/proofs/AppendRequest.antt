@@ -66,15 +66,15 @@ module _ {D : Type 0} {disk : Ghosts D} (members : List ℕ) (m n : ℕ) (given 
       puts_now = ap (λ (z : Store). append_puts z r v) (sym st1.store)
 
       -- it is taken
-      pub taken : (success : Bool) (term : ℕ) (raft2 : Raft) → raft2.role ≡ Follower → given.now ≡ raft2.since → raft2.told ≡ raft1.told → raft2.word ≡ raft1.word → raft2.peers ≡ raft1.peers
+      pub taken : (success : Bool) (term : ℕ) (raft2 : Raft) → raft2.role ≡ Follower → given.now ≡ raft2.since → raft2.told ≡ raft1.told → raft2.word ≡ raft1.word → raft2.waits ≡ raft1.waits → raft2.peers ≡ raft1.peers
           → success ≡ is_accepted v → term ≡ r.term
           → CallWrites (with_origin LEADER (append_puts (store_of (durable_state mid)) r v)) mid new None
           → CallWrites (with_origin LEADER (term_puts (store_of (durable_state old)) r.term ++ append_puts (with_term p.store r.term) r v)) old new None
           → IsTaken new raft2 (Ok (record { term = term; success = success }))
-      taken success term raft2 role since told word peers is_success is_term appended made = (
+      taken success term raft2 role since told word waits peers is_success is_term appended made = (
         one_move members m n given (TakeAppendRequest r v) p t old new raft2
             (subst (λ (z : Store). CallWrites (with_origin LEADER (term_puts z r.term ++ append_puts (with_term p.store r.term) r v)) old new None) (sym st.store) made)
-            (taken_stands members m n given p t r v raft1 raft2 (durable_state mid) (durable_state new) st1 ruled stored role since told word peers),
+            (taken_stands members m n given p t r v raft1 raft2 (durable_state mid) (durable_state new) st1 ruled stored role since told word waits peers),
         (is_term ∙ raised_term p.store r.term (not_lower raft members (durable_state old) p t r st not), is_success),
       )
         where

@@ -82,6 +82,7 @@ pub record Keeps (raft raft2 : Raft) (q : ℕ) (peer : Peer) : Type 0 where
   pub known : raft2.members ≡ raft.members
   pub since : raft2.since ≡ raft.since
   pub word : raft2.word ≡ raft.word
+  pub waits : raft2.waits ≡ raft.waits
   pub peers : raft2.peers ≡ slice_set raft.peers q peer
 
 same_move : (x : Option Move) (a b : Move) → x ≡ Some a → x ≡ Some b → a ≡ b
@@ -111,6 +112,7 @@ module _ (raft raft2 : Raft) (state : Stored) (q : ℕ) (below : q < 128) (kept 
       known = λ other. ap (λ x. x.items) keeps.known ∙ st.known (λ follower. other (keeps.role ∙ follower));
       since = st.since ∙ sym keeps.since;
       word = st.word ∙ sym keeps.word;
+      waits = st.waits ∙ sym keeps.waits;
       peers = λ i d lower. subst (λ (peers : List Peer). Tells (slice_index_or peers i d) (with_pending p q r) (with_sending t q (record { id = call.id; moment = call.sent }) appended) i) (sym keeps.peers)
           (one_changed (λ j peer. Tells peer (with_pending p q r) (with_sending t q (record { id = call.id; moment = call.sent }) appended) j) raft.peers q (with_call kept call) within
           (tells_called p t q r call appended old kept same asks step when (st.peers q (fresh 0) below))

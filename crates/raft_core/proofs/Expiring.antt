@@ -129,7 +129,7 @@ tells_expired now q peer p p2 t t2 tells memory times waits =
 
 module _ (members : List ℕ) (now : ℕ) (state : Stored) (p : RaftServer) (t : Times) (raft raft2 : Raft) (nodes : List ℕ)
     (st : StandsFor raft members state p t) (listed : (q : ℕ) → q < 128 → p.memory.pending q ≢ None → In q nodes)
-    (role : raft2.role ≡ raft.role) (told : raft2.told ≡ raft.told) (known : raft2.members ≡ raft.members) (since : raft2.since ≡ raft.since) (word : raft2.word ≡ raft.word)
+    (role : raft2.role ≡ raft.role) (told : raft2.told ≡ raft.told) (known : raft2.members ≡ raft.members) (since : raft2.since ≡ raft.since) (word : raft2.word ≡ raft.word) (waits : raft2.waits ≡ raft.waits)
     (peers : (q : ℕ) (d : Peer) → q < 128 → slice_index_or raft2.peers q d ≡ expired now (slice_index_or raft.peers q d)) where
   ended_stands : (p2 : RaftServer) (t2 : Times) → HaveEnded (overdue t now nodes) p p2 t t2 → StandsFor raft2 members state p2 t2
   ended_stands p2 t2 ended = record {
@@ -139,6 +139,7 @@ module _ (members : List ℕ) (now : ℕ) (state : Stored) (p : RaftServer) (t :
     known = λ other. ap (λ x. x.items) known ∙ st.known (λ follower. other (role ∙ follower));
     since = ap (λ (x : Times). x.since) ended.times ∙ (st.since ∙ sym since);
     word = ap (λ (x : Times). x.word) ended.times ∙ (st.word ∙ sym word);
+    waits = ap (λ (x : Times). x.waits) ended.times ∙ (st.waits ∙ sym waits);
     peers = λ q d below. subst (λ (peer : Peer). Tells peer p2 t2 q) (sym (peers q d below))
         (tells_expired now q (slice_index_or raft.peers q d) p p2 t t2 (st.peers q d below) ended.memory ended.times
         (waits_young now (slice_index_or raft.peers q d).call (p.memory.pending q) (p2.memory.pending q) (t.sending q) (t2.sending q) (st.peers q d below).call

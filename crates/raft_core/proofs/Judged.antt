@@ -64,11 +64,19 @@ down_word now MachineRole.Follower t = refl
 down_word now MachineRole.Candidate t = refl
 down_word now MachineRole.Leader t = refl
 
+pub down_waits : (now : ℕ) (role : MachineRole) (t : Times) → (step_down now role t).waits ≡ t.waits
+down_waits now MachineRole.Follower t = refl
+down_waits now MachineRole.Candidate t = refl
+down_waits now MachineRole.Leader t = refl
+
 pub raise_sending : (now term : ℕ) (p : RaftServer) (t : Times) → (raise now term p t).sending ≡ t.sending
 raise_sending now term p t = if_same (nat_lt p.store.term term) (step_down now p.memory.role t) t (λ (x : Times). x.sending) (down_sending now p.memory.role t)
 
 pub raise_word : (now term : ℕ) (p : RaftServer) (t : Times) → (raise now term p t).word ≡ t.word
 raise_word now term p t = if_same (nat_lt p.store.term term) (step_down now p.memory.role t) t (λ (x : Times). x.word) (down_word now p.memory.role t)
+
+pub raise_waits : (now term : ℕ) (p : RaftServer) (t : Times) → (raise now term p t).waits ≡ t.waits
+raise_waits now term p t = if_same (nat_lt p.store.term term) (step_down now p.memory.role t) t (λ (x : Times). x.waits) (down_waits now p.memory.role t)
 
 down_since : (now : ℕ) (role : Role) (t : Times) → (step_down now (role_of role) t).since ≡ since_after role t.since now
 down_since now Follower t = refl
@@ -85,8 +93,9 @@ raised_stands raft raft2 members s s2 p t now term st higher stored down =
     (ap (λ (z : Store). record z { term = term; vote = None }) st.store ∙ sym (ap store_of stored))
     (down_sending now p.memory.role t)
     (down_word now p.memory.role t)
+    (down_waits now p.memory.role t)
     (ap (λ (x : MachineRole). (step_down now x t).since) st.role ∙ (down_since now raft.role t ∙ (ap (λ (k : ℕ). since_after raft.role k now) st.since ∙ sym down.since)))
-    down.role down.rest.told down.rest.word down.rest.peers)
+    down.role down.rest.told down.rest.word down.rest.waits down.rest.peers)
 
 -- a higher term is stored, with no vote
 pub term_made : {D : Type 0} {disk : Ghosts D} (origin : ℕ) (old new : Durable D disk) (ok : Bool) (failed : Option Fault) (term : ℕ) → ok ≡ is_none failed → (durable_state old).term < term
@@ -164,9 +173,9 @@ pub taken_stands : (members : List ℕ) (m n : ℕ) (given : Given) (p : RaftSer
     → StandsFor raft members mid (record { store = with_term p.store r.term; memory = term_memory p r.term }) (raise given.now r.term p t)
     → IsRuled (with_term p.store r.term) r v
     → store_of new ≡ put_all p.store (term_puts p.store r.term ++ append_puts (with_term p.store r.term) r v)
-    → raft2.role ≡ Follower → given.now ≡ raft2.since → raft2.told ≡ raft.told → raft2.word ≡ raft.word → raft2.peers ≡ raft.peers
+    → raft2.role ≡ Follower → given.now ≡ raft2.since → raft2.told ≡ raft.told → raft2.word ≡ raft.word → raft2.waits ≡ raft.waits → raft2.peers ≡ raft.peers
     → StandsFor raft2 members new (server_after members m n p (TakeAppendRequest r v)) (times_after members m given p (TakeAppendRequest r v) t)
-taken_stands members m n given p t r v raft raft2 mid new st ruled store role since told word peers =
+taken_stands members m n given p t r v raft raft2 mid new st ruled store role since told word waits peers =
     let p1 : RaftServer = record { store = with_term p.store r.term; memory = term_memory p r.term } in
     let t1 = raise given.now r.term p t in
     let p2 = server_after members m n p (TakeAppendRequest r v) in
@@ -179,7 +188,8 @@ taken_stands members m n given p t r v raft raft2 mid new st ruled store role si
     (sym store)
     (sym (raise_sending given.now r.term p t))
     (sym (raise_word given.now r.term p t))
-    since role told word peers)
+    (sym (raise_waits given.now r.term p t))
+    since role told word waits peers)
 
 -- ---- told of what the code keeps
 

@@ -9,6 +9,7 @@ pub mod VoteRequest
 pub mod Counting
 pub mod Committing
 pub mod Proposing
+pub mod Blanks
 pub mod Winning
 pub mod Standing
 pub mod Ticking

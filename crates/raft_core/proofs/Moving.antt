@@ -89,16 +89,17 @@ leads Leader h = refl
 -- a Follower stands for whatever has its role, its stored state and its calls
 pub follower_stands : (raft raft2 : Raft) (members : List ℕ) (mid new : Stored) (p p2 : RaftServer) (t t2 : Times) → StandsFor raft members mid p t
     → p2.memory.role ≡ MachineRole.Follower → p2.memory.told ≡ p.memory.told → p2.memory.pending ≡ p.memory.pending → p2.store ≡ store_of new
-    → t2.sending ≡ t.sending → t2.word ≡ t.word → t2.since ≡ raft2.since
-    → raft2.role ≡ Follower → raft2.told ≡ raft.told → raft2.word ≡ raft.word → raft2.peers ≡ raft.peers
+    → t2.sending ≡ t.sending → t2.word ≡ t.word → t2.waits ≡ t.waits → t2.since ≡ raft2.since
+    → raft2.role ≡ Follower → raft2.told ≡ raft.told → raft2.word ≡ raft.word → raft2.waits ≡ raft.waits → raft2.peers ≡ raft.peers
     → StandsFor raft2 members new p2 t2
-follower_stands raft raft2 members mid new p p2 t t2 st role told pending store sending word since role2 told2 word2 peers2 = record {
+follower_stands raft raft2 members mid new p p2 t t2 st role told pending store sending word waits since role2 told2 word2 waits2 peers2 = record {
   store = store;
   role = role ∙ ap role_of (sym role2);
   told = told ∙ (st.told ∙ sym told2);
   known = λ other. absurd (other role2);
   since = since;
   word = word ∙ (st.word ∙ sym word2);
+  waits = waits ∙ (st.waits ∙ sym waits2);
   peers = λ q d below. subst (λ (peers : List Peer). Tells (slice_index_or peers q d) p2 t2 q) (sym peers2) (record {
     call = subst (λ x. Waits (slice_index_or raft.peers q d).call x (t2.sending q)) (sym (ap (λ f. f q) pending))
         (subst (λ x. Waits (slice_index_or raft.peers q d).call (p.memory.pending q) x) (sym (ap (λ f. f q) sending)) (st.peers q d below).call);
@@ -118,15 +119,16 @@ follower_stands raft raft2 members mid new p p2 t t2 st role told pending store 
 
 -- another stored state, and a wait that begins anew
 pub waiting_stands : (raft raft2 : Raft) (members : List ℕ) (s new : Stored) (p : RaftServer) (t : Times) (now : ℕ) (store : Store) → StandsFor raft members s p t → store ≡ store_of new
-    → raft2.role ≡ raft.role → raft2.told ≡ raft.told → raft2.members ≡ raft.members → now ≡ raft2.since → raft2.word ≡ raft.word → raft2.peers ≡ raft.peers
+    → raft2.role ≡ raft.role → raft2.told ≡ raft.told → raft2.members ≡ raft.members → now ≡ raft2.since → raft2.word ≡ raft.word → raft2.waits ≡ raft.waits → raft2.peers ≡ raft.peers
     → StandsFor raft2 members new (record p { store = store }) (begin_wait now t)
-waiting_stands raft raft2 members s new p t now store st stored role told known since word peers = record {
+waiting_stands raft raft2 members s new p t now store st stored role told known since word waits peers = record {
   store = stored;
   role = st.role ∙ ap role_of (sym role);
   told = st.told ∙ sym told;
   known = λ other. ap (λ x. x.items) known ∙ st.known (λ h. other (role ∙ h));
   since = since;
   word = st.word ∙ sym word;
+  waits = st.waits ∙ sym waits;
   peers = λ q d below. let x = st.peers q d below in subst (λ (list : List Peer). Tells (slice_index_or list q d) (record p { store = store }) (begin_wait now t) q) (sym peers)
       (record { call = x.call; voted = x.voted; answered = x.answered; next = x.next; matched = x.matched; appended = x.appended });
 }
@@ -140,6 +142,7 @@ storing_stands raft members s new p t store st stored = record {
   known = st.known;
   since = st.since;
   word = st.word;
+  waits = st.waits;
   peers = λ q d below. let x = st.peers q d below in record { call = x.call; voted = x.voted; answered = x.answered; next = x.next; matched = x.matched; appended = x.appended };
 }
 

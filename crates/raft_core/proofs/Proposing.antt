@@ -5,7 +5,6 @@ use Rattle.std.specs.Result.{result_err}
 use Rattle.std.specs.Str.{bytes_eq}
 use Rattle.std.proofs.lemmas.List.{length-append}
 use Rattle.std.proofs.lemmas.Slice.Eq.{bytes_eq-Decides}
-use Rattle.std.proofs.Math.Logic.{⊎_swap}
 use Rattle.can_frame.specs.declared.entry.Entry.{Entry}
 use Rattle.can_frame.specs.Log.{HasNodeId, HasUid, IsDistinctFromAll, IsInjective, IsPair, IsReservation, blank, last_term}
 use Rattle.can_frame.specs.Zeros.{zeros}
@@ -38,11 +37,11 @@ use Rattle.raft_core.proofs.Puts.{quiet, still}
 -- ---- what may be proposed
 
 -- an entry with a node ID of 1 to 125 is a pair, or with zeros a reservation
-by_uid : (e : Entry) (b : Bool) → Decides b (e.uid ≡ zeros) → 1 ≤ e.node → e.node ≤ 125 → IsPair e ⊎ IsReservation e
-by_uid e true decides least most = inr (record { uid = decides.0 refl; least = least; most = most })
-by_uid e false decides least most = inl (record { uid = λ zero. cc (decides.1 zero); least = least; most = most })
+by_uid : (e : Entry) (b : Bool) → Decides b (e.uid ≡ zeros) → 1 ≤ e.node → e.node ≤ 125 → IsReservation e ⊎ IsPair e
+by_uid e true decides least most = inl (record { uid = decides.0 refl; least = least; most = most })
+by_uid e false decides least most = inr (record { uid = λ zero. cc (decides.1 zero); least = least; most = most })
 
-pub of_a_kind : (e : Entry) → 1 ≤ e.node → e.node ≤ 125 → IsPair e ⊎ IsReservation e
+pub of_a_kind : (e : Entry) → 1 ≤ e.node → e.node ≤ 125 → IsReservation e ⊎ IsPair e
 of_a_kind e = by_uid e (bytes_eq e.uid zeros) (bytes_eq-Decides e.uid zeros)
 
 -- terms do not rise above the member's
@@ -54,15 +53,15 @@ last_below (x ∷ xs) term below = below (length xs) (omega arith)
 module _ (reserved : (log : List Entry) (e : Entry) → IsReservation e → IsInjective (log ++ e ∷ []) ↔ (IsInjective log × (HasNodeId log e.node → ⊥)))
     (paired : (log : List Entry) (e : Entry) → IsPair e → IsInjective (log ++ e ∷ []) ↔ (IsInjective log × (HasUid log e.uid → ⊥) × (HasNodeId log e.node → ⊥))) where
   -- nothing of the entry stands in the log
-  pub stays_injective : (log : List Entry) (e : Entry) → IsPair e ⊎ IsReservation e → IsInjective log → (IsTaken log e.uid e.node → ⊥) → IsInjective (log ++ e ∷ [])
-  stays_injective log e (inl pair) injective free = (paired log e pair).1 (injective, λ has. free (inr (pair.uid, has)), λ has. free (inl has))
-  stays_injective log e (inr reservation) injective free = (reserved log e reservation).1 (injective, λ has. free (inl has))
+  pub stays_injective : (log : List Entry) (e : Entry) → IsReservation e ⊎ IsPair e → IsInjective log → (IsTaken log e.uid e.node → ⊥) → IsInjective (log ++ e ∷ [])
+  stays_injective log e (inr pair) injective free = (paired log e pair).1 (injective, λ has. free (inr (pair.uid, has)), λ has. free (inl has))
+  stays_injective log e (inl reservation) injective free = (reserved log e reservation).1 (injective, λ has. free (inl has))
 
-  is_free : (log : List Entry) (e : Entry) → IsPair e ⊎ IsReservation e → IsInjective (log ++ e ∷ []) → IsTaken log e.uid e.node → ⊥
-  is_free log e (inl pair) injective (inl node) = ((paired log e pair).0 injective).2 node
-  is_free log e (inl pair) injective (inr uid) = ((paired log e pair).0 injective).1 uid.1
-  is_free log e (inr reservation) injective (inl node) = ((reserved log e reservation).0 injective).1 node
-  is_free log e (inr reservation) injective (inr uid) = uid.0 reservation.uid
+  is_free : (log : List Entry) (e : Entry) → IsReservation e ⊎ IsPair e → IsInjective (log ++ e ∷ []) → IsTaken log e.uid e.node → ⊥
+  is_free log e (inr pair) injective (inl node) = ((paired log e pair).0 injective).2 node
+  is_free log e (inr pair) injective (inr uid) = ((paired log e pair).0 injective).1 uid.1
+  is_free log e (inl reservation) injective (inl node) = ((reserved log e reservation).0 injective).1 node
+  is_free log e (inl reservation) injective (inr uid) = uid.0 reservation.uid
 
   module _ (p : RaftServer) (s : Stored) (uid : List ℕ) (node : ℕ) (same : p.store ≡ store_of s) where
     abbrev entry : Entry
@@ -73,12 +72,12 @@ module _ (reserved : (log : List Entry) (e : Entry) → IsReservation e → IsIn
       leads = leads;
       room = subst (λ (z : Store). length z.log < 127) (sym same) room;
       own_term = refl;
-      kind = of_a_kind entry least most;
+      kind = inr (of_a_kind entry least most);
       injective = subst (λ (z : Store). IsInjective (z.log ++ (entry ∷ []))) (sym same) (stays_injective s.log entry (of_a_kind entry least most) injective free);
     }
 
-    pub may_not : IsTaken s.log uid node → MayPropose p (proposal p.store.term uid node) → ⊥
-    may_not taken may = is_free p.store.log entry may.kind may.injective (subst (λ (z : Store). IsTaken z.log uid node) (sym same) taken)
+    pub may_not : 1 ≤ node → node ≤ 125 → IsTaken s.log uid node → MayPropose p (proposal p.store.term uid node) → ⊥
+    may_not least most taken may = is_free p.store.log entry (of_a_kind entry least most) may.injective (subst (λ (z : Store). IsTaken z.log uid node) (sym same) taken)
 
 -- what the log is asked for that takes the entry
 module _ (reserved : (log : List Entry) (e : Entry) → IsReservation e → IsInjective (log ++ e ∷ []) ↔ (IsInjective log × (HasNodeId log e.node → ⊥)))
@@ -86,7 +85,7 @@ module _ (reserved : (log : List Entry) (e : Entry) → IsReservation e → IsIn
     (grows : (log : List Entry) (e : Entry) → IsInjective (log ++ e ∷ []) ↔ (IsInjective log × IsDistinctFromAll log e)) where
   pub free_follows : (s : Stored) (uid : List ℕ) (node : ℕ) → IsStorable s → 1 ≤ node → node ≤ 125 → (IsTaken s.log uid node → ⊥) → MayFollow s.log s.term (proposal s.term uid node)
   free_follows s uid node storable least most free = record {
-    formed = inr (⊎_swap (of_a_kind (proposal s.term uid node) least most));
+    formed = inr (of_a_kind (proposal s.term uid node) least most);
     order = last_below s.log s.term (λ i below. (storable.follows i below).bound);
     bound = omega arith;
     distinct = ((grows s.log (proposal s.term uid node)).0 (stays_injective reserved paired s.log (proposal s.term uid node) (of_a_kind (proposal s.term uid node) least most) storable.injective free)).1;

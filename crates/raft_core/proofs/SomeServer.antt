@@ -46,7 +46,7 @@ server_for raft state = record {
 }
 
 abbrev pub times_for : Raft → Times
-times_for raft = record { since = raft.since; word = raft.word; answered = λ q. (peer_at raft q).answered; appended = λ q. (peer_at raft q).appended; sending = λ q. sending_for (peer_at raft q).call }
+times_for raft = record { since = raft.since; word = raft.word; waits = raft.waits; answered = λ q. (peer_at raft q).answered; appended = λ q. (peer_at raft q).appended; sending = λ q. sending_for (peer_at raft q).call }
 
 asks : (step : ℕ) (asked : Asked) → Asks asked (request_for step asked)
 asks step Vote = refl
@@ -68,6 +68,7 @@ stands_for raft state = record {
   known = λ other. refl;
   since = refl;
   word = refl;
+  waits = refl;
   peers = λ q d below.
       subst (λ (peer : Peer). Tells peer (server_for raft state) (times_for raft) q) (get_or_default raft.peers q (fresh 0) d (subst (λ n. q < n) (sym raft.table) below))
       (record { call = waits_for (peer_at raft q).call; voted = λ h. refl; answered = λ h. refl; next = λ h. refl; matched = λ h. refl; appended = λ h. refl });

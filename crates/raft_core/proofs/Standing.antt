@@ -21,11 +21,11 @@ vote_is (suc m) least = refl
 
 pub stood_stands : (raft raft2 : Raft) (members peers : List ℕ) (s s2 : Stored) (p : RaftServer) (t : Times) (given : Given) → StandsFor raft members s p t
     → raft.me < 128 → 1 ≤ raft.me
-    → raft2.role ≡ Candidate → raft2.since ≡ given.now → raft2.word ≡ given.word → raft2.told ≡ raft.told → raft2.members.items ≡ raft.me ∷ peers
+    → raft2.role ≡ Candidate → raft2.since ≡ given.now → raft2.word ≡ given.word → raft2.waits ≡ raft.waits → raft2.told ≡ raft.told → raft2.members.items ≡ raft.me ∷ peers
     → raft2.peers ≡ slice_set (replicate 128 (fresh 1)) raft.me voter
     → s2 ≡ record s { term = s.term + 1; vote = raft.me }
     → StandsFor raft2 (raft.me ∷ peers) s2 (record { store = put_all p.store (stand_puts raft.me p.store); memory = stand_memory raft.me p.memory }) (stand given t)
-stood_stands raft raft2 members peers s s2 p t given st inside least role since word told known table stored = record {
+stood_stands raft raft2 members peers s s2 p t given st inside least role since word waits told known table stored = record {
   store = ap (λ (z : Store). put_all z (stand_puts raft.me z)) st.store
       ∙ (ap (λ (v : Option ℕ). put_all (store_of s) (PutTerm (s.term + 1) ∷ PutVote v ∷ [])) (sym (vote_is raft.me least)) ∙ sym (ap store_of stored));
   role = ap role_of (sym role);
@@ -33,6 +33,7 @@ stood_stands raft raft2 members peers s s2 p t given st inside least role since 
   known = λ other. known;
   since = sym since;
   word = sym word;
+  waits = st.waits ∙ sym waits;
   peers = λ q d below. subst (λ (l : List Peer). Tells (slice_index_or l q d) p2 t2 q) (sym table) (each q d below);
 }
   where

@@ -107,11 +107,11 @@ module _ {D : Type 0} {disk : Ghosts D} (members : List ℕ) (m n : ℕ) (given 
 
       -- it is granted
       pub vote_granted : (new : Durable D disk) (raft2 : Raft) → MayGrant (store_of (durable_state mid)) r → 1 ≤ r.from
-          → raft2.role ≡ raft1.role → raft2.told ≡ raft1.told → raft2.members ≡ raft1.members → given.now ≡ raft2.since → raft2.word ≡ raft1.word → raft2.peers ≡ raft1.peers
+          → raft2.role ≡ raft1.role → raft2.told ≡ raft1.told → raft2.members ≡ raft1.members → given.now ≡ raft2.since → raft2.word ≡ raft1.word → raft2.waits ≡ raft1.waits → raft2.peers ≡ raft1.peers
           → CallWrites (with_origin LEADER (vote_puts (store_of (durable_state mid)).vote r.from)) mid new None
           → CallWrites (with_origin LEADER (term_puts (store_of (durable_state old)) r.term ++ vote_puts (store_of (durable_state mid)).vote r.from)) old new None
           → IsVoted new raft2 (Ok (record { term = term; granted = true }))
-      vote_granted new raft2 may least role told known since word peers voted made =
+      vote_granted new raft2 may least role told known since word waits peers voted made =
           let s = durable_state mid in
           let same : store_of s ≡ with_term p.store r.term = sym st1.store in
           let stored : store_of (durable_state new) ≡ put_all p.store (term_puts p.store r.term ++ vote_puts (with_term p.store r.term).vote r.from) =
@@ -123,7 +123,7 @@ module _ {D : Type 0} {disk : Ghosts D} (members : List ℕ) (m n : ℕ) (given 
                 (subst (λ (z : Store). CallWrites (with_origin LEADER (term_puts z r.term ++ vote_puts (with_term p.store r.term).vote r.from)) old new None) (sym st.store)
                 (subst (λ (z : Store). CallWrites (with_origin LEADER (term_puts (store_of (durable_state old)) r.term ++ vote_puts z.vote r.from)) old new None) same made))
                 (subst (λ (x : Times). StandsFor raft2 members (durable_state new) (record { store = put_all p.store (term_puts p.store r.term ++ vote_puts (with_term p.store r.term).vote r.from); memory = term_memory p r.term }) x) (raise_wait given.now r.term p t)
-                (waiting_stands raft1 raft2 members s (durable_state new) (record { store = with_term p.store r.term; memory = term_memory p r.term }) (raise given.now r.term p t) given.now _ st1 (sym stored) role told known since word peers)),
+                (waiting_stands raft1 raft2 members s (durable_state new) (record { store = with_term p.store r.term; memory = term_memory p r.term }) (raise given.now r.term p t) given.now _ st1 (sym stored) role told known since word waits peers)),
             (term_now, refl),
           )
 

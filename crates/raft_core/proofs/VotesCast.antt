@@ -5,7 +5,7 @@ use Rattle.raft_log.specs.Stored.{Stored, after_put, after_puts, Put as StoredPu
 use Rattle.raft_model.specs.Handlers.{server_after, puts_of_all}
 use Rattle.raft_model.specs.Messages.{Request}
 use Rattle.raft_model.specs.Moves.{Move, puts}
-use Rattle.raft_model.specs.Moves.Elections.{votes_with, counting_puts, counts, grant_puts, has_quorum, own_vote, stand_puts, term_puts, win_puts, with_term}
+use Rattle.raft_model.specs.Moves.Elections.{grant_puts, term_puts, with_term}
 use Rattle.raft_model.specs.Moves.Move.{TimeOut, TakeVoteRequest, TakeVoteAnswer, TakeAppendRequest, TakeAppendAnswer, ProposeEntry, CommitTo, TellPair, TellNothing, CallForVote, CallToAppend, AnswerAgain, GiveUp}
 use Rattle.raft_model.specs.Server.{RaftServer, Put, Store, put_all}
 use Rattle.raft_model.specs.Server.Put.{PutTerm, PutVote}
@@ -14,7 +14,6 @@ use Rattle.raft_core.proofs.Judged.{append_counts}
 use Rattle.raft_core.proofs.Origins.{raft_server_front}
 use Rattle.raft_core.proofs.Moving.{stored_after}
 use Rattle.raft_core.proofs.VoteRequest.{vote_counts}
-use Rattle.raft_core.proofs.Winning.{win_counts}
 
 -- ---- who they vote for
 
@@ -35,11 +34,9 @@ grant_counts s r false least = tt
 
 module _ (members : List ℕ) (m : ℕ) (least : 1 ≤ m) where
   of_move : (p : RaftServer) (move : Move) → IsOfNode move → VoteForNodes (puts members m p move)
-  of_move p TimeOut h = both (stand_puts m p.store) _ (tt, (tt, (least, tt)))
-      (either (has_quorum members (own_vote m)) (win_puts (put_all p.store (stand_puts m p.store))) [] (win_counts (put_all p.store (stand_puts m p.store))) tt)
+  of_move p TimeOut h = (tt, (tt, (least, tt)))
   of_move p (TakeVoteRequest r granted) h = both (term_puts p.store r.term) _ (term_counts p.store r.term) (grant_counts (with_term p.store r.term) r granted h)
-  of_move p (TakeVoteAnswer a) h = either (nat_lt p.store.term a.term) (term_puts p.store a.term) _ (term_counts p.store a.term)
-      (either (counts p a) (counting_puts members p a) [] (either (has_quorum members (votes_with p.memory a)) (win_puts p.store) [] (win_counts p.store) tt) tt)
+  of_move p (TakeVoteAnswer a) h = term_counts p.store a.term
   of_move p (TakeAppendRequest r v) h = both (term_puts p.store r.term) _ (term_counts p.store r.term) (append_counts (with_term p.store r.term) r v)
   of_move p (TakeAppendAnswer a) h = term_counts p.store a.term
   of_move p (ProposeEntry e) h = (tt, (tt, tt))

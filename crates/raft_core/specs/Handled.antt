@@ -10,7 +10,8 @@ use Rattle.raft_log.specs.DurableViews.{durable_state}
 use Rattle.raft_model.specs.Handlers.{server_after, server_after_all, puts_of_all}
 use Rattle.raft_model.specs.Messages.{Answer, Request}
 use Rattle.raft_model.specs.Duty.{blank_moves, is_heard, tick_phase}
-use Rattle.raft_model.specs.Moves.{Move, is_leader, puts}
+use Rattle.raft_model.specs.Moves.{Move, puts}
+use Rattle.raft_model.specs.Moves.Elections.{is_leader}
 use Rattle.raft_model.specs.Moves.Move.{ProposeEntry, GiveUp}
 use Rattle.raft_model.specs.Server.{RaftServer}
 use Rattle.raft_core.specs.declared.raft.Raft.{Raft}

@@ -10,6 +10,7 @@ pub record KeepsRest (old new : Raft) : Type 0 where
   pub size : new.size ≡ old.size
   pub told : new.told ≡ old.told
   pub word : new.word ≡ old.word
+  pub waits : new.waits ≡ old.waits
   pub members : new.members ≡ old.members
   pub peers : new.peers ≡ old.peers
 

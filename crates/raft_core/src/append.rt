@@ -34,7 +34,7 @@ use raft_model::laws::law_decisions;
 impl Raft {
     ghost use Rattle.raft_core.specs.declared.peer.Peer.{Peer};
     ghost use Rattle.raft_core.specs.Fits.{Fits};
-    ghost use Rattle.raft_core.specs.Handled.{MakesMoves};
+    ghost use Rattle.raft_core.specs.Handled.{MakesMoves, with_blank};
     ghost use Rattle.raft_core.specs.RaftViews.{raft_me, raft_size};
     ghost use Rattle.raft_core.specs.Stands.{StandsFor, role_of};
 
@@ -102,8 +102,9 @@ impl Raft {
             StandsFor self.old members (durable_state d.old) server times →
             is_awaited server times from true id ≡ true → (made_in : ℕ) (request : Request) →
             server.memory.pending from ≡ Some request →
+            let answer = answer_of made_in from request ans.now.term ans.now.success in
             MakesMoves members (raft_me self.old) step (given_at now)
-            (TakeAppendAnswer (answer_of made_in from request ans.now.term ans.now.success) ∷ [])
+            (with_blank members (raft_me self.old) step times server (TakeAppendAnswer answer ∷ []))
             server times d.old d.new self.new (result_err result) ×
             IfOk result (λ taken. IsTrue taken) }
         ensures fault { CallFaultIsSticky d.old d.new (result_err result) }
@@ -112,17 +113,47 @@ impl Raft {
         ensures size { raft_size self.new ≡ raft_size self.old }
     {
         puts_in_turn::<D>();
-        a_durable_state_is_kept::<D>();
         let Some(reach) = self.awaited_reach(from, id) else {
             return Ok(false);
         };
+        let led = self.role == Role::Leader;
+        self.take_append_answer(d, from, reach, ans, now)?;
+        self.add_blank_if_due(d, led)?;
+        Ok(true)
+    }
+
+    /// The answer ends the call to the node, which went up to a place. A term above the member's own makes it a
+    /// Follower; in its own term a leader learns what the node has of its log.
+    fn take_append_answer<D: Disk>(
+        &mut self,
+        d: &mut Durable<D>,
+        from: u8,
+        reach: u8,
+        ans: &AppendAnswer,
+        now: u64,
+    ) -> Result<(), Fault>
+        requires most { from ≤ 125 }
+        requires reach { self.old.role ≡ Leader → reach ≤ length (durable_state d.old).log }
+        requires fits { Fits self.old (durable_state d.old) }
+        ensures moves { (members : List ℕ) (step : ℕ) (server : RaftServer) (times : Times) →
+            StandsFor self.old members (durable_state d.old) server times →
+            (made_in : ℕ) (request : Request) → messages.reach request ≡ reach →
+            MakesMoves members self.old.me step (given_at now)
+            (TakeAppendAnswer (answer_of made_in from request ans.now.term ans.now.success) ∷ [])
+            server times d.old d.new self.new (result_err result) }
+        ensures fault { CallFaultIsSticky d.old d.new (result_err result) }
+        ensures fits { OnOk result (Fits self.new (durable_state d.new)) }
+        ensures me { raft_me self.new ≡ raft_me self.old }
+        ensures size { raft_size self.new ≡ raft_size self.old }
+    {
+        puts_in_turn::<D>();
+        a_durable_state_is_kept::<D>();
         self.end_call(from);
         self.raise(d, ans.term, now)?;
-        if !self.leads(d.term(), ans) {
-            return Ok(true);
+        if self.leads(d.term(), ans) {
+            self.move_on(from, reach, ans.success);
         }
-        self.move_on(from, reach, ans.success);
-        Ok(true)
+        Ok(())
     }
 
     /// Whether the answer is to a leader of this term.

@@ -1,11 +1,10 @@
-ghost use Rattle.std.specs.Prelude.{◌≡◌, ◌≢◌, ◌≤◌, ◌<◌, ◌+◌, ◌∷◌, ℕ, List, ◌&&◌, not, nat_lt, true, OnOk, length, replicate, slice_index_or, slice_set};
+ghost use Rattle.std.specs.Prelude.{◌≡◌, ◌≢◌, ◌≤◌, ◌<◌, ◌+◌, ◌∷◌, [], ℕ, List, ◌&&◌, not, nat_lt, true, OnOk, length, replicate, slice_index_or, slice_set};
 ghost use Rattle.std.specs.Result.{result_err};
 ghost use Rattle.arrayvec.specs.ArrayVec.{array_vec_len};
-ghost use Rattle.can_frame.specs.Log as log;
 ghost use Rattle.can_frame.specs.declared.step.Role.TheVariants.{Follower, Candidate};
-ghost use Rattle.raft_log.specs.declared.origin.TheConstants.{WIN};
 ghost use Rattle.raft_log.specs.DurableViews.{durable_state};
-ghost use Rattle.raft_model.specs.Moves.Elections.{adds_blank, is_leader, stand_memory, stand_puts, term_limit, win_memory, win_puts};
+ghost use Rattle.raft_model.specs.Moves.Elections.{is_leader, stand_memory, stand_puts, term_limit, win_memory};
+ghost use Rattle.raft_model.specs.Moves.Move.{TimeOut};
 ghost use Rattle.raft_model.specs.Server.{RaftServer, put_all};
 ghost use Rattle.raft_core.specs.Peers.{fresh, voter};
 ghost use Rattle.raft_core.specs.StoredPuts.{CallWrites, CallFaultIsSticky, with_origin, store_of};
@@ -16,11 +15,11 @@ use crate::laws::puts_in_turn;
 use crate::peer::Peer;
 use crate::raft::{Cause, Raft};
 use arrayvec::ArrayVec;
+use can_frame::Role;
 use can_frame::timing::{ELECTION_SPREAD, ELECTION_WAIT};
-use can_frame::{Entry, Role};
 use disk_model::Disk;
 use kv_store::Fault;
-use raft_log::{Durable, origin};
+use raft_log::Durable;
 
 impl Raft {
     ghost use Rattle.raft_core.specs.Fits.{Fits};
@@ -45,10 +44,10 @@ impl Raft {
         requires fits { Fits self.old (durable_state d.old) }
         ensures moves { (members : List ℕ) (step : ℕ) (server : RaftServer) (times : Times) →
             StandsFor self.old members (durable_state d.old) server times →
-            let moves = moves_of_tick complete now server times in
-            let counted = counted_at moves members (raft_me self.old ∷ peers.now) in
-            MakesMoves counted (raft_me self.old) step (given_tick now word) moves server times
-            d.old d.new self.new (result_err result) }
+            let known = raft_me self.old ∷ peers.now in
+            let moves = moves_of_tick known (raft_me self.old) step complete now server times in
+            MakesMoves (counted_at moves members known) (raft_me self.old) step (given_tick now word)
+            moves server times d.old d.new self.new (result_err result) }
         ensures fault { CallFaultIsSticky d.old d.new (result_err result) }
         ensures fits { OnOk result (Fits self.new (durable_state d.new)) }
         ensures me { raft_me self.new ≡ raft_me self.old }
@@ -58,11 +57,8 @@ impl Raft {
         if !self.may_stand(complete, d.term(), now) {
             return Ok(());
         }
-        self.stand(d, peers, now, word)?;
-        if self.has_quorum(Cause::Candidacy) {
-            self.win(d)?;
-        }
-        Ok(())
+        self.begin_election(d, peers, now, word)?;
+        self.add_blank_if_due(d, false)
     }
 
     /// Whether the wait for an election has passed, of one that knows all members, is no leader and is
@@ -83,6 +79,34 @@ impl Raft {
             && term < u32::MAX
     }
 
+    /// It stands for election, and wins at once where its own vote is that of a quorum.
+    fn begin_election<D: Disk>(
+        &mut self,
+        d: &mut Durable<D>,
+        peers: &[u8],
+        now: u64,
+        word: u32,
+    ) -> Result<(), Fault>
+        requires term { (durable_state d.old).term < 4294967295 }
+        requires peers { (i : ℕ) → i < length peers.now → slice_index_or peers.now i 0 ≤ 125 }
+        requires complete { length peers.now + 1 ≡ self.old.size }
+        requires fits { Fits self.old (durable_state d.old) }
+        ensures moves { (members : List ℕ) (step : ℕ) (server : RaftServer) (times : Times) →
+            StandsFor self.old members (durable_state d.old) server times →
+            MakesMoves (self.old.me ∷ peers.now) self.old.me step (given_tick now word)
+            (TimeOut ∷ []) server times d.old d.new self.new (result_err result) }
+        ensures fault { CallFaultIsSticky d.old d.new (result_err result) }
+        ensures fits { OnOk result (Fits self.new (durable_state d.new)) }
+        ensures me { raft_me self.new ≡ raft_me self.old }
+        ensures size { raft_size self.new ≡ raft_size self.old }
+    {
+        self.stand(d, peers, now, word)?;
+        if self.has_quorum(Cause::Candidacy) {
+            self.win(d);
+        }
+        Ok(())
+    }
+
     /// It is a candidate of the next term, and votes for itself.
     fn stand<D: Disk>(
         &mut self,
@@ -95,8 +119,9 @@ impl Raft {
         requires peers { (i : ℕ) → i < length peers.now → slice_index_or peers.now i 0 ≤ 125 }
         requires complete { length peers.now + 1 ≡ self.old.size }
         requires fits { Fits self.old (durable_state d.old) }
-        ensures puts { CallWrites
-            (with_origin WIN (stand_puts self.old.me (store_of (durable_state d.old))))
+        // These puts have no entry, and so no origin.
+        ensures puts { (origin : ℕ) → CallWrites
+            (with_origin origin (stand_puts self.old.me (store_of (durable_state d.old))))
             d.old d.new (result_err result) }
         ensures stands { (members : List ℕ) (server : RaftServer) (times : Times) →
             StandsFor self.old members (durable_state d.old) server times →
@@ -120,27 +145,21 @@ impl Raft {
         Ok(())
     }
 
-    /// A candidate leads from now on. Where its log is not all committed, and has room, it appends a blank.
-    pub(crate) fn win<D: Disk>(&mut self, d: &mut Durable<D>) -> Result<(), Fault>
+    /// A candidate leads from now on. It knows nothing yet of what the others have of its log.
+    pub(crate) fn win<D: Disk>(&mut self, d: &Durable<D>)
         requires role { self.old.role ≢ Follower }
-        requires fits { Fits self.old (durable_state d.old) }
-        ensures puts { CallWrites (with_origin WIN (win_puts (store_of (durable_state d.old))))
-            d.old d.new (result_err result) }
+        requires fits { Fits self.old (durable_state d.now) }
         ensures stands { (members : List ℕ) (server : RaftServer) (times : Times) →
-            StandsFor self.old members (durable_state d.old) server times →
-            OnOk result (StandsFor self.new members (durable_state d.new)
-            (record {
-              store = put_all server.store (win_puts server.store);
-              memory = win_memory server.store server.memory;
-            }) (clock.win times)) }
-        ensures fits { OnOk result (Fits self.new (durable_state d.new)) }
+            StandsFor self.old members (durable_state d.now) server times →
+            StandsFor self.new members (durable_state d.now)
+            (record server { memory = win_memory server.store server.memory }) (clock.win times) }
+        ensures fits { Fits self.new (durable_state d.now) }
         ensures me { raft_me self.new ≡ raft_me self.old }
         ensures size { raft_size self.new ≡ raft_size self.old }
     {
         self.role = Role::Leader;
         self.told = d.commit();
         self.peers = [Peer::new(d.last() + 1); 128];
-        add_blank(d)
     }
 }
 
@@ -149,7 +168,8 @@ fn vote_for_itself<D: Disk>(d: &mut Durable<D>, me: u8) -> Result<(), Fault>
     requires term { (durable_state d.old).term < 4294967295 }
     requires least { 1 ≤ me }
     requires most { me ≤ 125 }
-    ensures puts { CallWrites (with_origin WIN (stand_puts me (store_of (durable_state d.old))))
+    ensures puts { (origin : ℕ) →
+        CallWrites (with_origin origin (stand_puts me (store_of (durable_state d.old))))
         d.old d.new (result_err result) }
     ensures state { OnOk result (durable_state d.new
         ≡ record (durable_state d.old) { term = (durable_state d.old).term + 1; vote = me }) }
@@ -179,36 +199,4 @@ fn all_members(me: u8, peers: &[u8]) -> ArrayVec<u8, 5>
     members.push(me);
     members.try_extend_from_slice(peers).unwrap();
     members
-}
-
-/// A new leader appends a blank, where its log is not all committed and has room.
-fn add_blank<D: Disk>(d: &mut Durable<D>) -> Result<(), Fault>
-    ensures puts { CallWrites (with_origin WIN (win_puts (store_of (durable_state d.old))))
-        d.old d.new (result_err result) }
-    ensures vote { OnOk result ((durable_state d.new).vote ≡ (durable_state d.old).vote) }
-    ensures commit { OnOk result ((durable_state d.new).commit ≡ (durable_state d.old).commit) }
-    ensures log { OnOk result
-        (length (durable_state d.old).log ≤ length (durable_state d.new).log) }
-{
-    puts_in_turn::<D>();
-    if wants_blank(d) {
-        d.append(blank(d.term()), origin::WIN)?;
-    }
-    Ok(())
-}
-
-fn wants_blank<D: Disk>(d: &Durable<D>) -> bool
-    ensures { result ≡ adds_blank (store_of (durable_state d.now)) }
-{
-    d.commit() < d.last() && d.last() < 127
-}
-
-/// The blank of a term.
-fn blank(term: u32) -> Entry
-    ensures { result ≡ log.blank term }
-{
-    Entry {
-        term,
-        ..Entry::default()
-    }
 }

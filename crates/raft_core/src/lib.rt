@@ -22,11 +22,14 @@
 //!
 //! The rules are those of the Raft paper ("In Search of an Understandable Consensus Algorithm", figure 2),
 //! as libuavcan's distributed server of node IDs uses them: a leader sends one entry at a time, and it
-//! appends a blank when it wins. An entry may also keep a node ID back, of a node that tells no unique ID: it
-//! is replicated and committed as a pair is, and told to nobody.
+//! appends a blank when it wins. A member that was told to wait (`wait_until_heard`) appends its blank only
+//! once a quorum has its log: elections whose leader is heard by no quorum then leave the log as it is. An
+//! entry may also keep a node ID back, of a node that tells no unique ID: it is replicated and committed as
+//! a pair is, and told to nobody.
 #![tactic(auto)]
 
 mod append;
+mod blank;
 mod calls;
 mod commit;
 mod election;

@@ -2,16 +2,16 @@ ghost use Rattle.std.specs.Prelude.{◌≡◌, ◌==◌, ◌↔◌, ◌≤◌, �
 ghost use Rattle.std.specs.Result.{result_err};
 ghost use Rattle.can_frame.specs.declared.step.Role.TheVariants.{Candidate};
 ghost use Rattle.can_frame.specs.Log.{last_term};
-ghost use Rattle.raft_log.specs.declared.origin.TheConstants.{LEADER, WIN};
+ghost use Rattle.raft_log.specs.declared.origin.TheConstants.{LEADER};
 ghost use Rattle.raft_log.specs.DurableViews.{durable_state};
 ghost use Rattle.raft_log.specs.Stored.{Stored};
 ghost use Rattle.raft_model.specs.Decisions.{grants};
 ghost use Rattle.raft_model.specs.Messages.{Answer, Request};
 ghost use Rattle.raft_model.specs.Lists.{at};
 ghost use Rattle.raft_model.specs.Log.{NotAbove};
-ghost use Rattle.raft_model.specs.Moves.Elections.{MayGrant, counts, has_quorum, vote_puts, win_memory, win_puts, with_term};
+ghost use Rattle.raft_model.specs.Moves.Elections.{MayGrant, counts, has_quorum, vote_puts, win_memory, with_term};
 ghost use Rattle.raft_model.specs.Moves.Move.{TakeVoteRequest, TakeVoteAnswer};
-ghost use Rattle.raft_model.specs.Server.{RaftServer, put_all};
+ghost use Rattle.raft_model.specs.Server.{RaftServer};
 ghost use Rattle.raft_core.specs.Handled.{answer_of, vote_request_of};
 ghost use Rattle.raft_core.specs.StoredPuts.{CallWrites, CallFaultIsSticky, with_origin, store_of};
 ghost use Rattle.raft_core.specs.Times as clock;
@@ -28,7 +28,7 @@ use raft_model::laws::law_decisions;
 
 impl Raft {
     ghost use Rattle.raft_core.specs.Fits.{Fits};
-    ghost use Rattle.raft_core.specs.Handled.{MakesMoves};
+    ghost use Rattle.raft_core.specs.Handled.{MakesMoves, with_blank};
     ghost use Rattle.raft_core.specs.RaftViews.{raft_me, raft_size};
     ghost use Rattle.raft_core.specs.Stands.{StandsFor, role_of};
 
@@ -96,8 +96,9 @@ impl Raft {
             StandsFor self.old members (durable_state d.old) server times →
             is_awaited server times from false id ≡ true → (made_in : ℕ) (request : Request) →
             server.memory.pending from ≡ Some request →
+            let answer = answer_of made_in from request ans.now.term ans.now.granted in
             MakesMoves members (raft_me self.old) step (given_at now)
-            (TakeVoteAnswer (answer_of made_in from request ans.now.term ans.now.granted) ∷ [])
+            (with_blank members (raft_me self.old) step times server (TakeVoteAnswer answer ∷ []))
             server times d.old d.new self.new (result_err result) ×
             IfOk result (λ taken. IsTrue taken) }
         ensures fault { CallFaultIsSticky d.old d.new (result_err result) }
@@ -109,14 +110,41 @@ impl Raft {
         if !self.awaits_vote(from, id) {
             return Ok(false);
         }
+        let led = self.role == Role::Leader;
+        self.take_vote_answer(d, from, ans, now)?;
+        self.add_blank_if_due(d, led)?;
+        Ok(true)
+    }
+
+    /// The answer ends the call to the node. A term above the member's own makes it a Follower; in its own term
+    /// a granted vote counts.
+    fn take_vote_answer<D: Disk>(
+        &mut self,
+        d: &mut Durable<D>,
+        from: u8,
+        ans: &VoteAnswer,
+        now: u64,
+    ) -> Result<(), Fault>
+        requires most { from ≤ 125 }
+        requires fits { Fits self.old (durable_state d.old) }
+        ensures moves { (members : List ℕ) (step : ℕ) (server : RaftServer) (times : Times) →
+            StandsFor self.old members (durable_state d.old) server times →
+            (made_in : ℕ) (request : Request) →
+            MakesMoves members self.old.me step (given_at now)
+            (TakeVoteAnswer (answer_of made_in from request ans.now.term ans.now.granted) ∷ [])
+            server times d.old d.new self.new (result_err result) }
+        ensures fault { CallFaultIsSticky d.old d.new (result_err result) }
+        ensures fits { OnOk result (Fits self.new (durable_state d.new)) }
+        ensures me { raft_me self.new ≡ raft_me self.old }
+        ensures size { raft_size self.new ≡ raft_size self.old }
+    {
         self.end_call(from);
         self.note_answer(from);
         self.raise(d, ans.term, now)?;
-        if !self.counts(d.term(), ans) {
-            return Ok(true);
+        if self.counts(d.term(), ans) {
+            self.count_vote(d, from);
         }
-        self.count_vote(d, from)?;
-        Ok(true)
+        Ok(())
     }
 
     /// Whether an answer counts: a grant, for a candidate of this term.
@@ -165,38 +193,25 @@ impl Raft {
     }
 
     /// A candidate counts the vote of a node, and wins with those of a quorum.
-    fn count_vote<D: Disk>(&mut self, d: &mut Durable<D>, from: u8) -> Result<(), Fault>
+    fn count_vote<D: Disk>(&mut self, d: &Durable<D>, from: u8)
         requires most { from ≤ 125 }
         requires role { self.old.role ≡ Candidate }
-        requires fits { Fits self.old (durable_state d.old) }
-        ensures puts { (members : List ℕ) (server : RaftServer) (times : Times) →
-            StandsFor self.old members (durable_state d.old) server times →
-            CallWrites
-            (with_origin WIN
-            (if has_quorum members (at server.memory.votes from true) then win_puts server.store
-            else []))
-            d.old d.new (result_err result) }
+        requires fits { Fits self.old (durable_state d.now) }
         ensures stands { (members : List ℕ) (server : RaftServer) (times : Times) →
-            StandsFor self.old members (durable_state d.old) server times →
+            StandsFor self.old members (durable_state d.now) server times →
             let counted = record server.memory { votes = at server.memory.votes from true } in
-            OnOk result (StandsFor self.new members (durable_state d.new)
-            (if has_quorum members counted.votes
-            then record {
-              store = put_all server.store (win_puts server.store);
-              memory = win_memory server.store counted;
-            } else record server { memory = counted })
-            (if has_quorum members counted.votes then clock.win times else times)) }
-        ensures fault { CallFaultIsSticky d.old d.new (result_err result) }
-        ensures fits { OnOk result (Fits self.new (durable_state d.new)) }
+            let wins = has_quorum members counted.votes in
+            StandsFor self.new members (durable_state d.now)
+            (record server { memory = if wins then win_memory server.store counted else counted })
+            (if wins then clock.win times else times) }
+        ensures fits { Fits self.new (durable_state d.now) }
         ensures me { raft_me self.new ≡ raft_me self.old }
         ensures size { raft_size self.new ≡ raft_size self.old }
     {
-        puts_in_turn::<D>();
         self.count(from);
         if self.has_quorum(Cause::Candidacy) {
-            self.win(d)?;
+            self.win(d);
         }
-        Ok(())
     }
 }
 

@@ -210,6 +210,32 @@ fn an_entry_of_an_older_term_is_committed_with_one_of_the_leaders_own(
     Ok(())
 }
 
+/// Last and the last entry, of the leader of term 2 with an entry of term 1 that is not committed: when it
+/// has won, and when member 2 has answered that it has its log. Its blank waits until it is heard, or not.
+fn won_and_heard(waits: bool) -> Option<[(u8, Entry); 2]> {
+    let mut member = Member::open(stored(1, &[pair(1, 7, 125)], 0)?, 3, 0);
+    if waits {
+        member = member.waiting();
+    }
+    let member = member.lead()?;
+    let won = last(&member);
+    let (member, _) = append(member, 1, true)?;
+    Some([won, last(&member)])
+}
+
+fn last(member: &Member) -> (u8, Entry) {
+    let last = member.durable.last();
+    (last, member.durable.entry(last))
+}
+
+#[test]
+fn a_blank_waits_until_a_quorum_has_the_log(rt: HostRuntime) {
+    let found = (1, pair(1, 7, 125));
+    let added = (2, blank(2));
+    assert_eq!(rt; won_and_heard(true), Some([found, added]));
+    assert_eq!(rt; won_and_heard(false), Some([added, added]));
+}
+
 /// What a leader tells, in order, once all of its log is committed: a reservation, a pair and the blank of
 /// its win.
 fn tells() -> Option<[Telling; 4]> {

@@ -92,7 +92,27 @@ impl Member {
 
     /// Member 1 of 3 that has waited 2,000 ms, and leads by the vote of member 2.
     pub fn leader(durable: Durable<MemoryDisk>) -> Option<Member> {
-        let member = Member::open(durable, 3, 0).tick(2000, 0)?;
+        Member::open(durable, 3, 0).lead()
+    }
+
+    /// From now on its blank waits until a quorum has its log.
+    pub fn waiting(self) -> Member {
+        let Member {
+            mut raft,
+            durable,
+            size,
+        } = self;
+        raft.wait_until_heard();
+        Member {
+            raft,
+            durable,
+            size,
+        }
+    }
+
+    /// One of 3 that opened, after it has waited 2,000 ms: it leads by the vote of member 2.
+    pub fn lead(self) -> Option<Member> {
+        let member = self.tick(2000, 0)?;
         let (member, _) = member.call(2, 0, 2000)?;
         let term = member.durable.term();
         let (member, _) = member.vote_answer(2, 0, term, true, 2000)?;

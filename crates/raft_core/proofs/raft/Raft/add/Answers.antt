@@ -28,11 +28,12 @@ returns-then-last-ge127-clause-appends g c =
 
 pub returns-then-is_taken-clause-appends : goal.returns-then-is_taken-clause-appends
 returns-then-is_taken-clause-appends g c =
+    let least : 1 ≤ c.args.node = search rules in
     let taken : IsTaken (durable_state c.args.d.now).log c.args.uid.now c.args.node =
     subst (λ (l : List Entry). IsTaken l c.args.uid.now c.args.node) c.log.ensures
     (subst (λ (k : ℕ). IsTaken c.log.result.now c.args.uid.now k) c.get.ensures.number (c.is_taken.ensures.0 c.if-is_taken.true)) in
     not_tried c.args.self.now c.args.uid.now c.args.node c.args.origin c.args.d.now (Ok Taken) (λ t. t) refl (c.puts_in_turn.ensures.nothing c.args.d.now)
-    (λ p store role may. may_not c.logs_stay_injective.ensures.reservation c.logs_stay_injective.ensures.pair p (durable_state c.args.d.now) c.args.uid.now c.args.node store taken may)
+    (λ p store role may. may_not c.logs_stay_injective.ensures.reservation c.logs_stay_injective.ensures.pair p (durable_state c.args.d.now) c.args.uid.now c.args.node store least c.requires.node taken may)
 
 pub returns-in_err-append-clause-appends : goal.returns-in_err-append-clause-appends
 returns-in_err-append-clause-appends g c =

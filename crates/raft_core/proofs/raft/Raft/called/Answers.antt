@@ -28,9 +28,9 @@ returns g c =
     record {
       moves = λ members p t st move due.
           called_stands raft _ (durable_state c.args.d.now) c.args.peer (omega arith) c.match-what.kept call
-          (record { role = refl; told = refl; me = refl; known = refl; since = refl; word = refl; peers = refl }) members p t st raft.me c.args.what.now made (c.requires.owed members c.args.step p t st) move due;
+          (record { role = refl; told = refl; me = refl; known = refl; since = refl; word = refl; waits = refl; peers = refl }) members p t st raft.me c.args.what.now made (c.requires.owed members c.args.step p t st) move due;
       fits = called_fits raft _ (durable_state c.args.d.now) c.args.peer (omega arith) c.match-what.kept call
-          (record { role = refl; told = refl; me = refl; known = refl; since = refl; word = refl; peers = refl }) c.args.what.now made c.requires.owed c.requires.fits;
+          (record { role = refl; told = refl; me = refl; known = refl; since = refl; word = refl; waits = refl; peers = refl }) c.args.what.now made c.requires.owed c.requires.fits;
       me = refl;
       size = refl;
     }

@@ -1,15 +1,12 @@
-use Rattle.std.proofs.Common.{rules, ◌≡◌, ◌≤◌, false, refl, sym, subst, ap, ◌∙◌, length, arith}
-use Rattle.std.specs.Prelude.{Some, None, nat_lt}
-use Rattle.raft_log.specs.declared.origin.TheConstants.{LEADER}
+use Rattle.std.proofs.Common.{rules, refl, sym, ◌∙◌}
+use Rattle.std.specs.Prelude.{Some, None}
 use Rattle.raft_log.specs.DurableViews.{durable_state}
-use Rattle.raft_model.specs.Moves.Elections.{memory_without_call, term_puts}
+use Rattle.raft_model.specs.Handlers.{server_after}
 use Rattle.raft_model.specs.Moves.Move.{TakeAppendAnswer}
-use Rattle.raft_model.specs.Server.{RaftServer, Store}
 use Rattle.raft_core.specs.Handled.{answer_of}
-use Rattle.raft_core.specs.StoredPuts.{CallWrites, with_origin}
-use Rattle.raft_core.specs.Times.{end_call, given_at}
-use Rattle.raft_core.proofs.Answering.{leader_stays, matched, not_higher, not_matched, unraised}
-use Rattle.raft_core.proofs.Moving.{one_move_failed}
+use Rattle.raft_core.specs.Times.{given_at, times_after}
+use Rattle.raft_core.proofs.Blanks.{blank_behind_move, handed_on, leads_alike, nothing_behind_move}
+use Rattle.raft_core.proofs.Puts.{faults_at}
 use Rattle.raft_core.proofs.raft.Raft.on_append_answer.Goals as goal
 
 pub returns-in_default-clause-moves : goal.returns-in_default-clause-moves
@@ -17,82 +14,70 @@ returns-in_default-clause-moves g c = λ members n p t st awaited step r is.
     let none = c.awaited_reach.ensures.none (search rules) members (durable_state c.args.d.now) p t st in
     absurd (cc (sym none ∙ awaited))
 
-pub returns-in_err-raise-clause-refused : goal.returns-in_err-raise-clause-refused
-returns-in_err-raise-clause-refused g c = λ members p t st not.
-    let some = (c.in-Some.ensures.some members (durable_state c.args.d.now) p t st).0 in
-    absurd (cc (sym not ∙ some))
+pub take_append_answer-requires-clause-reach : goal.take_append_answer-requires-clause-reach
+take_append_answer-requires-clause-reach g c = λ leads. c.in-Some.ensures.within (durable_state c.args.d.now) c.requires.fits leads
 
-pub returns-in_err-raise-clause-moves : goal.returns-in_err-raise-clause-moves
-returns-in_err-raise-clause-moves g c = λ members n p t st awaited step r is.
+pub returns-in_err-take_append_answer-clause-refused : goal.returns-in_err-take_append_answer-clause-refused
+returns-in_err-take_append_answer-clause-refused g c = λ members p t st not.
+    absurd (cc (sym not ∙ (c.in-Some.ensures.some members (durable_state c.args.d.now) p t st).0))
+
+pub returns-in_err-take_append_answer-clause-moves : goal.returns-in_err-take_append_answer-clause-moves
+returns-in_err-take_append_answer-clause-moves g c = λ members n p t st awaited step r is.
+    let raft = c.args.self.now in
     let old = c.args.d.now in
+    let new = c.take_append_answer.new.d in
+    let fault = c.in_err-take_append_answer.field-0.0 in
     let a = answer_of step c.args.from r c.args.ans.now.term c.args.ans.now.success in (
-      one_move_failed members c.args.self.now.me n (given_at c.args.now) (TakeAppendAnswer a) p t old _ c.raise.new.self _ c.in_err-raise.field-0.0 (search rules)
-          (subst (λ (z : Store). CallWrites (with_origin LEADER (term_puts z a.term)) old c.raise.new.d (Some c.in_err-raise.field-0.0)) (sym st.store) (c.in_err-raise.ensures.puts LEADER)),
+      handed_on members raft.me n (given_at c.args.now) _ p t old new _ _ fault (search rules)
+          (nothing_behind_move members raft.me n (given_at c.args.now) (TakeAppendAnswer a) p t old new c.take_append_answer.new.self _ fault (λ xs ys. c.puts_in_turn.ensures.cut_off xs ys old new fault)
+          (c.in_err-take_append_answer.ensures.moves members n p t st step r ((c.in-Some.ensures.some members (durable_state old) p t st).1 r is))),
       search rules,
     )
 
-pub returns-then-not-leads-clause-refused : goal.returns-then-not-leads-clause-refused
-returns-then-not-leads-clause-refused g c = λ members p t st not.
-    let some = (c.in-Some.ensures.some members (durable_state c.args.d.now) p t st).0 in
-    absurd (cc (sym not ∙ some))
+pub returns-in_err-add_blank_if_due-clause-refused : goal.returns-in_err-add_blank_if_due-clause-refused
+returns-in_err-add_blank_if_due-clause-refused g c = λ members p t st not.
+    absurd (cc (sym not ∙ (c.in-Some.ensures.some members (durable_state c.args.d.now) p t st).0))
 
-pub returns-then-not-leads-clause-moves : goal.returns-then-not-leads-clause-moves
-returns-then-not-leads-clause-moves g c = λ members n p t st awaited step r is.
+pub returns-in_err-add_blank_if_due-clause-moves : goal.returns-in_err-add_blank_if_due-clause-moves
+returns-in_err-add_blank_if_due-clause-moves g c = λ members n p t st awaited step r is.
+    let raft = c.args.self.now in
     let old = c.args.d.now in
+    let mid = c.take_append_answer.new.d in
+    let new = c.add_blank_if_due.new.d in
+    let given = given_at c.args.now in
+    let fault = c.in_err-add_blank_if_due.field-0.0 in
     let a = answer_of step c.args.from r c.args.ans.now.term c.args.ans.now.success in
-    let p1 : RaftServer = record p { memory = memory_without_call p.memory c.args.from } in
-    let t1 = end_call c.args.from t in
-    let st2 = c.in_ok-raise.ensures.stands members p1 t1 (c.end_call.ensures.stands members (durable_state old) p t st) in
-    let none = λ (low : nat_lt p.store.term a.term ≡ false).
-    let st3 = unraised c.raise.new.self members (durable_state c.raise.new.d) p1 t1 c.args.now a.term low st2 in
-    sym (c.leads.ensures.leads p1 a st3.role (ap (λ (z : Store). z.term) st3.store ∙ sym c.term.ensures) refl) ∙ c.if-not-leads.true in (
-      not_matched members c.args.self.now.me n (given_at c.args.now) p t a old c.raise.new.d c.raise.new.self none
-          (subst (λ (z : Store). CallWrites (with_origin LEADER (term_puts z a.term)) old c.raise.new.d None) (sym st.store) (c.in_ok-raise.ensures.puts LEADER)) st2,
-      refl,
+    let first = c.in_ok-take_append_answer.ensures.moves members n p t st step r ((c.in-Some.ensures.some members (durable_state old) p t st).1 r is) in (
+      handed_on members raft.me n given _ p t old new _ _ fault (search rules)
+          (blank_behind_move members raft.me n given (TakeAppendAnswer a) p t old new c.take_append_answer.new.self _ mid (Some fault) (λ xs ys. c.puts_in_turn.ensures.joined xs ys old mid new (Some fault)) first c.in_ok-take_append_answer.ensures.me
+          (c.in_err-add_blank_if_due.ensures.moves members n (server_after members raft.me n p (TakeAppendAnswer a)) (times_after members raft.me given p (TakeAppendAnswer a) t) first.after given refl p
+          (leads_alike p raft.role _ st.role (search rules)))),
+      search rules,
     )
-
-pub returns-then-not-leads-clause-fits : goal.returns-then-not-leads-clause-fits
-returns-then-not-leads-clause-fits g c = c.in_ok-raise.ensures.fits (c.end_call.ensures.fits (durable_state c.args.d.now) c.requires.fits)
-
-pub move_on-requires-clause-reach : goal.move_on-requires-clause-reach
-move_on-requires-clause-reach g c =
-    let leads = c.if-not-leads.ensures.leader refl in
-    let led = leader_stays c.end_call.new.self c.raise.new.self c.in_ok-raise.ensures.role leads in
-    let within = c.in-Some.ensures.within (durable_state c.args.d.now) c.requires.fits (sym c.end_call.ensures.role ∙ led) in
-    omega (arith, within, (c.a_durable_state_is_kept.ensures c.args.d.now).storable.room)
-
-pub move_on-requires-clause-matched : goal.move_on-requires-clause-matched
-move_on-requires-clause-matched g c = λ d.
-    let leads = c.if-not-leads.ensures.leader refl in
-    let fits = c.in_ok-raise.ensures.fits (c.end_call.ensures.fits (durable_state c.args.d.now) c.requires.fits) in
-    omega (arith, (fits.peers leads c.args.from d (omega (arith, c.requires.most))).matched, (c.a_durable_state_is_kept.ensures c.raise.new.d).storable.room)
 
 pub returns-clause-refused : goal.returns-clause-refused
 returns-clause-refused g c = λ members p t st not.
-    let some = (c.in-Some.ensures.some members (durable_state c.args.d.now) p t st).0 in
-    absurd (cc (sym not ∙ some))
+    absurd (cc (sym not ∙ (c.in-Some.ensures.some members (durable_state c.args.d.now) p t st).0))
 
 pub returns-clause-moves : goal.returns-clause-moves
 returns-clause-moves g c = λ members n p t st awaited step r is.
+    let raft = c.args.self.now in
     let old = c.args.d.now in
+    let mid = c.take_append_answer.new.d in
+    let new = c.add_blank_if_due.new.d in
+    let given = given_at c.args.now in
     let a = answer_of step c.args.from r c.args.ans.now.term c.args.ans.now.success in
-    let p1 : RaftServer = record p { memory = memory_without_call p.memory c.args.from } in
-    let t1 = end_call c.args.from t in
-    let leads = c.if-not-leads.ensures.leader refl in
-    let st2 = c.in_ok-raise.ensures.stands members p1 t1 (c.end_call.ensures.stands members (durable_state old) p t st) in
-    let low = not_higher p1 a.term c.raise.new.self.role st2.role (λ h. cc (sym leads ∙ h)) in
-    let st3 = unraised c.raise.new.self members (durable_state c.raise.new.d) p1 t1 c.args.now a.term low st2 in
-    let so = sym (c.leads.ensures.leads p1 a st3.role (ap (λ (z : Store). z.term) st3.store ∙ sym c.term.ensures) refl) ∙ c.if-not-leads.false in (
-      matched members c.args.self.now.me n (given_at c.args.now) p t a old c.raise.new.d _ low so
-          (subst (λ (z : Store). CallWrites (with_origin LEADER (term_puts z a.term)) old c.raise.new.d None) (sym st.store) (c.in_ok-raise.ensures.puts LEADER))
-          (c.move_on.ensures.stands members (durable_state c.raise.new.d) p1 t1 st3 leads a refl refl ((c.in-Some.ensures.some members (durable_state old) p t st).1 r is)),
+    let first = c.in_ok-take_append_answer.ensures.moves members n p t st step r ((c.in-Some.ensures.some members (durable_state old) p t st).1 r is) in (
+      blank_behind_move members raft.me n given (TakeAppendAnswer a) p t old new c.take_append_answer.new.self _ mid None (λ xs ys. c.puts_in_turn.ensures.joined xs ys old mid new None) first c.in_ok-take_append_answer.ensures.me
+          (c.in_ok-add_blank_if_due.ensures.moves members n (server_after members raft.me n p (TakeAppendAnswer a)) (times_after members raft.me given p (TakeAppendAnswer a) t) first.after given refl p
+          (leads_alike p raft.role _ st.role (search rules))),
       refl,
     )
 
-pub returns-clause-fits : goal.returns-clause-fits
-returns-clause-fits g c =
-    let leads = c.if-not-leads.ensures.leader refl in
-    let led = leader_stays c.end_call.new.self c.raise.new.self c.in_ok-raise.ensures.role leads in
-    let within = c.in-Some.ensures.within (durable_state c.args.d.now) c.requires.fits (sym c.end_call.ensures.role ∙ led) in
-    c.move_on.ensures.fits (durable_state c.raise.new.d) (c.in_ok-raise.ensures.fits (c.end_call.ensures.fits (durable_state c.args.d.now) c.requires.fits))
-    (subst (λ l. c.in-Some.reach ≤ length l) (sym c.in_ok-raise.ensures.log) within)
+pub returns-in_err-add_blank_if_due-clause-fault : goal.returns-in_err-add_blank_if_due-clause-fault
+returns-in_err-add_blank_if_due-clause-fault g c =
+    faults_at _ c.add_blank_if_due.new.d c.in_err-add_blank_if_due.field-0.0 _ (search rules)
+    (c.puts_in_turn.ensures.faults c.args.d.now c.take_append_answer.new.d c.add_blank_if_due.new.d _ c.in_ok-take_append_answer.ensures.fault c.in_err-add_blank_if_due.ensures.fault)
+
+pub returns-clause-fault : goal.returns-clause-fault
+returns-clause-fault g c = c.puts_in_turn.ensures.faults c.args.d.now c.take_append_answer.new.d c.add_blank_if_due.new.d _ c.in_ok-take_append_answer.ensures.fault c.in_ok-add_blank_if_due.ensures.fault

@@ -62,7 +62,7 @@ returns-clause-moves g c = λ members n p t st step.
     let ruled = ruled_now members raft.me n (given_at c.args.now) p t r v judged old c.accept.new.d raft st not mid c.raise.new.self st1 in
     let answer = c.in_ok-success.ensures.puts step c.args.from raft.me v ruled in
     let made = subst (λ (l : List Put). CallWrites (with_origin LEADER l) mid c.accept.new.d None) (puts_now members raft.me n (given_at c.args.now) p t r v judged old c.accept.new.d raft st not mid c.raise.new.self st1) answer.0 in
-    taken members raft.me n (given_at c.args.now) p t r v judged old c.accept.new.d raft st not mid c.raise.new.self st1 _ _ _ refl refl refl refl refl answer.1 refl answer.0
+    taken members raft.me n (given_at c.args.now) p t r v judged old c.accept.new.d raft st not mid c.raise.new.self st1 _ _ _ refl refl refl refl refl refl answer.1 refl answer.0
     (alike LEADER (term_puts (store_of (durable_state old)) r.term) (append_puts (with_term p.store r.term) r v) old _ None
     (c.puts_in_turn.ensures.joined _ _ old mid _ _ (c.in_ok-raise.ensures.puts LEADER) made))
 

@@ -57,7 +57,7 @@ returns-clause-moves g c = λ members n p t st step.
     let is = c.law_decisions.ensures.granted (with_term p.store r.term) r in
     let st1 = c.in_ok-raise.ensures.stands members p t st in
     let may : MayGrant (store_of (durable_state mid)) r = (c.may_grant.ensures step raft.me).0 (search rules) in
-    vote_granted members raft.me n (given_at c.args.now) p t r granted is old raft st mid c.raise.new.self st1 _ (search rules) c.vote.new.d _ may c.requires.least refl refl refl refl refl refl c.in_ok-vote.ensures.puts
+    vote_granted members raft.me n (given_at c.args.now) p t r granted is old raft st mid c.raise.new.self st1 _ (search rules) c.vote.new.d _ may c.requires.least refl refl refl refl refl refl refl c.in_ok-vote.ensures.puts
     (alike LEADER (term_puts (store_of (durable_state old)) r.term) (vote_puts (store_of (durable_state mid)).vote r.from) old _ None
     (c.puts_in_turn.ensures.joined _ _ old mid _ _ (c.in_ok-raise.ensures.puts LEADER) c.in_ok-vote.ensures.puts))
 
