@@ -36,7 +36,7 @@ use Rattle.alloc_spec.specs.Extends.{Extends}
 use Rattle.alloc_spec.specs.StepState.{StepState, with_moves}
 use Rattle.alloc_spec.specs.Services.{answers_append, answers_append_request, answers_call, answers_vote, answers_vote_request, append_answered, ends_append_call, ends_vote_call, hears_info, is_listed, takes_append_answer, takes_append_request, takes_vote_answer, takes_vote_request, tells_info, vote_answered}
 use Rattle.alloc_spec.specs.Step.{with_answer}
-use Rattle.alloc_spec.specs.AllocatorState.{is_zero, known, may_propose, recorded_at, taken}
+use Rattle.alloc_spec.specs.AllocatorState.{is_zero, known, may_propose, members_of, recorded_at, taken}
 use Rattle.alloc_spec.proofs.Ends.{gives_more}
 use Rattle.alloc_spec.proofs.Extending.{proposes_more}
 use Rattle.alloc_spec.proofs.Extends.{and_more, either_more, itself, no_more, takes_more}
@@ -65,7 +65,8 @@ append_request_more step d asked g = either_more (is_listed d g.allocator) g (an
 
 call_more : (step : ℕ) (move : Call → Move) (pending : Option Call) (g : StepState) → Extends g (answers_call step move pending g)
 call_more step move None g = itself g
-call_more step move (Some r) g = takes_more step (given_at g.allocator.now) (move r ∷ []) g
+call_more step move (Some r) g = takes_more step (given_at g.allocator.now)
+    (handled.with_blank (members_of g.allocator) g.allocator.me step g.allocator.times g.allocator.raft_server (move r ∷ [])) g
 
 vote_answer_more : (step : ℕ) (d : Delivery) (says : VoteAnswer) (g : StepState) → Extends g (takes_vote_answer step d says g)
 vote_answer_more step d says g = either_more (is_listed d g.allocator) g (ends_vote_call step d says g) g

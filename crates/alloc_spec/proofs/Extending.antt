@@ -44,7 +44,7 @@ status_more : (step : ℕ) (g : StepState) → Extends g (status_phase step g)
 status_more step g = either_more (nat_le 1000 (g.allocator.now - g.allocator.status_at)) g (tells_status step g) g (no_more g (tells_status step g) refl refl refl) (itself g)
 
 pub election_more : (step word : ℕ) (g : StepState) → Extends g (election_phase step word g)
-election_more step word g = takes_more step (given_tick g.allocator.now word) (election_moves g.allocator) g
+election_more step word g = takes_more step (given_tick g.allocator.now word) (election_moves step g.allocator) g
 
 pub ticks_more : (step word : ℕ) (g : StepState) → Extends g (clock_phase step word g)
 ticks_more step word g =

@@ -1,3 +1,4 @@
+pub mod Blanks
 pub mod Delivering
 pub mod Ends
 pub mod Extending

@@ -1,5 +1,5 @@
 -- What a member is told of its cluster when it is opened: the number of members alone, or also who they are.
-use Rattle.std.specs.Prelude.{◌≡◌, ℕ, ◌≤◌, Bool, nat_lt, List, [], ◌∷◌, length}
+use Rattle.std.specs.Prelude.{◌≡◌, ℕ, ◌≤◌, Bool, true, nat_lt, List, [], ◌∷◌, length}
 use Rattle.cluster_discovery.specs.Members.{Event, Heard}
 use Rattle.node_discovery.specs.declared.counting.Counting.{Counting}
 use Rattle.node_discovery.specs.declared.counting.Counting.TheVariants.{SinceAnswer}
