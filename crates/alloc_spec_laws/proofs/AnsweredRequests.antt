@@ -142,7 +142,7 @@ module _ (t : AllocatorState) (number : ℕ) (event : Event)
   answered_keeping : Keeping number event Answered (IsDelivered t number event)
   answered_keeping = record {
     takes_keep = λ given moves g quiet decided h. record { me = h.me; list = h.list; each = h.each };
-    proposes_keep = λ origin uid node g found h. record { me = h.me; list = h.list; each = h.each };
+    proposes_keep = λ given uid node g found h. record { me = h.me; list = h.list; each = h.each };
     sends_keep = λ what to payload says g sends h. record {
       me = h.me;
       list = h.list;

@@ -68,7 +68,7 @@ module _ (judged : (server : RaftServer) (request : Request) → IsJudged server
   gives_keeping = record {
     takes_keep = λ given moves g quiet decided h.
         moved_on g _ (moves_grow judged (members_of g.allocator) g.allocator.me number moves g.allocator.raft_server decided h.sane) refl h;
-    proposes_keep = λ origin uid node g found h.
+    proposes_keep = λ given uid node g found h.
         moved_on g _ (moves_grow judged (members_of g.allocator) g.allocator.me number (ProposeEntry (proposal g.allocator.raft_server.store.term uid node) ∷ [])
         g.allocator.raft_server (tt, tt) h.sane) refl h;
     sends_keep = λ what to payload says g sends h. record { sane = h.sane; each = one_more g.allocator.raft_server.store g.offers _ h.each sends.gives };

@@ -41,7 +41,7 @@ module _ (t : AllocatorState) (number : ℕ) (event : Event) where
   told_keeping : Keeping number event Told (IsDelivered t number event)
   told_keeping = record {
     takes_keep = λ given moves g quiet decided h. record { size = h.size; list = h.list; each = h.each };
-    proposes_keep = λ origin uid node g found h. record { size = h.size; list = h.list; each = h.each };
+    proposes_keep = λ given uid node g found h. record { size = h.size; list = h.list; each = h.each };
     sends_keep = λ what to payload says g sends h. record {
       size = h.size;
       list = h.list;

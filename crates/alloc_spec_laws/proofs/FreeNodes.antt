@@ -1,5 +1,5 @@
 -- The node ID of an entry that a step records when it takes a frame.
-use Rattle.std.proofs.Common.{◌≡◌, ◌≢◌, ℕ, zero, suc, ◌+◌, ◌-◌, ◌<◌, ◌≤◌, Bool, true, false, List, [], ◌∷◌, drop, get_or, ◌⊎◌, inl, inr, refl, sym, ◌∙◌, ap, subst, arith, Option, Some, None}
+use Rattle.std.proofs.Common.{◌≡◌, ◌≢◌, ℕ, zero, suc, ◌+◌, ◌-◌, ◌<◌, ◌≤◌, Bool, true, false, List, [], ◌∷◌, ◌++◌, append_assoc, append-nil, drop, get_or, ◌⊎◌, inl, inr, refl, sym, ◌∙◌, ap, subst, arith, Option, Some, None}
 use Rattle.std.specs.Prelude.{◌&&◌, ◌||◌, not, is_none, max, nat_eq, nat_lt, slice_index_or}
 use Rattle.std.specs.List.{range_with_len}
 use Rattle.std.proofs.lemmas.Bool.{le-leb, leb-false}
@@ -57,7 +57,10 @@ use Rattle.alloc_spec.specs.Step.{all_nodes, at_step, begin_phase, receive_phase
 use Rattle.alloc_spec.specs.Step.Event.{Rx}
 use Rattle.alloc_spec.specs.StepState.{StepState, with_moves, with_transfer}
 use Rattle.alloc_spec.specs.Transfers.{has_room, id_of}
-use Rattle.alloc_spec_laws.specs.FreeNodes.{AllAreIdentified, GivesFreeNode, IsIdentified}
+use Rattle.alloc_spec.proofs.Blanks.{move_with_blank}
+use Rattle.alloc_spec_laws.specs.FreeNodes.{AllAreIdentified, GivesFreeNode, IsBlankOf, IsIdentified}
+use Rattle.alloc_spec_laws.specs.Phases.{when_seen}
+use Rattle.alloc_spec_laws.proofs.AddedBlanks.{IsAddedTo, adds}
 use Rattle.alloc_spec_laws.proofs.CalledPeers.{IsQuiet, commit_quiet, expire_quiet, quiet_proposals}
 use Rattle.alloc_spec_laws.proofs.Choices.{and_right, either, eq_false, eq_true, not_true, tell}
 use Rattle.alloc_spec_laws.proofs.Lists.{in_append, none_passes}
@@ -125,10 +128,10 @@ not_heard events now moment off heard = leb-false (now - moment) 3000 (rw heard 
 
 -- ---- what the exchange chose
 
-record IsChosen (t : AllocatorState) (entry : Entry) : Type 0 where
-  preference : ℕ
-  is : chosen (taken t) preference ≡ Some entry.node
-  none : some_unknown t.watch (known t) t.now ≡ false
+pub record IsChosen (t : AllocatorState) (entry : Entry) : Type 0 where
+  pub preference : ℕ
+  pub is : chosen (taken t) preference ≡ Some entry.node
+  pub none : some_unknown t.watch (known t) t.now ≡ false
 
 module _ (chosen_is : (busy : List Bool) (preferred : ℕ) → IsChoice busy preferred (chosen busy preferred)) where
   chosen_gives : (t : AllocatorState) (entry : Entry) → IsChosen t entry → GivesFreeNode t t.now entry
@@ -148,27 +151,46 @@ module _ (chosen_is : (busy : List Bool) (preferred : ℕ) → IsChoice busy pre
 -- ---- what a step records from one state to another
 
 -- nothing
-record RecordsNone (g h : StepState) : Type 0 where
-  before : (entry : Entry) → In (ProposeEntry entry) h.moves → In (ProposeEntry entry) g.moves
+pub record RecordsNone (g h : StepState) : Type 0 where
+  pub more : List Move
+  pub moves : h.moves ≡ g.moves ++ more
+  pub nothing : (entry : Entry) → In (ProposeEntry entry) more → ⊥
 
--- nothing but what the exchange chose
-record RecordsChosen (g h : StepState) : Type 0 where
-  before : (entry : Entry) → In (ProposeEntry entry) h.moves → In (ProposeEntry entry) g.moves ⊎ IsChosen g.allocator entry
+-- nothing but what the exchange chose, or a leader's blank at its moment
+pub record RecordsChosen (number : ℕ) (g h : StepState) : Type 0 where
+  pub before : (entry : Entry) → In (ProposeEntry entry) h.moves
+      → In (ProposeEntry entry) g.moves ⊎ (IsAddedTo number g h entry ⊎ IsChosen g.allocator entry)
 
-then : {f g h : StepState} → RecordsNone f g → RecordsNone g h → RecordsNone f h
-then first second = record { before = λ entry i. first.before entry (second.before entry i) }
+pub in_turn : {f g h : StepState} → RecordsNone f g → RecordsNone g h → RecordsNone f h
+in_turn {f} {g} {h} first second = record {
+  more = first.more ++ second.more;
+  moves = second.moves ∙ ap (λ (moves : List Move). moves ++ second.more) first.moves ∙ append_assoc f.moves first.more second.more;
+  nothing = λ entry i. elim (in_append (ProposeEntry entry) first.more second.more i) [ inl j ↦ first.nothing entry j | inr j ↦ second.nothing entry j ];
+}
+
+-- a state with the same moves
+pub same : (g h : StepState) → h.moves ≡ g.moves → RecordsNone g h
+same g h e = record { more = []; moves = e ∙ sym (append-nil g.moves); nothing = λ entry i. i }
 
 none : (g : StepState) → RecordsNone g g
-none g = record { before = λ entry i. i }
+none g = same g g refl
 
-only : {g h : StepState} → RecordsNone g h → RecordsChosen g h
-only n = record { before = λ entry i. inl (n.before entry i) }
+-- of states with the same moves
+like : {f g h k : StepState} → g.moves ≡ f.moves → k.moves ≡ h.moves → RecordsNone g h → RecordsNone f k
+like {f} {g} {h} {k} first last n = record { more = n.more; moves = last ∙ n.moves ∙ ap (λ (moves : List Move). moves ++ n.more) first; nothing = n.nothing }
+
+pub is_before : {g h : StepState} → RecordsNone g h → (entry : Entry) → In (ProposeEntry entry) h.moves → In (ProposeEntry entry) g.moves
+is_before {g} {h} n entry i = elim (in_append (ProposeEntry entry) g.moves n.more (subst (λ (moves : List Move). In (ProposeEntry entry) moves) n.moves i)) [
+  | inl j ↦ j
+  | inr j ↦ absurd (n.nothing entry j)
+]
+
+only : {number : ℕ} {g h : StepState} → RecordsNone g h → RecordsChosen number g h
+only n = record { before = λ entry i. inl (is_before n entry i) }
 
 module _ (number : ℕ) where
   moved : (given : Given) (moves : List Move) (g : StepState) → ((entry : Entry) → In (ProposeEntry entry) moves → ⊥) → RecordsNone g (with_moves number given moves g)
-  moved given moves g other = record {
-    before = λ entry i. elim (in_append (ProposeEntry entry) g.moves moves i) [ inl j ↦ j | inr j ↦ absurd (other entry j) ];
-  }
+  moved given moves g other = record { more = moves; moves = refl; nothing = other }
 
   one_move : (given : Given) (move : Move) (g : StepState) → IsQuiet move → RecordsNone g (with_moves number given (move ∷ []) g)
   one_move given move g quiet = moved given (move ∷ []) g (quiet_proposals (move ∷ []) (quiet, tt))
@@ -178,7 +200,7 @@ module _ (number : ℕ) where
       let payload : List ℕ = allocation_payload entry.node entry.uid in
       let offered : StepState = with_transfer number Alloc 0 payload None g in
       either (RecordsNone g) (has_room g.allocator.queue payload) _ offered
-      (λ e. record { before = (one_move (given_at g.allocator.now) move offered quiet).before }) (λ e. record { before = λ entry i. i })
+      (λ e. like refl refl (one_move (given_at g.allocator.now) move offered quiet)) (λ e. same g offered refl)
 
   -- ---- the end
 
@@ -199,11 +221,9 @@ module _ (number : ℕ) where
   by_call what peer move request payload g other =
       let offered : StepState = with_transfer number what peer payload (Some (Requests request)) g in
       either (RecordsNone g) (has_room g.allocator.queue payload) _ offered
-      (λ e. record {
-        before = (moved (given_call g.allocator.now (id_of g.allocator.ids what peer)) (move ∷ []) offered
-            (λ entry i. elim i [ inl is ↦ other entry (sym is) | inr j ↦ j ])).before;
-      })
-      (λ e. record { before = λ entry i. i })
+      (λ e. like refl refl (moved (given_call g.allocator.now (id_of g.allocator.ids what peer)) (move ∷ []) offered
+      (λ entry i. elim i [ inl is ↦ other entry (sym is) | inr j ↦ j ])))
+      (λ e. same g offered refl)
 
   owed_call : (call : Option Move) (g : StepState) → RecordsNone g (calls_owed number call g)
   owed_call None g = none g
@@ -218,35 +238,35 @@ module _ (number : ℕ) where
   calls : (peers : List ℕ) (g : StepState) → RecordsNone g (calls_all number peers g)
   calls [] g = none g
   calls (peer ∷ peers) g =
-      then (owed_call (owed g.allocator.raft_server g.allocator.times peer g.allocator.now) g) (calls peers (calls_peer number peer g))
+      in_turn (owed_call (owed g.allocator.raft_server g.allocator.times peer g.allocator.now) g) (calls peers (calls_peer number peer g))
 
-  ends : (g : StepState) → RecordsNone g (end_phase number g)
+  pub ends : (g : StepState) → RecordsNone g (end_phase number g)
   ends g =
       let told : StepState = tell_phase number (commit_phase number g) in
-      then (then (commits g) (tells (commit_phase number g))) (calls (drop 1 (members_of told.allocator)) told)
+      in_turn (in_turn (commits g) (tells (commit_phase number g))) (calls (drop 1 (members_of told.allocator)) told)
 
   -- ---- a transfer that is no request of a device
 
-  reading : {A : Type 0} (does : A → StepState → StepState) (value : Option A) (g : StepState) → ((found : A) → RecordsNone g (does found g))
-      → RecordsNone g (reads does value g).step_state
-  reading does None g f = none g
-  reading does (Some value) g f = f value
+  reading : {A : Type 0} (Holds : StepState → Type 0) (does : A → StepState → StepState) (value : Option A) (g : StepState) → Holds g
+      → ((found : A) → Holds (does found g)) → Holds (reads does value g).step_state
+  reading Holds does None g h f = h
+  reading Holds does (Some value) g h f = f value
 
   asked : (d : Delivery) (bytes : List ℕ) (g : StepState) → RecordsNone g (asks_info number d bytes g).step_state
-  asked d [] g = record { before = λ entry i. i }
+  asked d [] g = same g (asks_info number d [] g).step_state refl
   asked d (byte ∷ bytes) g = none g
 
   votes : (d : Delivery) (value : VoteRequest) (g : StepState) → RecordsNone g (answers_vote_request number d value g)
   votes d value g =
       let request = handled.vote_request_of value d.mark.step d.ident.source g.allocator.me in
       let granted : Bool = grants (with_term g.allocator.raft_server.store request.term) request in
-      record { before = (one_move (given_at g.allocator.now) (TakeVoteRequest request granted) g tt).before }
+      like refl refl (one_move (given_at g.allocator.now) (TakeVoteRequest request granted) g tt)
 
   appends : (d : Delivery) (value : AppendRequest) (g : StepState) → RecordsNone g (answers_append_request number d value g)
   appends d value g =
       let request = handled.append_request_of value d.mark.step d.ident.source g.allocator.me in
       let verdict : Verdict = verdict_on g.allocator.raft_server request in
-      record { before = (one_move (given_at g.allocator.now) (TakeAppendRequest request verdict) g tt).before }
+      like refl refl (one_move (given_at g.allocator.now) (TakeAppendRequest request verdict) g tt)
 
   abbrev Result : StepState → StepResult → Type 0
   Result g s = RecordsNone g s.step_state
@@ -254,43 +274,58 @@ module _ (number : ℕ) where
   messages : (d : Delivery) (g : StepState) → RecordsNone g (delivered.message d g).step_state
   messages d g =
       either (Result g) (nat_eq d.ident.number 341) (reads (λ status. hears_status d) (node_status_of d.payload) g) (reads (hears_discovery d) (discovery_of d.payload) g)
-      (λ e. reading (λ status. hears_status d) (node_status_of d.payload) g (λ status. record { before = λ entry i. i }))
-      (λ e. reading (hears_discovery d) (discovery_of d.payload) g (λ message. record { before = λ entry i. i }))
+      (λ e. reading (RecordsNone g) (λ status. hears_status d) (node_status_of d.payload) g (none g) (λ status. same g (hears_status d g) refl))
+      (λ e. reading (RecordsNone g) (hears_discovery d) (discovery_of d.payload) g (none g) (λ message. same g (hears_discovery d message g) refl))
 
   requests : (d : Delivery) (g : StepState) → RecordsNone g (request number d g).step_state
   requests d g =
       either (Result g) (nat_eq d.ident.number 1) (asks_info number d d.payload g) _ (λ e. asked d d.payload g)
       (λ e. either (Result g) (nat_eq d.ident.number 30) (reads (takes_append_request number d) (append_request_of d.payload) g)
       (reads (takes_vote_request number d) (vote_request_of d.payload) g)
-      (λ e. reading (takes_append_request number d) (append_request_of d.payload) g
+      (λ e. reading (RecordsNone g) (takes_append_request number d) (append_request_of d.payload) g (none g)
       (λ value. either (RecordsNone g) (is_listed d g.allocator) _ g (λ e. appends d value g) (λ e. none g)))
-      (λ e. reading (takes_vote_request number d) (vote_request_of d.payload) g
+      (λ e. reading (RecordsNone g) (takes_vote_request number d) (vote_request_of d.payload) g (none g)
       (λ value. either (RecordsNone g) (is_listed d g.allocator) _ g (λ e. votes d value g) (λ e. none g))))
 
+  -- by an answer the moment for a blank may come
   call_ended : (move : Request → Move) (pending : Option Request) (g : StepState) → ((request : Request) → IsQuiet (move request))
-      → RecordsNone g (answers_call number move pending g)
-  call_ended move None g quiet = none g
-  call_ended move (Some request) g quiet = one_move (given_at g.allocator.now) (move request) g (quiet request)
+      → RecordsChosen number g (answers_call number move pending g)
+  call_ended move None g quiet = only (none g)
+  call_ended move (Some request) g quiet =
+      let given : Given = given_at g.allocator.now in
+      let ended : StepState = with_moves number given (move request ∷ []) g in
+      let own : Entry = blank ended.allocator.raft_server.store.term in
+      let nothing : RecordsNone g ended = one_move given (move request) g (quiet request) in
+      move_with_blank (RecordsChosen number g) number given (move request) g (only nothing) (λ moment. record {
+        before = λ entry i. elim (in_append (ProposeEntry entry) ended.moves (ProposeEntry own ∷ []) i) [
+          | inl j ↦ inl (is_before nothing entry j)
+          | inr (inl is) ↦ inr (inl (adds number given (move request ∷ []) g entry moment is))
+          | inr (inr j) ↦ absurd j
+        ];
+      })
 
-  responses : (d : Delivery) (g : StepState) → RecordsNone g (response number d g).step_state
+  abbrev Chosen : StepState → StepResult → Type 0
+  Chosen g s = RecordsChosen number g s.step_state
+
+  responses : (d : Delivery) (g : StepState) → RecordsChosen number g (response number d g).step_state
   responses d g =
-      either (Result g) (nat_eq d.ident.number 1) (reads (hears_info d) (node_info_of d.payload) g) _
-      (λ e. reading (hears_info d) (node_info_of d.payload) g (λ info. record { before = λ entry i. i }))
-      (λ e. either (Result g) (nat_eq d.ident.number 30) (reads (takes_append_answer number d) (append_answer_of d.payload) g)
+      either (Chosen g) (nat_eq d.ident.number 1) (reads (hears_info d) (node_info_of d.payload) g) _
+      (λ e. reading (RecordsChosen number g) (hears_info d) (node_info_of d.payload) g (only (none g)) (λ info. only (same g (hears_info d info g) refl)))
+      (λ e. either (Chosen g) (nat_eq d.ident.number 30) (reads (takes_append_answer number d) (append_answer_of d.payload) g)
       (reads (takes_vote_answer number d) (vote_answer_of d.payload) g)
-      (λ e. reading (takes_append_answer number d) (append_answer_of d.payload) g (λ says.
-      either (RecordsNone g) (is_listed d g.allocator) (ends_append_call number d says g) g
-      (λ e. either (RecordsNone g) (is_awaited g.allocator.raft_server g.allocator.times d.ident.source true d.id) _ g
-      (λ e. call_ended (append_answered d says) (g.allocator.raft_server.memory.pending d.ident.source) g (λ request. tt)) (λ e. none g)) (λ e. none g)))
-      (λ e. reading (takes_vote_answer number d) (vote_answer_of d.payload) g (λ says.
-      either (RecordsNone g) (is_listed d g.allocator) (ends_vote_call number d says g) g
-      (λ e. either (RecordsNone g) (is_awaited g.allocator.raft_server g.allocator.times d.ident.source false d.id) _ g
-      (λ e. call_ended (vote_answered d says) (g.allocator.raft_server.memory.pending d.ident.source) g (λ request. tt)) (λ e. none g)) (λ e. none g))))
+      (λ e. reading (RecordsChosen number g) (takes_append_answer number d) (append_answer_of d.payload) g (only (none g)) (λ says.
+      either (RecordsChosen number g) (is_listed d g.allocator) (ends_append_call number d says g) g
+      (λ e. either (RecordsChosen number g) (is_awaited g.allocator.raft_server g.allocator.times d.ident.source true d.id) _ g
+      (λ e. call_ended (append_answered d says) (g.allocator.raft_server.memory.pending d.ident.source) g (λ request. tt)) (λ e. only (none g))) (λ e. only (none g))))
+      (λ e. reading (RecordsChosen number g) (takes_vote_answer number d) (vote_answer_of d.payload) g (only (none g)) (λ says.
+      either (RecordsChosen number g) (is_listed d g.allocator) (ends_vote_call number d says g) g
+      (λ e. either (RecordsChosen number g) (is_awaited g.allocator.raft_server g.allocator.times d.ident.source false d.id) _ g
+      (λ e. call_ended (vote_answered d says) (g.allocator.raft_server.memory.pending d.ident.source) g (λ request. tt)) (λ e. only (none g))) (λ e. only (none g)))))
 
   -- ---- a request of a device
 
   by_choice : (uid : List ℕ) (preference : ℕ) (choice : Option ℕ) (g : StepState) → chosen (taken g.allocator) preference ≡ choice
-      → some_unknown g.allocator.watch (known g.allocator) g.allocator.now ≡ false → RecordsChosen g (records_at number uid choice g)
+      → some_unknown g.allocator.watch (known g.allocator) g.allocator.now ≡ false → RecordsChosen number g (records_at number uid choice g)
   by_choice uid preference None g e unknown = only (none g)
   by_choice uid preference (Some node) g e unknown =
       let own : Entry = proposal g.allocator.raft_server.store.term uid node in
@@ -299,54 +334,55 @@ module _ (number : ℕ) where
           | inl j ↦ inl j
           | inr (inl is) ↦
               let same : entry ≡ own = cc (is) in
-              inr (record { preference = preference; is = e ∙ ap (λ (x : Entry). Some x.node) (sym same); none = unknown })
+              inr (inr (record { preference = preference; is = e ∙ ap (λ (x : Entry). Some x.node) (sym same); none = unknown }))
           | inr (inr j) ↦ absurd j
         ];
       }
 
-  by_place : (uid : List ℕ) (preference : ℕ) (place : Option ℕ) (g : StepState) → RecordsChosen g (answers_or_records number uid preference place g)
+  by_place : (uid : List ℕ) (preference : ℕ) (place : Option ℕ) (g : StepState) → RecordsChosen number g (answers_or_records number uid preference place g)
   by_place uid preference (Some place) g =
-      either (RecordsChosen g) (nat_lt place g.allocator.raft_server.store.commit) _ g
+      either (RecordsChosen number g) (nat_lt place g.allocator.raft_server.store.commit) _ g
       (λ e. only (gives (AnswerAgain place) (slice_index_or g.allocator.raft_server.store.log place (blank 0)) g tt)) (λ e. only (none g))
   by_place uid preference None g =
       let unknown : Bool = some_unknown g.allocator.watch (known g.allocator) g.allocator.now in
-      either (RecordsChosen g) (may_propose g.allocator && not unknown) _ g
+      either (RecordsChosen number g) (may_propose g.allocator && not unknown) _ g
       (λ e. by_choice uid preference (chosen (taken g.allocator) preference) g refl (not_true unknown (and_right (may_propose g.allocator) (not unknown) e)))
       (λ e. only (none g))
 
-  hears : (heard : Heard) (g : StepState) → RecordsChosen g (answers_request number heard g)
-  hears (FollowUp bytes) g = record { before = λ entry i. inl i }
+  hears : (heard : Heard) (g : StepState) → RecordsChosen number g (answers_request number heard g)
+  hears (FollowUp bytes) g = only (same g (answers_request number (FollowUp bytes) g) refl)
   hears (Whole uid preference) g =
-      either (RecordsChosen g) (is_zero uid) g _ (λ e. only (none g)) (λ e. by_place uid preference (recorded_at g.allocator.raft_server.store.log uid) g)
+      either (RecordsChosen number g) (is_zero uid) g _ (λ e. only (none g)) (λ e. by_place uid preference (recorded_at g.allocator.raft_server.store.log uid) g)
   hears (Ignored why) g = only (none g)
   hears Denied g = only (none g)
 
-  by_kinds : (d : Delivery) (kind : Kind) (g : StepState) → RecordsChosen g (by_kind number d kind g).step_state
+  by_kinds : (d : Delivery) (kind : Kind) (g : StepState) → RecordsChosen number g (by_kind number d kind g).step_state
   by_kinds d Anonymous g = by_message (allocation_of d.payload) where
-    by_message : (value : Option Allocation) → RecordsChosen g (reads (hears_allocation number) value g).step_state
+    by_message : (value : Option Allocation) → RecordsChosen number g (reads (hears_allocation number) value g).step_state
     by_message None = only (none g)
     by_message (Some message) = record {
       before = λ entry i. elim ((hears (answer g.allocator.accepted message g.allocator.now (may_follow g.allocator)) (with_request message g)).before entry i) [
         | inl j ↦ inl j
-        | inr h ↦ inr (record { preference = h.preference; is = h.is; none = h.none })
+        | inr (inl own) ↦ inr (inl (record { before = own.before; moves = own.moves; moment = own.moment; leads = own.leads; is = own.is; of = own.of }))
+        | inr (inr h) ↦ inr (inr (record { preference = h.preference; is = h.is; none = h.none }))
       ];
     }
   by_kinds d Broadcast g = only (messages d g)
   by_kinds d RequestKind g = only (requests d g)
-  by_kinds d Response g = only (responses d g)
+  by_kinds d Response g = responses d g
 
-  delivers : (d : Delivery) (g : StepState) → RecordsChosen g (delivery_phase number d g).step_state
+  delivers : (d : Delivery) (g : StepState) → RecordsChosen number g (delivery_phase number d g).step_state
   unfolding delivery_phase
   delivers d g = by_kinds d d.ident.kind g
 
-  answers : (answer : Received) (g : StepState) → RecordsChosen g (with_answer number answer g).step_state
+  pub answers : (answer : Received) (g : StepState) → RecordsChosen number g (with_answer number answer g).step_state
   answers (Gives d) g = delivers d g
   answers Continues g = only (none g)
   answers (Drops why) g = only (none g)
 
   -- ---- the step
 
-  begins : (now : ℕ) (t : AllocatorState) (entry : Entry) → In (ProposeEntry entry) (begin_phase number now t).moves → ⊥
+  pub begins : (now : ℕ) (t : AllocatorState) (entry : Entry) → In (ProposeEntry entry) (begin_phase number now t).moves → ⊥
   begins now t entry i =
       let nodes : List ℕ = overdue t.times (max t.now now) all_nodes in quiet_proposals (handled.moves_of_expire nodes) (expire_quiet nodes) entry i
 
@@ -373,15 +409,16 @@ begun t number now entry h =
 
 pub step_gives : ((busy : List Bool) (preferred : ℕ) → IsChoice busy preferred (chosen busy preferred))
     → (t : AllocatorState) (number : ℕ) (arrival : Arrival) (entry : Entry) → In (ProposeEntry entry) (step t number (Rx arrival)).step_state.moves
-    → GivesFreeNode t (max t.now arrival.moment) entry
+    → IsBlankOf (when_seen t number (Rx arrival)).allocator.raft_server entry ⊎ GivesFreeNode t (max t.now arrival.moment) entry
 unfolding step
 step_gives chosen_is t number arrival entry i =
     let begin : StepState = begin_phase number arrival.moment t in
     let received : StepState = (receive_phase number arrival begin).step_state in
     let recorded = (answers number (rx.answer (setting_for begin.allocator.me) begin.allocator.sessions (at_step begin.allocator arrival)) (with_sessions arrival begin)).before entry
-    ((ends number received).before entry i) in
+    (is_before (ends number received) entry i) in
     elim recorded [
       | inl j ↦ absurd (begins number arrival.moment t entry j)
-      | inr h ↦ begun t number arrival.moment entry
-          (chosen_gives chosen_is begin.allocator entry (record { preference = h.preference; is = h.is; none = h.none }))
+      | inr (inl own) ↦ inl own.of
+      | inr (inr h) ↦ inr (begun t number arrival.moment entry
+          (chosen_gives chosen_is begin.allocator entry (record { preference = h.preference; is = h.is; none = h.none })))
     ]

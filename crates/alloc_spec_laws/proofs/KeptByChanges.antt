@@ -12,6 +12,7 @@ use Rattle.dsdl_codec.specs.declared.discovery.Discovery.{Discovery}
 use Rattle.dsdl_codec.specs.Discovery.{discovery_bytes, discovery_of}
 use Rattle.node_discovery.specs.History.{Asked, Event as Happens, Status, Taken, identity}
 use Rattle.node_discovery.specs.Watch.{history, of_node}
+use Rattle.raft_core.specs.Taken.{proposal}
 use Rattle.raft_core.specs.Times.{Given, Times, given_call, times_after}
 use Rattle.raft_model.specs.Lists.{at}
 use Rattle.raft_model.specs.Messages.{Message, Request}
@@ -24,7 +25,7 @@ use Rattle.alloc_spec.specs.Delivered.{hears_discovery}
 use Rattle.alloc_spec.specs.StepState.{StepState, with_response_to, with_transfer, with_moves, with_allocator}
 use Rattle.alloc_spec.specs.Step.{Event}
 use Rattle.alloc_spec.specs.Step.Event.{Rx, Tick}
-use Rattle.alloc_spec.specs.Tick.{discovery_of as own_discovery, proposes, with_discovery}
+use Rattle.alloc_spec.specs.Tick.{discovery_of as own_discovery, with_discovery}
 use Rattle.alloc_spec.specs.AllocatorState.{AllocatorState, members_of, start_of}
 use Rattle.alloc_spec.specs.Transfers.{Given as Pair, has_room, id_of, kind_of}
 use Rattle.alloc_spec_laws.specs.Calls.{carrier}
@@ -96,7 +97,8 @@ pub record Sends (number : ℕ) (event : Event) (t : AllocatorState) (what : Wha
   pub told : what ≡ Disc → IsTick event × (payload ≡ discovery_bytes (own_discovery t))
   pub gives : (given : Pair) → Gives what payload given → IsOfPlace t.raft_server.store given
 
--- whence a leader has a unique ID that it records: of the exchange it has 16 bytes, else a node told it; one of zeros is a reservation's
+-- whence a leader has a unique ID that it records: of the exchange it has 16 bytes, else a node told it; one of zeros is
+-- a reservation's or a blank's
 abbrev pub IsFound : AllocatorState → List ℕ → Type 0
 IsFound t uid = (length uid ≡ 16) ⊎ (((node : ℕ) × (identity (history node t.watch) t.now ≡ Some uid)) ⊎ (uid ≡ zeros))
 
@@ -110,7 +112,9 @@ pub record Keeping (number : ℕ) (event : Event) (Keeps : StepState → Type 0)
   -- moves that call nobody, and append nothing of a leader's own
   pub takes_keep : (given : Given) (moves : List Move) (g : StepState) → AreQuiet moves
       → AreDecided (members_of g.allocator) g.allocator.me number g.allocator.raft_server moves → Keeps g → Keeps (with_moves number given moves g)
-  pub proposes_keep : (origin : ℕ) (uid : List ℕ) (node : ℕ) (g : StepState) → IsFound g.allocator uid → Keeps g → Keeps (proposes number origin uid node g)
+  -- an entry of a leader's own: a pair, a reservation or a blank
+  pub proposes_keep : (given : Given) (uid : List ℕ) (node : ℕ) (g : StepState) → IsFound g.allocator uid → Keeps g
+      → Keeps (with_moves number given (ProposeEntry (proposal g.allocator.raft_server.store.term uid node) ∷ []) g)
   pub sends_keep : (what : What) (to : ℕ) (payload : List ℕ) (says : Option Message) (g : StepState) → Sends number event g.allocator what to payload says
       → Keeps g → Keeps (with_transfer number what to payload says g)
   -- the move of a call, after the request that fitted

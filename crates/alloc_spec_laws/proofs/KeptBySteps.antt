@@ -28,8 +28,9 @@ use Rattle.node_discovery.specs.History as nodes
 use Rattle.node_discovery.specs.Watch.{history, Watched, devices, is_due as is_node_due, next_query, some_unknown}
 use Rattle.raft_core.specs.Calls.{owed}
 use Rattle.raft_core.specs.Handled as handled
-use Rattle.raft_core.specs.Times.{given_at, given_tick, has_waited, is_awaited, overdue}
+use Rattle.raft_core.specs.Times.{Given, given_at, given_proposal, given_tick, has_waited, is_awaited, overdue}
 use Rattle.raft_model.specs.Decisions.{grants, verdict_on}
+use Rattle.raft_model.specs.Duty.{tick_phase}
 use Rattle.raft_model.specs.Moves.{next_entry, Move}
 use Rattle.raft_model.specs.Lists.{In}
 use Rattle.raft_model.specs.Messages.{Answer, Request}
@@ -50,10 +51,11 @@ use Rattle.alloc_spec.specs.Services.{answers_append_request, answers_call, answ
 use Rattle.alloc_spec.specs.Accepted.{setting_for}
 use Rattle.alloc_spec.specs.Step.{Event, all_nodes, at_step, at_moment, begin_phase, event_phase, expiry_phase, moment_of, step, with_answer, with_sessions}
 use Rattle.alloc_spec.specs.Step.Event.{Rx, Tick}
-use Rattle.alloc_spec.specs.Tick.{asks, candidate, discovery_phase, election_moves, election_phase, new_uid, query_phase, record_phase, records_as, records_node, status_phase, tells_members, tells_status, clock_phase, with_query}
+use Rattle.alloc_spec.specs.Tick.{asks, candidate, discovery_phase, election_phase, new_uid, query_phase, record_phase, records_as, records_node, status_phase, tells_members, tells_status, clock_phase, with_query}
 use Rattle.alloc_spec.specs.AllocatorState.{AllocatorState, is_zero, known, knows_all, may_propose, members_of, recorded_at, start_of, taken}
 use Rattle.raft_model.specs.Server.{RaftServer}
 use Rattle.alloc_spec.specs.Transfers.{Given as Pair, has_room, id_of, kind_of}
+use Rattle.alloc_spec.proofs.Blanks.{adds_blank, move_with_blank, tick_with_blank}
 use Rattle.alloc_spec_laws.specs.Saying.{IsSaid}
 use Rattle.alloc_spec_laws.proofs.CalledPeers.{CallsPeer, IsQuiet, commit_quiet, expire_quiet, owes_peer, tick_quiet}
 use Rattle.alloc_spec_laws.proofs.Choices.{and_right, either, eq_false, eq_true, lt_true}
@@ -71,6 +73,10 @@ asked_device events known now node e =
     let i = in_range 1 125 node (found (λ n. is_node_due events known n now) devices node e).1 in (i.0, omega (arith, i.1))
 
 module _ (number : ℕ) (event : Event) (Keeps : StepState → Type 0) (IsEnabled : Delivery → Type 0) (k : Keeping number event Keeps IsEnabled) where
+  -- a blank is an entry with a unique ID of zeros
+  blank_keeps : (given : Given) (g : StepState) → Keeps g → Keeps (adds_blank number given g)
+  blank_keeps given g h = k.proposes_keep given zeros 0 g (inr (inr refl)) h
+
   -- ---- a tick
 
   discovery_keeps : (g : StepState) → IsTick event → Keeps g → Keeps (discovery_phase number g)
@@ -88,8 +94,8 @@ module _ (number : ℕ) (event : Event) (Keeps : StepState → Type 0) (IsEnable
       either Keeps (may_propose g.allocator) (records_node number (candidate g.allocator) g) g (λ e. go (candidate g.allocator)) (λ e. h)
     where
       recorded : (node : ℕ) (uid : Option (List ℕ)) → new_uid g.allocator node ≡ uid → Keeps (records_as number node uid g)
-      recorded node None e = k.proposes_keep 3 zeros node g (inr (inr refl)) h
-      recorded node (Some uid) e = k.proposes_keep 2 uid node g (inr (inl (node, told_is g.allocator.raft_server.store.log (identity (history node g.allocator.watch) g.allocator.now) uid e))) h
+      recorded node None e = k.proposes_keep (given_proposal g.allocator.now 3) zeros node g (inr (inr refl)) h
+      recorded node (Some uid) e = k.proposes_keep (given_proposal g.allocator.now 2) uid node g (inr (inl (node, told_is g.allocator.raft_server.store.log (identity (history node g.allocator.watch) g.allocator.now) uid e))) h
 
       go : (node : Option ℕ) → Keeps (records_node number node g)
       go None = h
@@ -111,9 +117,12 @@ module _ (number : ℕ) (event : Event) (Keeps : StepState → Type 0) (IsEnable
 
   election_keeps : (word : ℕ) (g : StepState) → Keeps g → Keeps (election_phase number word g)
   election_keeps word g h =
-      k.takes_keep (given_tick g.allocator.now word) (election_moves g.allocator) g
-      (tick_quiet (knows_all g.allocator && has_waited g.allocator.times g.allocator.now) g.allocator.raft_server)
-      (tick_decided (members_of g.allocator) g.allocator.me number (knows_all g.allocator && has_waited g.allocator.times g.allocator.now) g.allocator.raft_server) h
+      let waited : Bool = knows_all g.allocator && has_waited g.allocator.times g.allocator.now in
+      let given : Given = given_tick g.allocator.now word in
+      let ticked : StepState = with_moves number given (tick_phase waited g.allocator.raft_server) g in
+      let keeps : Keeps ticked = k.takes_keep given (tick_phase waited g.allocator.raft_server) g (tick_quiet waited g.allocator.raft_server)
+      (tick_decided (members_of g.allocator) g.allocator.me number waited g.allocator.raft_server) h in
+      tick_with_blank Keeps number word g keeps (λ moment. blank_keeps given ticked keeps)
 
   ticks_keep : (word : ℕ) (g : StepState) → IsTick event → Keeps g → Keeps (clock_phase number word g)
   ticks_keep word g tick h =
@@ -156,7 +165,7 @@ module _ (number : ℕ) (event : Event) (Keeps : StepState → Type 0) (IsEnable
     where
       go : (node : Option ℕ) → Keeps (records_at number uid node g)
       go None = h
-      go (Some node) = k.proposes_keep 1 uid node g (inl whole) h
+      go (Some node) = k.proposes_keep (given_proposal g.allocator.now 1) uid node g (inl whole) h
 
   whole_keeps : (uid : List ℕ) (preference : ℕ) (g : StepState) → length uid ≡ 16 → Keeps g → Keeps (hears_whole number uid preference g)
   whole_keeps uid preference g whole h =
@@ -183,7 +192,11 @@ module _ (number : ℕ) (event : Event) (Keeps : StepState → Type 0) (IsEnable
       → Keeps (answers_call number move call g)
   call_keeps move None g giving h = h
   call_keeps move (Some request) g giving h =
-      k.takes_keep _ _ g ((giving request).0, tt) ((giving request).1 (members_of g.allocator) g.allocator.me g.allocator.raft_server, tt) h
+      let given : Given = given_at g.allocator.now in
+      let ended : StepState = with_moves number given (move request ∷ []) g in
+      let keeps : Keeps ended = k.takes_keep given (move request ∷ []) g ((giving request).0, tt)
+      ((giving request).1 (members_of g.allocator) g.allocator.me g.allocator.raft_server, tt) h in
+      move_with_blank Keeps number given (move request) g keeps (λ moment. blank_keeps given ended keeps)
 
   reads_keeps : {A : Type 0} (does : A → StepState → StepState) (value : Option A) (g : StepState) → Keeps g → ((found : A) → value ≡ Some found → Keeps (does found g))
       → Keeps (reads does value g).step_state

@@ -2,6 +2,7 @@ pub mod Choices
 pub mod Lists
 pub mod Peers
 pub mod Pending
+pub mod AddedBlanks
 pub mod CalledPeers
 pub mod DistinctTransfers
 pub mod TickOffers
@@ -35,3 +36,4 @@ pub mod ToldMembers
 pub mod StepMessages
 pub mod FreeNodes
 pub mod Answering
+pub mod LeadersBlanks

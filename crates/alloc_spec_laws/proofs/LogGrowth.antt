@@ -1,6 +1,6 @@
 -- What moves keep of a log: its committed part, and that the commit index lies in it.
 use Rattle.std.proofs.Common.{◌≡◌, ℕ, zero, suc, ◌+◌, ◌<◌, ◌≤◌, Bool, true, false, List, [], ◌∷◌, ◌++◌, length, length-append, length-take, take, get_or, inl, inr, refl, sym, ◌∙◌, ap, subst, arith, Option, Some, None}
-use Rattle.std.specs.Prelude.{⊤, ◌&&◌, min, not, nat_lt, if◌then◌else◌}
+use Rattle.std.specs.Prelude.{⊤, ◌&&◌, min, not, nat_lt}
 use Rattle.std.proofs.lemmas.List.{get_or-take, get_or_append_left}
 use Rattle.can_frame.specs.declared.entry.Entry.{Entry}
 use Rattle.can_frame.specs.Log.{blank}
@@ -8,11 +8,11 @@ use Rattle.raft_core.specs.Handled as handled
 use Rattle.raft_model.specs.Decisions.{can_commit, commit_index, greatest_to, verdict_on}
 use Rattle.raft_model.specs.Duty as duty
 use Rattle.raft_model.specs.Handlers.{server_after, server_after_all}
-use Rattle.raft_model.specs.Messages.{Answer, Request, items, reach}
+use Rattle.raft_model.specs.Messages.{Request, items, reach}
 use Rattle.raft_model.specs.Moves.{Move}
 use Rattle.raft_model.specs.Moves.Appending.{Adds, Holds, IsJudged, IsRuled, Verdict, advance_puts, append_puts, cut_puts}
 use Rattle.raft_model.specs.Moves.Appending.Verdict.{Added, Held, Outdated, Refused}
-use Rattle.raft_model.specs.Moves.Elections.{adds_blank, votes_with, counts, grant_puts, has_quorum, is_leader, own_vote, stand_puts, term_limit, term_puts, vote_puts, win_puts, with_term}
+use Rattle.raft_model.specs.Moves.Elections.{grant_puts, is_leader, stand_puts, term_limit, term_puts, vote_puts, with_term}
 use Rattle.raft_model.specs.Moves.Move.{AnswerAgain, CallForVote, CallToAppend, CommitTo, GiveUp, ProposeEntry, TakeAppendAnswer, TakeAppendRequest, TakeVoteAnswer, TakeVoteRequest, TellNothing, TellPair, TimeOut}
 use Rattle.raft_model.specs.Server.{RaftServer, Put, Store, put, put_all}
 use Rattle.raft_model.specs.Server.Put.{PutEntry, PutLonger, PutTerm, PutVote}
@@ -66,17 +66,12 @@ put_both store (x ∷ xs) ys = put_both (put store x) xs ys
 in_turn : (a : Store) (xs ys : List Put) → Grows a (put_all a xs) → Grows (put_all a xs) (put_all (put_all a xs) ys) → Grows a (put_all a (xs ++ ys))
 in_turn a xs ys first second = subst (λ (s : Store). Grows a s) (sym (put_both a xs ys)) (and_then a (put_all a xs) (put_all (put_all a xs) ys) first second)
 
--- ---- a term, a vote, a win
+-- ---- a term, a vote
 
 terms : (store : Store) (term : ℕ) → IsSane store → Grows store (put_all store (term_puts store term))
 terms store term sane =
     either (λ (ps : List Put). Grows store (put_all store ps)) (nat_lt store.term term) (PutTerm term ∷ PutVote None ∷ []) []
     (λ e. alike store _ sane refl refl) (λ e. alike store _ sane refl refl)
-
-wins : (a : Store) → IsSane a → Grows a (put_all a (win_puts a))
-wins a sane =
-    either (λ (ps : List Put). Grows a (put_all a ps)) (adds_blank a) (PutEntry (blank a.term) ∷ PutLonger (blank a.term) ∷ []) []
-    (λ e. longer a (blank a.term) sane) (λ e. alike a a sane refl refl)
 
 votes : (a : Store) (vote : Option ℕ) (candidate : ℕ) → IsSane a → Grows a (put_all a (vote_puts vote candidate))
 votes a None candidate sane = alike a _ sane refl refl
@@ -85,23 +80,6 @@ votes a (Some earlier) candidate sane = alike a _ sane refl refl
 grants_grow : (a : Store) (request : Request) (granted : Bool) → IsSane a → Grows a (put_all a (grant_puts a request granted))
 grants_grow a request true sane = votes a a.vote request.from sane
 grants_grow a request false sane = alike a a sane refl refl
-
-stands : (store : Store) (me : ℕ) (q : Bool) → IsSane store
-    → Grows store (put_all store (stand_puts me store ++ (if q then win_puts (put_all store (stand_puts me store)) else [])))
-stands store me q sane =
-    in_turn store (stand_puts me store) (if q then win_puts (put_all store (stand_puts me store)) else [])
-    (alike store (put_all store (stand_puts me store)) sane refl refl)
-    (either (λ (ps : List Put). Grows (put_all store (stand_puts me store)) (put_all (put_all store (stand_puts me store)) ps)) q
-    (win_puts (put_all store (stand_puts me store))) []
-    (λ e. wins (put_all store (stand_puts me store)) sane) (λ e. alike (put_all store (stand_puts me store)) (put_all store (stand_puts me store)) sane refl refl))
-
-answers_grow : (members : List ℕ) (server : RaftServer) (answer : Answer) (higher one won : Bool) → IsSane server.store
-    → Grows server.store (put_all server.store
-    (if higher then term_puts server.store answer.term else (if one then (if won then win_puts server.store else []) else [])))
-answers_grow members server answer true one won sane = terms server.store answer.term sane
-answers_grow members server answer false true true sane = wins server.store sane
-answers_grow members server answer false true false sane = alike server.store server.store sane refl refl
-answers_grow members server answer false false won sane = alike server.store server.store sane refl refl
 
 -- ---- an append request
 
@@ -226,13 +204,12 @@ tick_decided members me step waited server =
 module _ (judged : (server : RaftServer) (request : Request) → IsJudged server request (verdict_on server request)) where
   move_grows : (members : List ℕ) (me step : ℕ) (server : RaftServer) (move : Move) → IsDecided members me server move → IsSane server.store
       → Grows server.store (server_after members me step server move).store
-  move_grows members me step server TimeOut is sane = stands server.store me (has_quorum members (own_vote me)) sane
+  move_grows members me step server TimeOut is sane = alike server.store (put_all server.store (stand_puts me server.store)) sane refl refl
   move_grows members me step server (TakeVoteRequest request granted) is sane =
       in_turn server.store (term_puts server.store request.term) (grant_puts (with_term server.store request.term) request granted)
       (terms server.store request.term sane)
       (grants_grow (with_term server.store request.term) request granted (terms server.store request.term sane).sane)
-  move_grows members me step server (TakeVoteAnswer answer) is sane =
-      answers_grow members server answer (nat_lt server.store.term answer.term) (counts server answer) (has_quorum members (votes_with server.memory answer)) sane
+  move_grows members me step server (TakeVoteAnswer answer) is sane = terms server.store answer.term sane
   move_grows members me step server (TakeAppendRequest request verdict) is sane =
       requests_grow server request verdict sane (subst (λ (v : Verdict). IsJudged server request v) (sym is) (judged server request))
   move_grows members me step server (TakeAppendAnswer answer) is sane = terms server.store answer.term sane

@@ -2,6 +2,7 @@
 use Rattle.std.proofs.Common.{◌≡◌, ◌≢◌, ℕ, true, List, [], ◌∷◌, ◌++◌, ◌⊎◌, inl, inr, refl, sym, ◌∙◌, ap, subst, Option, Some, None}
 use Rattle.std.specs.Prelude.{◌&&◌, ◌==◌, nat_lt}
 use Rattle.can_frame.specs.declared.entry.Entry.{Entry}
+use Rattle.can_frame.specs.Log.{IsBlank}
 use Rattle.cluster_discovery.specs.Members.{Event as Heard, Start, is_complete}
 use Rattle.cluster_discovery.specs.Members as cluster
 use Rattle.raft_core.specs.Handled.{puts_with_origins}
@@ -150,7 +151,7 @@ module _ (members : List ℕ) (number : ℕ) (bag : List Message) (local_state :
     pub called : (peer : ℕ) → Free peer → In peer (state_after_moves members me number local_state moves).called → ⊥
     pub fit : IsFit me raft_server
     pub own : OwnCalls me raft_server.memory.pending
-    pub outside : (entry : Entry) → In (ProposeEntry entry) moves → In entry.node members → ⊥
+    pub outside : (entry : Entry) → In (ProposeEntry entry) moves → IsBlank entry ⊎ (In entry.node members → ⊥)
 
   abbrev pub Steady : (ℕ → Type 0) → StepState → Type 0
   Steady Free g = Goes Free g.allocator.me g.allocator.raft_server g.moves g.puts g.offers
@@ -182,7 +183,7 @@ module _ (members : List ℕ) (number : ℕ) (bag : List Message) (local_state :
       → ((s : LocalState) → s.raft_server ≡ g.allocator.raft_server → ((peer : ℕ) → Free peer → In peer s.called → ⊥)
       → AllEnabled (members_of g.allocator) g.allocator.me number bag s moves)
       → ((peer : ℕ) → Left peer → Free peer × (In peer (calls_of_all moves) → ⊥))
-      → ((entry : Entry) → In (ProposeEntry entry) moves → In entry.node members → ⊥)
+      → ((entry : Entry) → In (ProposeEntry entry) moves → IsBlank entry ⊎ (In entry.node members → ⊥))
       → Steady Left (with_moves number given moves g)
   takes_steady laws Free Left given moves g h counting comes left new = (
     record {

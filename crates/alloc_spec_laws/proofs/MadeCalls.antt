@@ -2,7 +2,7 @@
 use Rattle.std.proofs.Common.{◌≡◌, ℕ, Bool, true, false, List, [], ◌∷◌, ◌⊎◌, inl, inr, refl, sym, ◌∙◌, ap, subst, Option, Some}
 use Rattle.std.specs.Prelude.{⊤, ◌==◌, is_some, if◌then◌else◌}
 use Rattle.can_frame.specs.declared.step.What.{What}
-use Rattle.raft_core.specs.Times.{Given, Sending, Times, given_call}
+use Rattle.raft_core.specs.Times.{Given, Sending, Times, given_call, opened_times}
 use Rattle.raft_model.specs.Lists.{In, at}
 use Rattle.raft_model.specs.Messages.{Request}
 use Rattle.raft_model.specs.Messages.Message.{Requests}
@@ -11,7 +11,7 @@ use Rattle.raft_model.specs.Server.{Memory, RaftServer, Store}
 use Rattle.alloc_spec.specs.StepState.{StepState, with_transfer, with_moves, with_allocator}
 use Rattle.alloc_spec.specs.Step.{Event, after_pop, step}
 use Rattle.alloc_spec.specs.AllocatorState.{AllocatorState, members_of}
-use Rattle.alloc_spec.specs.Rules.{Rules, opening_by}
+use Rattle.alloc_spec.specs.Rules.{Rules, opening_by, times_with}
 use Rattle.alloc_spec.specs.Transfers.{Offer, has_room, id_of}
 use Rattle.alloc_spec_laws.specs.Calls.{CallsAreMade, IsCalled, KeepsCalls, StaysPending}
 use Rattle.alloc_spec_laws.proofs.CalledPeers.{AreQuiet, quiet_calls}
@@ -111,7 +111,7 @@ module _ (number : ℕ) (t : AllocatorState) where
   calls_keeping : (event : Event) → Keeping number event (CallsAreMade number t) (λ d. ⊤)
   calls_keeping event = record {
     takes_keep = λ given moves g quiet decided h. after_takes given moves g quiet h;
-    proposes_keep = λ origin uid node g found h peer request e. carried g _ peer request refl refl refl (λ offer i. i) (h peer request e);
+    proposes_keep = λ given uid node g found h peer request e. carried g _ peer request refl refl refl (λ offer i. i) (h peer request e);
     sends_keep = λ what to payload says g sends h. same_for_all g _ refl refl refl (λ offer i. in_front offer g.offers _ i) h;
     calls_keep = after_call;
     responds_keep = λ what d payload says g comes responds h. same_for_all g _ refl refl refl (λ offer i. in_front offer g.offers _ i) h;
@@ -162,7 +162,7 @@ kept_call number what node move request payload g makes h peer =
 kept_keeping : (number : ℕ) (event : Event) → Keeping number event Kept (λ d. ⊤)
 kept_keeping number event = record {
   takes_keep = λ given moves g quiet decided h. kept_takes number given moves g quiet h;
-  proposes_keep = λ origin uid node g found h. h;
+  proposes_keep = λ given uid node g found h. h;
   sends_keep = λ what to payload says g sends h. h;
   calls_keep = λ what peer move request payload g makes fits h. kept_call number what peer move request payload g makes h;
   responds_keep = λ what d payload says g comes responds h. h;
@@ -176,7 +176,11 @@ pub step_keeps_calls : (t : AllocatorState) (number : ℕ) (event : Event) → K
 step_keeps_calls t number event h = step_keeps number event Kept (λ d. ⊤) (kept_keeping number event) t (λ arrival is d e. tt) h
 
 pub opening_keeps_calls : (me : ℕ) (rules : Rules) (store : Store) (now word : ℕ) → KeepsCalls (opening_by me rules store now word)
-opening_keeps_calls me rules store now word peer = refl
+opening_keeps_calls me rules store now word peer = by rules.told
+  where
+    by : (told : List ℕ) → is_some ((times_with told (opened_times now word)).sending peer) ≡ false
+    by [] = refl
+    by (node ∷ nodes) = refl
 
 pub popped_keeps_calls : (t : AllocatorState) → KeepsCalls t → KeepsCalls (after_pop t)
 popped_keeps_calls t h = h

@@ -49,7 +49,7 @@ module _ (t : AllocatorState) (number : ℕ) (event : Event) (Fact : Start → L
   listed_so tells hears h =
       step_keeps number event HoldsOf (IsDelivered t number event) (record {
         takes_keep = λ given moves g quiet decided h. h;
-        proposes_keep = λ origin uid node g found h. h;
+        proposes_keep = λ given uid node g found h. h;
         sends_keep = λ what to payload says g sends h. h;
         calls_keep = λ what peer move request payload g makes fits h. h;
         responds_keep = λ what d payload says g comes responds h. h;

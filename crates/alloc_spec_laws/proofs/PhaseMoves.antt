@@ -1,5 +1,5 @@
 -- The moves of each phase may come, and what it sends is what they offer.
-use Rattle.std.proofs.Common.{◌≡◌, ◌≢◌, ℕ, ◌<◌, ◌≤◌, Bool, true, false, List, [], ◌∷◌, length, inl, inr, refl, sym, ◌∙◌, ap, subst, arith, Option, Some, None, drop}
+use Rattle.std.proofs.Common.{◌≡◌, ◌≢◌, ℕ, ◌<◌, ◌≤◌, Bool, true, false, List, [], ◌∷◌, length, ◌⊎◌, inl, inr, refl, sym, ◌∙◌, ap, subst, arith, Option, Some, None, drop}
 use Rattle.std.specs.Prelude.{⊤, ◌-◌, ◌&&◌, ◌||◌, ◌==◌, not, nat_le, nat_eq, nat_lt, is_some, slice_index_or}
 use Rattle.alloc_exchange.specs.declared.heard.Heard.{Heard as Answered}
 use Rattle.alloc_exchange.specs.declared.heard.Heard.TheVariants.{Denied, FollowUp, Ignored, Whole}
@@ -9,7 +9,7 @@ use Rattle.can_frame.specs.declared.identifier.Kind.{Kind}
 use Rattle.can_frame.specs.declared.identifier.Kind.TheVariants.{Anonymous, Message as Broadcast, Request as RequestKind, Response}
 use Rattle.can_frame.specs.declared.step.What.{What}
 use Rattle.can_frame.specs.declared.step.What.TheVariants.{Alloc, Disc, Stat, InfoQ, Info, VoteQ, Vote, AppQ, App}
-use Rattle.can_frame.specs.Log.{HasNodeId, IsInjective, blank}
+use Rattle.can_frame.specs.Log.{HasNodeId, IsBlank, IsInjective, blank}
 use Rattle.can_frame.specs.Zeros.{zeros}
 use Rattle.cluster_discovery.specs.Members.{is_due}
 use Rattle.dsdl_codec.specs.declared.append_answer.AppendAnswer.{AppendAnswer}
@@ -29,7 +29,7 @@ use Rattle.node_discovery.specs.Watch.{history, next_query, some_unknown}
 use Rattle.raft_core.specs.Handled as handled
 use Rattle.raft_core.specs.Taken.{proposal}
 use Rattle.raft_core.specs.Calls.{due, due_unless, owed}
-use Rattle.raft_core.specs.Times.{Given, Sending, Times, awaits, given_at, given_call, given_proposal, given_tick, has_waited, is_awaited, is_silent, overdue}
+use Rattle.raft_core.specs.Times.{Given, Sending, awaits, given_at, given_call, given_proposal, given_tick, has_waited, is_awaited, is_silent, overdue}
 use Rattle.raft_model.specs.Fit.{IsFit}
 use Rattle.raft_model.specs.Decisions.{commit_index, grants, verdict_on}
 use Rattle.raft_model.specs.Duty as duty
@@ -40,10 +40,10 @@ use Rattle.raft_model.specs.Members.{HasNoneTwice, IsAll}
 use Rattle.raft_model.specs.Messages.{Message, Request}
 use Rattle.raft_model.specs.Messages.Message.{Answers, Pairs, Requests}
 use Rattle.raft_model.specs.Moves.Appending.{Verdict, is_accepted}
-use Rattle.raft_model.specs.Moves.Elections.{is_leader, term_limit, with_term}
-use Rattle.raft_model.specs.Moves.Leading.{MayCall, answer_to, append_request, vote_request}
+use Rattle.raft_model.specs.Moves.Elections.{is_leader, term_limit, term_puts, with_term}
+use Rattle.raft_model.specs.Moves.Leading.{MayCall, MayPropose, answer_to, append_request, vote_request}
 use Rattle.raft_model.specs.Moves.Move.{AnswerAgain, CallForVote, CallToAppend, ProposeEntry, TakeAppendRequest, TakeVoteRequest, TellNothing, TellPair, TimeOut}
-use Rattle.raft_model.specs.Server.{RaftServer, Role}
+use Rattle.raft_model.specs.Server.{Put, RaftServer, Role, Store, put_all}
 use Rattle.raft_model.specs.Server.Role.{Candidate, Follower, Leader}
 use Rattle.raft_model.specs.Stops.{AllEnabled, LocalState, state_after_moves}
 use Rattle.transfer_rx.specs.Reassembly.{Delivery}
@@ -57,6 +57,7 @@ use Rattle.alloc_spec.specs.Step.{all_nodes, expiry_phase}
 use Rattle.alloc_spec.specs.Tick.{asks, candidate, discovery_of as own_discovery, discovery_phase, election_phase, new_uid, proposes, query_phase, record_phase, records_as, records_node, status_phase, tells_members, tells_status, clock_phase, with_query}
 use Rattle.alloc_spec.specs.AllocatorState.{is_zero, known, knows_all, may_propose, members_of, recorded_at, start_of, status_of, taken}
 use Rattle.alloc_spec.specs.Transfers.{Given as Pair, pair_in, has_room, id_of, message_by, pair_message}
+use Rattle.alloc_spec.proofs.Blanks.{IsMomentOf, move_with_blank, moves_and_blank, tick_with_blank}
 use Rattle.alloc_spec_laws.specs.Coming.{AnswersFrom, RequestsFrom, SaysFrom}
 use Rattle.alloc_spec_laws.specs.LawsBelow.{Laws}
 use Rattle.alloc_spec_laws.proofs.CalledPeers.{AreQuiet, IsQuiet, commit_quiet, expire_quiet, quiet_calls, quiet_proposals, tick_quiet}
@@ -66,7 +67,7 @@ use Rattle.alloc_spec_laws.proofs.DistinctTransfers.{sent}
 use Rattle.alloc_spec_laws.proofs.Lists.{in_drop, in_front}
 use Rattle.alloc_spec_laws.proofs.Peers.{ArePeers, covers, list_peers, members_list}
 use Rattle.alloc_spec_laws.proofs.Logs.{are_zeros, no_zeros, not_told, told_at}
-use Rattle.alloc_spec_laws.proofs.Proposals.{IsNewEntry, candidate_is, chosen_new, leader_of, may_record, new_is, stood}
+use Rattle.alloc_spec_laws.proofs.Proposals.{IsNewEntry, candidate_is, chosen_new, leader_of, may_add_blank, may_record, new_is}
 use Rattle.alloc_spec_laws.proofs.MachineSteps.{Steady, offers_steady, takes_steady}
 
 -- ---- what an Allocation says
@@ -102,9 +103,13 @@ pub expire_log : (list : List ℕ) (me number : ℕ) (nodes : List ℕ) (raft_se
 expire_log list me number [] raft_server = refl
 expire_log list me number (node ∷ nodes) raft_server = expire_log list me number nodes _
 
-tick_stays : (complete : Bool) (now : ℕ) (server : RaftServer) (times : Times) → complete ≡ false → In TimeOut (handled.moves_of_tick complete now server times) → ⊥
-tick_stays true now server times e i = absurd (cc (e))
-tick_stays false now server times e i = i
+tick_stays : (complete late : Bool) (server : RaftServer) → complete ≡ false → In TimeOut (duty.tick_phase (complete && late) server) → ⊥
+tick_stays true late server e i = absurd (cc (e))
+tick_stays false late server e i = i
+
+-- a higher term leaves the log
+term_log : (store : Store) (term : ℕ) → (put_all store (term_puts store term)).log ≡ store.log
+term_log store term = either (λ (ps : List Put). (put_all store ps).log ≡ store.log) (nat_lt store.term term) _ [] (λ e. refl) (λ e. refl)
 
 commit_stays : (list : List ℕ) (me : ℕ) (server : RaftServer) → In TimeOut (duty.commit_phase list me server) → ⊥
 commit_stays list me server =
@@ -207,59 +212,84 @@ module _ (laws : Laws) (members : List ℕ) (number : ℕ) (bag : List Message) 
     pub sure : Sure g
     pub once : IsInjective g.allocator.raft_server.store.log
 
-  election_once : (list : List ℕ) (me : ℕ) (waited : Bool) (raft_server : RaftServer) → IsInjective raft_server.store.log
+  stood_once : (list : List ℕ) (me : ℕ) (waited : Bool) (raft_server : RaftServer) → IsInjective raft_server.store.log
       → IsInjective (server_after_all list me number raft_server (duty.tick_phase waited raft_server)).store.log
-  election_once list me waited raft_server once =
+  stood_once list me waited raft_server once =
       either (λ (moves : List Move). IsInjective (server_after_all list me number raft_server moves).store.log)
-      (waited && (not (is_leader raft_server.memory.role) && nat_lt raft_server.store.term term_limit)) (TimeOut ∷ []) []
-      (λ e. stood laws.blank_keeps laws.reservation_keeps laws.pair_keeps list me number raft_server once) (λ e. once)
+      (waited && (not (is_leader raft_server.memory.role) && nat_lt raft_server.store.term term_limit)) (TimeOut ∷ []) [] (λ e. once) (λ e. once)
+
+  -- a leader adds an entry of its own
+  adds_sure : (given : Given) (entry : Entry) (g : StepState) → Sure g → MayPropose g.allocator.raft_server entry → IsBlank entry ⊎ (In entry.node members → ⊥)
+      → Sure (with_moves number given (ProposeEntry entry ∷ []) g)
+  adds_sure given entry g h may outside =
+      takes_steady members number bag local_state laws Anyone Anyone given (ProposeEntry entry ∷ []) g h
+      (inl (λ i. elim i [ inl e ↦ absurd (cc (e)) | inr j ↦ j ]))
+      (λ s e free. (subst (λ (p : RaftServer). IsEnabled (members_of g.allocator) g.allocator.me bag s.called p (ProposeEntry entry)) (sym e) may, tt))
+      (λ peer l. (tt, λ i. i))
+      (λ other i. elim i [
+        | inl e ↦ let same : other ≡ entry = cc (e) in subst (λ (x : Entry). IsBlank x ⊎ (In x.node members → ⊥)) (sym same) outside
+        | inr j ↦ absurd j
+      ])
+
+  may_add : (g moved : StepState) → IsInjective moved.allocator.raft_server.store.log → IsMomentOf g moved
+      → MayPropose moved.allocator.raft_server (blank moved.allocator.raft_server.store.term)
+  may_add g moved once moment =
+      may_add_blank laws.blank_keeps laws.reservation_keeps laws.pair_keeps moved.allocator.raft_server moment.leads moment.takes once
+
+  -- a move that calls nobody and leaves the log, and a blank behind it
+  blank_sure : (given : Given) (move : Move) (g : StepState) → Sure g → IsInjective g.allocator.raft_server.store.log → move ≢ TimeOut → IsQuiet move
+      → ((called : List ℕ) → IsEnabled (members_of g.allocator) g.allocator.me bag called g.allocator.raft_server move)
+      → (with_moves number given (move ∷ []) g).allocator.raft_server.store.log ≡ g.allocator.raft_server.store.log
+      → Sure (moves_and_blank number given (move ∷ []) g)
+  blank_sure given move g h once other quiet comes same =
+      let moved : StepState = with_moves number given (move ∷ []) g in
+      let sure : Sure moved = one_move given move g h other quiet comes in
+      move_with_blank Sure number given move g sure (λ moment. adds_sure given (blank moved.allocator.raft_server.store.term) moved sure
+      (may_add g moved (subst (λ (log : List Entry). IsInjective log) (sym same) once) moment) (inl (refl, refl)))
 
   election_sure : (word : ℕ) (g : StepState) → Ticks g → Recorded (election_phase number word g)
-  election_sure word g h = record {
-    sure = takes_steady members number bag local_state laws Anyone Anyone (given_tick g.allocator.now word) (handled.moves_of_tick (knows_all g.allocator) g.allocator.now g.allocator.raft_server g.allocator.times) g h.sure
-        (elim (tell (knows_all g.allocator)) [
-          | inl e ↦ inr (record { complete = e; all = h.all e })
-          | inr e ↦ inl (tick_stays (knows_all g.allocator) g.allocator.now g.allocator.raft_server g.allocator.times e)
-        ])
-        (λ s e free. subst (λ (p : RaftServer). AllEnabled (members_of g.allocator) g.allocator.me number bag s (duty.tick_phase (knows_all g.allocator && has_waited g.allocator.times g.allocator.now) p)) e
-        (laws.tick_comes (members_of g.allocator) g.allocator.me number bag (knows_all g.allocator && has_waited g.allocator.times g.allocator.now) s))
-        (λ peer l. (
-          tt,
-          quiet_calls (handled.moves_of_tick (knows_all g.allocator) g.allocator.now g.allocator.raft_server g.allocator.times)
-              (tick_quiet (knows_all g.allocator && has_waited g.allocator.times g.allocator.now) g.allocator.raft_server) peer,
-        ))
-        (λ entry i. absurd (quiet_proposals (handled.moves_of_tick (knows_all g.allocator) g.allocator.now g.allocator.raft_server g.allocator.times)
-        (tick_quiet (knows_all g.allocator && has_waited g.allocator.times g.allocator.now) g.allocator.raft_server) entry i));
-    once = election_once (members_of g.allocator) g.allocator.me (knows_all g.allocator && has_waited g.allocator.times g.allocator.now) g.allocator.raft_server h.once;
-  }
+  election_sure word g h = tick_with_blank Recorded number word g stood (λ moment. record {
+    sure = adds_sure given (blank ticked.allocator.raft_server.store.term) ticked stood.sure (may_add g ticked stood.once moment) (inl (refl, refl));
+    once = (may_add g ticked stood.once moment).injective;
+  })
+    where
+      given : Given
+      given = given_tick g.allocator.now word
+
+      waited : Bool
+      waited = knows_all g.allocator && has_waited g.allocator.times g.allocator.now
+
+      ticked : StepState
+      ticked = with_moves number given (duty.tick_phase waited g.allocator.raft_server) g
+
+      stood : Recorded ticked
+      stood = record {
+        sure = takes_steady members number bag local_state laws Anyone Anyone given (duty.tick_phase waited g.allocator.raft_server) g h.sure
+            (elim (tell (knows_all g.allocator)) [
+              | inl e ↦ inr (record { complete = e; all = h.all e })
+              | inr e ↦ inl (tick_stays (knows_all g.allocator) (has_waited g.allocator.times g.allocator.now) g.allocator.raft_server e)
+            ])
+            (λ s e free. subst (λ (p : RaftServer). AllEnabled (members_of g.allocator) g.allocator.me number bag s (duty.tick_phase waited p)) e
+            (laws.tick_comes (members_of g.allocator) g.allocator.me number bag waited s))
+            (λ peer l. (tt, quiet_calls (duty.tick_phase waited g.allocator.raft_server) (tick_quiet waited g.allocator.raft_server) peer))
+            (λ entry i. absurd (quiet_proposals (duty.tick_phase waited g.allocator.raft_server) (tick_quiet waited g.allocator.raft_server) entry i));
+        once = stood_once (members_of g.allocator) g.allocator.me waited g.allocator.raft_server h.once;
+      }
 
   proposes_sure : (origin : ℕ) (uid : List ℕ) (node : ℕ) (g : StepState) → Sure g → IsInjective g.allocator.raft_server.store.log → may_propose g.allocator ≡ true
       → IsNewEntry (members_of g.allocator) g.allocator.raft_server.store.log uid node → Sure (proposes number origin uid node g)
   proposes_sure origin uid node g h once may new =
-      takes_steady members number bag local_state laws Anyone Anyone (given_proposal g.allocator.now origin) (ProposeEntry entry ∷ []) g h
-      (inl (λ i. elim i [ inl e ↦ absurd (cc (e)) | inr j ↦ j ]))
-      (λ s e free. (
-        subst (λ (p : RaftServer). IsEnabled (members_of g.allocator) g.allocator.me bag s.called p (ProposeEntry entry)) (sym e)
-            (may_record laws.blank_keeps laws.reservation_keeps laws.pair_keeps (members_of g.allocator) g.allocator.raft_server uid node leads
-            (lt_true (length g.allocator.raft_server.store.log) 127 (and_right (is_leader g.allocator.raft_server.memory.role) (nat_lt (length g.allocator.raft_server.store.log) 127) may))
-            once new),
-        tt,
-      ))
-      (λ peer l. (tt, λ i. i))
-      (λ other i. elim i [ inl e ↦ subst (λ (n : ℕ). In n members → ⊥) (sym (its_node other e)) not_member | inr j ↦ absurd j ])
+      adds_sure (given_proposal g.allocator.now origin) (proposal g.allocator.raft_server.store.term uid node) g h
+      (may_record laws.blank_keeps laws.reservation_keeps laws.pair_keeps (members_of g.allocator) g.allocator.raft_server uid node leads
+      (lt_true (length g.allocator.raft_server.store.log) 127 (and_right (is_leader g.allocator.raft_server.memory.role) (nat_lt (length g.allocator.raft_server.store.log) 127) may))
+      once new) (inr not_member)
     where
-      entry : Entry
-      entry = proposal g.allocator.raft_server.store.term uid node
-
       leads : g.allocator.raft_server.memory.role ≡ Leader
       leads = leader_of g.allocator.raft_server.memory.role (and_left (is_leader g.allocator.raft_server.memory.role) (nat_lt (length g.allocator.raft_server.store.log) 127) may)
 
       -- a leader knows all members
       not_member : In node members → ⊥
       not_member i = new.outside (covers laws.same_count (members_of g.allocator) members (h.1 (λ follows. absurd (cc (leads, follows)))).all node i)
-
-      its_node : (other : Entry) → ProposeEntry other ≡ ProposeEntry entry → other.node ≡ node
-      its_node other e = let same : other ≡ entry = cc (e) in ap (λ (x : Entry). x.node) same
 
   record_sure : (g : StepState) → Recorded g → Sure (record_phase number g)
   record_sure g h =
@@ -409,29 +439,31 @@ module _ (laws : Laws) (members : List ℕ) (number : ℕ) (bag : List Message) 
   awaited append d g request e is = of_service append request (g.allocator.times.sending d.ident.source) d.id
       (subst (λ (o : Option Request). awaits o (g.allocator.times.sending d.ident.source) append d.id ≡ true) e is)
 
-  vote_answer_sure : (d : Delivery) (says : VoteAnswer) (g : StepState) → Sure g
+  vote_answer_sure : (d : Delivery) (says : VoteAnswer) (g : StepState) → Sure g → IsInjective g.allocator.raft_server.store.log
       → ((call : Request) → g.allocator.raft_server.memory.pending d.ident.source ≡ Some call
       → In (Answers (handled.answer_of d.mark.step d.ident.source call says.term says.granted)) bag)
       → is_awaited g.allocator.raft_server g.allocator.times d.ident.source false d.id ≡ true
       → Sure (answers_call number (vote_answered d says) (g.allocator.raft_server.memory.pending d.ident.source) g)
-  vote_answer_sure d says g h here is = go (g.allocator.raft_server.memory.pending d.ident.source) refl
+  vote_answer_sure d says g h once here is = go (g.allocator.raft_server.memory.pending d.ident.source) refl
     where
       go : (call : Option Request) → g.allocator.raft_server.memory.pending d.ident.source ≡ call → Sure (answers_call number (vote_answered d says) call g)
       go None e = h
-      go (Some request) e = one_move (given_at g.allocator.now) (vote_answered d says request) g h (λ s. cc) tt
+      go (Some request) e = blank_sure (given_at g.allocator.now) (vote_answered d says request) g h once (λ s. cc) tt
           (λ called. (here request e, h.0.own d.ident.source request e, awaited false d g request e is, e))
+          (term_log g.allocator.raft_server.store says.term)
 
-  append_answer_sure : (d : Delivery) (says : AppendAnswer) (g : StepState) → Sure g
+  append_answer_sure : (d : Delivery) (says : AppendAnswer) (g : StepState) → Sure g → IsInjective g.allocator.raft_server.store.log
       → ((call : Request) → g.allocator.raft_server.memory.pending d.ident.source ≡ Some call
       → In (Answers (handled.answer_of d.mark.step d.ident.source call says.term says.success)) bag)
       → is_awaited g.allocator.raft_server g.allocator.times d.ident.source true d.id ≡ true
       → Sure (answers_call number (append_answered d says) (g.allocator.raft_server.memory.pending d.ident.source) g)
-  append_answer_sure d says g h here is = go (g.allocator.raft_server.memory.pending d.ident.source) refl
+  append_answer_sure d says g h once here is = go (g.allocator.raft_server.memory.pending d.ident.source) refl
     where
       go : (call : Option Request) → g.allocator.raft_server.memory.pending d.ident.source ≡ call → Sure (answers_call number (append_answered d says) call g)
       go None e = h
-      go (Some request) e = one_move (given_at g.allocator.now) (append_answered d says request) g h (λ s. cc) tt
+      go (Some request) e = blank_sure (given_at g.allocator.now) (append_answered d says request) g h once (λ s. cc) tt
           (λ called. (here request e, h.0.own d.ident.source request e, awaited true d g request e is, e))
+          (term_log g.allocator.raft_server.store says.term)
 
   -- ---- by its data type
 
@@ -478,11 +510,11 @@ module _ (laws : Laws) (members : List ℕ) (number : ℕ) (bag : List Message) 
       (λ listed. vote_sure d (handled.vote_request_of asked d.mark.step d.ident.source g.allocator.me) g h ((from listed).votes (eq_false d.ident.number 1 other) (eq_false d.ident.number 30 service) asked is) refl refl)
       (λ e. h))))
 
-  response_sure : (d : Delivery) (g : StepState) → Sure g
+  response_sure : (d : Delivery) (g : StepState) → Sure g → IsInjective g.allocator.raft_server.store.log
       → (is_listed d g.allocator ≡ true → (call : Request) → g.allocator.raft_server.memory.pending d.ident.source ≡ Some call
       → AnswersFrom bag g.allocator.raft_server g.allocator.times d call)
       → Sure (response number d g).step_state
-  response_sure d g h from =
+  response_sure d g h once from =
       either (λ (s : StepResult). Sure s.step_state) (nat_eq d.ident.number 1) (reads (hears_info d) (node_info_of d.payload) g) _
       (λ e. reads_sure (hears_info d) (node_info_of d.payload) g h (λ info is. h))
       (λ other. either (λ (s : StepResult). Sure s.step_state) (nat_eq d.ident.number 30) (reads (takes_append_answer number d) (append_answer_of d.payload) g)
@@ -490,11 +522,11 @@ module _ (laws : Laws) (members : List ℕ) (number : ℕ) (bag : List Message) 
       (λ service. reads_sure (takes_append_answer number d) (append_answer_of d.payload) g h (λ says is.
       either Sure (is_listed d g.allocator) (ends_append_call number d says g) g
       (λ listed. either Sure (is_awaited g.allocator.raft_server g.allocator.times d.ident.source true d.id) _ g
-      (λ waits. append_answer_sure d says g h (λ call pending. (from listed call pending).appends (eq_true d.ident.number 30 service) says is waits) waits) (λ e. h)) (λ e. h)))
+      (λ waits. append_answer_sure d says g h once (λ call pending. (from listed call pending).appends (eq_true d.ident.number 30 service) says is waits) waits) (λ e. h)) (λ e. h)))
       (λ service. reads_sure (takes_vote_answer number d) (vote_answer_of d.payload) g h (λ says is.
       either Sure (is_listed d g.allocator) (ends_vote_call number d says g) g
       (λ listed. either Sure (is_awaited g.allocator.raft_server g.allocator.times d.ident.source false d.id) _ g
-      (λ waits. vote_answer_sure d says g h (λ call pending. (from listed call pending).votes (eq_false d.ident.number 1 other) (eq_false d.ident.number 30 service) says is waits) waits) (λ e. h)) (λ e. h))))
+      (λ waits. vote_answer_sure d says g h once (λ call pending. (from listed call pending).votes (eq_false d.ident.number 1 other) (eq_false d.ident.number 30 service) says is waits) waits) (λ e. h)) (λ e. h))))
 
   kind_sure : (d : Delivery) (kind : Kind) (g : StepState) → Sure g → IsInjective g.allocator.raft_server.store.log → SaysFrom bag g.allocator d kind
       → Sure (by_kind number d kind g).step_state
@@ -502,7 +534,7 @@ module _ (laws : Laws) (members : List ℕ) (number : ℕ) (bag : List Message) 
       (λ message is. heard_sure (answer g.allocator.accepted message g.allocator.now (may_follow g.allocator)) (with_request message g) h once)
   kind_sure d Broadcast g h once from = message_sure d g h
   kind_sure d RequestKind g h once from = request_sure d g h from
-  kind_sure d Response g h once from = response_sure d g h from
+  kind_sure d Response g h once from = response_sure d g h once from
 
   pub delivers_sure : (d : Delivery) (g : StepState) → Sure g → IsInjective g.allocator.raft_server.store.log → SaysFrom bag g.allocator d d.ident.kind
       → Sure (delivery_phase number d g).step_state

@@ -1,6 +1,6 @@
 -- What a leader records may be proposed.
 use Rattle.std.proofs.Common.{◌≡◌, ◌≢◌, ℕ, ◌<◌, ◌≤◌, Bool, true, false, List, [], ◌∷◌, ◌++◌, length, get_or, ◌⊎◌, inl, inr, refl, sym, ◌∙◌, subst, arith, Option, Some, None}
-use Rattle.std.specs.Prelude.{◌||◌, not, is_some}
+use Rattle.std.specs.Prelude.{◌||◌, not, is_some, nat_lt}
 use Rattle.std.proofs.lemmas.List.FromFn.{get_or-map-range_with_len}
 use Rattle.can_frame.specs.declared.entry.Entry.{Entry}
 use Rattle.can_frame.specs.Log.{HasNodeId, HasUid, IsBlank, IsInjective, IsPair, IsReservation, blank, log_limit}
@@ -9,18 +9,16 @@ use Rattle.id_selector.specs.Choice.{IsChoice, IsFree, chosen}
 use Rattle.node_discovery.specs.History.{is_online}
 use Rattle.node_discovery.specs.Watch.{devices, history}
 use Rattle.raft_core.specs.Taken.{proposal}
-use Rattle.raft_model.specs.Handlers.{server_after_all}
+use Rattle.raft_model.specs.Duty.{takes_blank}
 use Rattle.raft_model.specs.Lists.{In}
-use Rattle.raft_model.specs.Moves.Elections.{adds_blank, has_quorum, is_leader, own_vote, stand_puts, win_puts}
+use Rattle.raft_model.specs.Moves.Elections.{is_leader}
 use Rattle.raft_model.specs.Moves.Leading.{MayPropose}
-use Rattle.raft_model.specs.Moves.Move.{TimeOut}
-use Rattle.raft_model.specs.Server.{RaftServer, Role, Store}
-use Rattle.raft_model.specs.Server as server
+use Rattle.raft_model.specs.Server.{RaftServer, Role}
 use Rattle.raft_model.specs.Server.Role.{Candidate, Follower, Leader}
 use Rattle.alloc_spec.specs.Tick.{candidate, if_new, is_candidate}
 use Rattle.alloc_spec.specs.AllocatorState.{AllocatorState, is_known, is_recorded, is_taken, is_zero, members_of, recorded_at, taken}
 use Rattle.cluster_discovery.specs.Members.{is_on_list}
-use Rattle.alloc_spec_laws.proofs.Choices.{and_left, not_true, tell}
+use Rattle.alloc_spec_laws.proofs.Choices.{and_left, and_right, lt_true, not_true, tell}
 use Rattle.alloc_spec_laws.proofs.Lists.{found, in_range}
 use Rattle.alloc_spec_laws.proofs.Logs.{no_zeros, not_recorded, not_told}
 use Rattle.alloc_spec_laws.proofs.Peers.{unlisted}
@@ -110,7 +108,7 @@ module _ (blank_keeps : (log : List Entry) (entry : Entry) → IsBlank entry →
             leads = role;
             room = room;
             own_term = refl;
-            kind = inr is;
+            kind = inr (inl is);
             injective = reservation_keeps raft_server.store.log (proposal raft_server.store.term uid node) is once new.given;
           }
       by_uid (inr h) =
@@ -118,19 +116,16 @@ module _ (blank_keeps : (log : List Entry) (entry : Entry) → IsBlank entry →
             leads = role;
             room = room;
             own_term = refl;
-            kind = inl is;
+            kind = inr (inr is);
             injective = pair_keeps raft_server.store.log (proposal raft_server.store.term uid node) is once h.1 new.given;
           }
 
-  won : (store : Store) → IsInjective store.log → IsInjective (server.put_all store (win_puts store)).log
-  won store once = elim (tell (adds_blank store)) [
-    | inl b ↦ rw (b) (blank_keeps store.log (blank store.term) (refl, refl) once)
-    | inr b ↦ rw (b) once
-  ]
-
-  pub stood : (list : List ℕ) (me step : ℕ) (raft_server : RaftServer) → IsInjective raft_server.store.log
-      → IsInjective (server_after_all list me step raft_server (TimeOut ∷ [])).store.log
-  stood list me step raft_server once = elim (tell (has_quorum list (own_vote me))) [
-    | inl b ↦ rw (b) (won (server.put_all raft_server.store (stand_puts me raft_server.store)) once)
-    | inr b ↦ rw (b) once
-  ]
+  pub may_add_blank : (raft_server : RaftServer) → raft_server.memory.role ≡ Leader → takes_blank raft_server.store ≡ true → IsInjective raft_server.store.log
+      → MayPropose raft_server (blank raft_server.store.term)
+  may_add_blank raft_server role takes once = record {
+    leads = role;
+    room = lt_true (length raft_server.store.log) log_limit (and_right (nat_lt raft_server.store.commit (length raft_server.store.log)) _ takes);
+    own_term = refl;
+    kind = inl (refl, refl);
+    injective = blank_keeps raft_server.store.log (blank raft_server.store.term) (refl, refl) once;
+  }

@@ -48,7 +48,7 @@ pub waits : (t : AllocatorState) (number : ℕ) (event : Event)
 waits t number event =
     (step_keeps number event (Waits number t.me t.queue) (λ d. ⊤) (record {
       takes_keep = λ given moves g quiet decided h. h;
-      proposes_keep = λ origin uid node g found h. h;
+      proposes_keep = λ given uid node g found h. h;
       sends_keep = λ what to payload says g sends h. (h.0, sent_waits number t.me t.queue what to _ payload 0 says g h);
       calls_keep = λ what peer move request payload g makes fits h. h;
       responds_keep = λ what d payload says g comes responds h. (h.0, sent_waits number t.me t.queue what d.ident.source d.id payload d.mark.step says g h);

@@ -44,7 +44,7 @@ Anything d = ⊤
 start_keeping : (number : ℕ) (event : Event) (start : Start) → Keeping number event (HasStart start) Anything
 start_keeping number event start = record {
   takes_keep = λ given moves g quiet decided h. h;
-  proposes_keep = λ origin uid node g found h. h;
+  proposes_keep = λ given uid node g found h. h;
   sends_keep = λ what to payload says g sends h. h;
   calls_keep = λ what peer move request payload g makes fits h. h;
   responds_keep = λ what d payload says g comes responds h. h;
@@ -79,7 +79,7 @@ HasCounting counting g = g.allocator.counting ≡ counting
 counting_keeping : (number : ℕ) (event : Event) (counting : Counting) → Keeping number event (HasCounting counting) Anything
 counting_keeping number event counting = record {
   takes_keep = λ given moves g quiet decided h. h;
-  proposes_keep = λ origin uid node g found h. h;
+  proposes_keep = λ given uid node g found h. h;
   sends_keep = λ what to payload says g sends h. h;
   calls_keep = λ what peer move request payload g makes fits h. h;
   responds_keep = λ what d payload says g comes responds h. h;
@@ -271,7 +271,7 @@ module _ (in_the_table : (id : ℕ) (ident : Ident) → id < 2 ^ 29 → identifi
   step_in_range t number event ids bus =
       step_keeps number event InRange IsRead (record {
         takes_keep = λ given moves g quiet decided h. record { ids = h.ids; offers = h.offers };
-        proposes_keep = λ origin uid node g found h. record { ids = h.ids; offers = h.offers };
+        proposes_keep = λ given uid node g found h. record { ids = h.ids; offers = h.offers };
         sends_keep = λ what to payload says g sends h. sends_in_range number what to payload says g (destination (kind_of what) to sends.destination) h;
         calls_keep = λ what peer move request payload g makes fits h. record { ids = h.ids; offers = h.offers };
         responds_keep = λ what d payload says g comes responds h. record {

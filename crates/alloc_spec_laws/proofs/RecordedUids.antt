@@ -90,7 +90,7 @@ no_entry moves more free h entry i = elim (in_append (ProposeEntry entry) moves 
 records_keeping : (number : ℕ) (event : Event) → Keeping number event Records (λ d. ⊤)
 records_keeping number event = record {
   takes_keep = λ given moves g quiet decided h. record { watch = h.watch; uids = no_entry g.moves moves (quiet_proposals moves quiet) h.uids };
-  proposes_keep = λ origin uid node g found h. record {
+  proposes_keep = λ given uid node g found h. record {
     watch = h.watch;
     uids = one_entry g.moves (proposal g.allocator.raft_server.store.term uid node) (found_uid g.allocator uid h.watch found) h.uids;
   };

@@ -48,7 +48,7 @@ pub stays_up : (t : AllocatorState) (number : ℕ) (event : Event) → (step t n
 stays_up t number event =
     step_keeps number event (λ g. g.allocator.raft_server.memory.up ≡ t.raft_server.memory.up) (λ d. ⊤) (record {
       takes_keep = λ given moves g quiet decided h. up_all (members_of g.allocator) g.allocator.me number moves g.allocator.raft_server ∙ h;
-      proposes_keep = λ origin uid node g found h. h;
+      proposes_keep = λ given uid node g found h. h;
       sends_keep = λ what to payload says g sends h. h;
       calls_keep = λ what peer move request payload g makes fits h. up_after (members_of g.allocator) g.allocator.me number g.allocator.raft_server move ∙ h;
       responds_keep = λ what d payload says g comes responds h. h;

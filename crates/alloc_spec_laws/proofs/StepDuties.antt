@@ -9,7 +9,7 @@ use Rattle.cluster_discovery.specs.Members.{is_due}
 use Rattle.node_discovery.specs.Watch.{next_query}
 use Rattle.raft_core.specs.Calls.{owed}
 use Rattle.raft_core.specs.Handled.{moves_of_expire}
-use Rattle.raft_core.specs.Times.{Given, Times, given_at, has_waited, overdue, times_after_all}
+use Rattle.raft_core.specs.Times.{Given, Times, given_at, given_tick, has_waited, overdue, times_after_all}
 use Rattle.raft_model.specs.Decisions.{commit_index}
 use Rattle.raft_model.specs.Duty as duty
 use Rattle.raft_model.specs.Duty.{CommitDuty, TellDuty, TickDuty}
@@ -29,6 +29,7 @@ use Rattle.alloc_spec.specs.Step.Event.{Tick}
 use Rattle.alloc_spec.specs.Tick.{asks, candidate, discovery_phase, election_phase, new_uid, query_phase, record_phase, records_as, records_node, status_phase, tells_members, tells_status, clock_phase, with_query}
 use Rattle.alloc_spec.specs.AllocatorState.{AllocatorState, is_zero, known, knows_all, may_propose, members_of, start_of}
 use Rattle.alloc_spec.specs.Transfers.{has_room, id_of}
+use Rattle.alloc_spec.proofs.Blanks.{tick_with_blank}
 use Rattle.alloc_spec_laws.specs.Phases.{TellsDuly, has_room_to_tell, told_allocation, when_committed, when_told}
 use Rattle.alloc_spec_laws.specs.LawsBelow.{Laws}
 use Rattle.alloc_spec_laws.proofs.Choices.{either, lt_tells, tell}
@@ -107,7 +108,7 @@ tells_duly laws t number event = record {
 -- ---- who has waited stands
 
 -- calls that are given up leave the role, what is stored, and the wait
-expire_role : (list : List ℕ) (me number : ℕ) (nodes : List ℕ) (raft_server : RaftServer)
+pub expire_role : (list : List ℕ) (me number : ℕ) (nodes : List ℕ) (raft_server : RaftServer)
     → (server_after_all list me number raft_server (moves_of_expire nodes)).memory.role ≡ raft_server.memory.role
 expire_role list me number [] raft_server = refl
 expire_role list me number (node ∷ nodes) raft_server = expire_role list me number nodes _
@@ -140,10 +141,17 @@ status_waits number term g h =
     either (Waits term) (nat_le 1000 (g.allocator.now - g.allocator.status_at)) (tells_status number g) g (λ e. h) (λ e. h)
 
 election_stands : (laws : Laws) (number word term : ℕ) (g : StepState) → term < term_limit → Waits term g → Stood (term + 1) (election_phase number word g)
-election_stands laws number word term g low h =
-    let d = subst (λ (b : Bool). TickDuty g.allocator.raft_server (server_after_all (members_of g.allocator) g.allocator.me number g.allocator.raft_server (duty.tick_phase b g.allocator.raft_server)))
-    (sym h.2) (laws.tick_duty (members_of g.allocator) g.allocator.me number g.allocator.raft_server h.0 (omega (arith, low, h.1))) in
-    (d.stands, d.next ∙ ap (λ (n : ℕ). n + 1) h.1)
+election_stands laws number word term g low h = tick_with_blank (Stood (term + 1)) number word g stood (λ moment. stood)
+  where
+    waited : Bool
+    waited = knows_all g.allocator && has_waited g.allocator.times g.allocator.now
+
+    duly : TickDuty g.allocator.raft_server (server_after_all (members_of g.allocator) g.allocator.me number g.allocator.raft_server (duty.tick_phase waited g.allocator.raft_server))
+    duly = subst (λ (b : Bool). TickDuty g.allocator.raft_server (server_after_all (members_of g.allocator) g.allocator.me number g.allocator.raft_server (duty.tick_phase b g.allocator.raft_server)))
+        (sym h.2) (laws.tick_duty (members_of g.allocator) g.allocator.me number g.allocator.raft_server h.0 (omega (arith, low, h.1)))
+
+    stood : Stood (term + 1) (with_moves number (given_tick g.allocator.now word) (duty.tick_phase waited g.allocator.raft_server) g)
+    stood = (duly.stands, duly.next ∙ ap (λ (n : ℕ). n + 1) h.1)
 
 record_stood : (number term : ℕ) (g : StepState) → Stood term g → Stood term (record_phase number g)
 record_stood number term g h =

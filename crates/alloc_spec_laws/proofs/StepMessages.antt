@@ -30,7 +30,7 @@ pub all_say : (t : AllocatorState) (number : ℕ) (event : Event) (offer : Offer
 all_say t number event =
     (step_keeps number event (AllSay number t.me) (λ d. ⊤) (record {
       takes_keep = λ given moves g quiet decided h. h;
-      proposes_keep = λ origin uid node g found h. h;
+      proposes_keep = λ given uid node g found h. h;
       sends_keep = λ what to payload says g sends h. (h.0, one_says number t.me g.allocator.me g.offers _ h.0 h.1 sends.said);
       calls_keep = λ what peer move request payload g makes fits h. h;
       responds_keep = λ what d payload says g comes responds h. (h.0, one_says number t.me g.allocator.me g.offers _ h.0 h.1 responds.said);

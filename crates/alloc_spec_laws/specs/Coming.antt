@@ -1,10 +1,10 @@
 -- When the moves of a step may come in the message machine.
-use Rattle.std.specs.Prelude.{◌≡◌, ◌≢◌, ⊤, ℕ, true, false, List, Option, Some}
+use Rattle.std.specs.Prelude.{◌≡◌, ◌≢◌, ◌⊎◌, ⊤, ℕ, true, false, List, Option, Some}
 use Rattle.can_frame.specs.declared.entry.Entry.{Entry}
 use Rattle.can_frame.specs.declared.identifier.Kind.{Kind}
 use Rattle.can_frame.specs.declared.identifier.Kind.TheVariants.{Anonymous, Message as Broadcast, Request as RequestKind, Response}
 use Rattle.can_frame.specs.DataTypes.{append_entries, get_node_info}
-use Rattle.can_frame.specs.Log.{IsInjective}
+use Rattle.can_frame.specs.Log.{IsBlank, IsInjective}
 use Rattle.dsdl_codec.specs.declared.append_answer.AppendAnswer.{AppendAnswer}
 use Rattle.dsdl_codec.specs.declared.append_request.AppendRequest.{AppendRequest}
 use Rattle.dsdl_codec.specs.declared.vote_answer.VoteAnswer.{VoteAnswer}
@@ -103,7 +103,7 @@ pub record Begins (t : AllocatorState) (local_state : LocalState) : Type 0 where
   pub called : (peer : ℕ) → In peer local_state.called → ⊥
 
 -- the step went as a step of the machine: its moves may come, with its puts in order, they leave its server, and
--- offer what it said; and what it records has no member's node ID
+-- offer what it said; and what it records has no member's node ID, or is a blank
 pub record IsOfTheMachine (members : List ℕ) (me number : ℕ) (bag : List Message) (local_state : LocalState)
     (step_state : StepState) : Type 0 where
   pub come : AllEnabled members me number bag local_state step_state.moves
@@ -112,7 +112,8 @@ pub record IsOfTheMachine (members : List ℕ) (me number : ℕ) (bag : List Mes
       ≡ step_state.allocator.raft_server
   pub say : (message : Message) → In message (messages number step_state) →
       In message (state_after_moves members me number local_state step_state.moves).offered
-  pub outside : (entry : Entry) → In (ProposeEntry entry) step_state.moves → In entry.node members → ⊥
+  pub outside : (entry : Entry) → In (ProposeEntry entry) step_state.moves →
+      IsBlank entry ⊎ (In entry.node members → ⊥)
 
 -- what a server keeps, whatever step it takes
 pub record KeepsOrder (t : AllocatorState) : Type 0 where

@@ -3,12 +3,14 @@ use Rattle.std.specs.Prelude.{◌≡◌, ◌⊎◌, ℕ, ◌-◌, ◌<◌, ◌�
 use Rattle.can_frame.specs.declared.entry.Entry.{Entry}
 use Rattle.can_frame.specs.declared.identifier.Kind.TheVariants.{Message as Broadcast}
 use Rattle.can_frame.specs.DataTypes.{node_status}
-use Rattle.can_frame.specs.Log.{HasNodeId}
+use Rattle.can_frame.specs.Log.{HasNodeId, blank}
 use Rattle.dsdl_codec.specs.declared.node_status.NodeStatus.{NodeStatus}
 use Rattle.dsdl_codec.specs.NodeStatus.{node_status_of}
 use Rattle.node_discovery.specs.History.{last_status, unique_id}
 use Rattle.node_discovery.specs.Watch.{history}
 use Rattle.raft_model.specs.Lists.{In}
+use Rattle.raft_model.specs.Server.{RaftServer}
+use Rattle.raft_model.specs.Server.Role.{Leader}
 use Rattle.transfer_rx.specs.Reassembly.{Delivery}
 use Rattle.alloc_spec.specs.AllocatorState.{AllocatorState, members_of}
 
@@ -38,10 +40,15 @@ IsIdentified t node = In node (members_of t)
 
 -- each node of which a NodeStatus was heard within 3,000 ms is identified
 abbrev pub AllAreIdentified : AllocatorState → ℕ → Type 0
-AllAreIdentified t now = (node moment : ℕ) → 1 ≤ node → node ≤ 125 → WasHeardAt t node moment → now - moment ≤ 3000 →
-    IsIdentified t node
+AllAreIdentified t now = (node moment : ℕ) → 1 ≤ node → node ≤ 125 → WasHeardAt t node moment → now - moment ≤ 3000
+    → IsIdentified t node
 
--- an entry that a step records when it takes a frame: its node ID is free at that moment, and all are identified
+-- a leader's blank, which gives no node ID to anyone
+pub record IsBlankOf (server : RaftServer) (entry : Entry) : Type 0 where
+  pub leads : server.memory.role ≡ Leader
+  pub is : entry ≡ blank server.store.term
+
+-- any other entry that a step records when it takes a frame: its node ID is free at that moment, and all are identified
 pub record GivesFreeNode (t : AllocatorState) (now : ℕ) (entry : Entry) : Type 0 where
   pub free : IsFreeToGive t now entry.node
   pub identified : AllAreIdentified t now

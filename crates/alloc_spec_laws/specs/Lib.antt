@@ -1,5 +1,6 @@
 pub mod Answering
 pub mod Apart
+pub mod Blanks
 pub mod Calls
 pub mod Coming
 pub mod FreeNodes

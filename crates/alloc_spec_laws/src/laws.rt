@@ -1,6 +1,8 @@
 //! Laws of a step that ends, each the contract of a function that does nothing.
 
 ghost use Rattle.std.specs.Prelude.{Some, false, ◌≡◌, ◌≢◌, ◌⊎◌, ◌<◌, ◌≤◌, ℕ, true, List, length, max};
+ghost use Rattle.can_frame.specs.Log.{IsBlank};
+ghost use Rattle.can_frame.specs.declared.entry.Entry.{Entry};
 ghost use Rattle.can_frame.specs.declared.step.What.TheVariants.{Disc};
 ghost use Rattle.cluster_discovery.specs.Members.{is_due};
 ghost use Rattle.dsdl_codec.specs.Discovery.{discovery_bytes, discovery_of};
@@ -10,10 +12,12 @@ ghost use Rattle.raft_model.specs.Duty.{CommitDuty, TickDuty, WinDuty};
 ghost use Rattle.raft_model.specs.Lists.{In};
 ghost use Rattle.raft_model.specs.Messages.{Message};
 ghost use Rattle.raft_model.specs.Moves.Elections.{term_limit};
+ghost use Rattle.raft_model.specs.Moves.Move.{ProposeEntry};
 ghost use Rattle.raft_model.specs.Server.{Store, committed};
 ghost use Rattle.raft_model.specs.Server.Role.{Leader};
 ghost use Rattle.raft_model.specs.Stops.{LocalState};
 ghost use Rattle.alloc_spec_laws.specs.Apart.{AreAllApart, OneByName};
+ghost use Rattle.alloc_spec_laws.specs.Blanks.{AddsBlank};
 ghost use Rattle.alloc_spec_laws.specs.Calls.{CallsAreMade, KeepsCalls};
 ghost use Rattle.alloc_spec_laws.specs.Coming.{Begins, IsOfTheMachine, KeepsOrder, WhereItMayStep};
 ghost use Rattle.alloc_spec_laws.specs.Giving.{Gives, IsGivenIn};
@@ -30,7 +34,7 @@ ghost use Rattle.alloc_spec.specs.Step.{Event, after_pop, step};
 ghost use Rattle.alloc_spec.specs.Step.Event.{Tick};
 ghost use Rattle.alloc_spec.specs.Tick.{discovery_of as own_discovery};
 ghost use Rattle.alloc_spec.specs.AllocatorState.{AllocatorState, knows_all, members_of, start_of};
-ghost use Rattle.alloc_spec.specs.Rules.{IsToldAll, Rules, opening_by};
+ghost use Rattle.alloc_spec.specs.Rules.{IsToldAll, Rules, opening_by, tells};
 ghost use Rattle.alloc_spec.specs.Transfers.{Given, Offer};
 
 use can_frame::laws::{identifiers_both_ways, logs_stay_injective};
@@ -108,8 +112,8 @@ pub fn calls_of_a_step()
 /// A step is one of the message machine, where what is delivered to it was said by a member: its
 /// moves may come, one after another; its puts, but for their origins, are theirs, in order; they
 /// leave its server; and the requests, answers and pairs of the transfers that fitted are offered
-/// by them. No entry that they propose has a member's node ID. What of this the next step asks for,
-/// each step keeps.
+/// by them. No entry that they propose has a member's node ID, but that a blank has none. What of this the
+/// next step asks for, each step keeps.
 pub fn moves_of_a_step()
     ensures moves { WhereItMayStep (λ members bag t number event. (local_state : LocalState) →
         Begins t local_state → IsOfTheMachine members t.me number bag local_state (step t number event).step_state) }
@@ -211,6 +215,23 @@ pub fn duty_of_a_step()
         WinDuty members (step t number event).step_state.allocator.raft_server) }
 {
     laws_below();
+}
+
+/// When a leader's blank comes. A member that is told who its members are waits with it, no other does,
+/// and a step changes nothing of that. A blank among the moves of a step stands behind moves after which
+/// the server leads, and is of its term. At a member that waits, the last entry of the log is then of an
+/// earlier term, and a quorum of the members that it knows, itself included, has matched its whole log.
+/// Any other did not lead before the step.
+pub fn blanks_wait_to_be_heard()
+    ensures opening { (me : ℕ) (rules : Rules) (store : Store) (now word : ℕ) →
+        (opening_by me rules store now word).times.waits ≡ tells rules }
+    ensures kept { (t : AllocatorState) (number : ℕ) (event : Event) →
+        (step t number event).step_state.allocator.times.waits ≡ t.times.waits }
+    ensures added { (t : AllocatorState) (number : ℕ) (event : Event) (entry : Entry) →
+        In (ProposeEntry entry) (step t number event).step_state.moves → IsBlank entry →
+        AddsBlank t number event entry }
+{
+    chosen_is_the_choice();
 }
 
 /// The laws of the crates below that the moves and the duty of a step stand on.

@@ -11,7 +11,8 @@
 //! comes was said by members ([`laws::moves_of_a_step`]), what becomes of the list of members and
 //! what is told of it ([`laws::members_of_a_step`]), that what is given to a device is committed
 //! ([`laws::pairs_of_a_step`]), that unique IDs are whole ([`laws::proposals_of_a_step`]), what a
-//! step owes that ends ([`laws::duty_of_a_step`]), what it leaves for the bus and of it ([`bus`]),
+//! step owes that ends ([`laws::duty_of_a_step`]), when a leader's blank comes
+//! ([`laws::blanks_wait_to_be_heard`]), what a step leaves for the bus and of it ([`bus`]),
 //! and which node IDs it gives away ([`nodes`]). `alloc_server` shows that the code takes this very step.
 //!
 //! What a reader must believe: `specs/Apart` (two transfers of one step), `specs/Sound` (ranges),
@@ -19,7 +20,8 @@
 //! `specs/Calls` (who made the pending calls), `specs/Coming` (when the moves of a step may come,
 //! and what it means that they do), `specs/Giving` (what an Allocation gives, and a pair as an
 //! entry), `specs/Listing` (who is new on the list), `specs/Proposals` (whole unique IDs),
-//! `specs/Phases` (the step as far as it has come, and a leader's duty to tell), `specs/Waiting`
+//! `specs/Phases` (the step as far as it has come, and a leader's duty to tell), `specs/Blanks`
+//! (when a leader's blank comes), `specs/Waiting`
 //! (the frames of transfers that fitted), `specs/FreeNodes` (which node IDs may be given).
 #![tactic(auto)]
 
