@@ -1,5 +1,5 @@
 -- What is done with a whole transfer.
-use Rattle.std.proofs.Common.{◌≡◌, ℕ, Bool, true, false, List, [], ◌∷◌, map, refl, sym, ap, ◌∙◌, Option, Some, None}
+use Rattle.std.proofs.Common.{◌≡◌, ℕ, Bool, true, false, List, [], ◌∷◌, refl, ap, ◌∙◌, Option, Some, None}
 use Rattle.std.specs.Prelude.{◌&&◌, nat_eq, nat_lt, not, slice_index_or, if◌then◌else◌}
 use Rattle.alloc_exchange.specs.declared.heard.Heard.{Heard}
 use Rattle.alloc_exchange.specs.declared.heard.Heard.TheVariants.{Denied, FollowUp, Ignored, Whole}
@@ -8,7 +8,6 @@ use Rattle.can_frame.specs.declared.identifier.Kind.{Kind}
 use Rattle.can_frame.specs.declared.identifier.Kind.TheVariants.{Anonymous, Message as Broadcast, Request as RequestKind, Response}
 use Rattle.can_frame.specs.declared.step.What.TheVariants.{Alloc, App, Info, Vote}
 use Rattle.can_frame.specs.Log.{blank}
-use Rattle.dsdl_codec.specs.declared.allocation.Allocation.{Allocation}
 use Rattle.dsdl_codec.specs.declared.append_answer.AppendAnswer.{AppendAnswer}
 use Rattle.dsdl_codec.specs.declared.append_request.AppendRequest.{AppendRequest}
 use Rattle.dsdl_codec.specs.declared.vote_answer.VoteAnswer.{VoteAnswer}
@@ -38,14 +37,14 @@ use Rattle.transfer_rx.specs.Reassembly.{Delivery}
 use Rattle.transfer_rx.specs.Unmarked.{no_mark}
 use Rattle.alloc_spec.specs.Delivered.{StepResult, asks_info, bad, by_kind, delivery_phase, hears_discovery, hears_status, reads, request, response, took}
 use Rattle.alloc_spec.specs.Delivered as delivered
-use Rattle.alloc_spec.specs.Exchange.{allocation_payload, answers_again, answers_or_records, answers_request, gives_pair, hears_allocation, hears_whole, may_follow, records, records_at, with_request}
-use Rattle.alloc_spec.specs.StepState.{StepState, with_transfer, with_moves}
+use Rattle.alloc_spec.specs.Exchange.{allocation_payload, answers_or_records, answers_request, hears_allocation, hears_whole, may_follow, records_at, with_request}
+use Rattle.alloc_spec.specs.StepState.{StepState, with_moves}
 use Rattle.alloc_spec.specs.Services.{answers_append_request, answers_call, answers_vote_request, append_answered, ends_append_call, ends_vote_call, hears_info, info_of, is_listed, takes_append_answer, takes_append_request, takes_vote_answer, takes_vote_request, tells_info, vote_answered}
-use Rattle.alloc_spec.specs.AllocatorState.{is_zero, known, may_propose, recorded_at, taken}
+use Rattle.alloc_spec.specs.AllocatorState.{is_zero, known, may_propose, members_of, recorded_at, taken}
 use Rattle.alloc_ghost_erasure.specs.Unmarked.{unmarked_step_state, unmarked_raft_server, unmarked_step_result, unnumbered, unnumbered_call}
-use Rattle.alloc_ghost_erasure.proofs.Moves.{unnumbered_move}
+use Rattle.alloc_ghost_erasure.proofs.Moves.{blank_same, unnumbered_move}
 use Rattle.alloc_ghost_erasure.proofs.Phases.{gives_same, proposes_same}
-use Rattle.alloc_ghost_erasure.proofs.Steps.{Same, SameMoves, answers_same, cond_same, itself, sends_same, takes_same}
+use Rattle.alloc_ghost_erasure.proofs.Steps.{Same, answers_same, cond_same, itself, sends_same, takes_same}
 
 abbrev pub SameSight : StepResult → StepResult → Type 0
 SameSight x y = unmarked_step_result x ≡ unmarked_step_result y
@@ -112,7 +111,11 @@ awaits_same (Some call) (Some sending) append id = refl
 answered_same : (s r : ℕ) (move other : Request → Move) (call : Option Request) (g : StepState) → ((q : Request) → unnumbered_move (move q) ≡ unnumbered_move (other (unnumbered q)))
     → Same (answers_call s move call g) (answers_call r other (unnumbered_call call) (unmarked_step_state g))
 answered_same s r move other None g e = itself g
-answered_same s r move other (Some call) g e = takes_same s r (given_at g.allocator.now) (move call ∷ []) (other (unnumbered call) ∷ []) g (unmarked_step_state g) (λ i. e call i ∷ []) (itself g)
+answered_same s r move other (Some call) g e =
+    let t = g.allocator in
+    takes_same s r (given_at t.now) (handled.with_blank (members_of t) t.me s t.times t.raft_server (move call ∷ []))
+    (handled.with_blank (members_of t) t.me r t.times (unmarked_raft_server t.raft_server) (other (unnumbered call) ∷ [])) g (unmarked_step_state g)
+    (blank_same (members_of t) t.me s r t.times t.raft_server (move call) (other (unnumbered call)) (e call)) (itself g)
 
 vote_answer_same : (s r : ℕ) (d : Delivery) (says : VoteAnswer) (g : StepState) → Same (takes_vote_answer s d says g) (takes_vote_answer r (unmarked_delivery d) says (unmarked_step_state g))
 vote_answer_same s r d says g =

@@ -1,19 +1,19 @@
 -- Moves of the message machine, without the numbers of steps.
 use Rattle.std.proofs.Common.{◌≡◌, ℕ, Bool, true, false, List, [], ◌∷◌, ◌++◌, map, refl, sym, ap, ◌∙◌, Option, Some, None}
-use Rattle.std.specs.Prelude.{◌==◌, ◌&&◌, nat_lt, if◌then◌else◌}
-use Rattle.raft_core.specs.Handled.{puts_with_origins, origin_of}
-use Rattle.raft_core.specs.StoredPuts.{PutWithOrigin, with_origin}
+use Rattle.std.specs.Prelude.{◌==◌, nat_lt, if◌then◌else◌}
+use Rattle.raft_core.specs.Handled.{blank_behind, is_moment, puts_with_origins, origin_of, with_blank}
+use Rattle.raft_core.specs.StoredPuts.{with_origin}
 use Rattle.raft_core.specs.Times.{Given, Times, times_after, times_after_all}
 use Rattle.raft_model.specs.Handlers.{server_after, server_after_all}
 use Rattle.raft_model.specs.Lists.{at}
 use Rattle.raft_model.specs.Messages.{Answer, Request}
 use Rattle.raft_model.specs.Moves.{Move, memory_after, puts}
-use Rattle.raft_model.specs.Moves.Appending.{acknowledges, matched_memory, append_memory}
+use Rattle.raft_model.specs.Moves.Appending.{acknowledges, matched_memory}
 use Rattle.raft_model.specs.Moves.Appending.Verdict.{Added, Held, Outdated, Refused}
-use Rattle.raft_model.specs.Moves.Elections.{votes_with, counting_memory, counts, memory_without_call, has_quorum, own_vote, stand_memory, stepped_down, term_memory, win_memory, with_vote}
+use Rattle.raft_model.specs.Moves.Elections.{votes_with, counts, memory_without_call, has_quorum, own_vote}
 use Rattle.raft_model.specs.Moves.Leading.{append_request, vote_request}
 use Rattle.raft_model.specs.Moves.Move.{AnswerAgain, CallForVote, CallToAppend, CommitTo, GiveUp, ProposeEntry, TakeAppendAnswer, TakeAppendRequest, TakeVoteAnswer, TakeVoteRequest, TellNothing, TellPair, TimeOut}
-use Rattle.raft_model.specs.Server.{Memory, RaftServer, Put, Store, put_all}
+use Rattle.raft_model.specs.Server.{Memory, RaftServer, Store, put_all}
 use Rattle.raft_model.specs.Server.Role.{Follower}
 use Rattle.alloc_ghost_erasure.specs.Unmarked.{unmarked_memory, unmarked_raft_server, unnumbered, unnumbered_call}
 use Rattle.alloc_ghost_erasure.proofs.Twice.{twice_call, twice_memory, twice_raft_server}
@@ -201,3 +201,16 @@ module _ (members : List ℕ) (me s r : ℕ) (given : Given) where
   all_puts_same (move ∷ moves) p q e =
       λ i. with_origin (origin_same given move i) (puts_of p q move e i)
       ++ all_puts_same moves (server_after members me s p move) (server_after members me r q (unnumbered_move move)) (after_moves p q move e) i
+
+-- ---- a leader's blank behind a move
+
+-- nor does it look at pending calls whether it is the moment for one
+pub blank_same : (members : List ℕ) (me s r : ℕ) (times : Times) (p : RaftServer) (move other : Move) → unnumbered_move move ≡ unnumbered_move other
+    → map unnumbered_move (with_blank members me s times p (move ∷ [])) ≡ map unnumbered_move (with_blank members me r times (unmarked_raft_server p) (other ∷ []))
+blank_same members me s r times p move other e =
+    λ i. e i ∷ map unnumbered_move (blank_behind (is_moment members me times p (after i)) (after i))
+  where
+    after : unmarked_raft_server (server_after members me s p move) ≡ unmarked_raft_server (server_after members me r (unmarked_raft_server p) other)
+    after = after_same members me s r p move ∙ ap (λ (m : Move). unmarked_raft_server (server_after members me r (unmarked_raft_server p) m)) e
+        ∙ ap (λ (x : RaftServer). unmarked_raft_server (server_after members me r x (unnumbered_move other))) (sym (twice_raft_server p))
+        ∙ sym (after_same members me r r (unmarked_raft_server p) other)

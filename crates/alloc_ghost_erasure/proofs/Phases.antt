@@ -1,6 +1,6 @@
 -- The phases of a step at its clock, and those by which each step ends.
-use Rattle.std.proofs.Common.{◌≡◌, ℕ, Bool, true, false, List, [], ◌∷◌, map, refl, sym, ap, ◌∙◌, Option, Some, None}
-use Rattle.std.specs.Prelude.{◌-◌, ◌&&◌, drop, nat_le, slice_index_or, if◌then◌else◌}
+use Rattle.std.proofs.Common.{◌≡◌, ℕ, Bool, true, false, List, [], ◌∷◌, refl, sym, ap, ◌∙◌, Option, Some, None}
+use Rattle.std.specs.Prelude.{◌-◌, ◌&&◌, not, drop, nat_le, nat_lt, slice_index_or, if◌then◌else◌}
 use Rattle.can_frame.specs.declared.entry.Entry.{Entry}
 use Rattle.can_frame.specs.declared.step.What.{What}
 use Rattle.can_frame.specs.declared.step.What.TheVariants.{Alloc, AppQ, Disc, InfoQ, Stat, VoteQ}
@@ -11,31 +11,29 @@ use Rattle.dsdl_codec.specs.Discovery.{discovery_bytes}
 use Rattle.dsdl_codec.specs.NodeStatus.{node_status_bytes}
 use Rattle.node_discovery.specs.Watch.{next_query}
 use Rattle.raft_core.specs.Calls.{due, due_unless, owed}
-use Rattle.raft_core.specs.Handled.{moves_of_expire}
+use Rattle.raft_core.specs.Handled.{moves_of_expire, with_blank}
 use Rattle.raft_core.specs.Taken.{proposal}
 use Rattle.raft_core.specs.Times.{given_at, given_call, given_proposal, given_tick, has_waited, overdue, Times}
-use Rattle.raft_model.specs.Decisions.{commit_index}
 use Rattle.raft_model.specs.Duty as duty
 use Rattle.raft_model.specs.Duty.{commit_moves, tick_phase}
 use Rattle.raft_model.specs.Moves.{next_entry, Move}
-use Rattle.raft_model.specs.Messages.{Message, Request}
+use Rattle.raft_model.specs.Messages.{Request}
 use Rattle.raft_model.specs.Messages.Message.{Requests}
-use Rattle.raft_model.specs.Moves.Elections.{is_leader}
+use Rattle.raft_model.specs.Moves.Elections.{is_leader, term_limit}
 use Rattle.raft_model.specs.Moves.Leading.{append_request, vote_request}
 use Rattle.raft_model.specs.Moves.Move.{AnswerAgain, CallForVote, CallToAppend, CommitTo, GiveUp, ProposeEntry, TakeAppendAnswer, TakeAppendRequest, TakeVoteAnswer, TakeVoteRequest, TellNothing, TellPair, TimeOut}
 use Rattle.raft_model.specs.Server.{RaftServer, Role}
 use Rattle.raft_model.specs.Server.Role.{Candidate, Follower, Leader}
 use Rattle.alloc_spec.specs.Ending.{append_call_bytes, call_phase, calls_all, calls_by, calls_owed, calls_peer, commit_phase, end_phase, has_to_tell, tell_phase, tells_next, vote_call_bytes}
-use Rattle.alloc_spec.specs.Exchange.{allocation_payload, gives_entry, gives_pair}
+use Rattle.alloc_spec.specs.Exchange.{allocation_payload, gives_entry}
 use Rattle.alloc_spec.specs.StepState.{StepState, with_transfer, initial_state, with_moves}
 use Rattle.alloc_spec.specs.Step.{all_nodes, at_moment, begin_phase, expiry_phase}
 use Rattle.alloc_spec.specs.Tick.{asks, candidate, discovery_of, discovery_phase, election_moves, election_phase, new_uid, proposes, query_phase, record_phase, records_as, records_node, status_phase, tells_members, tells_status, clock_phase, with_discovery, with_query, with_status}
 use Rattle.alloc_spec.specs.AllocatorState.{AllocatorState, is_zero, known, knows_all, may_propose, members_of, start_of, status_of}
 use Rattle.alloc_spec.specs.Transfers.{has_room, id_of}
 use Rattle.alloc_ghost_erasure.specs.Unmarked.{unmarked_step_state, unmarked_raft_server, unmarked_server, unnumbered_call}
-use Rattle.alloc_ghost_erasure.proofs.Moves.{unnumbered_move}
+use Rattle.alloc_ghost_erasure.proofs.Moves.{blank_same}
 use Rattle.alloc_ghost_erasure.proofs.Steps.{Same, SameMoves, cond_same, itself, lift, room_same, sends_same, takes_same}
-use Rattle.alloc_ghost_erasure.proofs.Twice.{twice, twice_server}
 
 -- ---- the beginning: calls are given up
 
@@ -61,7 +59,20 @@ status_same s r g =
 
 election_same : (word s r : ℕ) (g : StepState) → Same (election_phase s word g) (election_phase r word (unmarked_step_state g))
 election_same word s r g =
-    takes_same s r (given_tick g.allocator.now word) (election_moves g.allocator) (election_moves (unmarked_server g.allocator)) g (unmarked_step_state g) refl (itself g)
+    takes_same s r (given_tick g.allocator.now word) (election_moves s g.allocator) (election_moves r (unmarked_server g.allocator)) g (unmarked_step_state g) (same (knows_all g.allocator && has_waited g.allocator.times g.allocator.now)) (itself g)
+  where
+    p : RaftServer
+    p = g.allocator.raft_server
+
+    blank : ℕ → RaftServer → List Move → List Move
+    blank step server moves = with_blank (members_of g.allocator) g.allocator.me step g.allocator.times server moves
+
+    by : (stands : Bool) → SameMoves (blank s p (if stands then TimeOut ∷ [] else [])) (blank r (unmarked_raft_server p) (if stands then TimeOut ∷ [] else []))
+    by true = blank_same (members_of g.allocator) g.allocator.me s r g.allocator.times p TimeOut TimeOut refl
+    by false = refl
+
+    same : (waited : Bool) → SameMoves (blank s p (tick_phase waited p)) (blank r (unmarked_raft_server p) (tick_phase waited p))
+    same waited = by (waited && (not (is_leader p.memory.role) && nat_lt p.store.term term_limit))
 
 pub proposes_same : (s r origin : ℕ) (uid : List ℕ) (node : ℕ) (g : StepState) → Same (proposes s origin uid node g) (proposes r origin uid node (unmarked_step_state g))
 proposes_same s r origin uid node g =

@@ -1,12 +1,10 @@
 -- The two ways in which a step goes on: it takes moves, and it offers transfers.
-use Rattle.std.proofs.Common.{◌≡◌, ℕ, suc, Bool, true, false, List, [], ◌∷◌, ◌++◌, length, map, refl, sym, ap, ◌∙◌, Option, Some, None}
+use Rattle.std.proofs.Common.{◌≡◌, ℕ, suc, Bool, true, false, List, [], ◌∷◌, ◌++◌, length, map, refl, sym, ap, ◌∙◌, Option, None}
 use Rattle.std.specs.Prelude.{◌+◌, nat_le, if◌then◌else◌}
 use Rattle.std.proofs.lemmas.List.{length-map}
 use Rattle.can_frame.specs.declared.step.What.{What}
 use Rattle.can_frame.specs.Cutting.{Piece, frame_bytes, frame_count, frames_of}
-use Rattle.raft_core.specs.Handled.{puts_with_origins}
-use Rattle.raft_core.specs.Times.{Given, Times, times_after_all}
-use Rattle.raft_model.specs.Handlers.{server_after_all}
+use Rattle.raft_core.specs.Times.{Given}
 use Rattle.raft_model.specs.Messages.{Message}
 use Rattle.raft_model.specs.Moves.{Move}
 use Rattle.transfer_rx.specs.Unmarked.{no_mark, unmarked}
@@ -14,11 +12,11 @@ use Rattle.transfer_tx.specs.declared.outgoing.Outgoing.{Outgoing}
 use Rattle.transfer_tx.specs.Queue.{Queued, marked, queued_frames}
 use Rattle.alloc_spec.specs.StepState.{StepState, with_response, with_transfer, with_moves}
 use Rattle.alloc_spec.specs.Outbox.{counted_if, queued_if}
-use Rattle.alloc_spec.specs.AllocatorState.{AllocatorState, members_of}
+use Rattle.alloc_spec.specs.AllocatorState.{members_of}
 use Rattle.alloc_spec.specs.Transfers.{Ids, Offer, has_room, id_of, outgoing}
 use Rattle.alloc_ghost_erasure.specs.Unmarked.{unmarked_frame, unmarked_step_state, unmarked_offer, unmarked_raft_server, unmarked_server}
-use Rattle.alloc_ghost_erasure.proofs.Twice.{joined_same, map_twice, twice, twice_frames, twice_offers, twice_raft_server, twice_sessions}
-use Rattle.alloc_ghost_erasure.proofs.Moves.{all_puts_same, all_times_same, plains_same, twice_move, unnumbered_move}
+use Rattle.alloc_ghost_erasure.proofs.Twice.{joined_same, twice, twice_frames, twice_offers, twice_raft_server, twice_sessions}
+use Rattle.alloc_ghost_erasure.proofs.Moves.{all_puts_same, all_times_same, plains_same, unnumbered_move}
 
 -- the two steps differ in marks and numbers alone
 abbrev pub Same : StepState → StepState → Type 0

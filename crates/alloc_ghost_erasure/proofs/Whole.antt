@@ -1,24 +1,21 @@
 -- The whole step, and what goes out between steps.
-use Rattle.std.proofs.Common.{◌≡◌, ℕ, Bool, true, false, List, [], ◌∷◌, map, refl, sym, ap, ◌∙◌, Option, Some, None}
-use Rattle.std.specs.Prelude.{find, max, nat_le, option_map, remove}
-use Rattle.std.specs.List.{list_all, position_or_len}
+use Rattle.std.proofs.Common.{◌≡◌, ℕ, List, map, refl, sym, ap, ◌∙◌}
 use Rattle.can_frame.specs.declared.step.Seen.TheVariants.{Dropped, Part, Ticked}
 use Rattle.transfer_rx.specs.Reassembly.{Answer, Arrival, Setting, answer, next}
 use Rattle.transfer_rx.specs.Reassembly.Answer.{Continues, Drops, Gives}
 use Rattle.transfer_rx.specs.Sessions.{Session}
 use Rattle.transfer_rx.specs.Unmarked.{unmarked, unmarked_answer, unmarked_arrival}
-use Rattle.transfer_tx.specs.Queue.{Queued, is_least, left_behind, next_out}
 use Rattle.alloc_spec.specs.Accepted.{setting_for}
-use Rattle.alloc_spec.specs.Delivered.{StepResult, delivery_phase}
+use Rattle.alloc_spec.specs.Delivered.{StepResult}
 use Rattle.alloc_spec.specs.StepState.{StepState}
 use Rattle.alloc_spec.specs.Step.{Event, at_sessions, at_step, begin_phase, with_end_phase, event_phase, moment_of, receive_phase, step, with_answer, with_sessions}
 use Rattle.alloc_spec.specs.Step.Event.{Rx, Tick}
 use Rattle.alloc_spec.specs.AllocatorState.{AllocatorState}
-use Rattle.alloc_ghost_erasure.specs.Unmarked.{unmarked_event, unmarked_frame, unmarked_step_state, unmarked_server, unmarked_step_result}
-use Rattle.alloc_ghost_erasure.proofs.Delivered.{SameSight, delivers_same, unmarked_delivery}
+use Rattle.alloc_ghost_erasure.specs.Unmarked.{unmarked_event, unmarked_step_state, unmarked_server, unmarked_step_result}
+use Rattle.alloc_ghost_erasure.proofs.Delivered.{SameSight, delivers_same}
 use Rattle.alloc_ghost_erasure.proofs.Phases.{begins_same, ends_same, ticks_same}
 use Rattle.alloc_ghost_erasure.proofs.Steps.{Same, itself}
-use Rattle.alloc_ghost_erasure.proofs.Twice.{twice, twice_server, twice_sessions}
+use Rattle.alloc_ghost_erasure.proofs.Twice.{twice_server, twice_sessions}
 
 ended_same : (s r : ℕ) (x y : StepResult) → SameSight x y → SameSight (with_end_phase s x) (with_end_phase r y)
 ended_same s r x y e = λ i. record { seen = (e i).seen; step_state = ends_same s r x.step_state y.step_state (λ j. (e j).step_state) i }

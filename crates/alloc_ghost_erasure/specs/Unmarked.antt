@@ -1,7 +1,7 @@
 -- A server, its queue and its step without marks and numbers of steps: the maps that forget them. Two servers are alike
 -- where these maps give the same of both.
-use Rattle.std.specs.Prelude.{ℕ, List, [], map, Option, None, Some}
-use Rattle.raft_model.specs.Messages.{Answer, Request}
+use Rattle.std.specs.Prelude.{List, [], map, Option, None, Some}
+use Rattle.raft_model.specs.Messages.{Request}
 use Rattle.raft_model.specs.Server.{Memory, RaftServer}
 use Rattle.transfer_rx.specs.Unmarked.{no_mark, unmarked, unmarked_arrival}
 use Rattle.transfer_tx.specs.Queue.{Queued}
