@@ -1,5 +1,5 @@
 -- What is stored and said in a run has bytes: a step keeps it so, whole or cut.
-use Rattle.std.proofs.Common.{◌≡◌, ℕ, zero, suc, ◌+◌, ◌<◌, ◌≤◌, ◌^◌, Bool, true, false, List, [], ◌∷◌, ◌++◌, length, take, refl, sym, subst, arith, inl, inr, Option, Some, None}
+use Rattle.std.proofs.Common.{◌≡◌, ℕ, zero, suc, ◌<◌, ◌≤◌, ◌^◌, Bool, true, false, List, [], ◌∷◌, ◌++◌, length, take, refl, sym, subst, arith, inl, inr, Option, Some, None}
 use Rattle.std.specs.Prelude.{⊤, min, nat_lt, if◌then◌else◌, slice_index_or, IfSome}
 use Rattle.can_frame.specs.declared.entry.Entry.{Entry}
 use Rattle.can_frame.specs.Log.{blank}
@@ -12,7 +12,7 @@ use Rattle.raft_model.specs.Messages.Message.{Answers, Pairs, Requests}
 use Rattle.raft_model.specs.Moves.{IsEnabled, Move, offers, puts}
 use Rattle.raft_model.specs.Moves.Appending.{IsJudged, Verdict, advance_puts, append_puts, cut_puts}
 use Rattle.raft_model.specs.Moves.Appending.Verdict.{Added, Held, Outdated, Refused}
-use Rattle.raft_model.specs.Moves.Elections.{adds_blank, counting_puts, counts, grant_puts, has_quorum, votes_with, own_vote, stand_puts, term_puts, vote_puts, win_puts, with_term}
+use Rattle.raft_model.specs.Moves.Elections.{grant_puts, term_puts, vote_puts, with_term}
 use Rattle.raft_model.specs.Moves.Leading.{entry_after}
 use Rattle.raft_model.specs.Moves.Move.{AnswerAgain, CallForVote, CallToAppend, CommitTo, GiveUp, ProposeEntry, TakeAppendAnswer, TakeAppendRequest, TakeVoteAnswer, TakeVoteRequest, TellNothing, TellPair, TimeOut}
 use Rattle.raft_model.specs.Server.{RaftServer, Put, Store, put, put_all}
@@ -68,10 +68,6 @@ module _ (ids : List ℕ) where
 
   -- ---- entries
 
-  -- a blank is of node 0
-  pub blank_is : ((n : ℕ) → In n ids → 1 ≤ n) → (term : ℕ) → term < 2 ^ 32 → IsProper ids (blank term)
-  blank_is low term small = record { fits = record { term = small; uid = refl; node = omega arith }; outside = λ i. absurd (omega (arith, low 0 i)) }
-
   zero_small : 0 < 2 ^ 32
   zero_small = omega arith
 
@@ -89,9 +85,6 @@ module _ (members : List ℕ) (low : (n : ℕ) → In n members → 1 ≤ n) (me
     (fits : AreWritable members bag) where
   term_fits : (store : Store) (term : ℕ) → term < 2 ^ 32 → ArePutsWritable members (term_puts store term)
   term_fits store term low = either members (nat_lt store.term term) (PutTerm term ∷ PutVote None ∷ []) [] (low, (tt, tt)) tt
-
-  win_fits : (store : Store) → store.term < 2 ^ 32 → ArePutsWritable members (win_puts store)
-  win_fits store small = either members (adds_blank store) (PutEntry (blank store.term) ∷ PutLonger (blank store.term) ∷ []) [] (tt, (blank_is members low store.term small, tt)) tt
 
   pub with_term_fits : (store : Store) (term : ℕ) → IsStoreWritable members store → term < 2 ^ 32 → IsStoreWritable members (with_term store term)
   with_term_fits store term is low = after_all members store (term_puts store term) is (term_fits store term low)
@@ -125,17 +118,11 @@ module _ (members : List ℕ) (low : (n : ℕ) → In n members → 1 ≤ n) (me
 
   puts_fit : (called : List ℕ) (server : RaftServer) (move : Move) → IsStoreWritable members server.store → IsEnabled members me bag called server move
       → ((entry : Entry) → move ≡ ProposeEntry entry → (length entry.uid ≡ 16) × (In entry.node members → ⊥)) → ArePutsWritable members (puts members me server move)
-  puts_fit called server TimeOut is comes well =
-      let low : server.store.term + 1 < 2 ^ 32 = omega (arith, comes.1) in
-      joined members (stand_puts me server.store) _ (low, (tt, (tt, tt)))
-      (either members (has_quorum members (own_vote me)) (win_puts (put_all server.store (stand_puts me server.store))) [] (win_fits (put_all server.store (stand_puts me server.store)) low) tt)
+  puts_fit called server TimeOut is comes well = (omega (arith, comes.1), (tt, (tt, tt)))
   puts_fit called server (TakeVoteRequest request granted) is comes well =
       joined members (term_puts server.store request.term) _ (term_fits server.store request.term (fits.requests request comes.0).term)
       (grant_fits (with_term server.store request.term) request granted)
-  puts_fit called server (TakeVoteAnswer answer) is comes well =
-      either members (nat_lt server.store.term answer.term) (term_puts server.store answer.term) _ (term_fits server.store answer.term (fits.answers answer comes.0))
-      (either members (counts server answer) (counting_puts members server answer) []
-      (either members (has_quorum members (votes_with server.memory answer)) (win_puts server.store) [] (win_fits server.store is.term) tt) tt)
+  puts_fit called server (TakeVoteAnswer answer) is comes well = term_fits server.store answer.term (fits.answers answer comes.0)
   puts_fit called server (TakeAppendRequest request verdict) is comes well =
       joined members (term_puts server.store request.term) _ (term_fits server.store request.term (fits.requests request comes.0).term)
       (append_fits server request verdict comes.3 (fits.requests request comes.0).entry)
@@ -147,7 +134,7 @@ module _ (members : List ℕ) (low : (n : ℕ) → In n members → 1 ≤ n) (me
         fits = record {
           term = subst (λ (n : ℕ). n < 2 ^ 32) (sym comes.own_term) is.term;
           uid = (well entry refl).0;
-          node = elim comes.kind [ inl pair ↦ omega (arith, pair.most) | inr kept ↦ omega (arith, kept.most) ];
+          node = elim comes.kind [ inl none ↦ omega (arith, none.0) | inr (inl kept) ↦ omega (arith, kept.most) | inr (inr pair) ↦ omega (arith, pair.most) ];
         };
         outside = (well entry refl).1;
       },

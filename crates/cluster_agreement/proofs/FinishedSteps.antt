@@ -126,7 +126,13 @@ module _ (laws : StepLaws) (more : MoreLaws) (frame_laws : FrameLaws) (codec : C
 
   -- what it records has a unique ID of 16 bytes, and no member's node ID
   pub proposes_well : ProposesWell w.ids step_state.moves
-  proposes_well entry i = (more.records t number event is.runs.uids entry i, of_machine.outside entry i)
+  proposes_well entry i = (
+    more.records t number event is.runs.uids entry i,
+    elim (of_machine.outside entry i) [
+      | inl none ↦ λ member. absurd (omega (arith, low entry.node member, none.0))
+      | inr outside ↦ outside
+    ],
+  )
 
   module _ (well : ProposesWell w.ids step_state.moves) where
     pub moved_well : Moved w.ids low t.me (low t.me listed) number run.bag shows.holds.written (state_after_moves w.ids t.me number local_state step_state.moves)

@@ -1,5 +1,6 @@
 -- What each step owes that members take in a list of rows.
-use Rattle.std.specs.Prelude.{⊤, ◌≡◌, ◌≢◌, ℕ, ◌+◌, ◌<◌, true, List, ◌∷◌, ◌++◌, max}
+use Rattle.std.specs.Prelude.{⊤, ◌≡◌, ◌≢◌, ◌⊎◌, ℕ, ◌+◌, ◌<◌, true, List, ◌∷◌, ◌++◌, max}
+use Rattle.can_frame.specs.Log.{IsBlank}
 use Rattle.can_frame.specs.declared.entry.Entry.{Entry}
 use Rattle.raft_core.specs.Times.{has_waited}
 use Rattle.raft_model.specs.Duty.{CommitDuty, TickDuty, WinDuty}
@@ -11,7 +12,8 @@ use Rattle.replay_text.specs.declared.row.Row.{Row}
 use Rattle.replay_text.specs.declared.row.Row.TheVariants.{Rx as RxRow, Tick as TickRow}
 use Rattle.transfer_rx.specs.Reassembly.{Arrival}
 use Rattle.alloc_spec_laws.specs.Answering.{AnswersRequests}
-use Rattle.alloc_spec_laws.specs.FreeNodes.{GivesFreeNode}
+use Rattle.alloc_spec_laws.specs.Blanks.{AddsBlank}
+use Rattle.alloc_spec_laws.specs.FreeNodes.{GivesFreeNode, IsBlankOf}
 use Rattle.alloc_spec_laws.specs.Phases.{TellsDuly, when_committed, when_seen, when_told}
 use Rattle.alloc_spec.specs.Ending.{call_phase}
 use Rattle.alloc_spec.specs.Step.{Event, step}
@@ -40,11 +42,17 @@ pub record DoesItsDuty (members : List ℕ) (t : AllocatorState) (number : ℕ) 
       → TickDuty t.raft_server (step t number event).step_state.allocator.raft_server
   -- whoever counts the votes of a quorum leads when the step is over
   pub win : WinDuty members (step t number event).step_state.allocator.raft_server
-  -- what it records when it takes a frame has a node ID that is none of a member, stands in no entry of its log, and of
-  -- which no NodeStatus was heard within 3,000 ms; and no node is online then that is neither known nor identified
+  -- what it records when it takes a frame is a leader's blank, or has a node ID that is none of a member, stands in no
+  -- entry of its log, and of which no NodeStatus was heard within 3,000 ms; and no node is online then that is neither
+  -- known nor identified
   pub give : (arrival : Arrival) (entry : Entry) → event ≡ Rx arrival
       → In (ProposeEntry entry) (step t number event).step_state.moves
-      → GivesFreeNode t (max t.now arrival.moment) entry
+      → IsBlankOf (when_seen t number event).allocator.raft_server entry
+      ⊎ GivesFreeNode t (max t.now arrival.moment) entry
+  -- a blank is added by a leader alone: by one that is told its members once a quorum has its log, by any other in the
+  -- step in which it wins
+  pub blank : (entry : Entry) → In (ProposeEntry entry) (step t number event).step_state.moves → IsBlank entry
+      → AddsBlank t number event entry
   -- whoever is asked answers: it offers a response to each request of GetNodeInfo, and to each of Raft of a node on its
   -- list of members
   pub answer : AnswersRequests t number event

@@ -34,7 +34,8 @@ use crate::below::{
     what_a_step_keeps, what_is_said_of_a_step, what_is_said_of_frames, what_is_said_of_messages,
 };
 use alloc_spec_laws::laws::{
-    duty_of_a_step, members_of_a_step, moves_of_a_step, steps_stay_in_range,
+    blanks_wait_to_be_heard, duty_of_a_step, members_of_a_step, moves_of_a_step,
+    steps_stay_in_range,
 };
 use alloc_spec_laws::nodes::{a_node_that_is_heard_keeps_its_id, who_is_asked_answers};
 use allocatee::laws::{
@@ -157,7 +158,8 @@ pub fn finished_steps_are_shown()
 
 /// Each step of a member does its duty: a leader commits as far as the members of the cluster let it, and tells
 /// one place where there is room; who has waited stands for election; who counts a quorum leads, where that was so
-/// before; who is asked answers; and the node ID of a node that is heard is not given.
+/// before; who is asked answers; the node ID of a node that is heard is not given; and a leader that is told its
+/// members adds its blank once a quorum has its log, any other as it wins.
 pub fn steps_are_dutiful()
     ensures { (choice : ℕ → Bool) (made : List SentTransfer) (w : Cluster) (run : World) →
         AreMembers w.ids → Shows choice made w run → Invariants run → IsRunWritable w.ids run →
@@ -166,6 +168,7 @@ pub fn steps_are_dutiful()
         DoesItsDuty w.ids t (w.rows + 1) event }
 {
     a_node_that_is_heard_keeps_its_id();
+    blanks_wait_to_be_heard();
     duty_of_a_step();
     what_a_step_keeps();
     what_is_said_of_a_step();

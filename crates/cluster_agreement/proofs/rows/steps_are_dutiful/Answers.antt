@@ -1,9 +1,11 @@
 use Rattle.std.proofs.Common.{ℕ, sym, subst}
-use Rattle.std.specs.Prelude.{◌+◌}
+use Rattle.std.specs.Prelude.{◌+◌, ◌⊎◌, max}
 use Rattle.raft_model.specs.Duty.{TickDuty}
 use Rattle.raft_model.specs.Lists.{In}
 use Rattle.raft_model.specs.Moves.Move.{ProposeEntry}
 use Rattle.alloc_spec.specs.Step.{Event, step}
+use Rattle.alloc_spec_laws.specs.FreeNodes.{GivesFreeNode, IsBlankOf}
+use Rattle.alloc_spec_laws.specs.Phases.{when_seen}
 use Rattle.cluster_spec.specs.Members.{MemberStatus}
 use Rattle.cluster_agreement.specs.Shows.{ShowsMember, ShowsUp}
 use Rattle.cluster_agreement.proofs.FinishedSteps.{may_step}
@@ -27,7 +29,10 @@ returns c =
       stand = λ now word e whole waited role low. subst (λ (x : Event). TickDuty t.raft_server (step t (w.rows + 1) x).step_state.allocator.raft_server) (sym e)
           (duty.tick t (w.rows + 1) now word whole waited role low);
       win = duty.win t (w.rows + 1) event w.ids run.bag steps wins;
-      give = λ arrival entry e i. c.a_node_that_is_heard_keeps_its_id.ensures.free t (w.rows + 1) arrival entry
-          (subst (λ (x : Event). In (ProposeEntry entry) (step t (w.rows + 1) x).step_state.moves) e i);
+      give = λ arrival entry e i.
+          subst (λ (x : Event). IsBlankOf (when_seen t (w.rows + 1) x).allocator.raft_server entry ⊎ GivesFreeNode t (max t.now arrival.moment) entry) (sym e)
+          (c.a_node_that_is_heard_keeps_its_id.ensures.free t (w.rows + 1) arrival entry
+          (subst (λ (x : Event). In (ProposeEntry entry) (step t (w.rows + 1) x).step_state.moves) e i));
+      blank = c.blanks_wait_to_be_heard.ensures.added t (w.rows + 1) event;
       answer = c.who_is_asked_answers.ensures t (w.rows + 1) event;
     }
