@@ -1,92 +1,63 @@
 -- From each moment of a run a majority comes back to a leader whose log is committed.
-use Rattle.std.proofs.Common.{◌≡◌, ◌≢◌, ℕ, ◌+◌, ◌-◌, ◌<◌, ◌≤◌, Bool, true, false, List, [], ◌∷◌, ◌++◌, length, ◌⊎◌, inl, inr, refl, sym, ◌∙◌, ap, subst, arith, Option}
-use Rattle.std.specs.Prelude.{nat_lt}
+use Rattle.std.proofs.Common.{◌≡◌, ◌≢◌, ℕ, ◌+◌, ◌-◌, ◌<◌, ◌≤◌, Bool, true, false, List, [], ◌∷◌, ◌++◌, length, inl, inr, refl, sym, ◌∙◌, ap, subst, arith, Option}
 use Rattle.std.proofs.lemmas.Bool.Decides.{eqb_tells}
 use Rattle.can_frame.specs.declared.entry.Entry.{Entry}
-use Rattle.can_frame.specs.Log.{blank, last_term, log_limit}
+use Rattle.can_frame.specs.Log.{IsBlank, IsInjective, blank, last_term, log_limit}
 use Rattle.raft_model.specs.Duty.{WinDuty}
 use Rattle.raft_model.specs.Invariants.{Invariants}
 use Rattle.raft_model.specs.Lists.{In}
-use Rattle.raft_model.specs.Log.{NotAbove, term_at}
+use Rattle.raft_model.specs.Log.{NotAbove}
 use Rattle.raft_model.specs.Members.{HasNoneTwice}
 use Rattle.raft_model.specs.Messages.{Request}
-use Rattle.raft_model.specs.Moves.Elections.{adds_blank, has_quorum, own_vote, term_limit, win_puts}
+use Rattle.raft_model.specs.Moves.Elections.{has_quorum, own_vote, term_limit}
 use Rattle.raft_model.specs.Runs.{InEveryRun, World}
-use Rattle.raft_model.specs.Server.{Memory, RaftServer, Store, memory_when_opened, put_all, quorum}
+use Rattle.raft_model.specs.Server.{Memory, RaftServer, Store, memory_when_opened, quorum}
 use Rattle.raft_model.specs.Server.Role.{Leader}
 use Rattle.alloc_spec_laws.proofs.Choices.{lt_tells, tell}
 use Rattle.cluster_progress.specs.Coming.{CanCome}
 use Rattle.cluster_progress.specs.ComingBack.{ComesBackIn, HasGrown, HasRoom, IsBack, IsLed, IsMajority}
-use Rattle.cluster_progress.proofs.Alone.{last_entry, one_longer}
 use Rattle.cluster_progress.proofs.Coming.{IsReached, and_then, at_once, in_reached, so}
 use Rattle.cluster_progress.proofs.Counting.{no_peers}
-use Rattle.cluster_progress.proofs.Leading.{AreUp, HasCommitted, RunLaws, brings_up, commits_all}
-use Rattle.cluster_progress.proofs.Standing.{AreAnew, HasStood, IsNewest, IsTop, LeadsAlone, greatest_term, leads_alone, newest, open_anew, stands_up_to, stood}
+use Rattle.cluster_progress.proofs.Leading.{AreUp, RunLaws, brings_up}
+use Rattle.cluster_progress.proofs.Proposing.{IsEntered, enters, majority_in}
+use Rattle.cluster_progress.proofs.Standing.{AreAnew, HasStood, IsNewest, IsTop, LeadsAlone, greatest_term, leads_alone, newest, open_anew, stands_up_to}
 use Rattle.cluster_progress.proofs.Voting.{HasWon, IsStanding, wins}
 
-pub majority_in : (a b : List ℕ) (group : List ℕ) → b ≡ a → IsMajority a group → IsMajority b group
-majority_in a b group e m = record {
-  enough = subst (λ (l : List ℕ). quorum l ≤ length group) (sym e) m.enough;
-  once = m.once;
-  listed = λ n i. subst (λ (l : List ℕ). In n l) (sym e) (m.listed n i);
-}
-
--- what has room needs no more
-not_full : (n : ℕ) → n < log_limit → nat_lt n log_limit ≡ true
-not_full n h = elim (lt_tells n log_limit) [ inl z ↦ z.0 | inr z ↦ absurd (omega (arith, z.1, h)) ]
-
--- a win with room: all is committed, or the last entry is a blank of the leader's own term
-abbrev IsWonStore : Store → Type 0
-IsWonStore store = (store.commit ≡ length store.log)
-    ⊎ ((store.commit < length store.log) × (term_at store.log (length store.log) ≡ store.term))
-
-won_store : (store : Store) → length store.log < log_limit → (put_all store (win_puts store)).commit ≤ length (put_all store (win_puts store)).log
-    → IsWonStore (put_all store (win_puts store))
-won_store store room sound = elim (lt_tells store.commit (length store.log)) [
-  | inr z ↦ none z.0 z.1
-  | inl z ↦ some z.0 z.1
-]
-  where
-    none : nat_lt store.commit (length store.log) ≡ false → length store.log ≤ store.commit → IsWonStore (put_all store (win_puts store))
-    none e high =
-        let same : put_all store (win_puts store) ≡ store = rw (e) refl in
-        subst IsWonStore (sym same) (inl (let low : store.commit ≤ length store.log = subst (λ (s : Store). s.commit ≤ length s.log) same sound in omega (arith, low, high)))
-
-    some : nat_lt store.commit (length store.log) ≡ true → store.commit < length store.log → IsWonStore (put_all store (win_puts store))
-    some e low =
-        let same : put_all store (win_puts store) ≡ record store { log = store.log ++ blank store.term ∷ [] }
-        = rw (e) (rw (not_full (length store.log) room) refl) in
-        subst IsWonStore (sym same) (inr (omega (arith, low, one_longer store.log (blank store.term)), ap (λ (x : Entry). x.term) (last_entry store.log (blank store.term))))
-
--- a win leaves the log, or adds a blank
-won_log : (store : Store) (log : List Entry) → store.log ≡ log → HasGrown log (put_all store (win_puts store)).log
-won_log store log same = elim (tell (adds_blank store)) [
-  | inl h ↦ rw (h) (inr (store.term, ap (λ (l : List Entry). l ++ blank store.term ∷ []) same))
-  | inr h ↦ rw (h) (inl same)
-]
-
-module _ (laws : RunLaws) (win : InEveryRun (λ world. (member : ℕ) → WinDuty world.members (world.server member))) where
+module _ (laws : RunLaws) (win : InEveryRun (λ world. (member : ℕ) → WinDuty world.members (world.server member)))
+    (blank_keeps : (log : List Entry) (entry : Entry) → IsBlank entry → IsInjective log → IsInjective (log ++ entry ∷ [])) where
   -- back, from a log of the one that leads
   abbrev Back : List ℕ → (ℕ → List Entry) → World → Type 0
   Back group logs later = (leader : ℕ) × IsBack later group leader × HasGrown (logs leader) (later.server leader).store.log
 
-  -- from a win with room
+  -- from a win with room: what is not committed the leader brings to its group, and with it a blank of its term
   finishes : (group : List ℕ) (logs : ℕ → List Entry) (me : ℕ) (world : World) → IsReached world → IsMajority world.members group → IsLed world group me
-      → HasGrown (logs me) (world.server me).store.log → IsWonStore (world.server me).store → CanCome world (Back group logs)
-  finishes group logs me world r majority led grown (inl committed) = at_once world (Back group logs) (me, record { led = led; committed = committed }, grown)
-  finishes group logs me world r majority led grown (inr own) =
-      and_then (λ later. IsLed later group me × AreUp me group world later) (Back group logs) world r
-      (brings_up laws group me group majority.once (λ n i. i) world r led)
-      (λ later reached h. so (HasCommitted laws group me later) (Back group logs) later
-      (commits_all laws group me later h.0 (majority_in world.members later.members group h.1.members majority)
-      (λ n i other. h.1.matched n i other ∙ ap (λ (s : Store). length s.log) (sym h.1.store))
-      (subst (λ (s : Store). term_at s.log (length s.log) ≡ s.term) (sym h.1.store) own.1)
-      (subst (λ (s : Store). s.commit < length s.log) (sym h.1.store) own.0))
-      (λ last c. (
-        me,
-        record { led = c.led; committed = ap (λ (s : RaftServer). s.store.commit) c.server ∙ sym (ap (λ (s : RaftServer). length s.store.log) c.server) },
-        subst (HasGrown (logs me)) (sym (ap (λ (s : RaftServer). s.store.log) c.server ∙ ap (λ (s : Store). s.log) h.1.store)) grown,
-      )))
+      → (world.server me).store.log ≡ logs me → length (world.server me).store.log < log_limit → CanCome world (Back group logs)
+  finishes group logs me world r majority led same room = elim (lt_tells (world.server me).store.commit (length (world.server me).store.log)) [
+    | inr all ↦ at_once world (Back group logs) (me, record { led = led; committed = omega (arith, inside, all.1) }, inl same)
+    | inl some ↦ and_then (λ later. IsLed later group me × AreUp me group world later) (Back group logs) world r
+        (brings_up laws group me group majority.once (λ n i. i) world r led)
+        (λ later reached h. so (IsEntered group me (own later) later) (Back group logs) later
+        (enters laws group me (own later) later reached (majority_in world.members later.members group h.1.members majority) h.0
+        (subst (λ (s : Store). s.commit ≤ length s.log) (sym h.1.store) inside)
+        (record {
+          leads = h.0.leads;
+          room = subst (λ (s : Store). length s.log < log_limit) (sym h.1.store) room;
+          own_term = refl;
+          kind = inl (refl, refl);
+          injective = blank_keeps (later.server me).store.log (own later) (refl, refl) ((in_reached Invariants laws.invariants later reached).stores me).injective;
+        }))
+        (λ last e. (
+          me,
+          record { led = e.led; committed = e.committed },
+          inr ((later.server me).store.term, e.log ∙ ap (λ (l : List Entry). l ++ own later ∷ []) (ap (λ (s : Store). s.log) h.1.store ∙ same)),
+        )))
+  ]
+    where
+      inside : (world.server me).store.commit ≤ length (world.server me).store.log
+      inside = ((in_reached Invariants laws.invariants world r).stores me).commit
+
+      own : World → Entry
+      own later = blank (later.server me).store.term
 
   from_anew : (x : ℕ) (xs : List ℕ) (logs : ℕ → List Entry) (world : World) → ((n : ℕ) → (world.server n).store.log ≡ logs n) → IsReached world → HasNoneTwice world.members → IsMajority world.members (x ∷ xs)
       → HasRoom world (x ∷ xs) → ((n : ℕ) → In n (x ∷ xs) → (world.server n).memory ≡ memory_when_opened) → CanCome world (Back (x ∷ xs) logs)
@@ -111,9 +82,7 @@ module _ (laws : RunLaws) (win : InEveryRun (λ world. (member : ℕ) → WinDut
             free = λ n. ap (λ (f : ℕ → Option Request). f n) h.pending;
             peers = λ n i other. absurd (no_peers me n world.members once (majority.listed me best.member) (majority.listed n i) other q);
           })
-          (subst (HasGrown (logs me)) (sym (ap (λ (s : Store). s.log) h.store)) (won_log (stood me (world.server me).store) (logs me) (same me)))
-          (subst IsWonStore (sym h.store) (won_store (stood me (world.server me).store) (room.log me best.member)
-          (subst (λ (s : Store). s.commit ≤ length s.log) h.store ((in_reached Invariants laws.invariants later reached).stores me).commit))))
+          (ap (λ (s : Store). s.log) h.store ∙ same me) (subst (λ (s : Store). length s.log < log_limit) (sym h.store) (room.log me best.member)))
 
       together : (me top : ℕ) → IsNewest world (x ∷ xs) me → IsTop world (x ∷ xs) top → has_quorum world.members (own_vote me) ≡ false
           → CanCome world (Back (x ∷ xs) logs)
@@ -126,10 +95,8 @@ module _ (laws : RunLaws) (win : InEveryRun (λ world. (member : ℕ) → WinDut
           (majority_in world.members later.members (x ∷ xs) h.0.members majority) (standing me top best highest later h.0 h.1))
           (λ last again w. finishes (x ∷ xs) logs me last again
           (majority_in world.members last.members (x ∷ xs) (w.members ∙ h.0.members) majority) w.led
-          (subst (HasGrown (logs me)) (sym (ap (λ (s : Store). s.log) w.store)) (won_log (later.server me).store (logs me) (h.0.log ∙ same me)))
-          (subst IsWonStore (sym w.store) (won_store (later.server me).store
-          (omega (arith, room.log me best.member, ap length h.0.log))
-          (subst (λ (s : Store). s.commit ≤ length s.log) w.store ((in_reached Invariants laws.invariants last again).stores me).commit)))))
+          (ap (λ (s : Store). s.log) w.store ∙ (h.0.log ∙ same me))
+          (omega (arith, room.log me best.member, ap length h.0.log, ap (λ (s : Store). length s.log) w.store))))
         where
           standing : (me top : ℕ) → IsNewest world (x ∷ xs) me → IsTop world (x ∷ xs) top → (later : World) → HasStood me world later
               → (later.server me).store.term ≡ top + 1 → IsStanding later (x ∷ xs) me (x ∷ xs)

@@ -47,6 +47,7 @@ use Rattle.cluster_progress.specs.Requests.{moment_at}
 use Rattle.cluster_progress.proofs.Begins.{IsAsBefore}
 use Rattle.cluster_progress.proofs.FollowUps.{begun, when_come}
 use Rattle.cluster_progress.proofs.StaysFollower.{since_stays, stays_follower}
+use Rattle.alloc_spec.proofs.Blanks.{move_with_blank}
 use Rattle.cluster_progress.proofs.WaitsAnew.{IsAnew, follows}
 
 module _ (number since now : ℕ) where
@@ -139,7 +140,7 @@ module _ (number since now : ℕ) where
   called : (move : Request → Move) (pending : Option Request) (g : StepState)
       → ((asked : Request) → IsStill (with_moves number (given_at g.allocator.now) (move asked ∷ []) g)) → IsStill g → IsStill (answers_call number move pending g)
   called move None g does h = h
-  called move (Some asked) g does h = does asked
+  called move (Some asked) g does h = move_with_blank IsStill number (given_at g.allocator.now) (move asked) g (does asked) (λ moment. does asked)
 
   -- ---- by kind
 

@@ -63,6 +63,7 @@ use Rattle.alloc_spec.specs.Tick.{asks, candidate, clock_phase, discovery_phase,
 use Rattle.alloc_spec.specs.Transfers.{id_of}
 use Rattle.alloc_spec_laws.proofs.Choices.{lt_true}
 use Rattle.cluster_progress.specs.Leading.{HearsHigher, TellsHigher}
+use Rattle.alloc_spec.proofs.Blanks.{move_with_blank, moves_and_blank}
 use Rattle.cluster_progress.proofs.Begins.{expired}
 use Rattle.cluster_progress.proofs.Ends.{IsKept, rest_keeps}
 
@@ -102,9 +103,9 @@ module _ (number : ℕ) where
 
   -- ---- a tick
 
-  elects : (word : ℕ) (waited : Bool) (g : StepState) → Leads g → Leads (with_moves number (given_tick g.allocator.now word) (tick_phase waited g.allocator.raft_server) g)
+  elects : (word : ℕ) (waited : Bool) (g : StepState) → Leads g → Leads (moves_and_blank number (given_tick g.allocator.now word) (tick_phase waited g.allocator.raft_server) g)
   elects word waited g h =
-      subst (λ (moves : List Move). Leads (with_moves number (given_tick g.allocator.now word) moves g)) (sym (no_election waited g.allocator.raft_server h)) h
+      subst (λ (moves : List Move). Leads (moves_and_blank number (given_tick g.allocator.now word) moves g)) (sym (no_election waited g.allocator.raft_server h)) h
 
   recorded_as : (node : ℕ) (uid : Option (List ℕ)) (g : StepState) → Leads g → Leads (records_as number node uid g)
   recorded_as node None g h = h
@@ -223,7 +224,7 @@ module _ (number term : ℕ) (d : Delivery) where
   called : (move : Request → Move) (pending : Option Request) (g : StepState)
       → ((asked : Request) → Still (with_moves number (given_at g.allocator.now) (move asked ∷ []) g)) → Leads g → Still (answers_call number move pending g)
   called move None g does h = inl h
-  called move (Some asked) g does h = does asked
+  called move (Some asked) g does h = move_with_blank Still number (given_at g.allocator.now) (move asked) g (does asked) (λ moment. inl moment.leads)
 
   -- ---- by kind
 

@@ -11,6 +11,7 @@ pub mod Coming
 pub mod Calling
 pub mod Counting
 pub mod Leading
+pub mod Proposing
 pub mod Voting
 pub mod Standing
 pub mod ComingBack

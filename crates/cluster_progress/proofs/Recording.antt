@@ -19,9 +19,10 @@ use Rattle.raft_model.specs.Server.Role.{Leader}
 use Rattle.alloc_spec.specs.AllocatorState.{AllocatorState, is_recorded, known, knows_all, may_propose, members_of, start_of}
 use Rattle.alloc_spec.specs.Ending.{end_phase}
 use Rattle.alloc_spec.specs.Step.{all_nodes, at_moment, begin_phase, step}
-use Rattle.alloc_spec.specs.StepState.{StepState, with_moves, with_transfer}
+use Rattle.alloc_spec.specs.StepState.{StepState, with_transfer}
 use Rattle.alloc_spec.specs.Tick.{asks, candidate, clock_phase, discovery_phase, election_phase, is_candidate, new_uid, query_phase, record_phase, records_as, records_node, status_phase, tells_members, tells_status, with_query_if}
 use Rattle.alloc_spec.specs.Transfers.{has_room, id_of}
+use Rattle.alloc_spec.proofs.Blanks.{moves_and_blank}
 use Rattle.alloc_spec_laws.proofs.Choices.{and_left, either, tell}
 use Rattle.alloc_spec_laws.proofs.Lists.{in_back, in_front}
 use Rattle.alloc_spec_laws.proofs.Proposals.{leader_of}
@@ -35,14 +36,14 @@ clash b is fails = cc
 
 -- the first of some numbers in turn that passes is no greater than one that does
 first_up : (p : ℕ → Bool) (from count node : ℕ) → from ≤ node → node < from + count → p node ≡ true
-    → (n : ℕ) × (find p (range_with_len from count) ≡ Some n) × (n ≤ node)
+    → (n : ℕ) × (find p (range_with_len from count) ≡ Some n) × (n ≤ node) × (from ≤ n)
 first_up p from zero node least most passes = absurd (omega (arith, least, most))
 first_up p from (suc count) node least most passes = elim (tell (p from)) [
-  | inl is ↦ (from, ap (λ (b : Bool). cond b (Some from) (find p (range_with_len (from + 1) count))) is, least)
+  | inl is ↦ (from, ap (λ (b : Bool). cond b (Some from) (find p (range_with_len (from + 1) count))) is, least, omega arith)
   | inr fails ↦
       let apart = λ (e : from ≡ node). clash (p node) passes (subst (λ n. p n ≡ false) e fails) in
       let rest = first_up p (from + 1) count node (omega (arith, least, apart)) (omega (arith, most)) passes in
-      (rest.0, ap (λ (b : Bool). cond b (Some from) (find p (range_with_len (from + 1) count))) fails ∙ rest.1, rest.2)
+      (rest.0, ap (λ (b : Bool). cond b (Some from) (find p (range_with_len (from + 1) count))) fails ∙ rest.1, rest.2, let low = rest.3 in omega (arith, low))
 ]
 
 -- what a leader records goes by what it knew at the moment of the tick
@@ -73,7 +74,7 @@ module _ (t : AllocatorState) (number : ℕ) where
 
   elects : (word : ℕ) (g : StepState) → t.raft_server.memory.role ≡ Leader → IsAsAt t g → IsAsAt t (election_phase number word g)
   elects word g role h =
-      subst (λ (moves : List Move). IsAsAt t (with_moves number (given_tick g.allocator.now word) moves g))
+      subst (λ (moves : List Move). IsAsAt t (moves_and_blank number (given_tick g.allocator.now word) moves g))
       (sym (no_election (knows_all g.allocator && has_waited g.allocator.times g.allocator.now) g.allocator.raft_server (h.role ∙ role)))
       (record { role = h.role; log = h.log; members = h.members; watch = h.watch; counting = h.counting; now = h.now })
 
@@ -83,15 +84,17 @@ module _ (t : AllocatorState) (number : ℕ) where
     abbrev Records : StepState → Type 0
     Records g = RecordsUpTo node g.moves
 
-    recorded : (n : ℕ) (uid : Option (List ℕ)) (g : StepState) → n ≤ node → Records (records_as number n uid g)
-    recorded n None g most = record {
+    recorded : (n : ℕ) (uid : Option (List ℕ)) (g : StepState) → 1 ≤ n → n ≤ node → Records (records_as number n uid g)
+    recorded n None g least most = record {
       entry = proposal g.allocator.raft_server.store.term zeros n;
       proposed = in_back _ g.moves (ProposeEntry (proposal g.allocator.raft_server.store.term zeros n) ∷ []) (inl refl);
+      least = least;
       most = most;
     }
-    recorded n (Some uid) g most = record {
+    recorded n (Some uid) g least most = record {
       entry = proposal g.allocator.raft_server.store.term uid n;
       proposed = in_back _ g.moves (ProposeEntry (proposal g.allocator.raft_server.store.term uid n) ∷ []) (inl refl);
+      least = least;
       most = most;
     }
 
@@ -100,7 +103,7 @@ module _ (t : AllocatorState) (number : ℕ) where
     notes g h may least most is =
         let first = first_up (is_candidate g.allocator) 1 125 node least (omega (arith, most)) (same_candidate node g h ∙ is) in
         either Records (may_propose g.allocator) (records_node number (candidate g.allocator) g) g
-        (λ e. subst (λ (n : Option ℕ). Records (records_node number n g)) (sym first.1) (recorded first.0 (new_uid g.allocator first.0) g first.2))
+        (λ e. subst (λ (n : Option ℕ). Records (records_node number n g)) (sym first.1) (recorded first.0 (new_uid g.allocator first.0) g first.3 first.2))
         (λ e. absurd (clash (may_propose g.allocator) (may_still g h ∙ may) e))
 
     asked_if : (fits : Bool) (n id : ℕ) (g : StepState) → Records g → Records (with_query_if fits n id g)
@@ -117,7 +120,7 @@ module _ (t : AllocatorState) (number : ℕ) where
         (λ e. asked (next_query g.allocator.watch (known g.allocator) g.allocator.now) g h) (λ e. h)
 
     more : (before moves : List Move) → RecordsUpTo node before → RecordsUpTo node (before ++ moves)
-    more before moves h = record { entry = h.entry; proposed = in_front (ProposeEntry h.entry) before moves h.proposed; most = h.most }
+    more before moves h = record { entry = h.entry; proposed = in_front (ProposeEntry h.entry) before moves h.proposed; least = h.least; most = h.most }
 
     kept : IsKept number Records
     kept = record {

@@ -1,18 +1,17 @@
 -- A member that was opened anew stands for election until its term is above all others; and which member is to stand.
-use Rattle.std.proofs.Common.{◌≡◌, ◌≢◌, ℕ, zero, suc, ◌+◌, ◌<◌, ◌≤◌, true, false, List, [], ◌∷◌, ◌++◌, length, ◌⊎◌, inl, inr, refl, sym, ◌∙◌, ap, subst, arith, None}
+use Rattle.std.proofs.Common.{◌≡◌, ◌≢◌, ℕ, zero, suc, ◌+◌, ◌<◌, ◌≤◌, true, false, List, [], ◌∷◌, length, ◌⊎◌, inl, inr, refl, sym, ◌∙◌, ap, subst, arith, None}
 use Rattle.std.proofs.lemmas.Bool.Decides.{eqb_tells}
 use Rattle.can_frame.specs.Log.{last_term}
 use Rattle.raft_model.specs.Handlers.{server_after}
 use Rattle.raft_model.specs.Lists.{In, at_here, at_other}
 use Rattle.raft_model.specs.Log.{NotAbove}
 use Rattle.raft_model.specs.Members.{HasNoneTwice}
-use Rattle.raft_model.specs.Moves.Elections.{has_quorum, own_vote, stand_puts, term_limit, win_puts}
+use Rattle.raft_model.specs.Moves.Elections.{has_quorum, own_vote, stand_puts, term_limit}
 use Rattle.raft_model.specs.Moves.Move.{TimeOut}
 use Rattle.raft_model.specs.Runs.{World, after}
 use Rattle.raft_model.specs.Runs.Event.{Opens, Stops}
 use Rattle.raft_model.specs.Server.{RaftServer, Role, Store, memory_when_opened, put_all}
 use Rattle.raft_model.specs.Server.Role.{Candidate, Leader}
-use Rattle.raft_model.proofs.Handled.{put_then}
 use Rattle.alloc_spec_laws.proofs.Choices.{lt_tells, tell}
 use Rattle.cluster_progress.specs.Coming.{CanCome}
 use Rattle.cluster_progress.proofs.Coming.{Does, after_that, at_once, behind, does, doing, its_server, other_server, so}
@@ -274,13 +273,13 @@ pub record LeadsAlone (me : ℕ) (world later : World) : Type 0 where
   pub others : (n : ℕ) → n ≢ me → later.server n ≡ world.server n
   pub up : (later.server me).memory.up ≡ true
   pub role : (later.server me).memory.role ≡ Leader
-  pub store : (later.server me).store ≡ put_all (stood me (world.server me).store) (win_puts (stood me (world.server me).store))
+  pub store : (later.server me).store ≡ stood me (world.server me).store
   pub pending : (later.server me).memory.pending ≡ (λ peer. None)
 
 leads_once : (members : List ℕ) (me step : ℕ) (server : RaftServer) → has_quorum members (own_vote me) ≡ true
     → ((server_after members me step server TimeOut).memory.up ≡ server.memory.up)
     × ((server_after members me step server TimeOut).memory.role ≡ Leader)
-    × ((server_after members me step server TimeOut).store ≡ put_all server.store (stand_puts me server.store ++ win_puts (put_all server.store (stand_puts me server.store))))
+    × ((server_after members me step server TimeOut).store ≡ stood me server.store)
     × ((server_after members me step server TimeOut).memory.pending ≡ (λ peer. None))
 leads_once members me step server q = rw (q) (refl, refl, refl, refl)
 
@@ -293,8 +292,7 @@ leads_alone me world up role low q =
       others = λ n other. other_server world me (world.steps + 1) TimeOut [] n other;
       up = ap (λ (s : RaftServer). s.memory.up) its ∙ (leaves.0 ∙ up);
       role = ap (λ (s : RaftServer). s.memory.role) its ∙ leaves.1;
-      store = ap (λ (s : RaftServer). s.store) its ∙ (leaves.2 ∙ put_then (stand_puts me (world.server me).store)
-          (win_puts (put_all (world.server me).store (stand_puts me (world.server me).store))) (world.server me).store);
+      store = ap (λ (s : RaftServer). s.store) its ∙ leaves.2;
       pending = ap (λ (s : RaftServer). s.memory.pending) its ∙ leaves.3;
     }))
   where
@@ -306,6 +304,6 @@ leads_alone me world up role low q =
 
     leaves : ((server_after world.members me (world.steps + 1) (world.server me) TimeOut).memory.up ≡ (world.server me).memory.up)
         × ((server_after world.members me (world.steps + 1) (world.server me) TimeOut).memory.role ≡ Leader)
-        × ((server_after world.members me (world.steps + 1) (world.server me) TimeOut).store ≡ put_all (world.server me).store (stand_puts me (world.server me).store ++ win_puts (put_all (world.server me).store (stand_puts me (world.server me).store))))
+        × ((server_after world.members me (world.steps + 1) (world.server me) TimeOut).store ≡ stood me (world.server me).store)
         × ((server_after world.members me (world.steps + 1) (world.server me) TimeOut).memory.pending ≡ (λ peer. None))
     leaves = leads_once world.members me (world.steps + 1) (world.server me) q

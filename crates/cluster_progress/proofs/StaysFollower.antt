@@ -18,10 +18,11 @@ use Rattle.raft_model.specs.Server.Role.{Follower}
 use Rattle.alloc_spec.specs.AllocatorState.{AllocatorState, known, knows_all, may_propose, members_of, start_of}
 use Rattle.alloc_spec.specs.Step.{all_nodes, at_moment, begin_phase, step}
 use Rattle.alloc_spec.specs.Step.Event.{Tick}
-use Rattle.alloc_spec.specs.StepState.{StepState, with_moves, with_transfer}
+use Rattle.alloc_spec.specs.StepState.{StepState, with_transfer}
 use Rattle.alloc_spec.specs.Tick.{asks, candidate, clock_phase, discovery_phase, election_phase, new_uid, query_phase, record_phase, records_as, records_node, status_phase, tells_members, tells_status, with_query_if}
 use Rattle.alloc_spec.specs.Transfers.{has_room, id_of}
 use Rattle.alloc_spec_laws.proofs.Choices.{either}
+use Rattle.alloc_spec.proofs.Blanks.{moves_and_blank}
 use Rattle.cluster_progress.proofs.Begins.{IsAsBefore, expired}
 use Rattle.cluster_progress.proofs.WaitsAnew.{IsAnew, follows}
 
@@ -44,7 +45,7 @@ and_false false b e = refl
 
 module _ (number since : ℕ) where
   elects : (word : ℕ) (g : StepState) → g.allocator.now < since + election_wait → IsAnew since g → IsAnew since (election_phase number word g)
-  elects word g soon h = subst (λ (b : Bool). IsAnew since (with_moves number (given_tick g.allocator.now word) (tick_phase b g.allocator.raft_server) g))
+  elects word g soon h = subst (λ (b : Bool). IsAnew since (moves_and_blank number (given_tick g.allocator.now word) (tick_phase b g.allocator.raft_server) g))
       (sym (and_false (knows_all g.allocator) (has_waited g.allocator.times g.allocator.now) (not_waited g.allocator.times since g.allocator.now h.0 soon))) h
 
   recorded_as : (node : ℕ) (uid : Option (List ℕ)) (g : StepState) → IsAnew since g → IsAnew since (records_as number node uid g)

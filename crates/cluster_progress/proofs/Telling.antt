@@ -1,12 +1,12 @@
 -- From a leader whose log is committed each pair that it may propose is committed and told.
-use Rattle.std.proofs.Common.{◌≡◌, ◌≢◌, ℕ, zero, suc, ◌+◌, ◌-◌, ◌<◌, ◌≤◌, true, List, [], ◌∷◌, ◌++◌, length, get_or, inl, inr, refl, sym, ◌∙◌, ap, subst, arith, Option}
+use Rattle.std.proofs.Common.{◌≡◌, ◌≢◌, ℕ, zero, suc, ◌+◌, ◌-◌, ◌<◌, ◌≤◌, List, [], ◌∷◌, ◌++◌, length, get_or, inl, inr, refl, sym, ◌∙◌, ap, subst, arith}
 use Rattle.std.specs.Prelude.{slice_index_or}
 use Rattle.std.proofs.Math.Seq.{get_or-append_seam}
 use Rattle.std.proofs.lemmas.List.{get_or_append_left}
 use Rattle.std.proofs.lemmas.Slice.Eq.{bytes_eq-Decides}
 use Rattle.std.specs.Str.{bytes_eq}
 use Rattle.can_frame.specs.declared.entry.Entry.{Entry}
-use Rattle.can_frame.specs.Log.{HasNodeId, HasUid, IsInjective, IsPair, blank}
+use Rattle.can_frame.specs.Log.{HasNodeId, HasUid, IsBlank, IsInjective, IsPair, blank}
 use Rattle.can_frame.specs.Zeros.{zeros}
 use Rattle.raft_core.specs.Taken.{proposal}
 use Rattle.raft_model.specs.Duty.{WinDuty}
@@ -14,50 +14,22 @@ use Rattle.raft_model.specs.Fit.{IsFit}
 use Rattle.raft_model.specs.Handlers.{server_after}
 use Rattle.raft_model.specs.Invariants.{Invariants}
 use Rattle.raft_model.specs.Lists.{In}
-use Rattle.raft_model.specs.Log.{term_at}
 use Rattle.raft_model.specs.Members.{HasNoneTwice}
-use Rattle.raft_model.specs.Messages.{Message, Pair, Request}
+use Rattle.raft_model.specs.Messages.{Message, Pair}
 use Rattle.raft_model.specs.Messages.Message.{Pairs}
 use Rattle.raft_model.specs.Moves.{Move, next_entry}
 use Rattle.raft_model.specs.Moves.Leading.{MayPropose, pair_at}
-use Rattle.raft_model.specs.Moves.Move.{ProposeEntry, TellNothing, TellPair}
+use Rattle.raft_model.specs.Moves.Move.{TellNothing, TellPair}
 use Rattle.raft_model.specs.Runs.{InEveryRun, World}
-use Rattle.raft_model.specs.Server.{RaftServer, Store}
+use Rattle.raft_model.specs.Server.{RaftServer}
 use Rattle.alloc_spec_laws.proofs.Choices.{lt_tells, tell}
 use Rattle.cluster_progress.specs.Coming.{CanCome}
 use Rattle.cluster_progress.specs.ComingBack.{ComesBackIn, HasGrown, HasRoom, IsBack, IsLed, IsMajority, IsNew, IsTold}
-use Rattle.cluster_progress.proofs.Alone.{last_entry, one_longer}
-use Rattle.cluster_progress.proofs.Coming.{Does, IsReached, and_then, at_once, does, doing, in_reached, its_server, members_stay, other_server, so}
-use Rattle.cluster_progress.proofs.ComingBack.{comes_back, majority_in}
-use Rattle.cluster_progress.proofs.Leading.{AreUp, HasCommitted, RunLaws, brings_up, commits_all}
-
--- ---- a step that leaves the leader's calls, its term and its role
-
--- the leader is so again, with what its step left; all others are as they were
-led_after : (world : World) (group : List ℕ) (me : ℕ) (move : Move) (fitted : List Message) (server : RaftServer)
-    → server_after world.members me (world.steps + 1) (world.server me) move ≡ server
-    → server.memory.role ≡ (world.server me).memory.role → server.memory.up ≡ (world.server me).memory.up
-    → server.memory.pending ≡ (world.server me).memory.pending → server.store.term ≡ (world.server me).store.term
-    → IsLed world group me → IsLed (does world me (world.steps + 1) move fitted) group me
-led_after world group me move fitted server is role up pending term led = record {
-  leads = ap (λ (s : RaftServer). s.memory.role) mine ∙ (role ∙ led.leads);
-  up = ap (λ (s : RaftServer). s.memory.up) mine ∙ (up ∙ led.up);
-  member = led.member;
-  listed = led.listed;
-  free = λ n. ap (λ (s : RaftServer). s.memory.pending n) mine ∙ (ap (λ (f : ℕ → Option Request). f n) pending ∙ led.free n);
-  peers = λ n i other. subst (λ (s : RaftServer). (s.memory.up ≡ true) × (s.store.term ≤ (later.server me).store.term))
-      (sym (other_server world me (world.steps + 1) move fitted n other)) (
-        (led.peers n i other).0,
-        let low : (world.server n).store.term ≤ (world.server me).store.term = (led.peers n i other).1 in
-            omega (arith, low, term, ap (λ (s : RaftServer). s.store.term) mine),
-      );
-}
-  where
-    later : World
-    later = does world me (world.steps + 1) move fitted
-
-    mine : later.server me ≡ server
-    mine = its_server world me (world.steps + 1) move fitted (world.server me) refl ∙ is
+use Rattle.cluster_progress.proofs.Alone.{one_longer}
+use Rattle.cluster_progress.proofs.Coming.{Does, IsReached, and_then, at_once, does, doing, in_reached, its_server, members_stay, so}
+use Rattle.cluster_progress.proofs.ComingBack.{comes_back}
+use Rattle.cluster_progress.proofs.Leading.{RunLaws}
+use Rattle.cluster_progress.proofs.Proposing.{IsEntered, enters, led_after, majority_in}
 
 -- ---- it tells one place after another
 
@@ -133,19 +105,7 @@ module _ (group : List ℕ) (me : ℕ) (entry : Entry) (pair : IsPair entry) whe
         (tells_all more (does world me (world.steps + 1) TellPair []) (tells_on more world TellPair refl t))
   ]
 
--- ---- a pair is proposed, brought to the group, committed and told
-
--- a leader that proposed an entry
-record IsProposed (group : List ℕ) (me : ℕ) (entry : Entry) (world later : World) : Type 0 where
-  led : IsLed later group me
-  server : later.server me
-      ≡ record (world.server me) { store = record (world.server me).store { log = (world.server me).store.log ++ entry ∷ [] } }
-  members : later.members ≡ world.members
-
--- what it has stored when its group is up
-store_now : (group : List ℕ) (me : ℕ) (entry : Entry) (world later last : World) → IsProposed group me entry world later → AreUp me group later last
-    → (last.server me).store ≡ record (world.server me).store { log = (world.server me).store.log ++ entry ∷ [] }
-store_now group me entry world later last p h = h.store ∙ ap (λ (s : RaftServer). s.store) p.server
+-- ---- a pair is entered, and told
 
 abbrev Told : List ℕ → ℕ → Entry → World → Type 0
 Told group me entry later = IsTold later entry.uid entry.node × IsBack later group me
@@ -155,40 +115,16 @@ module _ (laws : RunLaws) where
       → IsBack world group me → MayPropose (world.server me) entry → IsPair entry
       → CanCome world (λ later. IsTold later entry.uid entry.node × IsBack later group me)
   still_tells world r group me entry majority back may pair =
-      and_then (IsProposed group me entry world) (Told group me entry) world r
-      (doing world (IsProposed group me entry world) me (world.steps + 1) (ProposeEntry entry) [] (world.server me)
-      (record { is = refl; up = back.led.up; later = omega arith; comes = may; inside = λ message i. absurd i })
-      (at_once first (IsProposed group me entry world) (record {
-        led = led_after world group me (ProposeEntry entry) [] added refl refl refl refl refl back.led;
-        server = its_server world me (world.steps + 1) (ProposeEntry entry) [] (world.server me) refl;
-        members = refl;
-      })))
-      (λ later reached p. and_then (λ last. IsLed last group me × AreUp me group later last) (Told group me entry) later reached
-      (brings_up laws group me group majority.once (λ n i. i) later reached p.led)
-      (λ last again h. and_then (HasCommitted laws group me last) (Told group me entry) last again
-      (commits_all laws group me last h.0 (majority_in world.members last.members group (h.1.members ∙ p.members) majority)
-      (λ n i other. h.1.matched n i other ∙ ap (λ (s : Store). length s.log) (sym h.1.store))
-      (subst (λ (s : Store). term_at s.log (length s.log) ≡ s.term) (sym (store_now group me entry world later last p h.1))
-      (ap (λ (e : Entry). e.term) (last_entry log entry) ∙ may.own_term))
-      (subst (λ (s : Store). s.commit < length s.log) (sym (store_now group me entry world later last p h.1)) (omega (arith, back.committed, one_longer log entry))))
-      (λ end reached_end c. tells_all group me entry pair (length log - (world.server me).memory.told) end (record {
-        led = c.led;
-        committed = ap (λ (s : RaftServer). s.store.commit) c.server ∙ sym (ap (λ (s : RaftServer). length s.store.log) c.server);
-        before = log;
-        log = ap (λ (s : RaftServer). s.store.log) c.server ∙ ap (λ (s : Store). s.log) (store_now group me entry world later last p h.1);
-        told = let same : (end.server me).memory.told ≡ (world.server me).memory.told
-            = ap (λ (s : RaftServer). s.memory.told) c.server ∙ (h.1.told ∙ ap (λ (s : RaftServer). s.memory.told) p.server) in omega (arith, same, fit.told, back.committed);
-      }))))
+      and_then (IsEntered group me entry world) (Told group me entry) world r
+      (enters laws group me entry world r majority back.led (omega (arith, back.committed)) may)
+      (λ later reached e. tells_all group me entry pair (length (world.server me).store.log - (world.server me).memory.told) later (record {
+        led = e.led;
+        committed = e.committed;
+        before = (world.server me).store.log;
+        log = e.log;
+        told = omega (arith, e.told, fit.told, back.committed);
+      }))
     where
-      log : List Entry
-      log = (world.server me).store.log
-
-      added : RaftServer
-      added = record (world.server me) { store = record (world.server me).store { log = (world.server me).store.log ++ entry ∷ [] } }
-
-      first : World
-      first = does world me (world.steps + 1) (ProposeEntry entry) []
-
       fit : IsFit me (world.server me)
       fit = in_reached (λ w. (member : ℕ) → IsFit member (w.server member)) laws.fit world r me
 
@@ -226,19 +162,20 @@ grown_length before now (inl e) = omega (arith, ap length e)
 grown_length before now (inr (term, e)) = omega (arith, ap length e, one_longer before (blank term))
 
 pub tells_new : (laws : RunLaws) (win : InEveryRun (λ world. (member : ℕ) → WinDuty world.members (world.server member)))
+    → ((log : List Entry) (entry : Entry) → IsBlank entry → IsInjective log → IsInjective (log ++ entry ∷ []))
     → ((log : List Entry) (entry : Entry) → IsPair entry → IsInjective log → (HasUid log entry.uid → ⊥) → (HasNodeId log entry.node → ⊥) → IsInjective (log ++ entry ∷ []))
     → (world : World) → IsReached world → (group : List ℕ) (uid : List ℕ) (node : ℕ) → HasNoneTwice world.members → IsMajority world.members group
     → HasRoom world group → IsNew world group uid node → CanCome world (λ later. IsTold later uid node)
-tells_new laws win keeps world r group uid node once majority room new =
+tells_new laws win blank_keeps keeps world r group uid node once majority room new =
     and_then (λ later. ComesBackIn group world later × (later.members ≡ world.members)) (λ later. IsTold later uid node) world r
-    (with_members (ComesBackIn group world) world (comes_back laws win world r group once majority room))
+    (with_members (ComesBackIn group world) world (comes_back laws win blank_keeps world r group once majority room))
     (λ later reached b. so (Told group b.0.leader (entry later b.0.leader)) (λ last. IsTold last uid node) later
     (still_tells laws later reached group b.0.leader (entry later b.0.leader) (majority_in world.members later.members group b.1 majority) b.0.back
     (record {
       leads = b.0.back.led.leads;
       room = omega (arith, grown_length (world.server b.0.leader).store.log (later.server b.0.leader).store.log b.0.log, new.room b.0.leader b.0.back.led.member);
       own_term = refl;
-      kind = inl (pair later b.0.leader);
+      kind = inr (inr (pair later b.0.leader));
       injective = keeps (later.server b.0.leader).store.log (entry later b.0.leader) (pair later b.0.leader)
           ((in_reached Invariants laws.invariants later reached).stores b.0.leader).injective
           (grown_uid (world.server b.0.leader).store.log (later.server b.0.leader).store.log uid new.device b.0.log (new.uids b.0.leader b.0.back.led.member))

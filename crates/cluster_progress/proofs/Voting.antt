@@ -9,11 +9,11 @@ use Rattle.raft_model.specs.Log.{NotAbove}
 use Rattle.raft_model.specs.Members.{HasNoneTwice}
 use Rattle.raft_model.specs.Messages.{Answer, Request}
 use Rattle.raft_model.specs.Messages.Message.{Answers, Requests}
-use Rattle.raft_model.specs.Moves.Elections.{MayGrant, adds_blank, has_quorum, votes_with, win_puts, with_term}
+use Rattle.raft_model.specs.Moves.Elections.{MayGrant, has_quorum, votes_with, with_term}
 use Rattle.raft_model.specs.Moves.Leading.{answer_to, vote_request}
 use Rattle.raft_model.specs.Moves.Move.{CallForVote, TakeVoteAnswer, TakeVoteRequest}
 use Rattle.raft_model.specs.Runs.{InEveryRun, World}
-use Rattle.raft_model.specs.Server.{RaftServer, Store, put_all, quorum}
+use Rattle.raft_model.specs.Server.{RaftServer, Store, quorum}
 use Rattle.raft_model.specs.Server.Role.{Candidate, Leader}
 use Rattle.alloc_spec_laws.proofs.Choices.{lt_tells, tell}
 use Rattle.cluster_progress.specs.Coming.{CanCome}
@@ -38,8 +38,7 @@ abbrev pub Outcome : ℕ → RaftServer → RaftServer → Type 0
 Outcome you server later = (later.memory.up ≡ server.memory.up) × (
     ((later.memory.role ≡ Candidate) × (later.store ≡ server.store) × (later.memory.votes ≡ at server.memory.votes you true)
     × (later.memory.pending ≡ at server.memory.pending you None))
-    ⊎ ((later.memory.role ≡ Leader) × (later.store ≡ put_all server.store (win_puts server.store))
-    × (later.memory.pending ≡ (λ peer. None))))
+    ⊎ ((later.memory.role ≡ Leader) × (later.store ≡ server.store) × (later.memory.pending ≡ (λ peer. None))))
 
 counted : (members : List ℕ) (me step : ℕ) (server : RaftServer) (answer : Answer) → server.memory.role ≡ Candidate
     → answer.term ≡ server.store.term → answer.success ≡ true → Outcome answer.from server (server_after members me step server (TakeVoteAnswer answer))
@@ -84,8 +83,7 @@ pub record HasPolled (me you : ℕ) (world later : World) : Type 0 where
       × ((n : ℕ) → n ≢ you → (later.server me).memory.pending n ≡ (world.server me).memory.pending n)
       × ((later.server me).memory.pending you ≡ None)))
       ⊎ (((later.server me).memory.role ≡ Leader)
-      × ((later.server me).store ≡ put_all (world.server me).store (win_puts (world.server me).store))
-      × ((n : ℕ) → (later.server me).memory.pending n ≡ None))
+      × ((later.server me).store ≡ (world.server me).store) × ((n : ℕ) → (later.server me).memory.pending n ≡ None))
 
 module _ (world : World) (me you : ℕ) (m : MayPoll world me you) where
   abbrev number : ℕ
@@ -220,11 +218,8 @@ pub record IsStanding (world : World) (group : List ℕ) (me : ℕ) (rest : List
 
 pub record HasWon (group : List ℕ) (me : ℕ) (world later : World) : Type 0 where
   pub led : IsLed later group me
-  pub store : (later.server me).store ≡ put_all (world.server me).store (win_puts (world.server me).store)
+  pub store : (later.server me).store ≡ (world.server me).store
   pub members : later.members ≡ world.members
-
-win_term : (store : Store) → (put_all store (win_puts store)).term ≡ store.term
-win_term store = elim (tell (adds_blank store)) [ inl h ↦ rw (h) refl | inr h ↦ rw (h) refl ]
 
 module _ (win : InEveryRun (λ world. (member : ℕ) → WinDuty world.members (world.server member))) (group : List ℕ) (me : ℕ) where
   -- the candidate itself is no peer
@@ -303,8 +298,7 @@ module _ (win : InEveryRun (λ world. (member : ℕ) → WinDuty world.members (
       has n e = ap (λ (f : ℕ → Bool). f n) o.2 ∙ at_here (world.server me).memory.votes x n true e
 
   has_won : (x : ℕ) (xs : List ℕ) (world later : World) → HasPolled me x world later
-      → ((later.server me).memory.role ≡ Leader) × ((later.server me).store ≡ put_all (world.server me).store (win_puts (world.server me).store))
-      × ((n : ℕ) → (later.server me).memory.pending n ≡ None)
+      → ((later.server me).memory.role ≡ Leader) × ((later.server me).store ≡ (world.server me).store) × ((n : ℕ) → (later.server me).memory.pending n ≡ None)
       → IsStanding world group me (x ∷ xs) → HasWon group me world later
   has_won x xs world later p o s = record {
     led = record {
@@ -325,7 +319,7 @@ module _ (win : InEveryRun (λ world. (member : ℕ) → WinDuty world.members (
   }
     where
       term : (later.server me).store.term ≡ (world.server me).store.term
-      term = ap (λ (k : Store). k.term) o.1 ∙ win_term (world.server me).store
+      term = ap (λ (k : Store). k.term) o.1
 
   pub wins : (rest : List ℕ) → HasNoneTwice rest → ((n : ℕ) → In n rest → In n group) → (world : World) → IsReached world
       → IsMajority world.members group → IsStanding world group me rest → CanCome world (HasWon group me world)
@@ -353,7 +347,7 @@ module _ (win : InEveryRun (λ world. (member : ℕ) → WinDuty world.members (
               (still_stands x xs world later once z.1 p o s))
               (λ last w. record {
                 led = w.led;
-                store = w.store ∙ ap (λ (k : Store). put_all k (win_puts k)) o.1;
+                store = w.store ∙ o.1;
                 members = w.members ∙ p.members;
               })
         ])

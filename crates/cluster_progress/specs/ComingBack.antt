@@ -36,7 +36,7 @@ pub record IsBack (world : World) (group : List ℕ) (me : ℕ) : Type 0 where
   pub led : IsLed world group me
   pub committed : (world.server me).store.commit ≡ length (world.server me).store.log
 
--- a term is left for each, and room in its log for the blank of a win
+-- a term is left for each, and room in its log for a blank
 pub record HasRoom (world : World) (group : List ℕ) : Type 0 where
   pub term : (n : ℕ) → In n group → (world.server n).store.term < term_limit
   pub log : (n : ℕ) → In n group → length (world.server n).store.log < log_limit

@@ -11,10 +11,11 @@ use Rattle.alloc_spec.specs.Step.{at_moment, step}
 use Rattle.alloc_spec.specs.Step.Event.{Tick}
 use Rattle.alloc_spec.specs.Tick.{is_candidate}
 
--- an entry is put into the log that has this node ID or a lower one
+-- an entry is put into the log that has this node ID or a lower one; so it is no blank
 pub record RecordsUpTo (node : ℕ) (moves : List Move) : Type 0 where
   pub entry : Entry
   pub proposed : In (ProposeEntry entry) moves
+  pub least : 1 ≤ entry.node
   pub most : entry.node ≤ node
 
 -- a tick of a leader whose log has room, at which a node told its unique ID or is silent, and is not known

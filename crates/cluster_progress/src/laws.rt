@@ -39,8 +39,8 @@ pub fn a_leader_follows_up()
     ensures { GivesFollowUps }
 {}
 
-/// A leader whose log has room records the pair of a whole unique ID that is new, where a node ID is free, and each node
-/// that is online is known.
+/// A leader whose log has room records the pair of a whole unique ID that is new, where a node ID is free, and each
+/// node that is online is known.
 pub fn a_leader_records_the_pair()
     ensures { RecordsPairs }
 {}
@@ -85,6 +85,7 @@ pub fn a_majority_comes_back()
     law_duty();
     law_every_run();
     law_fit();
+    logs_stay_injective();
 }
 
 /// From a leader whose log is committed each pair that it may propose can be committed and told.
@@ -129,8 +130,8 @@ pub fn requests_of_devices_are_requests()
 /// Whoever knows all members and heard no leader for the longest wait stands for election at its next tick, where there
 /// is a next term. When a step of a leader is over, each peer of its list has a call pending, or there is nothing new
 /// for the peer and it was called within the heartbeat interval, or its call found no room in the queue. When any step
-/// is over, no pending call is as old as the call timeout. Where a listed leader's append request comes, the wait begins
-/// anew; and a follower does not stand before the least wait is over.
+/// is over, no pending call is as old as the call timeout. Where a listed leader's append request comes, the wait
+/// begins anew; and a follower does not stand before the least wait is over.
 pub fn steps_are_in_time()
     ensures stands { StandsInTime }
     ensures in_touch { StaysInTouch }

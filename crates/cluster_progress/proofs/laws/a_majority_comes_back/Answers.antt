@@ -15,4 +15,5 @@ returns c = λ members events lawful group once majority room.
     })
     (λ ms es legal member. subst (λ (l : List ℕ). WinDuty l ((run (initial_world ms) es).server member)) (sym (members_stay (initial_world ms) es))
     (c.law_duty.ensures.win ms es member legal))
+    (λ log entry blank. (c.logs_stay_injective.ensures.blank log entry blank).1)
     (run (initial_world members) events) (record { members = members; past = events; lawful = lawful; is = refl }) group once majority room

@@ -15,5 +15,6 @@ returns c = λ members events lawful group uid node once majority room new.
     })
     (λ ms es legal member. subst (λ (l : List ℕ). WinDuty l ((run (initial_world ms) es).server member)) (sym (members_stay (initial_world ms) es))
     (c.law_duty.ensures.win ms es member legal))
+    (λ log entry blank. (c.logs_stay_injective.ensures.blank log entry blank).1)
     (λ log entry pair once uid node. (c.logs_stay_injective.ensures.pair log entry pair).1 (once, uid, node))
     (run (initial_world members) events) (record { members = members; past = events; lawful = lawful; is = refl }) group uid node once majority room new
