@@ -23,6 +23,7 @@ counts_same r list later state server times h same = record {
   known = λ leads. h.known leads ∙ sym (same leads);
   since = h.since;
   word = h.word;
+  waits = h.waits;
   peers = h.peers;
 }
 

@@ -25,7 +25,7 @@ pub use Rattle.disk_model.specs.declared.disk.Disk.{Ghosts}
 pub use Rattle.kv_store.specs.declared.fault.Fault.{Fault}
 pub use Rattle.node_discovery.specs.History.{Asked, is_nameless, is_online, may_be_asked, unique_id}
 pub use Rattle.node_discovery.specs.Watch.{Watched, after_info, after_status, history, is_due, next_query, of_node}
-pub use Rattle.raft_core.specs.Handled.{MakesMoves, append_request_of, counted_at, moves_of_expire, moves_of_tick, puts_with_origins, vote_request_of}
+pub use Rattle.raft_core.specs.Handled.{MakesMoves, append_request_of, counted_at, moves_of_expire, moves_of_tick, puts_with_origins, vote_request_of, with_blank}
 pub use Rattle.raft_core.specs.RaftViews.{raft_me, raft_role, raft_size, raft_told}
 pub use Rattle.raft_core.specs.StoredPuts.{CallFaultIsSticky, CallWrites, PutWithOrigin}
 pub use Rattle.raft_core.specs.Times.{Given, Sending, Times, awaits, given_at, given_call, given_proposal, given_tick, is_awaited, overdue, times_after_all}

@@ -122,14 +122,19 @@ impl<D: Disk> Member<D> {
         self.status_at = now;
     }
 
-    /// Tells it the members of its cluster. They are learnt as from a Discovery that nobody sent, and from now on
-    /// the queries since a node's last answer count against it; an empty list changes nothing.
+    /// Tells it the members of its cluster. They are learnt as from a Discovery that nobody sent. From now on the
+    /// queries since a node's last answer count against it, and a leader's blank waits until a quorum has the
+    /// log. An empty list changes nothing.
     pub fn learn(&mut self, nodes: &[u8])
         requires ready { IsReady self.old }
         requires few { length nodes.now ≤ 5 }
         ensures stands { (t : AllocatorState) → StandsFor self.old t →
             StandsFor self.new (with_told nodes.now t) }
-        ensures rest { self.new ≡ record self.old { cluster = self.new.cluster; counting = self.new.counting } }
+        ensures rest { self.new ≡ record self.old {
+          raft = self.new.raft;
+          cluster = self.new.cluster;
+          counting = self.new.counting;
+        } }
         ensures ready { IsReady self.new }
     {
         a_complete_list_stays();
@@ -147,6 +152,7 @@ impl<D: Disk> Member<D> {
             Err(_) => unreachable!(),
         }
         self.counting = Counting::SinceAnswer;
+        self.raft.wait_until_heard();
     }
 
     /// How each step begins: time goes on, never back, and old calls are given up.
