@@ -20,15 +20,17 @@ counted_same [] whole list is = refl
 counted_same (move ∷ moves) whole list is = is
 
 module _ {D : Type 0} {disk : Ghosts D} (member : Member D disk) (t : AllocatorState) (h : StandsFor member t) (step word : ℕ) (new : Durable D disk) (raft : Raft) (failed : Option Fault) where
-  abbrev Elects : List ℕ → ℕ → ℕ → Bool → Type 0
-  Elects members me now complete =
-      MakesMoves members me step (given_tick now word) (moves_of_tick members me step complete now t.raft_server t.times) t.raft_server t.times member.durable new raft failed
+  abbrev Elects : List ℕ → List ℕ → ℕ → ℕ → Bool → Type 0
+  Elects counted known me now complete =
+      MakesMoves counted me step (given_tick now word) (moves_of_tick known me step complete now t.raft_server t.times) t.raft_server t.times member.durable new raft failed
 
-  pub elects : (first : List Move) (me : ℕ) (complete : Bool) (peers : List ℕ) → me ≡ t.me → complete ≡ knows_all t → members_of t ≡ me ∷ peers
-      → Elects (counted_at first (members_of t) (me ∷ peers)) me member.latest complete
-      → Elects (members_of t) t.me t.now (knows_all t)
-  elects first me complete peers mine all whole made =
-      subst (λ (now : ℕ). Elects (members_of t) t.me now (knows_all t)) h.now
-      (subst (λ (b : Bool). Elects (members_of t) t.me member.latest b) all
-      (subst (λ (m : ℕ). Elects (members_of t) m member.latest complete) mine
-      (subst (λ (members : List ℕ). Elects members me member.latest complete) (counted_same first (members_of t) (me ∷ peers) (sym whole)) made)))
+  pub elects : (me : ℕ) (complete : Bool) (peers : List ℕ) → me ≡ t.me → complete ≡ knows_all t → members_of t ≡ me ∷ peers
+      → Elects (counted_at (moves_of_tick (me ∷ peers) me step complete member.latest t.raft_server t.times) (members_of t) (me ∷ peers)) (me ∷ peers) me member.latest complete
+      → Elects (members_of t) (members_of t) t.me t.now (knows_all t)
+  elects me complete peers mine all whole made =
+      subst (λ (now : ℕ). Elects (members_of t) (members_of t) t.me now (knows_all t)) h.now
+      (subst (λ (b : Bool). Elects (members_of t) (members_of t) t.me member.latest b) all
+      (subst (λ (m : ℕ). Elects (members_of t) (members_of t) m member.latest complete) mine
+      (subst (λ (known : List ℕ). Elects (members_of t) known me member.latest complete) (sym whole)
+      (subst (λ (counted : List ℕ). Elects counted (me ∷ peers) me member.latest complete)
+      (counted_same (moves_of_tick (me ∷ peers) me step complete member.latest t.raft_server t.times) (members_of t) (me ∷ peers) (sym whole)) made))))

@@ -46,8 +46,8 @@ module _ {D : Type 0} {disk : Ghosts D} {member : Member D disk} {t : AllocatorS
     status_at = h.status_at;
   }
 
-module _ {D : Type 0} {disk : Ghosts D} {member : Member D disk} {r : Raft} (h : IsReady member) where
-  pub ready_with : raft_me r ≡ raft_me member.raft → raft_size r ≡ raft_size member.raft → Fits r (durable_state member.durable) → IsReady (record member { raft = r })
+module _ {D : Type 0} {disk : Ghosts D} {member : Member D disk} {r : Raft} {k : Cluster} {counting : Counting} (h : IsReady member) where
+  pub ready_with : raft_me r ≡ raft_me member.raft → raft_size r ≡ raft_size member.raft → Fits r (durable_state member.durable) → IsReady (record member { raft = r; cluster = k; counting = counting })
   ready_with me size fits = record {
     least = h.least;
     most = h.most;
