@@ -128,7 +128,9 @@ static inline uint32_t caldrouz_open(caldrouz *node, uint64_t now, uint32_t word
 /* Tells an open node who the members of its cluster are: `count` node IDs at `members`, its own among them. To be called
  * once after each caldrouz_open() that was done, before the first caldrouz_tick() or caldrouz_hear(), or never: on all
  * members, with the same list in the same order, or on none. Of members that were told, a majority serves from power-on
- * on; members that were not told elect nobody before they have heard each other one.
+ * on; members that were not told elect nobody before they have heard each other one. A leader whose log is not all
+ * committed adds a blank, which takes one of 127 places: where it was told, once a majority has its whole log; else at
+ * its election, also where its calls reach nobody.
  * Answers CALDROUZ_DONE; CALDROUZ_NOT_MEMBERS where the list has another count than the size of the cluster, a number
  * beyond 1 to 125, one twice, or not this node; CALDROUZ_TOO_LATE; CALDROUZ_NOT_MADE or CALDROUZ_CLOSED. */
 static inline uint32_t caldrouz_learn(caldrouz *node, const uint8_t *members, size_t count) {

@@ -79,9 +79,9 @@ class Stores(StoreCase):
                 self.assertIn("alloc-2.store: term 2, ", second)
 
     def test_a_log_of_blanks_is_warned_of(self) -> None:
-        """A leader that is elected while an entry is not committed adds a blank; 127 entries are a full log."""
+        """A leader that begins while an entry is not committed adds a blank; 127 entries are a full log."""
         blank = bytes([2, 0, 0, 0]) + bytes(17) + bytes([4])
-        many = "blanks: calls with entries do not get through; mend the bus before the log is full"
+        many = "blanks: leaders are lost before they commit; mend the bus before the log is full"
         stuck = "full, and not committed: no later leader can commit anything, and no new device is served any more"
         for last, commit, warning in [(15, 0, ""), (16, 0, f"16 {many}"), (127, 126, stuck), (127, 127, f"127 {many}")]:
             with self.subTest(last=last, commit=commit):

@@ -188,8 +188,8 @@ def _room(scene: Scene, stores: Sequence[NamedStore]) -> Iterator[Cause]:
     if longest.blanks >= MANY_BLANKS:
         yield Cause(
             "many-blanks",
-            f"{longest.blanks} of {len(longest.entries)} entries are blanks, each of an election while an entry was "
-            "not committed: the bus loses much, or members come and go",
+            f"{longest.blanks} of {len(longest.entries)} entries are blanks, each of a leader that began while an "
+            "entry was not committed: the bus loses much, or members come and go",
             "look at the counts of the bridges and at the interfaces; a log has 127 places and gets none back",
             stops=False,
         )

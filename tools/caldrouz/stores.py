@@ -11,7 +11,7 @@ from typing import Callable, List, NamedTuple, Tuple
 
 from . import table, wire
 
-ORIGINS = "from a leader", "by the exchange", "by GetNodeInfo", "a reservation", "the blank of its win"
+ORIGINS = "from a leader", "by the exchange", "by GetNodeInfo", "a reservation", "its own as leader"
 TRIES = 10
 MANY_BLANKS = 16  # more are no accident: a bus that is bad for minutes adds a few
 _NAME = re.compile(r"alloc-([1-9][0-9]{0,2})\.store")
@@ -48,7 +48,7 @@ class Store(NamedTuple):
 
     @property
     def blanks(self) -> int:
-        """How many entries are blanks: each was added at an election while an entry was not committed."""
+        """How many entries are blanks: each is of a leader that began while an entry was not committed."""
         return sum(entry.node == 0 for entry in self.entries)
 
     @property

@@ -112,7 +112,7 @@ pub fn calls_of_a_step()
 /// A step is one of the message machine, where what is delivered to it was said by a member: its
 /// moves may come, one after another; its puts, but for their origins, are theirs, in order; they
 /// leave its server; and the requests, answers and pairs of the transfers that fitted are offered
-/// by them. No entry that they propose has a member's node ID, but that a blank has none. What of this the
+/// by them. Each entry that they propose is a blank, or has a node ID that no member has. What of this the
 /// next step asks for, each step keeps.
 pub fn moves_of_a_step()
     ensures moves { WhereItMayStep (λ members bag t number event. (local_state : LocalState) →
