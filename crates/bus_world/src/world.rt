@@ -112,10 +112,10 @@ impl<F: Fn(Kind, u16) -> Option<u64> + Copy, G: Fn(Kind, u16) -> Option<u64> + C
     /// of the log of every later leader whose term is at least that member's stored term (`HasHeadline` of
     /// `cluster_agreement`). The run of the Raft model that the rows show is lawful and safe (`AreSafe`).
     /// Each step does its duty: a leader commits as far as a quorum lets it and tells one place where there
-    /// is room, who has waited stands for election, who counts a quorum leads, who is asked answers, and the
-    /// node ID of a node that is heard is not given (`AreDutiful`). What a device has that takes a node ID
-    /// by the standard's rule is a pair of that list from then on, so two with different unique IDs never
-    /// have the same node ID (`HasAllocatees`).
+    /// is room, who has waited stands for election, who counts a quorum leads, who is asked answers, a leader
+    /// adds a blank only when it is due, and the node ID of a node that is heard is not given (`AreDutiful`).
+    /// What a device has that takes a node ID by the standard's rule is a pair of that list from then on, so
+    /// two with different unique IDs never have the same node ID (`HasAllocatees`).
     pub fn row(&mut self, row: &Row) -> Result<Told, Unlawful>
         requires memory { ReceiverFitsInMemory F.row 160 128 }
         requires callable { F.IsAlwaysCallable (accepts self.old) }
