@@ -1,11 +1,11 @@
 //! Waits, votes and elections.
 
-ghost use Rattle.std.specs.Prelude.{◌≤◌, ◌<◌};
+ghost use Rattle.std.specs.Prelude.{◌≤◌};
 
-use crate::member::{Member, View, pair, stored};
+use crate::member::{Member, pair, stored};
 use can_frame::Entry;
 use dsdl_codec::{AppendRequest, VoteRequest};
-use raft_core::{Call, Pending, Role};
+use raft_core::{Call, Role};
 
 /// A follower of term 2 with two entries.
 fn follower() -> Option<Member> {
@@ -60,26 +60,6 @@ fn second_vote(term: u32) -> Option<bool> {
 fn one_vote_in_a_term(rt: HostRuntime) {
     assert_eq!(rt; second_vote(2), Some(false));
     assert_eq!(rt; second_vote(3), Some(true));
-}
-
-/// Whether a vote that is granted a second time is granted, and makes no device call.
-fn granted_again() -> Option<(bool, bool)> {
-    let (member, _) = follower()?.vote_request(2, &vote(2, 2), 100)?;
-    let Member {
-        mut raft,
-        mut durable,
-        ..
-    } = member;
-    durable.stop_at(1);
-    let answer = raft
-        .on_vote_request(&mut durable, 2, &vote(2, 2), 200)
-        .ok()?;
-    Some((answer.granted, durable.stopped()))
-}
-
-#[test]
-fn a_vote_that_stands_is_not_stored_again(rt: HostRuntime) {
-    assert_eq!(rt; granted_again(), Some((true, false)));
 }
 
 /// What a member hears at a moment.
@@ -194,44 +174,6 @@ fn the_wait_takes_the_word_of_the_last_election(rt: HostRuntime) {
     }
 }
 
-/// Whether a member that was granted a vote at 5,000 ms stands at 100 ms, and at 7,000 ms.
-fn falling() -> Option<(bool, bool)> {
-    let member = hear(follower()?, Heard::Vote(2, 2), 5000)?;
-    let (member, fallen) = stands(member, 100, 0)?;
-    let (_, risen) = stands(member, 7000, 0)?;
-    Some((fallen, risen))
-}
-
-#[test]
-fn a_clock_that_falls_begins_no_election(rt: HostRuntime) {
-    assert_eq!(rt; falling(), Some((false, true)));
-}
-
-/// What is seen of a member of a term after its wait.
-fn waited(term: u32) -> Option<View> {
-    let member = Member::open(stored(term, &[], 0)?, 3, 0).tick(5000, 0)?;
-    Some(member.view())
-}
-
-/// The role after the wait of a member that knows one peer of two.
-fn alone() -> Option<Role> {
-    let Member {
-        mut raft,
-        mut durable,
-        ..
-    } = follower()?;
-    raft.tick(&mut durable, &[2], false, 5000, 0).ok()?;
-    Some(raft.role())
-}
-
-#[test]
-fn no_election_in_the_highest_term_or_before_all_are_known(rt: HostRuntime) {
-    let last = u32::MAX;
-    assert_eq!(rt; waited(last - 1), Some((Role::Candidate, last, 1, 0, 0)));
-    assert_eq!(rt; waited(last), Some((Role::Follower, last, 0, 0, 0)));
-    assert_eq!(rt; alone(), Some(Role::Follower));
-}
-
 /// The role of a member of four after its wait, and after each of two votes.
 fn among_four() -> Option<[Role; 3]> {
     let Member {
@@ -292,68 +234,4 @@ fn a_vote_answer_is_taken_from_its_peer_under_its_transfer_id(rt: HostRuntime) {
     assert_eq!(rt; answered(2, 5, 3, true), Some((true, Role::Leader, false)));
     assert_eq!(rt; answered(2, 6, 3, true), refused);
     assert_eq!(rt; answered(3, 5, 3, true), refused);
-}
-
-#[test]
-fn a_vote_counts_where_it_is_granted_in_the_term(rt: HostRuntime) {
-    assert_eq!(rt;
-        answered(2, 5, 3, false),
-        Some((true, Role::Candidate, false))
-    );
-    assert_eq!(rt;
-        answered(2, 5, 2, true),
-        Some((true, Role::Candidate, false))
-    );
-    assert_eq!(rt;
-        answered(2, 5, 4, true),
-        Some((true, Role::Follower, false))
-    );
-}
-
-/// The call to a peer that is pending after what was heard, of the candidate that made it.
-fn pending_after(heard: Heard, now: u64, peer: u8) -> Option<Option<Pending>>
-    requires { peer ≤ 125 }
-{
-    let member = hear(candidate()?, heard, now)?;
-    Some(member.raft.pending(peer))
-}
-
-/// The call to member 3 that is pending after member 2 let it win.
-fn pending_after_a_win() -> Option<Option<Pending>> {
-    let (member, _) = candidate()?.vote_answer(2, 5, 3, true, 2500)?;
-    Some(member.raft.pending(3))
-}
-
-/// The vote request to member 2.
-const ASKED: Pending = Pending {
-    service: 31,
-    id: 5,
-    step: 1,
-    sent: 2000,
-};
-
-#[test]
-fn an_election_and_a_win_forget_the_calls(rt: HostRuntime) {
-    assert_eq!(rt; pending_after(Heard::Tick, 3999, 2), Some(Some(ASKED)));
-    assert_eq!(rt; pending_after(Heard::Tick, 4000, 2), Some(None));
-    assert_eq!(rt; pending_after_a_win(), Some(None));
-}
-
-#[test]
-fn a_request_of_another_forgets_no_call(rt: HostRuntime) {
-    let asked = Some(Some(ASKED));
-    assert_eq!(rt; pending_after(Heard::Append(3, 2), 2500, 2), asked);
-    assert_eq!(rt; pending_after(Heard::Vote(9, 1), 2500, 2), asked);
-}
-
-/// Whether the answer to a call of a candidate is taken by the follower that it became, and its role.
-fn late() -> Option<(bool, Role)> {
-    let member = hear(candidate()?, Heard::Append(3, 2), 2500)?;
-    let (member, taken) = member.vote_answer(2, 5, 3, true, 2600)?;
-    Some((taken, member.raft.role()))
-}
-
-#[test]
-fn a_vote_that_comes_too_late_does_not_count(rt: HostRuntime) {
-    assert_eq!(rt; late(), Some((true, Role::Follower)));
 }

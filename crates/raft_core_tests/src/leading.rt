@@ -5,25 +5,12 @@ ghost use Rattle.std.specs.Prelude.{◌≤◌, ◌<◌};
 use crate::member::{Member, View, blank, pair, reservation, stored};
 use can_frame::{Entry, NodeId};
 use dsdl_codec::AppendRequest;
-use raft_core::{Call, Pending, Proposed, Raft, Role, Telling};
-use raft_log::origin;
+use raft_core::{Call, Pending, Proposed, Role, Telling};
 use std::test::Fail;
-
-/// A follower of term 1 with one entry, which is committed.
-fn follower() -> Option<Member> {
-    Some(Member::open(stored(1, &[pair(1, 7, 125)], 1)?, 3, 0))
-}
 
 /// The leader of term 2 with one entry, which is committed. It leads from 2,000 ms on.
 fn leader() -> Option<Member> {
     Member::leader(stored(1, &[pair(1, 7, 125)], 1)?)
-}
-
-/// The leader of term 2 with as many entries as a log takes.
-fn full() -> Option<Member> {
-    let mut entries = [blank(1); 127];
-    entries[0] = pair(1, 7, 125);
-    Member::leader(stored(1, &entries, 0)?)
 }
 
 /// What becomes of a proposal, and last and the last entry after it.
@@ -42,36 +29,6 @@ fn a_leader_proposes_what_is_new_where_there_is_room(rt: HostRuntime) {
     assert_eq!(rt; proposed(leader(), 8, 125), taken);
 }
 
-#[test]
-fn a_follower_and_a_full_log_take_no_proposal(rt: HostRuntime) {
-    let not_leader = Some((Proposed::NotLeader, 1, pair(1, 7, 125)));
-    let log_full = Some((Proposed::LogFull, 127, blank(1)));
-    assert_eq!(rt; proposed(follower(), 8, 124), not_leader);
-    assert_eq!(rt; proposed(full(), 8, 124), log_full);
-    assert_eq!(rt; proposed(full(), 7, 125), log_full);
-}
-
-/// The origins in the log of a leader that won beside an entry that was not committed, and then recorded a
-/// pair by the exchange and one by GetNodeInfo, and reserved a node ID.
-fn origins() -> Option<[u8; 5]> {
-    let member = Member::leader(stored(1, &[pair(1, 7, 125)], 0)?)?;
-    let (member, _) = member.propose_from(8, 124, origin::EXCHANGE)?;
-    let (member, _) = member.propose_from(9, 123, origin::NODE_INFO)?;
-    let (member, _) = member.reserve(122)?;
-    Some([
-        member.origin(1)?,
-        member.origin(2)?,
-        member.origin(3)?,
-        member.origin(4)?,
-        member.origin(5)?,
-    ])
-}
-
-#[test]
-fn a_leader_stores_how_it_has_each_entry(rt: HostRuntime) {
-    assert_eq!(rt; origins(), Some([1, 4, 1, 2, 3]));
-}
-
 /// What becomes of a reservation, and last and the last entry after it.
 fn reserved(member: Option<Member>, node: u8) -> Option<(Proposed, u8, Entry)> {
     let (member, reserved) = member?.reserve(node)?;
@@ -84,12 +41,6 @@ fn beside_blanks() -> Option<Member> {
     Member::leader(stored(1, &[pair(1, 7, 125), blank(1)], 1)?)
 }
 
-/// The leader of term 2 with a pair, and a reservation of 124.
-fn beside_reservation() -> Option<Member> {
-    let (member, _) = leader()?.reserve(124)?;
-    Some(member)
-}
-
 #[test]
 fn a_leader_reserves_a_node_id_that_is_not_recorded(rt: HostRuntime) {
     let taken = Some((Proposed::Taken, 1, pair(1, 7, 125)));
@@ -98,30 +49,6 @@ fn a_leader_reserves_a_node_id_that_is_not_recorded(rt: HostRuntime) {
     assert_eq!(rt; reserved(leader(), 124), added);
     assert_eq!(rt; reserved(leader(), 125), taken);
     assert_eq!(rt; reserved(beside_blanks(), 124), after_blanks);
-}
-
-#[test]
-fn a_follower_and_a_full_log_take_no_reservation(rt: HostRuntime) {
-    let not_leader = Some((Proposed::NotLeader, 1, pair(1, 7, 125)));
-    let log_full = Some((Proposed::LogFull, 127, blank(1)));
-    assert_eq!(rt; reserved(follower(), 124), not_leader);
-    assert_eq!(rt; reserved(full(), 124), log_full);
-    assert_eq!(rt; reserved(full(), 125), log_full);
-}
-
-#[test]
-fn a_reservation_keeps_its_node_id_back(rt: HostRuntime) {
-    let taken = Some((Proposed::Taken, 2, reservation(2, 124)));
-    assert_eq!(rt; reserved(beside_reservation(), 124), taken);
-    assert_eq!(rt; proposed(beside_reservation(), 8, 124), taken);
-}
-
-#[test]
-fn a_reservation_keeps_no_other_node_id_back(rt: HostRuntime) {
-    let second = Some((Proposed::Added, 3, reservation(2, 123)));
-    let given = Some((Proposed::Added, 3, pair(2, 8, 123)));
-    assert_eq!(rt; reserved(beside_reservation(), 123), second);
-    assert_eq!(rt; proposed(beside_reservation(), 8, 123), given);
 }
 
 /// What is seen of a leader while an entry of an older term and the blank of its own are acknowledged.
@@ -333,19 +260,4 @@ fn a_call_is_given_up_after_a_second(rt: HostRuntime) {
     for (moment, pending) in [(0, true), (2999, true), (3000, false)] {
         assert_eq!(rt; pending_at(moment), Some(pending), "{moment}");
     }
-}
-
-/// The previous places that a leader with an empty log tries, where its request is refused.
-fn refused_at_the_start() -> Option<[u8; 2]> {
-    let (member, first) = append(Member::leader(stored(1, &[], 0)?)?, 1, false)?;
-    let (_, call) = member.call(2, 2, 2400)?;
-    let Call::Append(second) = call else {
-        return None;
-    };
-    Some([first.prev_index, second.prev_index])
-}
-
-#[test]
-fn the_first_entry_is_the_least_that_is_tried(rt: HostRuntime) {
-    assert_eq!(rt; refused_at_the_start(), Some([0, 0]));
 }

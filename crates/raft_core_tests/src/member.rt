@@ -137,14 +137,6 @@ impl Member {
         Some(self.durable.entry(place))
     }
 
-    /// The origin of the entry at a place.
-    pub fn origin(&self, place: u8) -> Option<u8> {
-        if place < 1 || place > self.durable.last() {
-            return None;
-        }
-        Some(self.durable.origin(place))
-    }
-
     /// A tick, with members 2 and 3 known.
     pub fn tick(self, now: u64, word: u32) -> Option<Member> {
         let Member {
@@ -294,13 +286,6 @@ impl Member {
 
     /// Proposes a node ID for the unique ID of one repeated byte, which came by the exchange.
     pub fn propose(self, byte: u8, node: u8) -> Option<(Member, Proposed)> {
-        self.propose_from(byte, node, origin::EXCHANGE)
-    }
-
-    pub fn propose_from(self, byte: u8, node: u8, origin: u8) -> Option<(Member, Proposed)>
-        requires least { 1 ≤ origin }
-        requires most { origin ≤ 2 }
-    {
         let Member {
             mut raft,
             mut durable,
@@ -311,7 +296,9 @@ impl Member {
         if is_zero(&uid) || node.get() > 125 {
             return None;
         }
-        let proposed = raft.propose(&mut durable, &uid, node, origin).ok()?;
+        let proposed = raft
+            .propose(&mut durable, &uid, node, origin::EXCHANGE)
+            .ok()?;
         Some((
             Member {
                 raft,
