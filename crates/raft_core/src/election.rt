@@ -168,6 +168,7 @@ fn vote_for_itself<D: Disk>(d: &mut Durable<D>, me: u8) -> Result<(), Fault>
     requires term { (durable_state d.old).term < 4294967295 }
     requires least { 1 ≤ me }
     requires most { me ≤ 125 }
+    // These puts have no entry, and so no origin.
     ensures puts { (origin : ℕ) →
         CallWrites (with_origin origin (stand_puts me (store_of (durable_state d.old))))
         d.old d.new (result_err result) }

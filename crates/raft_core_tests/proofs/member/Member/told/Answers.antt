@@ -1,5 +1,5 @@
 use Rattle.std.specs.Prelude.{◌<◌}
-use Rattle.std.proofs.Common.{◌∙◌, arith, subst}
+use Rattle.std.proofs.Common.{◌∙◌, arith}
 use Rattle.raft_core.specs.RaftViews.{raft_told}
 use Rattle.raft_log.specs.DurableViews.{durable_state}
 use Rattle.raft_core_tests.proofs.member.Member.told.Goals as goal
