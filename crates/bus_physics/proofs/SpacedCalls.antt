@@ -9,7 +9,7 @@ use Rattle.can_frame.specs.declared.identifier.Kind.TheVariants.{Anonymous, Mess
 use Rattle.cluster_discovery.specs.Members.{is_on_list}
 use Rattle.outside.specs.declared.pattern.Pattern.{Pattern}
 use Rattle.raft_core.specs.StoredPuts.{store_of}
-use Rattle.raft_core.specs.Times.{Times, is_awaited}
+use Rattle.raft_core.specs.Times.{Times, is_awaited, opened_times}
 use Rattle.raft_log.specs.KeyDisk.{are_put, is_open_on, opening_on, puts_on}
 use Rattle.raft_model.specs.Lists.{In}
 use Rattle.raft_model.specs.Server.{Memory, Store}
@@ -19,7 +19,7 @@ use Rattle.transfer_rx.specs.Reassembly.{Answer, Continues, Delivery, Drops, Giv
 use Rattle.transfer_tx.specs.Queue.{Queued}
 use Rattle.alloc_spec.specs.Accepted.{setting_for}
 use Rattle.alloc_spec.specs.AllocatorState.{AllocatorState, members_of}
-use Rattle.alloc_spec.specs.Rules.{Rules, opening_by}
+use Rattle.alloc_spec.specs.Rules.{Rules, opening_by, times_with}
 use Rattle.alloc_spec.specs.Step.{Event, after_pop, at_step, begin_phase, moment_of, step}
 use Rattle.alloc_spec.specs.Step.Event.{Rx as Receives, Tick as Ticks}
 use Rattle.alloc_spec.specs.StepState.{StepState}
@@ -368,11 +368,15 @@ module _ (append : Bool) (p width : ℕ) (P : ℕ → ℕ → Memory → Times �
       zeros true = omega (arith, small, length-replicate {A = ℕ} 128 0)
       zeros false = omega (arith, small, length-replicate {A = ℕ} 128 0)
 
+      wait_begun : (nodes : List ℕ) (ms word : ℕ) → (times_with nodes (opened_times ms word)).since ≤ ms
+      wait_begun [] ms word = omega arith
+      wait_begun (node ∷ nodes) ms word = omega arith
+
       fresh : (m : ℕ) → n ≡ m → (told : Bool) (ms word : ℕ) → row_of all (w.rows + 1) ≡ Opens m told ms word → (rules : Rules) (store : Store) (u : AllocatorState)
           → opening_by m rules store ms word ≡ u → Runs made (heard ++ []) (record { at = came; now = ms } ∷ []) (w.rows + 1) u
       fresh m same told ms word row rules store u is_it =
           subst (λ (v : AllocatorState). Runs made (heard ++ []) (record { at = came; now = ms } ∷ []) (w.rows + 1) v) is_it (record {
-            wait = omega arith;
+            wait = wait_begun rules.told ms word;
             room = zeros append;
             each = λ x i c. inl (inr (record {
               number = w.rows + 1;

@@ -58,6 +58,7 @@ use Rattle.alloc_spec_laws.proofs.Choices.{and_left, and_right, either, eq_true,
 use Rattle.alloc_spec_laws.proofs.DistinctTransfers.{rank, sent}
 use Rattle.alloc_spec_laws.proofs.EndOffers.{tells as told_offers}
 use Rattle.alloc_spec_laws.proofs.Lists.{in_append}
+use Rattle.alloc_spec.proofs.Blanks.{adds_blank, move_with_blank, tick_with_blank}
 use Rattle.cluster_agreement.specs.Said.{carrier}
 use Rattle.cluster_agreement.proofs.Lists.{never, tell}
 use Rattle.bus_physics.proofs.LastCall.{event_offers}
@@ -342,14 +343,20 @@ module _ (append : Bool) (p width : ℕ) (P : ℕ → ℕ → Memory → Times �
   tells_status_of g k = either Opens (nat_le 1000 (g.allocator.now - g.allocator.status_at)) (tells_status number g) g
       (λ e. sends Stat 0 (node_status_bytes (status_of g.allocator)) None g tt k) (λ e. k)
 
+  -- a leader's blank
+  blank_added : (given : Given) (g : StepState) → given.now ≡ g.allocator.now → Opens g → Opens (adds_blank number given g)
+  blank_added given g is k = moved g.allocator.raft_server g.allocator.times g.allocator.ids g.allocator.now (members_of g.allocator) g.allocator.me
+      given is (ProposeEntry (blank g.allocator.raft_server.store.term)) tt k
+
   elects : (word : ℕ) (g : StepState) → Opens g → Opens (election_phase number word g)
-  elects word g k =
-      either (λ (moves : List Move). Opens (with_moves number (given_tick g.allocator.now word) moves g))
-      ((knows_all g.allocator && has_waited g.allocator.times g.allocator.now)
-      && (not (is_leader g.allocator.raft_server.memory.role) && nat_lt g.allocator.raft_server.store.term term_limit)) (TimeOut ∷ []) []
-      (λ e. moved g.allocator.raft_server g.allocator.times g.allocator.ids g.allocator.now (members_of g.allocator) g.allocator.me
-      (given_tick g.allocator.now word) refl TimeOut (no_leader e, waited e) k) (λ e. k)
+  elects word g k = tick_with_blank Opens number word g stands (λ moment. blank_added given ticked refl stands)
     where
+      given : Given
+      given = given_tick g.allocator.now word
+
+      ticked : StepState
+      ticked = with_moves number given (duty.tick_phase (knows_all g.allocator && has_waited g.allocator.times g.allocator.now) g.allocator.raft_server) g
+
       no_leader : ((knows_all g.allocator && has_waited g.allocator.times g.allocator.now)
           && (not (is_leader g.allocator.raft_server.memory.role) && nat_lt g.allocator.raft_server.store.term term_limit)) ≡ true
           → g.allocator.raft_server.memory.role ≡ Leader → ⊥
@@ -364,6 +371,14 @@ module _ (append : Bool) (p width : ℕ) (P : ℕ → ℕ → Memory → Times �
         le_true (wait g.allocator.times.word) (g.allocator.now - g.allocator.times.since)
             (and_right (knows_all g.allocator) _ (and_left (knows_all g.allocator && has_waited g.allocator.times g.allocator.now) _ e)),
       )
+
+      stands : Opens ticked
+      stands =
+          either (λ (moves : List Move). Opens (with_moves number given moves g))
+          ((knows_all g.allocator && has_waited g.allocator.times g.allocator.now)
+          && (not (is_leader g.allocator.raft_server.memory.role) && nat_lt g.allocator.raft_server.store.term term_limit)) (TimeOut ∷ []) []
+          (λ e. moved g.allocator.raft_server g.allocator.times g.allocator.ids g.allocator.now (members_of g.allocator) g.allocator.me
+          given refl TimeOut (no_leader e, waited e) k) (λ e. k)
 
   proposed : (origin : ℕ) (uid : List ℕ) (node : ℕ) (g : StepState) → Opens g → Opens (proposes number origin uid node g)
   proposed origin uid node g k = moved g.allocator.raft_server g.allocator.times g.allocator.ids g.allocator.now (members_of g.allocator) g.allocator.me
@@ -481,15 +496,22 @@ module _ (append : Bool) (p width : ℕ) (P : ℕ → ℕ → Memory → Times �
   call_ends own d take g awaited reason quiet k = by (g.allocator.raft_server.memory.pending d.ident.source) refl where
     by : (pending : Option Request) → g.allocator.raft_server.memory.pending d.ident.source ≡ pending → Opens (answers_call number take pending g)
     by None e = k
-    by (Some call) e = record {
-      wait = moved_since (members_of g.allocator) g.allocator.me number g.allocator.now (given_at g.allocator.now) refl g.allocator.raft_server g.allocator.times k.wait (take call);
-      room = k.room;
-      past = λ id M i. since_moved g.allocator.raft_server g.allocator.times g.allocator.ids g.allocator.now (members_of g.allocator) g.allocator.me
-          (given_at g.allocator.now) refl (take call)
-          (reason call g.allocator.raft_server g.allocator.times g.allocator.now e
-          (awaited_call own (g.allocator.raft_server.memory.pending d.ident.source) (g.allocator.times.sending d.ident.source) d.id awaited call e)
-          (λ same. elim (tell (p == d.ident.source)) [ inl here ↦ absurd (quiet same here id M i) | inr there ↦ there ])) id M (k.past id M i);
-    }
+    by (Some call) e =
+        move_with_blank Opens number (given_at g.allocator.now) (take call) g ended (λ moment. blank_added (given_at g.allocator.now) then_ refl ended)
+      where
+        then_ : StepState
+        then_ = with_moves number (given_at g.allocator.now) (take call ∷ []) g
+
+        ended : Opens then_
+        ended = record {
+          wait = moved_since (members_of g.allocator) g.allocator.me number g.allocator.now (given_at g.allocator.now) refl g.allocator.raft_server g.allocator.times k.wait (take call);
+          room = k.room;
+          past = λ id M i. since_moved g.allocator.raft_server g.allocator.times g.allocator.ids g.allocator.now (members_of g.allocator) g.allocator.me
+              (given_at g.allocator.now) refl (take call)
+              (reason call g.allocator.raft_server g.allocator.times g.allocator.now e
+              (awaited_call own (g.allocator.raft_server.memory.pending d.ident.source) (g.allocator.times.sending d.ident.source) d.id awaited call e)
+              (λ same. elim (tell (p == d.ident.source)) [ inl here ↦ absurd (quiet same here id M i) | inr there ↦ there ])) id M (k.past id M i);
+        }
 
   -- no call in question is left that the delivered transfer would answer
   abbrev IsQuiet : Delivery → StepState → Type 0
