@@ -1,12 +1,16 @@
 -- Whether a frame may be given to a server in a cluster under test: what it would deliver was made by one step, and a
 -- response that a pending call would take answers that very call.
-use Rattle.std.specs.Prelude.{ℕ, ◌-◌, Bool, true, false, not, ◌&&◌, max, nat_eq, nat_le, nat_lt, Option, None, Some, if◌then◌else◌}
+use Rattle.std.specs.Prelude.{◌≡◌, ◌⊎◌, ℕ, ◌-◌, Bool, true, false, not, ◌&&◌, ◌||◌, max, nat_eq, nat_le, nat_lt, Option, None, Some, if◌then◌else◌}
 use Rattle.can_frame.specs.declared.identifier.Kind.{Kind}
 use Rattle.can_frame.specs.declared.identifier.Kind.TheVariants.{Anonymous, Message, Request, Response}
 use Rattle.can_frame.specs.declared.step.Judged.{Judged}
 use Rattle.can_frame.specs.declared.step.Judged.TheVariants.{Fine, Stale, Torn}
 use Rattle.can_frame.specs.DataTypes.{append_entries, request_vote}
 use Rattle.can_frame.specs.Timing.{call_timeout}
+use Rattle.dsdl_codec.specs.declared.append_answer.AppendAnswer.{AppendAnswer}
+use Rattle.dsdl_codec.specs.declared.vote_answer.VoteAnswer.{VoteAnswer}
+use Rattle.dsdl_codec.specs.AppendAnswer.{append_answer_of}
+use Rattle.dsdl_codec.specs.VoteAnswer.{vote_answer_of}
 use Rattle.raft_core.specs.Times.{Sending}
 use Rattle.raft_model.specs.Messages.{Request as Call}
 use Rattle.transfer_rx.specs.Reassembly.{Answer, Arrival, Continues, Delivery, Drops, Gives, answer}
@@ -52,3 +56,39 @@ unfoldable pub arrival_judgement : AllocatorState → Arrival → Judged
 arrival_judgement t arrival =
     answer_judgement t arrival.mark.step (max t.now arrival.moment)
     (answer (setting_for t.me) t.sessions (record arrival { moment = max t.now arrival.moment }))
+
+-- ---- A late response answers an earlier call, and is taken for the answer to the pending one. It counts for nothing
+-- where it refuses, or where its term is below the server's own.
+
+abbrev pub counts_for_nothing : (own term : ℕ) (success : Bool) → Bool
+counts_for_nothing own term success = not success || nat_lt term own
+
+-- a payload that is no value does nothing either
+
+abbrev pub is_void_vote : ℕ → Option VoteAnswer → Bool
+is_void_vote own None = true
+is_void_vote own (Some says) = counts_for_nothing own says.term says.granted
+
+abbrev pub is_void_append : ℕ → Option AppendAnswer → Bool
+is_void_append own None = true
+is_void_append own (Some says) = counts_for_nothing own says.term says.success
+
+abbrev pub is_void : ℕ → Delivery → Bool
+is_void own d =
+    if nat_eq d.ident.number append_entries.number then is_void_append own (append_answer_of d.payload)
+    else is_void_vote own (vote_answer_of d.payload)
+
+abbrev pub gives_void : ℕ → Answer → Bool
+gives_void own (Gives d) = is_void own d
+gives_void own Continues = false
+gives_void own (Drops why) = false
+
+-- the frame would deliver one that counts for nothing
+unfoldable pub brings_void : AllocatorState → Arrival → Bool
+brings_void t arrival = gives_void t.raft_server.store.term
+    (answer (setting_for t.me) t.sessions (record arrival { moment = max t.now arrival.moment }))
+
+-- a bus may bring the frame to the server: it is fine, or it delivers a late response that counts for nothing
+abbrev pub IsHarmless : AllocatorState → Arrival → Type 0
+IsHarmless t arrival = (arrival_judgement t arrival ≡ Fine)
+    ⊎ ((arrival_judgement t arrival ≡ Stale) × (brings_void t arrival ≡ true))

@@ -21,7 +21,8 @@ use Rattle.raft_model.specs.Handlers.{puts_of_all}
 use Rattle.raft_model.specs.Lists.{In}
 use Rattle.raft_model.specs.Members.{IsAll}
 use Rattle.raft_model.specs.Messages.{Message, Request}
-use Rattle.raft_model.specs.Messages.Message.{Answers, Requests}
+use Rattle.raft_model.specs.Messages.Message.{Requests}
+use Rattle.raft_model.specs.Moves.{IsHeard}
 use Rattle.raft_model.specs.Moves.Move.{ProposeEntry}
 use Rattle.raft_model.specs.Server.{RaftServer}
 use Rattle.raft_model.specs.Server.Role.{Follower}
@@ -46,17 +47,17 @@ pub record RequestsFrom (bag : List Message) (me : ℕ) (d : Delivery) : Type 0 
       → (request : AppendRequest) → append_request_of d.payload ≡ Some request
       → In (Requests (handled.append_request_of request d.mark.step d.ident.source me)) bag
 
--- a response that the pending call takes answers that very call
+-- a response that the pending call takes answers that very call, or counts for nothing
 pub record AnswersFrom (bag : List Message) (raft_server : RaftServer) (times : Times) (d : Delivery)
     (call : Request) : Type 0 where
   pub votes : d.ident.number ≢ get_node_info.number → d.ident.number ≢ append_entries.number
       → (says : VoteAnswer) → vote_answer_of d.payload ≡ Some says →
       is_awaited raft_server times d.ident.source false d.id ≡ true
-      → In (Answers (handled.answer_of d.mark.step d.ident.source call says.term says.granted)) bag
+      → IsHeard bag raft_server.store (handled.answer_of d.mark.step d.ident.source call says.term says.granted)
   pub appends : d.ident.number ≡ append_entries.number
       → (says : AppendAnswer) → append_answer_of d.payload ≡ Some says →
       is_awaited raft_server times d.ident.source true d.id ≡ true
-      → In (Answers (handled.answer_of d.mark.step d.ident.source call says.term says.success)) bag
+      → IsHeard bag raft_server.store (handled.answer_of d.mark.step d.ident.source call says.term says.success)
 
 abbrev pub SaysFrom : List Message → AllocatorState → Delivery → Kind → Type 0
 SaysFrom bag t d Anonymous = ⊤

@@ -1,6 +1,6 @@
 -- The main theorem. The law `the_headline` (`src/headline.rt`) proves `HasHeadline ids rows`, at the end of this page,
--- for 1 to 5 different members `ids`, each 1 to 125 (`AreMembers`), and every list of lawful rows; `Headline` is its
--- part for one pair of cuts.
+-- for 1 to 5 different members `ids`, each 1 to 125 (`AreMembers`), and every list of rows that do no harm; `Headline`
+-- is its part for one pair of cuts.
 --
 -- At the beginning all members are stopped, on disks of zeros, and nothing is on the bus. A row may deliver any frame
 -- that was on the bus, at any later time and any number of times, or never; any frame that is not forged may come from
@@ -9,7 +9,8 @@
 -- synced. A row is lawful where no cause of `Lawful` refuses it: it makes sense when it comes (its member runs, its
 -- frame exists ..), a frame from outside is not forged, and one that is delivered is not torn or stale for its
 -- receiver. A frame with a source is forged where the source is a member, and where it is an Allocation, a Discovery, a
--- RequestVote or an AppendEntries, whatever its source.
+-- RequestVote or an AppendEntries, whatever its source. A row does no harm (`DoNoHarm`) where it is lawful, and where it
+-- brings a member a stale response that refuses, or has a term below the member's own: that counts for nothing.
 --
 -- Then each allocator's committed log is always a prefix of one growing list of entries, in which no node ID and no
 -- unique ID is given twice; at each cut, every Allocation with a node ID other than 0 that waits whole in a queue, or

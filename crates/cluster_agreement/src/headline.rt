@@ -12,7 +12,7 @@ ghost use Rattle.cluster_agreement.specs.Safe.{AreSafe};
 ghost use Rattle.cluster_agreement.specs.Shows.{Shows};
 ghost use Rattle.cluster_spec.specs.Cluster.{AreMembers, Cluster, cluster};
 ghost use Rattle.cluster_spec.specs.Cluster.{after_rows, after_row, world_of};
-ghost use Rattle.cluster_spec.specs.Lawful.{Lawful, cause};
+ghost use Rattle.cluster_spec.specs.Lawful.{DoNoHarm, DoesNoHarm, Lawful, cause};
 ghost use Rattle.cluster_spec.specs.Choices.{AgreesWithDisk, RowAgreesWithDisk};
 ghost use Rattle.cluster_spec.specs.Refinement.{events, transfers_of_rows, transfers_of_row, row_events};
 ghost use Rattle.alloc_spec.specs.Transfers.{SentTransfer};
@@ -22,7 +22,7 @@ use crate::rows::{a_row_is_shown, steps_are_dutiful, the_beginning_is_shown};
 use crate::transfers::what_a_row_delivers_is_one_transfer;
 use raft_model::laws::{law_commit, law_duty, law_every_run};
 
-/// A list of rows grows by one at its end: the world, which rows are lawful, the events that the rows show,
+/// A list of rows grows by one at its end: the world, which rows are lawful or do no harm, the events that they show,
 /// the choices that fit, and what was made. The members stay.
 pub fn rows_grow_by_one()
     ensures members { (w : Cluster) (rows : List Row) → (after_rows w rows).ids ≡ w.ids }
@@ -30,6 +30,8 @@ pub fn rows_grow_by_one()
         after_rows w (rows ++ row ∷ []) ≡ after_row (after_rows w rows) row }
     ensures lawful { (w : Cluster) (rows : List Row) (row : Row) → Lawful w rows →
         cause (after_rows w rows) row ≡ None → Lawful w (rows ++ row ∷ []) }
+    ensures harmless { (w : Cluster) (rows : List Row) (row : Row) → DoNoHarm w rows →
+        DoesNoHarm (after_rows w rows) row → DoNoHarm w (rows ++ row ∷ []) }
     ensures events { (choice : ℕ → Bool) (w : Cluster) (rows : List Row) (row : Row) →
         events choice w (rows ++ row ∷ [])
         ≡ events choice w rows ++ row_events choice (after_rows w rows) row }
@@ -69,11 +71,16 @@ pub fn what_is_mirrored_has_the_headline()
     law_every_run();
 }
 
-/// What a list of lawful rows shows is a lawful run of the message machine, from its beginning, whatever choice
+/// Lawful rows do no harm.
+pub fn lawful_rows_do_no_harm()
+    ensures { (w : Cluster) (rows : List Row) → Lawful w rows → DoNoHarm w rows }
+{}
+
+/// What a list of rows that do no harm shows is a lawful run of the message machine, from its beginning, whatever choice
 /// fits what the stops find.
 pub fn rows_are_shown()
     ensures { (choice : ℕ → Bool) (ids : List ℕ) (rows : List Row) → AreMembers ids →
-        Lawful (cluster ids) rows → AgreesWithDisk choice (cluster ids) rows →
+        DoNoHarm (cluster ids) rows → AgreesWithDisk choice (cluster ids) rows →
         Continues choice (transfers_of_rows (cluster ids) rows []) (world_of ids rows) (initial_world ids)
         (events choice (cluster ids) rows) }
 {
@@ -82,10 +89,10 @@ pub fn rows_are_shown()
     the_beginning_is_shown();
 }
 
-/// The run that a list of lawful rows shows is lawful and safe, whatever choice fits; and what a row delivers
+/// The run that a list of rows that do no harm shows is lawful and safe, whatever choice fits; and what a row delivers
 /// of a member's transfer is one transfer that a member made by then, for this receiver, and is in the bag.
 pub fn rows_are_safe()
-    ensures { (ids : List ℕ) (rows : List Row) → AreMembers ids → Lawful (cluster ids) rows →
+    ensures { (ids : List ℕ) (rows : List Row) → AreMembers ids → DoNoHarm (cluster ids) rows →
         AreSafe ids rows }
 {
     law_every_run();
@@ -93,11 +100,11 @@ pub fn rows_are_safe()
     what_a_row_delivers_is_one_transfer();
 }
 
-/// Each step of a list of lawful rows does its duty: a leader commits as far as a quorum of the members lets
+/// Each step of a list of rows that do no harm does its duty: a leader commits as far as a quorum of the members lets
 /// it, and tells one place where there is room; who has waited stands for election; who counts a quorum leads; who is
 /// asked answers; and the node ID of a node that is heard is not given.
 pub fn rows_are_dutiful()
-    ensures { (ids : List ℕ) (rows : List Row) → AreMembers ids → Lawful (cluster ids) rows →
+    ensures { (ids : List ℕ) (rows : List Row) → AreMembers ids → DoNoHarm (cluster ids) rows →
         AreDutiful ids rows }
 {
     a_choice_fits();
@@ -107,20 +114,20 @@ pub fn rows_are_dutiful()
     steps_are_dutiful();
 }
 
-/// For every list of rows that are lawful there is a choice that fits: what a choice says of a failed step is
+/// For every list of rows that do no harm there is a choice that fits: what a choice says of a failed step is
 /// what the disk of its member gives once the member stops.
 pub fn a_choice_fits()
-    ensures { (ids : List ℕ) (rows : List Row) → AreMembers ids → Lawful (cluster ids) rows →
+    ensures { (ids : List ℕ) (rows : List Row) → AreMembers ids → DoNoHarm (cluster ids) rows →
         (choice : ℕ → Bool) × AgreesWithDisk choice (cluster ids) rows }
 {
     rows_are_shown();
 }
 
-/// The headline, for every cluster and every list of rows that are lawful: it holds from each moment of the
+/// The headline, for every cluster and every list of rows that do no harm: it holds from each moment of the
 /// list to each later one, for every choice that fits by then; and a choice that fits exists. At each moment,
 /// what gives a node ID on the bus is a pair of its member's committed log.
 pub fn the_headline()
-    ensures { (ids : List ℕ) (rows : List Row) → AreMembers ids → Lawful (cluster ids) rows →
+    ensures { (ids : List ℕ) (rows : List Row) → AreMembers ids → DoNoHarm (cluster ids) rows →
         HasHeadline ids rows }
 {
     a_choice_fits();

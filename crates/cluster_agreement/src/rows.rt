@@ -24,7 +24,7 @@ ghost use Rattle.cluster_agreement.specs.Events.{MayHappen};
 ghost use Rattle.cluster_agreement.specs.Said.{IsRunWritable};
 ghost use Rattle.cluster_agreement.specs.Shows.{Shows};
 ghost use Rattle.cluster_spec.specs.Cluster.{AreMembers, Cluster, cluster, after_row, with_step};
-ghost use Rattle.cluster_spec.specs.Lawful.{cause};
+ghost use Rattle.cluster_spec.specs.Lawful.{DoesNoHarm, cause};
 ghost use Rattle.cluster_spec.specs.Members.{Failure, puts_of};
 ghost use Rattle.cluster_spec.specs.Members.MemberStatus.{Down, Failed, Up};
 ghost use Rattle.cluster_spec.specs.Choices.{RowAgreesWithDisk};
@@ -201,13 +201,13 @@ pub fn cut_steps_are_shown()
     what_is_said_of_messages();
 }
 
-/// Any row without a cause against it: its events, of which there is at most one, continue the run, lawfully,
+/// Any row that does no harm: its events, of which there is at most one, continue the run, lawfully,
 /// to one that shows the world after the row. The run is safe and what it says has bytes, and still has them
 /// after the row; the choice fits what the row finds, where it stops a member that failed.
 pub fn a_row_is_shown()
     ensures { (choice : ℕ → Bool) (made : List SentTransfer) (w : Cluster) (run : World) →
         AreMembers w.ids → Shows choice made w run → Invariants run → IsRunWritable w.ids run →
-        (row : Row) → cause w row ≡ None → RowAgreesWithDisk choice w row →
+        (row : Row) → DoesNoHarm w row → RowAgreesWithDisk choice w row →
         Continues choice (transfers_of_row w row made) (after_row w row) run (row_events choice w row) }
 {
     cut_steps_are_shown();

@@ -1,14 +1,13 @@
 //! Laws of what a member is delivered, each the contract of a function that does nothing.
 
-ghost use Rattle.std.specs.Prelude.{◌≡◌, ◌⊎◌, ◌≤◌, ℕ, Bool, List, None, Some, true, false};
+ghost use Rattle.std.specs.Prelude.{◌≡◌, ◌⊎◌, ◌≤◌, ℕ, Bool, List, Some, true, false};
 ghost use Rattle.can_frame.specs.declared.identifier.Kind.TheVariants.{Message as Broadcast};
-ghost use Rattle.can_frame.specs.declared.step.Judged.TheVariants.{Fine};
 ghost use Rattle.raft_model.specs.Lists.{In};
 ghost use Rattle.raft_model.specs.Messages.{Message};
 ghost use Rattle.raft_model.specs.Runs.{World};
 ghost use Rattle.replay_text.specs.declared.row.Row.TheVariants.{Rx as RxRow};
 ghost use Rattle.alloc_spec_laws.specs.Coming.{TakesFrom};
-ghost use Rattle.alloc_spec.specs.Judging.{arrival_judgement};
+ghost use Rattle.alloc_spec.specs.Judging.{IsHarmless};
 ghost use Rattle.alloc_spec.specs.Step.Event.{Rx};
 ghost use Rattle.alloc_spec.specs.AllocatorState.{AllocatorState};
 ghost use Rattle.alloc_spec.specs.Transfers.{SentTransfer};
@@ -19,7 +18,7 @@ ghost use Rattle.cluster_agreement.specs.Frames.{AreHeard, AreTransfers, CameFro
 ghost use Rattle.cluster_agreement.specs.Safe.{IsDeliveredTo, IsOneTransfer};
 ghost use Rattle.cluster_agreement.specs.Shows.{HoldsOfMade, IsAtWork, Shows};
 ghost use Rattle.cluster_spec.specs.Cluster.{AreMembers, Cluster};
-ghost use Rattle.cluster_spec.specs.Lawful.{cause, is_forged};
+ghost use Rattle.cluster_spec.specs.Lawful.{DoesNoHarm, is_forged};
 
 use crate::below::{what_is_said_of_frames, what_is_said_of_messages};
 
@@ -39,27 +38,27 @@ pub fn what_is_delivered_was_made()
     what_is_said_of_frames();
 }
 
-/// What a lawful row delivers to a running member, with a member's source or of a data type that members alone
+/// What a row that does no harm delivers to a running member, with a member's source or of a data type that members alone
 /// send, is one transfer that a member made by then, and no other; a request or a response is for the receiver;
 /// and what it says is in the bag of the run that the world shows.
 pub fn what_a_row_delivers_is_one_transfer()
     ensures { (choice : ℕ → Bool) (made : List SentTransfer) (w : Cluster) (run : World) → AreMembers w.ids →
-        Shows choice made w run → (n k ms : ℕ) (d : Delivery) → cause w (RxRow n k ms) ≡ None →
+        Shows choice made w run → (n k ms : ℕ) (d : Delivery) → DoesNoHarm w (RxRow n k ms) →
         IsDeliveredTo w n k ms d → IsOneTransfer made run.bag n d }
 {
     what_is_said_of_frames();
 }
 
-/// A frame that may be given to a member, since what it would deliver is not torn and answers no earlier
-/// call, brings what the message machine allows: a request of a member is in the bag, and an answer that a
-/// pending call takes is in the bag as the answer to that very call.
+/// A frame that does a member no harm brings what the message machine allows: what it would deliver is not torn; a
+/// request of a member is in the bag; and an answer that a pending call takes is in the bag as the answer to that very
+/// call, or answers an earlier one and counts for nothing.
 pub fn what_a_member_takes_was_said()
     ensures { (ids : List ℕ) (made : List SentTransfer) (frames : List Queued) (bag : List Message)
         (server : AllocatorState) (number : ℕ) (arrival : Arrival) →
         AreMembers ids → In server.me ids → HoldsOfMade made ids bag →
         ((frame : Queued) → In frame frames → IsOnBus made ids frame) →
         IsAtWork made ids frames server.me server → CameFrom frames arrival →
-        arrival_judgement server arrival ≡ Fine → TakesFrom number bag server (Rx arrival) }
+        IsHarmless server arrival → TakesFrom number bag server (Rx arrival) }
 {
     what_is_said_of_frames();
     what_is_said_of_messages();

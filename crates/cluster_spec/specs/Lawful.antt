@@ -1,5 +1,5 @@
 -- Which rows a world refuses, and for which cause: the first that holds.
-use Rattle.std.specs.Prelude.{⊤, ◌≡◌, ℕ, ◌==◌, ◌||◌, not, nat_lt, Bool, false, List, [], ◌∷◌, length, Option, Some, None, is_some, if◌then◌else◌}
+use Rattle.std.specs.Prelude.{⊤, ◌≡◌, ◌⊎◌, ℕ, ◌==◌, ◌||◌, not, nat_lt, Bool, true, false, List, [], ◌∷◌, length, Option, Some, None, is_some, if◌then◌else◌}
 use Rattle.can_frame.specs.declared.identifier.Ident.{Ident}
 use Rattle.can_frame.specs.declared.identifier.Kind.{Kind}
 use Rattle.can_frame.specs.declared.identifier.Kind.TheVariants.{Message, Anonymous, Request, Response}
@@ -13,7 +13,7 @@ use Rattle.transfer_rx.specs.Reassembly.{Arrival}
 use Rattle.transfer_tx.specs.Queue.{Queued}
 use Rattle.allocatee.specs.Allocatee.{Device}
 use Rattle.allocatee.specs.Judging as device
-use Rattle.alloc_spec.specs.Judging.{arrival_judgement}
+use Rattle.alloc_spec.specs.Judging.{arrival_judgement, brings_void}
 use Rattle.cluster_spec.specs.declared.unlawful.Unlawful.{Unlawful}
 use Rattle.cluster_spec.specs.declared.unlawful.Unlawful.TheVariants.{NoNode, Stopped, Running, NoFrame, NothingQueued, Forged, Torn as IsTorn, Stale as IsStale, NoAllocatee, Absent, Present}
 use Rattle.cluster_spec.specs.Allocatees.{is_place, next_from}
@@ -140,3 +140,29 @@ cause w (AEnd a) = or_else (no_allocatee a) (absent w a)
 abbrev pub Lawful : Cluster → List Row → Type 0
 Lawful w [] = ⊤
 Lawful w (row ∷ rows) = (cause w row ≡ None) × Lawful (after_row w row) rows
+
+-- ---- A bus may bring a member the response to an earlier call. Such a row is refused as stale; where the response
+-- counts for nothing, it does no harm all the same.
+
+abbrev pub is_void_at : MemberStatus → Arrival → Bool
+is_void_at Down arrival = false
+is_void_at (Up server) arrival = brings_void server arrival
+is_void_at (Failed failure) arrival = false
+
+-- the frame is not refused, or brings such a response
+abbrev pub IsHarmlessAt : MemberStatus → Arrival → Type 0
+IsHarmlessAt status arrival = (arrival_refusal status arrival ≡ None)
+    ⊎ ((arrival_refusal status arrival ≡ Some IsStale) × (is_void_at status arrival ≡ true))
+
+abbrev pub brings_void_to : Cluster → Row → Bool
+brings_void_to w (Rx n k ms) = is_void_at (w.member n).status (arrival_at (frame_at w.frames k) ms)
+brings_void_to w row = false
+
+-- the row is lawful, or brings such a response
+abbrev pub DoesNoHarm : Cluster → Row → Type 0
+DoesNoHarm w row = (cause w row ≡ None) ⊎ ((cause w row ≡ Some IsStale) × (brings_void_to w row ≡ true))
+
+-- each row does no harm when its turn is there
+abbrev pub DoNoHarm : Cluster → List Row → Type 0
+DoNoHarm w [] = ⊤
+DoNoHarm w (row ∷ rows) = DoesNoHarm w row × DoNoHarm (after_row w row) rows

@@ -11,7 +11,7 @@ use Rattle.replay_text.specs.declared.row.Row.{Row}
 use Rattle.replay_text.specs.declared.row.Row.TheVariants.{Open, Tick, Rx, Send, Ext, Crash, AOpen, ATick, ARx, ASend, AEnd}
 use Rattle.transfer_tx.specs.Queue.{Queued}
 use Rattle.cluster_spec.specs.Cluster.{Cluster, after_rows, arrival_at, frame_at, is_member, after_row}
-use Rattle.cluster_spec.specs.Lawful.{cause, is_forged, arrival_refusal, no_such_frame}
+use Rattle.cluster_spec.specs.Lawful.{IsHarmlessAt, cause, is_forged, no_such_frame}
 use Rattle.cluster_spec.specs.Members.{is_running, next_frame}
 
 -- what came on a member's link in a turn
@@ -97,13 +97,14 @@ all_rows (first ∷ rest) w = rows_then (rows_of first) (all_rows rest) w
 -- ---- the premises
 
 -- A member is one of the cluster, and runs in one process at a time. What it takes of the bus was sent, is no transfer
--- put together of two, and no response to an earlier call. What comes from elsewhere is not forged. What an allocatee
--- does is lawful: it is there, and what it takes of the bus was sent and is no transfer put together of two.
+-- put together of two, and no response to an earlier call, but one that counts for nothing. What comes from elsewhere is
+-- not forged. What an allocatee does is lawful: it is there, and what it takes of the bus was sent and is no transfer put
+-- together of two.
 
 abbrev pub MayOccur : ℕ → ℕ → Came → Cluster → Type 0
 MayOccur n moment Silence w = ⊤
 MayOccur n moment (WasSent k) w =
-    (no_such_frame w k ≡ None) × (arrival_refusal (w.member n).status (arrival_at (frame_at w.frames k) moment) ≡ None)
+    (no_such_frame w k ≡ None) × IsHarmlessAt (w.member n).status (arrival_at (frame_at w.frames k) moment)
 MayOccur n moment (IsForeign frame) w = is_forged w.ids (identifier_of frame.id) ≡ false
 
 abbrev pub MayOpen : ℕ → Cluster → Type 0

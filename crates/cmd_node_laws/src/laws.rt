@@ -12,7 +12,7 @@ ghost use Rattle.cluster_agreement.specs.Headline.{HasHeadline};
 ghost use Rattle.cluster_agreement.specs.Safe.{AreSafe};
 ghost use Rattle.alloc_spec.specs.Rules.{Rules, rules_by, tells};
 ghost use Rattle.cluster_spec.specs.Cluster.{AreMembers, Cluster, after_rows, cluster, rules_of};
-ghost use Rattle.cluster_spec.specs.Lawful.{Lawful};
+ghost use Rattle.cluster_spec.specs.Lawful.{DoNoHarm};
 ghost use Rattle.cmd_node.specs.CutRun.{IsCutAtOpening, IsCutAtTurn, KeepsOrOpens};
 ghost use Rattle.cmd_node.specs.Opening.{Given};
 ghost use Rattle.cmd_node.specs.Puts.{turn_puts};
@@ -35,12 +35,12 @@ use raft_core::laws::an_opening_keeps_the_store;
 use raft_log::laws::an_image_stands_for_one_state;
 use transfer_rx::laws::deliveries_are_whole_transfers;
 
-/// Every trace of a cluster of processes that meets the premises stands for a list of lawful rows. So along
+/// Every trace of a cluster of processes that meets the premises stands for a list of rows that do no harm. So along
 /// these rows the headline holds, what an allocatee holds is a pair of the list, and the run of the message
 /// machine that they show is safe. Between any two events no call of a disk is set to fail.
-pub fn traces_are_lawful()
+pub fn traces_do_no_harm()
     ensures rows { (ids : List ℕ) (trace : List Event) →
-        MayAllHappen trace (cluster ids) → Lawful (cluster ids) (all_rows trace (cluster ids)) }
+        MayAllHappen trace (cluster ids) → DoNoHarm (cluster ids) (all_rows trace (cluster ids)) }
     ensures headline { (ids : List ℕ) (trace : List Event) → AreMembers ids →
         MayAllHappen trace (cluster ids) → HasHeadline ids (all_rows trace (cluster ids)) }
     ensures allocatees { (ids : List ℕ) (trace : List Event) → AreMembers ids →
@@ -78,7 +78,7 @@ pub fn stores_are_followed()
         MayAllHappen trace (cluster ids) → In r.id ids → let w = world_after ids trace in
         IsMirrored w r → store_of (w.member r.id).disk.store ≡ r.allocator.raft_server.store }
 {
-    traces_are_lawful();
+    traces_do_no_harm();
 }
 
 /// A member that is killed in a turn leaves an image that stands for what was stored after some of the
@@ -125,7 +125,7 @@ pub fn runs_of_node_are_rows<L: Link, D: Disk>()
 {
     an_image_stands_for_one_state();
     an_opening_keeps_the_store();
-    traces_are_lawful();
+    traces_do_no_harm();
     kills_are_events();
     processes_are_followed();
     stores_are_followed();

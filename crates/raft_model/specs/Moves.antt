@@ -7,7 +7,7 @@ pub mod Leading
 pub use Elections.*
 pub use Appending.*
 pub use Leading.*
-use Rattle.std.specs.Prelude.{⊤, ◌≡◌, ◌≢◌, ℕ, ◌+◌, ◌-◌, ◌<◌, ◌≤◌, Bool, true, false, List, [], ◌∷◌, ◌++◌, length}
+use Rattle.std.specs.Prelude.{⊤, ◌≡◌, ◌≢◌, ◌⊎◌, ℕ, ◌+◌, ◌-◌, ◌<◌, ◌≤◌, Bool, true, false, List, [], ◌∷◌, ◌++◌, length}
 use Rattle.std.specs.Prelude.{slice_index_or, Some, nat_lt, if◌then◌else◌}
 use Rattle.raft_model.specs.Lists.{In}
 use Rattle.can_frame.specs.declared.entry.Entry.{Entry}
@@ -39,17 +39,30 @@ pub data Move : Type 0 where
 abbrev pub next_entry : RaftServer → Entry
 next_entry server = slice_index_or server.store.log server.memory.told (blank 0)
 
+-- An answer that was said to an earlier call, and is taken for the answer to the one that is pending: it has the verdict
+-- and the term of what was said. It counts for nothing, since it refuses, or its term is below the server's own.
+pub record IsLate (bag : List Message) (store : Store) (answer : Answer) : Type 0 where
+  pub said : Answer
+  pub was_said : In (Answers said) bag
+  pub term : said.term ≡ answer.term
+  pub success : said.success ≡ answer.success
+  pub for_nothing : (answer.success ≡ false) ⊎ (answer.term < store.term)
+
+-- the answer was said, or is late
+abbrev pub IsHeard : List Message → Store → Answer → Type 0
+IsHeard bag store answer = In (Answers answer) bag ⊎ IsLate bag store answer
+
 module _ (members : List ℕ) (member : ℕ) (bag : List Message) (called : List ℕ) (server : RaftServer) where
   -- when a move is enabled at a server that is up
   abbrev pub IsEnabled : Move → Type 0
   IsEnabled TimeOut = (server.memory.role ≢ Leader) × (server.store.term < term_limit)
   IsEnabled (TakeVoteRequest request granted) = In (Requests request) bag × (request.to ≡ member)
       × (request.append ≡ false) × IsGranted (with_term server.store request.term) request granted
-  IsEnabled (TakeVoteAnswer answer) = In (Answers answer) bag × (answer.request.from ≡ member)
+  IsEnabled (TakeVoteAnswer answer) = IsHeard bag server.store answer × (answer.request.from ≡ member)
       × (answer.request.append ≡ false) × (server.memory.pending answer.from ≡ Some answer.request)
   IsEnabled (TakeAppendRequest request verdict) = In (Requests request) bag × (request.to ≡ member)
       × (request.append ≡ true) × IsJudged server request verdict
-  IsEnabled (TakeAppendAnswer answer) = In (Answers answer) bag × (answer.request.from ≡ member)
+  IsEnabled (TakeAppendAnswer answer) = IsHeard bag server.store answer × (answer.request.from ≡ member)
       × (answer.request.append ≡ true) × (server.memory.pending answer.from ≡ Some answer.request)
   IsEnabled (ProposeEntry entry) = MayPropose server entry
   IsEnabled (CommitTo index) = (server.memory.role ≡ Leader) × IsCommitIndex members member server index

@@ -14,7 +14,7 @@ ghost use Rattle.raft_model.specs.Messages.{Answer, Message, Pair, Request};
 ghost use Rattle.raft_model.specs.Messages.Message.{Answers, Pairs, Requests};
 ghost use Rattle.raft_model.specs.Server.{AreWritten, RaftServer, Store, memory_when_opened, put_all, quorum};
 ghost use Rattle.raft_model.specs.Server.Role.{Candidate, Follower, Leader};
-ghost use Rattle.raft_model.specs.Moves.{CanCommit, IsEnabled, IsCommitIndex, IsGranted, IsJudged, MayCall, MayPropose};
+ghost use Rattle.raft_model.specs.Moves.{CanCommit, IsEnabled, IsCommitIndex, IsGranted, IsHeard, IsJudged, MayCall, MayPropose};
 ghost use Rattle.raft_model.specs.Moves.{Move, Verdict, has_matched, memory_after, puts, term_limit, with_term};
 ghost use Rattle.raft_model.specs.Moves.Move.{AnswerAgain, CallForVote, CallToAppend, CommitTo, GiveUp, ProposeEntry};
 ghost use Rattle.raft_model.specs.Moves.Move.{TakeAppendAnswer, TakeAppendRequest, TakeVoteAnswer, TakeVoteRequest};
@@ -365,7 +365,7 @@ pub fn law_rows()
         (TakeVoteRequest request
         (grants (with_term (world.server member).store request.term) request)) }
     ensures vote_answer { (world : World) (member step : ℕ) (answer : Answer)
-        → IsReady world member step → In (Answers answer) world.bag
+        → IsReady world member step → IsHeard world.bag (world.server member).store answer
         → answer.request.from ≡ member → answer.request.append ≡ false
         → (world.server member).memory.pending answer.from ≡ Some answer.request
         → MayTake world member step (TakeVoteAnswer answer) }
@@ -375,7 +375,7 @@ pub fn law_rows()
         → MayTake world member step
         (TakeAppendRequest request (verdict_on (world.server member) request)) }
     ensures append_answer { (world : World) (member step : ℕ) (answer : Answer)
-        → IsReady world member step → In (Answers answer) world.bag
+        → IsReady world member step → IsHeard world.bag (world.server member).store answer
         → answer.request.from ≡ member → answer.request.append ≡ true
         → (world.server member).memory.pending answer.from ≡ Some answer.request
         → MayTake world member step (TakeAppendAnswer answer) }
