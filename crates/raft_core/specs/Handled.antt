@@ -84,8 +84,8 @@ abbrev pub answer_of : ℕ → ℕ → Request → ℕ → Bool → Answer
 answer_of step from request term success =
     record { step = step; from = from; request = request; term = term; success = success }
 
--- whether it is the moment for a leader's blank, where moves led from one server to another: a member that waits with
--- it adds it once a quorum has its log, any other as soon as it leads
+-- whether a leader proposes its blank now, where moves led from one server to another: a member that waits with its
+-- blank proposes it once a quorum has the leader's log, any other member as soon as it leads
 abbrev pub is_moment : List ℕ → ℕ → Times → RaftServer → RaftServer → Bool
 is_moment members member times before after =
     if times.waits then is_heard members member after else not (is_leader before.memory.role)

@@ -40,7 +40,7 @@ pub record Given : Type 0 where
   pub id : ℕ
   pub origin : ℕ
 
--- a moment alone, that of a tick, that of a call, and that of a proposal; a leader's blank is of a win
+-- a moment alone, that of a tick, that of a call, and that of a proposal; a leader's blank has the origin of a win
 abbrev pub given_at : ℕ → Given
 given_at now = record { now = now; word = 0; id = 0; origin = WIN }
 

@@ -10,7 +10,7 @@ use Rattle.raft_model.specs.Server.Role.{Follower, Candidate, Leader}
 use Rattle.raft_model.specs.Server.Put.{PutTerm, PutVote}
 use Rattle.raft_model.specs.History.{with_vote_kept}
 use Rattle.raft_model.specs.Ledger.{ledger_with}
-use Rattle.raft_model.specs.Moves.{Move, IsEnabled, has_quorum, own_vote, stand_puts, is_candidate, counts, votes_with, vote_puts, vote_history, answer_to}
+use Rattle.raft_model.specs.Moves.{Move, IsEnabled, IsHeard, has_quorum, own_vote, stand_puts, is_candidate, counts, votes_with, vote_puts, vote_history, answer_to}
 use Rattle.raft_model.specs.Moves.Move.{TimeOut, TakeVoteRequest, TakeVoteAnswer}
 use Rattle.raft_model.proofs.Micro.Micro.{Raise, Clear, Stand, Grant, Deny, Count, Drop, Win}
 use Rattle.raft_model.proofs.Focus.{Focus, focused}
@@ -188,6 +188,15 @@ candidate_is Follower h = absurd (cc)
 candidate_is Candidate h = refl
 candidate_is Leader h = absurd (cc)
 
+-- an answer of success in the server's own term was said: a late one counts for nothing
+pub was_said : (bag : List Message) (store : Store) (a : Answer) → IsHeard bag store a → a.term ≡ store.term → a.success ≡ true
+    → In (Answers a) bag
+was_said bag store a (inl there) same granted = there
+was_said bag store a (inr late) same granted = elim (late.for_nothing) [
+  | inl refused ↦ absurd (cc (refused, granted))
+  | inr below ↦ absurd (omega (arith, below, same))
+]
+
 pub vote_answer_lawful : (members : List ℕ) (m n : ℕ) (f : Focus) (a : Answer) → f.raft_server.memory.up ≡ true → Covered f.ledger f.raft_server.store
     → IsEnabled members m f.bag [] f.raft_server (TakeVoteAnswer a) → Whole members m n f (TakeVoteAnswer a)
 vote_answer_lawful members m n f a up c h = elim (lt_tells f.raft_server.store.term a.term) [
@@ -273,17 +282,20 @@ vote_answer_lawful members m n f a up c h = elim (lt_tells f.raft_server.store.t
     leg_count : counts f.raft_server a ≡ true → Leg members m (TakeVoteAnswer a) f (focused m f (Count m a)) []
     leg_count k =
         let more : ((a.term == f.raft_server.store.term) && a.success) ≡ true = and_right (is_candidate f.raft_server.memory.role) _ k in
+        let same : a.term ≡ f.raft_server.store.term =
+        eqb-true a.term f.raft_server.store.term (and_left (a.term == f.raft_server.store.term) _ more) in
+        let granted : a.success ≡ true = and_right (a.term == f.raft_server.store.term) _ more in
         record {
           marks = Silent (Count m a) ∷ [];
           walk = (
             record {
               up = up;
               role = stands k;
-              in_bag = h.0;
+              in_bag = was_said f.bag f.raft_server.store a h.0 same granted;
               kind = h.2;
               mine = h.1;
-              own_term = eqb-true a.term f.raft_server.store.term (and_left (a.term == f.raft_server.store.term) _ more);
-              success = and_right (a.term == f.raft_server.store.term) _ more;
+              own_term = same;
+              success = granted;
               pending = h.3;
             },
             refl,

@@ -88,7 +88,7 @@ lawful = (
             refl,
             omega arith,
             (
-              (inl refl, refl, refl, refl),
+              (inl (inl refl), refl, refl, refl),
               (
                 record {
                   leads = refl;
@@ -142,7 +142,7 @@ lawful = (
                   refl,
                   omega arith,
                   (
-                    (inl refl, refl, refl, refl),
+                    (inl (inl refl), refl, refl, refl),
                     (
                       (
                         refl,
@@ -246,7 +246,7 @@ lawful_further = (
         refl,
         omega arith,
         (
-          (inl refl, refl, refl, refl),
+          (inl (inl refl), refl, refl, refl),
           (
             (
               refl,

@@ -16,7 +16,7 @@ use Rattle.raft_model.proofs.Walk.{Covered, ledger_stays}
 use Rattle.raft_model.proofs.Walk.Mark.{Silent, Puts}
 use Rattle.raft_model.proofs.Whole.{Whole, lt_tells}
 use Rattle.raft_model.proofs.Terms.{same_commit}
-use Rattle.raft_model.proofs.Elections.{only_said, time_out, vote_request_lawful, vote_answer_lawful}
+use Rattle.raft_model.proofs.Elections.{only_said, time_out, vote_request_lawful, was_said, vote_answer_lawful}
 use Rattle.raft_model.proofs.Appends.{append_request_lawful}
 use Rattle.raft_model.proofs.Quorum.{tell}
 use Rattle.raft_model.proofs.Complete.{and_left, and_right}
@@ -69,7 +69,8 @@ append_answer_lawful members m n f a up c h = elim (lt_tells f.raft_server.store
         record {
           up = up;
           role = leader_is f.raft_server.memory.role (and_left (is_leader f.raft_server.memory.role) _ k);
-          in_bag = h.0;
+          in_bag = λ e. was_said f.bag f.raft_server.store a h.0
+              (eqb-true a.term f.raft_server.store.term (and_right (is_leader f.raft_server.memory.role) _ k)) e;
           kind = h.2;
           mine = h.1;
           own_term = eqb-true a.term f.raft_server.store.term (and_right (is_leader f.raft_server.memory.role) _ k);

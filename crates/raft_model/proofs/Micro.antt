@@ -250,7 +250,7 @@ pub record MayAdvance (s : State) (m : ℕ) (r : Request) : Type 0 where
 pub record MayTake (s : State) (m : ℕ) (a : Answer) : Type 0 where
   pub up : s.up m ≡ true
   pub role : s.role m ≡ Leader
-  pub in_bag : In (Answers a) s.bag
+  pub in_bag : a.success ≡ true → In (Answers a) s.bag
   pub kind : a.request.append ≡ true
   pub mine : a.request.from ≡ m
   pub own_term : a.term ≡ s.term m

@@ -245,8 +245,8 @@ pub fn law_decisions()
 {}
 
 /// A server that knows all members counts over its own list what the machine counts over all of them, and a
-/// move that may come by this list may come. A move that counts no votes needs no list, nor does a Follower,
-/// and no move needs one for its puts.
+/// move that may come by this list may come. A move that counts no votes needs no list, nor does a Follower.
+/// The puts of a move are the same over any list.
 /// So the moves of a step told over its own list are those over all members: the same server after them, the
 /// same puts, messages and memory of the model, and they may come. A Follower that does not stand for election
 /// needs no list of all for it.
@@ -353,7 +353,9 @@ pub fn law_duty()
         → WinDuty members ((run (initial_world members) events).server member) }
 {}
 
-/// Each row of the table whose condition holds is a lawful step by itself, so the machine is not empty.
+/// Each row of the table whose condition holds is a lawful step by itself, so the machine is not empty. An answer
+/// that a pending call takes is in the bag, or it is late: it answers an earlier call, with the verdict and the term
+/// of an answer in the bag, and refuses or has a term below the server's own.
 pub fn law_rows()
     ensures time_out { (world : World) (member step : ℕ) → IsReady world member step
         → (world.server member).memory.role ≢ Leader

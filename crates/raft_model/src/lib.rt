@@ -1,9 +1,10 @@
 //! The message machine of a cluster, and its laws. There is no code in it that runs.
 //!
 //! The members take moves and exchange messages that may be lost, repeated or late; a member may stop
-//! anywhere, also between two of its puts. The moves are those of the Raft paper (Ongaro and Ousterhout,
-//! "In Search of an Understandable Consensus Algorithm", figure 2), with one entry a request, the blank that a
-//! leader proposes, the limits and the stored commit index of our profile.
+//! anywhere, also between two of its puts. A member may take an answer to an earlier call for the answer to the
+//! pending one where that answer refuses, or has a term below the member's own. The moves are those of the
+//! Raft paper (Ongaro and Ousterhout, "In Search of an Understandable Consensus Algorithm", figure 2), with one
+//! entry a request, the blank that a leader proposes, the limits and the stored commit index of our profile.
 //!
 //! What a reader must believe, in this order: `specs/Log`, `Messages`, `Server` (a plain server and its puts),
 //! `History` and `Ledger` (what the model alone remembers), `Moves` (the table, row by row, over
