@@ -63,8 +63,8 @@ LAST = 125  # The highest node ID that has a port.
 # How long a frame may wait in a link, in ms (node_clock_and_links)
 LONGEST_WAIT = 1000
 
-# How long a frame may be on its way, in ms (allocator)
-LONGEST_HOLD = 3500
+# How long a process rests before its first turn, in ms (allocator_app)
+REST = 5500
 
 # An image of a store (disk_model)
 IMAGE = 8844  # The size of a disk in bytes.

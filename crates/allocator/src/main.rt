@@ -5,13 +5,12 @@
 //! in the file `alloc-<id>.store`. The words of `can` are those of `node` without a base: standard
 //! input is a raw CAN socket then (`can_link`), and the links of all members are on it. Where the
 //! members are told a list of them, links are strict, a missing file is refused, and a process whose
-//! members ran before waits until no frame of the time before is on its way; where they are told a
-//! number, a missing file is made, and nothing waits. The words of `new` have the disks alone, in files
-//! that are made for them: where one is there already, or `run` does not come to its end, none of those
-//! that were made stays. Those of `audit` have the disks alone, in files that are there, and only read
-//! them. Where one of these cannot be opened the exit code is 12. A standard stream that is closed
-//! stays so for `run`: its descriptor never becomes that of a link or a disk. A word that is not UTF-8
-//! is none that the program reads.
+//! members ran before rests first ([`Told::rest`]); where they are told a number, a missing file is made,
+//! and nothing rests. The words of `new` have the disks alone, in files that are made for them: where one
+//! is there already, or `run` does not come to its end, none of those that were made stays. Those of
+//! `audit` have the disks alone, in files that are there, and only read them. Where one of these cannot be
+//! opened the exit code is 12. A standard stream that is closed stays so for `run`: its descriptor never
+//! becomes that of a link or a disk. A word that is not UTF-8 is none that the program reads.
 #![tactic(auto)]
 
 use allocator_app::{Plan, Status, Told, plan, run};
@@ -37,11 +36,6 @@ const STREAMS: usize = 3;
 
 /// The descriptor of the socket for the words of `can`.
 const SOCKET: i32 = 0;
-
-/// The longest that a frame is on its way from one process to another, in milliseconds: 1,000 in the link of
-/// each, 500 in the bridge of each, and 500 on the bus. A process counts its transfer IDs from 0, as the one
-/// before it did.
-const LONGEST_HOLD: u64 = 3500;
 
 fn main(rt: HostRuntime) -> ExitCode {
     let arguments = match env::args(&rt) {
@@ -158,15 +152,9 @@ fn main(rt: HostRuntime) -> ExitCode {
         }
         _ => {}
     }
-    let is_told_all = matches!(
-        &asked,
-        Some(Plan::Node {
-            told: Told::Members(_),
-            ..
-        })
-    );
-    if is_told_all && disks.iter_mut().flatten().any(was_written) {
-        thread::sleep(&rt, Duration::from_millis(LONGEST_HOLD));
+    if let Some(Plan::Node { told, .. }) = &asked {
+        let ran_before = disks.iter_mut().flatten().any(was_written);
+        thread::sleep(&rt, Duration::from_millis(told.rest(ran_before)));
     }
     let status = if is_on_can {
         follow(&rt, &words, &mut on_can, &mut disks, &idle)

@@ -1,5 +1,5 @@
 -- What the members of a cluster are told of it, as a word spells it.
-use Rattle.std.specs.Prelude.{◌≡◌, ◌≤◌, ◌==◌, ℕ, List, [], ◌∷◌, decimal, length, map, slice_index, EachIndex}
+use Rattle.std.specs.Prelude.{◌≡◌, ◌≤◌, ◌==◌, ℕ, Bool, List, [], ◌∷◌, decimal, length, map, slice_index, EachIndex, if◌then◌else◌}
 use Rattle.std.specs.List.{Contains, slice_split}
 use Rattle.alloc_spec.specs.Rules.{Rules, rules_by}
 use Rattle.cluster_spec.specs.Cluster.{AreMembers}
@@ -19,6 +19,11 @@ list_of (Members members) = members.items
 -- the rules by which a member is opened that is told this
 abbrev pub rules_of : Told → Rules
 rules_of told = rules_by (size_of told) (list_of told)
+
+-- how long a process rests before its first turn, in milliseconds, where it may have run one of its members before
+abbrev pub rest_of : Told → Bool → ℕ
+rest_of (Size size) ran_before = 0
+rest_of (Members members) ran_before = if ran_before then 5500 else 0
 
 -- 1 to 5 members, which have different node IDs where these are told
 abbrev pub IsCluster : Told → Type 0

@@ -22,5 +22,5 @@ mod words;
 pub use cmd_base::Status;
 pub use plans::Plan;
 pub use program::run;
-pub use told::Told;
+pub use told::{REST, Told};
 pub use words::plan;

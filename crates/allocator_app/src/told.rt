@@ -2,12 +2,19 @@ ghost use Rattle.std.specs.Prelude.{◌≡◌, ◌≤◌, ◌<◌, ◌↔◌, �
 ghost use Rattle.std.specs.List.{Contains, position_or_len};
 ghost use Rattle.raft_model.specs.Lists.{In};
 ghost use Rattle.allocator_app.specs.declared.told.Told.{Told};
-ghost use Rattle.allocator_app.specs.Told.{AreAmong, IsCluster, Spells, commas, list_of, list_parts, size_of};
+ghost use Rattle.allocator_app.specs.Told.{AreAmong, IsCluster, Spells, commas, list_of, list_parts, rest_of, size_of};
 
 use crate::words::number_within;
 use arrayvec::ArrayVec;
 use cluster_spec::are_members;
 use replay_text::read_number;
+
+/// How long a process that is told its members, and ran one of them before, rests before its first turn, in
+/// milliseconds. It counts its transfer IDs from 0, as the one before it did, and calls nobody for the first 2,000 ms
+/// after its opening. A call of the one before and the answer to it are on their way for 3,500 ms each at most: 1,000 ms
+/// in the link of each process, 500 in the bridge of each, and 500 on the bus. So both are over by then, with 500 ms to
+/// spare for clocks.
+pub const REST: u64 = 5500;
 
 /// What the members of a cluster are told of it.
 #[derive(Debug, Drop, PartialEq, Eq)]
@@ -39,6 +46,17 @@ impl Told {
         match self {
             Told::Size(_) => &[],
             Told::Members(members) => members.as_slice(),
+        }
+    }
+
+    /// How long a process whose members are told this rests before its first turn, in milliseconds: [`REST`] where they
+    /// are told a list and one of them ran before, else 0.
+    pub fn rest(&self, ran_before: bool) -> u64
+        ensures { result ≡ rest_of self.now ran_before }
+    {
+        match self {
+            Told::Size(_) => 0,
+            Told::Members(_) => if ran_before { REST } else { 0 },
         }
     }
 
