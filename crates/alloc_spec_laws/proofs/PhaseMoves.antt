@@ -33,7 +33,7 @@ use Rattle.raft_core.specs.Times.{Given, Sending, awaits, given_at, given_call, 
 use Rattle.raft_model.specs.Fit.{IsFit}
 use Rattle.raft_model.specs.Decisions.{commit_index, grants, verdict_on}
 use Rattle.raft_model.specs.Duty as duty
-use Rattle.raft_model.specs.Moves.{next_entry, IsEnabled, Move, offers}
+use Rattle.raft_model.specs.Moves.{next_entry, IsEnabled, IsHeard, Move, offers}
 use Rattle.raft_model.specs.Handlers.{calls_of_all, server_after_all}
 use Rattle.raft_model.specs.Lists.{In}
 use Rattle.raft_model.specs.Members.{HasNoneTwice, IsAll}
@@ -441,7 +441,7 @@ module _ (laws : Laws) (members : List ℕ) (number : ℕ) (bag : List Message) 
 
   vote_answer_sure : (d : Delivery) (says : VoteAnswer) (g : StepState) → Sure g → IsInjective g.allocator.raft_server.store.log
       → ((call : Request) → g.allocator.raft_server.memory.pending d.ident.source ≡ Some call
-      → In (Answers (handled.answer_of d.mark.step d.ident.source call says.term says.granted)) bag)
+      → IsHeard bag g.allocator.raft_server.store (handled.answer_of d.mark.step d.ident.source call says.term says.granted))
       → is_awaited g.allocator.raft_server g.allocator.times d.ident.source false d.id ≡ true
       → Sure (answers_call number (vote_answered d says) (g.allocator.raft_server.memory.pending d.ident.source) g)
   vote_answer_sure d says g h once here is = go (g.allocator.raft_server.memory.pending d.ident.source) refl
@@ -454,7 +454,7 @@ module _ (laws : Laws) (members : List ℕ) (number : ℕ) (bag : List Message) 
 
   append_answer_sure : (d : Delivery) (says : AppendAnswer) (g : StepState) → Sure g → IsInjective g.allocator.raft_server.store.log
       → ((call : Request) → g.allocator.raft_server.memory.pending d.ident.source ≡ Some call
-      → In (Answers (handled.answer_of d.mark.step d.ident.source call says.term says.success)) bag)
+      → IsHeard bag g.allocator.raft_server.store (handled.answer_of d.mark.step d.ident.source call says.term says.success))
       → is_awaited g.allocator.raft_server g.allocator.times d.ident.source true d.id ≡ true
       → Sure (answers_call number (append_answered d says) (g.allocator.raft_server.memory.pending d.ident.source) g)
   append_answer_sure d says g h once here is = go (g.allocator.raft_server.memory.pending d.ident.source) refl

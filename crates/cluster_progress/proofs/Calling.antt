@@ -116,7 +116,7 @@ module _ (one_verdict : (server : RaftServer) (request : Request) (verdict : Ver
       is = second_me;
       up = m.my_up;
       later = omega arith;
-      comes = (inl refl, refl, refl, at_here (world.server me).memory.pending you you (Some call) refl);
+      comes = (inl (inl refl), refl, refl, at_here (world.server me).memory.pending you you (Some call) refl);
       inside = λ message i. absurd i;
     }
 

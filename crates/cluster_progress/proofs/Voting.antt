@@ -145,7 +145,7 @@ module _ (world : World) (me you : ℕ) (m : MayPoll world me you) where
     is = second_me;
     up = m.my_up;
     later = omega arith;
-    comes = (inl refl, refl, refl, at_here (world.server me).memory.pending you you (Some request) refl);
+    comes = (inl (inl refl), refl, refl, at_here (world.server me).memory.pending you you (Some request) refl);
     inside = λ message i. absurd i;
   }
 
