@@ -26,13 +26,13 @@ use crate::plans::Plan;
 use crate::replay::replay;
 use crate::words::plan;
 use cluster_agreement::allocatees::the_allocatees;
-use cluster_agreement::headline::{rows_are_safe, the_headline};
+use cluster_agreement::headline::{lawful_rows_do_no_harm, rows_are_safe, the_headline};
 use cmd_base::Status;
 use cmd_bus_logs::{convert, watch};
 use cmd_decode::decode;
 use cmd_new::make_stores;
 use cmd_node::node;
-use cmd_node_laws::laws::{runs_of_node_are_rows, traces_are_lawful};
+use cmd_node_laws::laws::{runs_of_node_are_rows, traces_do_no_harm};
 use cmd_soak::laws::rows_are_lawful;
 use cmd_soak::soak;
 use disk_model::Disk;
@@ -188,12 +188,13 @@ pub fn run<S: Source, K: Sink, L: Link, D: Disk, C: Clock>(
 {
     // The laws behind the clauses `complete`, `headline`, `soak` and `nodes`.
     a_line_has_one_row();
+    lawful_rows_do_no_harm();
     rows_are_lawful();
     runs_of_node_are_rows::<L, D>();
     rows_are_safe();
     the_headline();
     the_allocatees();
-    traces_are_lawful();
+    traces_do_no_harm();
     let Some(plan) = plan(words) else {
         return Status::Usage;
     };

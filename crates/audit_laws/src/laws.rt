@@ -10,18 +10,18 @@ ghost use Rattle.replay_text.specs.declared.row.Row.{Row};
 ghost use Rattle.store_audit.specs.Verdict.{IsDifference};
 ghost use Rattle.cluster_spec.specs.Choices.{AgreesWithDisk};
 ghost use Rattle.cluster_spec.specs.Cluster.{AreMembers, Cluster, cluster, world_of};
-ghost use Rattle.cluster_spec.specs.Lawful.{Lawful};
+ghost use Rattle.cluster_spec.specs.Lawful.{DoNoHarm};
 
 use cluster_agreement::headline::the_headline;
-use cmd_node_laws::laws::traces_are_lawful;
+use cmd_node_laws::laws::traces_do_no_harm;
 use raft_log::laws::an_image_stands_for_one_state;
 
-/// Stores that members of a world have at one moment never differ: the world of any list of lawful rows,
+/// Stores that members of a world have at one moment never differ: the world of any list of rows that do no harm,
 /// whatever choice fits what the stops find. An image of a member that failed and still runs is one of those
 /// that the choice says.
 pub fn stores_of_a_world_agree()
     ensures { (ids : List ℕ) (rows : List Row) (choice : ℕ → Bool) (nodes : List ℕ)
-        (stores : List Stored) (place a b : ℕ) → AreMembers ids → Lawful (cluster ids) rows →
+        (stores : List Stored) (place a b : ℕ) → AreMembers ids → DoNoHarm (cluster ids) rows →
         AgreesWithDisk choice (cluster ids) rows → AreLeftBy choice (world_of ids rows) nodes stores →
         IsDifference stores place a b → ⊥ }
 {
@@ -39,5 +39,5 @@ pub fn stores_of_processes_agree()
         IsFound likeness image w n → IsStoredBy w n image }
 {
     an_image_stands_for_one_state();
-    traces_are_lawful();
+    traces_do_no_harm();
 }

@@ -1,4 +1,4 @@
-//! What an audit of stores finds that lawful rows left: they agree.
+//! What an audit of stores finds after rows that do no harm: they agree.
 //!
 //! [`laws`] says so of the stores of a world at one moment, and of what a cluster of processes has stored,
 //! processes that were killed among them (`specs/Left.antt`).

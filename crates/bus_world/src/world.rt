@@ -28,7 +28,7 @@ use arrayvec::ArrayVec;
 use can_frame::{Entry, Kind};
 use cluster_agreement::allocatees::the_allocatees;
 use cluster_agreement::headline::{
-    rows_are_dutiful, rows_are_safe, rows_grow_by_one, the_headline,
+    lawful_rows_do_no_harm, rows_are_dutiful, rows_are_safe, rows_grow_by_one, the_headline,
 };
 use cluster_spec::{Unlawful, WorldFault};
 use replay_text::{Row, Told};
@@ -156,6 +156,7 @@ impl<F: Fn(Kind, u16) -> Option<u64> + Copy, G: Fn(Kind, u16) -> Option<u64> + C
         ensures accepts { accepts self.new ≡ accepts self.old }
         ensures aaccepts { allocatees_accept self.new ≡ allocatees_accept self.old }
     {
+        lawful_rows_do_no_harm();
         pairs_of_a_step();
         rows_are_dutiful();
         rows_are_safe();

@@ -16,10 +16,10 @@ returns-clause-schedule g c = λ limit nodes asks.
 pub returns-clause-headline : goal.returns-clause-headline
 returns-clause-headline g c = λ limit nodes bytes asks told over.
     let replays = rw (only_replay c.in-Some.plan _ c.in-Some.ensures.some limit nodes asks) at c.follow.ensures.followed in
-    holds_along KeepsPromise (λ ids rows members lawful. record {
-      headline = c.the_headline.ensures ids rows members lawful;
-      allocatees = c.the_allocatees.ensures ids rows members lawful;
-      safe = c.rows_are_safe.ensures ids rows members lawful;
+    holds_along KeepsPromise (λ ids rows members lawful. let harmless = c.lawful_rows_do_no_harm.ensures (cluster ids) rows lawful in record {
+      headline = c.the_headline.ensures ids rows members harmless;
+      allocatees = c.the_allocatees.ensures ids rows members harmless;
+      safe = c.rows_are_safe.ensures ids rows members harmless;
     }) c.follow.result limit nodes bytes _ _ _ asks.members
     (replays.ends bytes told) over
 
@@ -42,14 +42,14 @@ pub returns-clause-soak : goal.returns-clause-soak
 returns-clause-soak g c = λ told seed rounds size asks.
     let rows = c.rows_are_lawful.ensures in
     let members = rows.members size asks.sized.least asks.sized.most in
-    let lawful = (rows.rows told seed rounds size).lawful in
+    let harmless = c.lawful_rows_do_no_harm.ensures _ _ (rows.rows told seed rounds size).lawful in
     let soaks = rw (only_soak c.in-Some.plan _ c.in-Some.ensures.some told seed rounds size asks) at c.follow.ensures.followed in
     inr (
       soaks,
       record {
-        headline = c.the_headline.ensures _ _ members lawful;
-        allocatees = c.the_allocatees.ensures _ _ members lawful;
-        safe = c.rows_are_safe.ensures _ _ members lawful;
+        headline = c.the_headline.ensures _ _ members harmless;
+        allocatees = c.the_allocatees.ensures _ _ members harmless;
+        safe = c.rows_are_safe.ensures _ _ members harmless;
       },
     )
 
@@ -59,9 +59,9 @@ returns-clause-nodes g c = λ told base turns ids asks.
     c.args.disks.now c.follow.new.disks (g.C.Clock.readings c.args.clock.now) (g.C.Clock.readings c.follow.new.clock)
     (g.K.Sink.faults c.args.sink.now) (g.K.Sink.faults c.follow.new.sink) (g.K.Sink.written c.args.sink.now) (g.K.Sink.written c.follow.new.sink) c.follow.result
     c.runs_of_node_are_rows.ensures.done c.runs_of_node_are_rows.ensures.cut c.runs_of_node_are_rows.ensures.opening (λ ids trace members may. record {
-      headline = c.traces_are_lawful.ensures.headline ids trace members may;
-      allocatees = c.traces_are_lawful.ensures.allocatees ids trace members may;
-      safe = c.traces_are_lawful.ensures.safe ids trace members may;
+      headline = c.traces_do_no_harm.ensures.headline ids trace members may;
+      allocatees = c.traces_do_no_harm.ensures.allocatees ids trace members may;
+      safe = c.traces_do_no_harm.ensures.safe ids trace members may;
     }) (rw (only_node c.in-Some.plan _ c.in-Some.ensures.some told base turns ids asks) at c.follow.ensures.followed))
 
 pub returns-clause-new : goal.returns-clause-new

@@ -4,6 +4,6 @@ use Rattle.audit_laws.proofs.Beginnings.{headline_at_end, left_agree}
 use Rattle.audit_laws.proofs.laws.stores_of_a_world_agree.Goals as goal
 
 pub returns : goal.returns
-returns c = λ ids rows choice nodes stores place a b members lawful fits.
+returns c = λ ids rows choice nodes stores place a b members harmless fits.
     left_agree c.an_image_stands_for_one_state.ensures.state choice (world_of ids rows) (world_of ids (rows ++ []))
-    (headline_at_end ids rows choice (c.the_headline.ensures ids rows members lawful) fits) nodes stores place a b
+    (headline_at_end ids rows choice (c.the_headline.ensures ids rows members harmless) fits) nodes stores place a b

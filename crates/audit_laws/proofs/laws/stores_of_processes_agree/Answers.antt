@@ -11,9 +11,9 @@ use Rattle.audit_laws.proofs.laws.stores_of_processes_agree.Goals as goal
 pub returns-clause-agree : goal.returns-clause-agree
 returns-clause-agree c = λ ids trace nodes stores place a b members may.
     let rows = all_rows trace (cluster ids) in
-    let has = c.traces_are_lawful.ensures.headline ids trace members may in
+    let has = c.traces_do_no_harm.ensures.headline ids trace members may in
     stored_agree c.an_image_stands_for_one_state.ensures.state has.some.0 (world_after ids trace) (world_of ids (rows ++ []))
-    (headline_at_end ids rows has.some.0 has has.some.1) (c.traces_are_lawful.ensures.calm ids trace may) nodes stores place a b
+    (headline_at_end ids rows has.some.0 has has.some.1) (c.traces_do_no_harm.ensures.calm ids trace may) nodes stores place a b
 
 -- what is alike is read as one store
 as_read : (likeness : Likeness) (a b : Stored) → Alike likeness a b → store_of a ≡ store_of b

@@ -24,22 +24,26 @@ pub returns-in-Ok-clause-headline : goal.returns-in-Ok-clause-headline
 returns-in-Ok-clause-headline g c = λ ids rows lawful stands.
     let grows = c.rows_grow_by_one.ensures in
     c.the_headline.ensures ids _ (subst AreMembers (grows.members (cluster ids) rows) stands.members.holds.lawful)
-    (grows.lawful (cluster ids) rows c.args.row.now lawful (c.in-Ok.ensures.told (world_of ids rows) stands).0)
+    (c.lawful_rows_do_no_harm.ensures (cluster ids) _
+    (grows.lawful (cluster ids) rows c.args.row.now lawful (c.in-Ok.ensures.told (world_of ids rows) stands).0))
 
 pub returns-in-Ok-clause-safe : goal.returns-in-Ok-clause-safe
 returns-in-Ok-clause-safe g c = λ ids rows lawful stands.
     let grows = c.rows_grow_by_one.ensures in
     c.rows_are_safe.ensures ids _ (subst AreMembers (grows.members (cluster ids) rows) stands.members.holds.lawful)
-    (grows.lawful (cluster ids) rows c.args.row.now lawful (c.in-Ok.ensures.told (world_of ids rows) stands).0)
+    (c.lawful_rows_do_no_harm.ensures (cluster ids) _
+    (grows.lawful (cluster ids) rows c.args.row.now lawful (c.in-Ok.ensures.told (world_of ids rows) stands).0))
 
 pub returns-in-Ok-clause-duty : goal.returns-in-Ok-clause-duty
 returns-in-Ok-clause-duty g c = λ ids rows lawful stands.
     let grows = c.rows_grow_by_one.ensures in
     c.rows_are_dutiful.ensures ids _ (subst AreMembers (grows.members (cluster ids) rows) stands.members.holds.lawful)
-    (grows.lawful (cluster ids) rows c.args.row.now lawful (c.in-Ok.ensures.told (world_of ids rows) stands).0)
+    (c.lawful_rows_do_no_harm.ensures (cluster ids) _
+    (grows.lawful (cluster ids) rows c.args.row.now lawful (c.in-Ok.ensures.told (world_of ids rows) stands).0))
 
 pub returns-in-Ok-clause-allocatees : goal.returns-in-Ok-clause-allocatees
 returns-in-Ok-clause-allocatees g c = λ ids rows lawful stands.
     let grows = c.rows_grow_by_one.ensures in
     c.the_allocatees.ensures ids _ (subst AreMembers (grows.members (cluster ids) rows) stands.members.holds.lawful)
-    (grows.lawful (cluster ids) rows c.args.row.now lawful (c.in-Ok.ensures.told (world_of ids rows) stands).0)
+    (c.lawful_rows_do_no_harm.ensures (cluster ids) _
+    (grows.lawful (cluster ids) rows c.args.row.now lawful (c.in-Ok.ensures.told (world_of ids rows) stands).0))
