@@ -1,13 +1,12 @@
 -- All rows, one after another: their events continue the run.
 use Rattle.std.proofs.Common.{◌≡◌, ℕ, Bool, List, [], ◌∷◌, ◌++◌, sym, subst, arith}
-use Rattle.std.specs.Prelude.{None}
 use Rattle.raft_model.specs.Invariants.{Invariants}
 use Rattle.raft_model.specs.Runs as machine
 use Rattle.raft_model.specs.Runs.{Event, InEveryRun, initial_world}
 use Rattle.replay_text.specs.declared.row.Row.{Row}
 use Rattle.alloc_spec.specs.Transfers.{SentTransfer}
 use Rattle.cluster_spec.specs.Cluster.{AreMembers, Cluster, after_rows, cluster, after_row, world_of}
-use Rattle.cluster_spec.specs.Lawful.{Lawful, cause}
+use Rattle.cluster_spec.specs.Lawful.{DoNoHarm, DoesNoHarm}
 use Rattle.cluster_spec.specs.Choices.{AgreesWithDisk, RowAgreesWithDisk}
 use Rattle.cluster_spec.specs.Refinement.{events, transfers_of_rows, transfers_of_row, row_events}
 use Rattle.cluster_agreement.specs.Continues.{Continues}
@@ -18,7 +17,7 @@ use Rattle.cluster_agreement.proofs.Concatenations.{lawful_joined, run_joined, s
 -- what is known of any row
 abbrev pub EachRow : Type 0
 EachRow = (choice : ℕ → Bool) (made : List SentTransfer) (w : Cluster) (run : machine.World) → AreMembers w.ids → Shows choice made w run
-    → Invariants run → IsRunWritable w.ids run → (row : Row) → cause w row ≡ None → RowAgreesWithDisk choice w row
+    → Invariants run → IsRunWritable w.ids run → (row : Row) → DoesNoHarm w row → RowAgreesWithDisk choice w row
     → Continues choice (transfers_of_row w row made) (after_row w row) run (row_events choice w row)
 
 -- first some events, then others
@@ -36,7 +35,7 @@ module _ (each : EachRow) (sound : InEveryRun Invariants) (choice : ℕ → Bool
   IsReached w earlier so_far = Continues choice earlier w (initial_world ids) so_far
 
   module _ (w : Cluster) (earlier : List SentTransfer) (so_far : List Event) (members : AreMembers w.ids) (is : IsReached w earlier so_far)
-      (row : Row) (lawful : cause w row ≡ None) (fits : RowAgreesWithDisk choice w row) where
+      (row : Row) (harmless : DoesNoHarm w row) (fits : RowAgreesWithDisk choice w row) where
     abbrev now : machine.World
     now = machine.run (initial_world ids) so_far
 
@@ -44,7 +43,7 @@ module _ (each : EachRow) (sound : InEveryRun Invariants) (choice : ℕ → Bool
     own = row_events choice w row
 
     one : Continues choice (transfers_of_row w row earlier) (after_row w row) now own
-    one = each choice earlier w now members is.shows (sound ids so_far is.lawful) is.writable row lawful fits
+    one = each choice earlier w now members is.shows (sound ids so_far is.lawful) is.writable row harmless fits
 
     one_more : IsReached (after_row w row) (transfers_of_row w row earlier) (so_far ++ own)
     one_more = joined choice (transfers_of_row w row earlier) (after_row w row) (initial_world ids) so_far own is.lawful one
@@ -57,13 +56,13 @@ module _ (each : EachRow) (sound : InEveryRun Invariants) (choice : ℕ → Bool
 
   -- the rows that are left
   pub onward : (rows : List Row) (w : Cluster) (earlier : List SentTransfer) (so_far : List Event) → AreMembers w.ids → IsReached w earlier so_far
-      → Lawful w rows → AgreesWithDisk choice w rows
+      → DoNoHarm w rows → AgreesWithDisk choice w rows
       → Continues choice (transfers_of_rows w rows earlier) (after_rows w rows) (machine.run (initial_world ids) so_far) (events choice w rows)
-  onward [] w earlier so_far members is lawful fits = record { lawful = tt; shows = is.shows; writable = is.writable }
-  onward (row ∷ rows) w earlier so_far members is lawful fits =
-      followed w earlier so_far members is row lawful.0 fits.0 (transfers_of_rows w (row ∷ rows) earlier) (after_rows w (row ∷ rows)) (events choice (after_row w row) rows)
+  onward [] w earlier so_far members is harmless fits = record { lawful = tt; shows = is.shows; writable = is.writable }
+  onward (row ∷ rows) w earlier so_far members is harmless fits =
+      followed w earlier so_far members is row harmless.0 fits.0 (transfers_of_rows w (row ∷ rows) earlier) (after_rows w (row ∷ rows)) (events choice (after_row w row) rows)
       (onward rows (after_row w row) (transfers_of_row w row earlier) (so_far ++ row_events choice w row) (subst AreMembers (sym (same_ids w row)) members)
-      (one_more w earlier so_far members is row lawful.0 fits.0) lawful.1 fits.1)
+      (one_more w earlier so_far members is row harmless.0 fits.0) harmless.1 fits.1)
 
 -- nothing is stored or said at the beginning
 pub nothing_said : (ids : List ℕ) → IsRunWritable ids (initial_world ids)
@@ -73,7 +72,7 @@ nothing_said ids = record {
 }
 
 pub from_beginning : EachRow → InEveryRun Invariants → ((choice : ℕ → Bool) (ids : List ℕ) → Shows choice [] (cluster ids) (initial_world ids))
-    → (choice : ℕ → Bool) (ids : List ℕ) (rows : List Row) → AreMembers ids → Lawful (cluster ids) rows → AgreesWithDisk choice (cluster ids) rows
+    → (choice : ℕ → Bool) (ids : List ℕ) (rows : List Row) → AreMembers ids → DoNoHarm (cluster ids) rows → AgreesWithDisk choice (cluster ids) rows
     → Continues choice (transfers_of_rows (cluster ids) rows []) (world_of ids rows) (initial_world ids) (events choice (cluster ids) rows)
-from_beginning each sound begins choice ids rows members lawful fits =
-    onward each sound choice ids rows (cluster ids) [] [] members (record { lawful = tt; shows = begins choice ids; writable = nothing_said ids }) lawful fits
+from_beginning each sound begins choice ids rows members harmless fits =
+    onward each sound choice ids rows (cluster ids) [] [] members (record { lawful = tt; shows = begins choice ids; writable = nothing_said ids }) harmless fits

@@ -7,9 +7,9 @@ use Rattle.raft_model.specs.Handlers.{puts_of_all}
 use Rattle.raft_core.specs.StoredPuts.{AreOfNodes, IsOfNode}
 use Rattle.raft_model.specs.Lists.{In}
 use Rattle.raft_model.specs.Log.{term_at}
-use Rattle.raft_model.specs.Messages.{Message, Request, reach}
+use Rattle.raft_model.specs.Messages.{Answer, Message, Request, reach}
 use Rattle.raft_model.specs.Messages.Message.{Answers, Pairs, Requests}
-use Rattle.raft_model.specs.Moves.{IsEnabled, Move, offers, puts}
+use Rattle.raft_model.specs.Moves.{IsEnabled, IsHeard, Move, offers, puts}
 use Rattle.raft_model.specs.Moves.Appending.{IsJudged, Verdict, advance_puts, append_puts, cut_puts}
 use Rattle.raft_model.specs.Moves.Appending.Verdict.{Added, Held, Outdated, Refused}
 use Rattle.raft_model.specs.Moves.Elections.{grant_puts, term_puts, vote_puts, with_term}
@@ -116,17 +116,22 @@ module _ (members : List ℕ) (low : (n : ℕ) → In n members → 1 ≤ n) (me
       joined members (cut_puts (with_term server.store request.term) request) _ (cut_fits (with_term server.store request.term) request)
       (tt, (some_entry request.entry (Some added) is.1.carried entry, advance_fits (with_term server.store request.term) request))
 
+  -- an answer has the term of one that was said
+  answer_fits : (store : Store) (answer : Answer) → IsHeard bag store answer → answer.term < 2 ^ 32
+  answer_fits store answer (inl said) = fits.answers answer said
+  answer_fits store answer (inr late) = subst (λ (term : ℕ). term < 2 ^ 32) late.term (fits.answers late.said late.was_said)
+
   puts_fit : (called : List ℕ) (server : RaftServer) (move : Move) → IsStoreWritable members server.store → IsEnabled members me bag called server move
       → ((entry : Entry) → move ≡ ProposeEntry entry → (length entry.uid ≡ 16) × (In entry.node members → ⊥)) → ArePutsWritable members (puts members me server move)
   puts_fit called server TimeOut is comes well = (omega (arith, comes.1), (tt, (tt, tt)))
   puts_fit called server (TakeVoteRequest request granted) is comes well =
       joined members (term_puts server.store request.term) _ (term_fits server.store request.term (fits.requests request comes.0).term)
       (grant_fits (with_term server.store request.term) request granted)
-  puts_fit called server (TakeVoteAnswer answer) is comes well = term_fits server.store answer.term (fits.answers answer comes.0)
+  puts_fit called server (TakeVoteAnswer answer) is comes well = term_fits server.store answer.term (answer_fits server.store answer comes.0)
   puts_fit called server (TakeAppendRequest request verdict) is comes well =
       joined members (term_puts server.store request.term) _ (term_fits server.store request.term (fits.requests request comes.0).term)
       (append_fits server request verdict comes.3 (fits.requests request comes.0).entry)
-  puts_fit called server (TakeAppendAnswer answer) is comes well = term_fits server.store answer.term (fits.answers answer comes.0)
+  puts_fit called server (TakeAppendAnswer answer) is comes well = term_fits server.store answer.term (answer_fits server.store answer comes.0)
   puts_fit called server (ProposeEntry entry) is comes well = (
     tt,
     (

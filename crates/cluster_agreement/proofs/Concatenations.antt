@@ -1,13 +1,12 @@
 -- Two lists, one after the other: events of a run, and rows of a world.
 use Rattle.std.proofs.Common.{◌≡◌, ℕ, Bool, List, [], ◌∷◌, ◌++◌, refl, sym, ap, ◌∙◌}
 use Rattle.std.proofs.lemmas.List.{append_assoc}
-use Rattle.std.specs.Prelude.{None}
 use Rattle.raft_model.specs.Runs as machine
 use Rattle.raft_model.specs.Runs.{Event, after, run}
 use Rattle.replay_text.specs.declared.row.Row.{Row}
 use Rattle.replay_text.specs.declared.row.Row.TheVariants.{Open, Tick, Rx, Send, Ext, Crash, Fault, AOpen, ATick, ARx, ASend, AEnd}
 use Rattle.cluster_spec.specs.Cluster.{Cluster, after_rows, after_row}
-use Rattle.cluster_spec.specs.Lawful.{Lawful, cause}
+use Rattle.cluster_spec.specs.Lawful.{DoNoHarm, DoesNoHarm}
 use Rattle.cluster_spec.specs.Choices.{AgreesWithDisk}
 use Rattle.cluster_spec.specs.Refinement.{events, row_events}
 
@@ -27,13 +26,13 @@ pub rows_joined : (w : Cluster) (rows more : List Row) → after_rows w (rows ++
 rows_joined w [] more = refl
 rows_joined w (row ∷ rows) more = rows_joined (after_row w row) rows more
 
-pub first_lawful : (w : Cluster) (rows more : List Row) → Lawful w (rows ++ more) → Lawful w rows
-first_lawful w [] more all = tt
-first_lawful w (row ∷ rows) more all = (all.0, first_lawful (after_row w row) rows more all.1)
+pub first_harmless : (w : Cluster) (rows more : List Row) → DoNoHarm w (rows ++ more) → DoNoHarm w rows
+first_harmless w [] more all = tt
+first_harmless w (row ∷ rows) more all = (all.0, first_harmless (after_row w row) rows more all.1)
 
-pub cause_at : (w : Cluster) (rows rest : List Row) (row : Row) → Lawful w (rows ++ (row ∷ rest)) → cause (after_rows w rows) row ≡ None
-cause_at w [] rest row all = all.0
-cause_at w (first ∷ rows) rest row all = cause_at (after_row w first) rows rest row all.1
+pub row_harmless : (w : Cluster) (rows rest : List Row) (row : Row) → DoNoHarm w (rows ++ (row ∷ rest)) → DoesNoHarm (after_rows w rows) row
+row_harmless w [] rest row all = all.0
+row_harmless w (first ∷ rows) rest row all = row_harmless (after_row w first) rows rest row all.1
 
 pub first_fits : (choice : ℕ → Bool) (w : Cluster) (rows more : List Row) → AgreesWithDisk choice w (rows ++ more) → AgreesWithDisk choice w rows
 first_fits choice w [] more all = tt

@@ -1,15 +1,20 @@
 -- What a running member is delivered is taken by the rules of the message machine.
-use Rattle.std.proofs.Common.{◌≡◌, ℕ, ◌<◌, ◌≤◌, Bool, true, false, List, [], ◌∷◌, refl, sym, ap, subst, ◌∙◌, arith, inl, inr, Some}
+use Rattle.std.proofs.Common.{◌≡◌, ◌⊎◌, ℕ, ◌<◌, ◌≤◌, Bool, true, false, List, [], ◌∷◌, refl, sym, ap, subst, ◌∙◌, arith, inl, inr, Some}
 use Rattle.std.specs.Prelude.{max, ◌&&◌, not, nat_eq, if◌then◌else◌}
 use Rattle.std.proofs.lemmas.Bool.Decides.{eqb_tells}
 use Rattle.can_frame.specs.declared.identifier.Ident.{Ident}
 use Rattle.can_frame.specs.declared.identifier.Kind.{Kind}
 use Rattle.can_frame.specs.declared.identifier.Kind.TheVariants.{Message as Broadcast, Anonymous, Request as RequestKind, Response}
 use Rattle.can_frame.specs.declared.mark.Mark.{Mark}
+use Rattle.can_frame.specs.declared.step.Judged.{Judged}
 use Rattle.can_frame.specs.declared.step.Judged.TheVariants.{Fine, Stale, Torn}
 use Rattle.cluster_discovery.specs.Members.{is_on_list}
 use Rattle.raft_model.specs.Lists.{In}
-use Rattle.raft_model.specs.Messages.{Message, Request}
+use Rattle.raft_core.specs.Handled.{answer_of}
+use Rattle.raft_core.specs.Times.{overdue}
+use Rattle.raft_model.specs.Messages.{Answer as Said, Message, Request}
+use Rattle.raft_model.specs.Moves.{IsHeard}
+use Rattle.raft_model.specs.Server.{Store}
 use Rattle.transfer_rx.specs.Acceptance.{is_for, is_service}
 use Rattle.transfer_rx.specs.Keys.{is_anonymous}
 use Rattle.transfer_rx.specs.Reassembly.{Answer, Arrival, Delivery, answer}
@@ -18,9 +23,9 @@ use Rattle.transfer_rx.specs.Sound.{IsDelivered}
 use Rattle.transfer_tx.specs.Queue.{Queued}
 use Rattle.alloc_spec_laws.specs.Coming.{AnswerFrom, AnswersFrom, SaysFrom, TakesFrom}
 use Rattle.alloc_spec.specs.Accepted.{rows, setting_for}
-use Rattle.alloc_spec.specs.Judging.{is_stale, answer_judgement, arrival_judgement}
+use Rattle.alloc_spec.specs.Judging.{IsHarmless, answer_judgement, arrival_judgement, brings_void, gives_void, is_stale, is_void}
 use Rattle.alloc_spec.specs.Services.{is_listed}
-use Rattle.alloc_spec.specs.Step.{begin_phase}
+use Rattle.alloc_spec.specs.Step.{all_nodes, begin_phase}
 use Rattle.alloc_spec.specs.Step.Event.{Rx}
 use Rattle.alloc_spec.specs.AllocatorState.{AllocatorState, members_of}
 use Rattle.alloc_spec.specs.Transfers.{SentTransfer}
@@ -31,37 +36,51 @@ use Rattle.cluster_agreement.specs.LawsBelow.{FrameLaws, CodecLaws}
 use Rattle.cluster_agreement.proofs.DeliveredTransfers.{was_made}
 use Rattle.cluster_agreement.proofs.Idents.{IsWanted, service_is, wanted_is}
 use Rattle.cluster_agreement.proofs.Lists.{never}
-use Rattle.cluster_agreement.proofs.TakenMessages.{IsFresh, append_said, awaited_by, is_append, is_vote, requests_from, vote_said}
-use Rattle.cluster_agreement.proofs.WaitingCalls.{waited}
+use Rattle.cluster_agreement.proofs.TakenMessages.{MayAnswer, append_said, awaited_by, is_append, is_vote, requests_from, vote_said}
+use Rattle.cluster_agreement.proofs.WaitingCalls.{store_stays, waited}
 use Rattle.cluster_agreement.proofs.WholeTransfers.{members_own}
 
 -- ---- a frame that may come
 
--- the server would take nothing torn, and no answer to an earlier call
-pub record IsFine (t : AllocatorState) (now : ℕ) (d : Delivery) : Type 0 where
+-- the server would take nothing torn, and no answer to an earlier call but one that counts for nothing
+pub record MayCome (t : AllocatorState) (now : ℕ) (d : Delivery) : Type 0 where
   pub untorn : d.whole ≡ false → d.mark.step ≡ 0
-  pub fresh : is_stale t d now ≡ false
+  pub answers : (is_stale t d now ≡ false) ⊎ (is_void t.raft_server.store.term d ≡ true)
 
-fine_from : (whole unmarked stale : Bool) → (if not whole && not unmarked then Torn else (if stale then Stale else Fine)) ≡ Fine
-    → (whole ≡ false → unmarked ≡ true) × (stale ≡ false)
-fine_from true unmarked true e = absurd (cc (e))
-fine_from true unmarked false e = ((λ w. never (sym w)), refl)
-fine_from false true true e = absurd (cc (e))
-fine_from false true false e = ((λ w. refl), refl)
-fine_from false false stale e = absurd (cc (e))
+abbrev judgement_by : (whole unmarked stale : Bool) → Judged
+judgement_by whole unmarked stale = if not whole && not unmarked then Torn else (if stale then Stale else Fine)
+
+-- a frame does no harm where it is judged so
+abbrev DoesNoHarm : Judged → (void : Bool) → Type 0
+DoesNoHarm judgement void = (judgement ≡ Fine) ⊎ ((judgement ≡ Stale) × (void ≡ true))
+
+harmless_from : (whole unmarked stale void : Bool) → DoesNoHarm (judgement_by whole unmarked stale) void
+    → (whole ≡ false → unmarked ≡ true) × ((stale ≡ false) ⊎ (void ≡ true))
+harmless_from true unmarked true void (inl e) = absurd (cc (e))
+harmless_from true unmarked true void (inr e) = ((λ w. never (sym w)), inr e.1)
+harmless_from true unmarked false void e = ((λ w. never (sym w)), inl refl)
+harmless_from false true true void (inl e) = absurd (cc (e))
+harmless_from false true true void (inr e) = ((λ w. refl), inr e.1)
+harmless_from false true false void e = ((λ w. refl), inl refl)
+harmless_from false false stale void (inl e) = absurd (cc (e))
+harmless_from false false stale void (inr e) = absurd (cc (e.0))
 
 eqb_is : (a b : ℕ) → nat_eq a b ≡ true → a ≡ b
 eqb_is a b e = elim (eqb_tells a b) [ inl same ↦ same.1 | inr apart ↦ never (sym apart.0 ∙ e) ]
 
-pub judged_fine : (t : AllocatorState) (step now : ℕ) (a : Answer) (d : Delivery) → a ≡ Gives d → answer_judgement t step now a ≡ Fine → (d.mark.step ≡ step) → IsFine t now d
-judged_fine t step now a d e fine mark =
-    let f = fine_from d.whole (nat_eq step 0) (is_stale t d now) (ap (λ (x : Answer). answer_judgement t step now x) (sym e) ∙ fine) in
-    record { untorn = λ w. mark ∙ eqb_is step 0 (f.0 w); fresh = f.1 }
+-- the answer to a frame at this moment does no harm
+abbrev IsAnswerHarmless : AllocatorState → (step now : ℕ) → Answer → Type 0
+IsAnswerHarmless t step now a = DoesNoHarm (answer_judgement t step now a) (gives_void t.raft_server.store.term a)
 
-pub judges_fine : (t : AllocatorState) (arrival : Arrival) → arrival_judgement t arrival ≡ Fine
-    → answer_judgement t arrival.mark.step (max t.now arrival.moment) (answer (setting_for t.me) t.sessions (record arrival { moment = max t.now arrival.moment })) ≡ Fine
-unfolding arrival_judgement
-judges_fine t arrival e = e
+pub judged_harmless : (t : AllocatorState) (step now : ℕ) (a : Answer) (d : Delivery) → a ≡ Gives d → IsAnswerHarmless t step now a → d.mark.step ≡ step → MayCome t now d
+judged_harmless t step now a d e harmless mark =
+    let f = harmless_from d.whole (nat_eq step 0) (is_stale t d now) (is_void t.raft_server.store.term d) (subst (λ (x : Answer). IsAnswerHarmless t step now x) e harmless) in
+    record { untorn = λ w. mark ∙ eqb_is step 0 (f.0 w); answers = f.1 }
+
+pub judges_harmless : (t : AllocatorState) (arrival : Arrival) → IsHarmless t arrival
+    → IsAnswerHarmless t arrival.mark.step (max t.now arrival.moment) (answer (setting_for t.me) t.sessions (record arrival { moment = max t.now arrival.moment }))
+unfolding arrival_judgement brings_void
+judges_harmless t arrival e = e
 
 -- ---- who is listed
 
@@ -78,7 +97,7 @@ module _ (laws : FrameLaws) (codec : CodecLaws) (ids : List ℕ) (low : (n : ℕ
     (made : List SentTransfer) (are : AreTransfers ids made) (bag : List Message) (says : AreSaid made bag) (fits : AreWritable ids bag)
     (answered : AreAnswered made) (frames : List Queued) (bus : (frame : Queued) → In frame frames → IsOnBus made ids frame)
     (t : AllocatorState) (some : 1 ≤ t.me) (among : (peer : ℕ) → In peer (members_of t) → In peer ids) (heard : AreHeard frames (setting_for t.me) t.sessions)
-    (called : AreCalled made t) (number : ℕ) (arrival : Arrival) (came : CameFrom frames arrival) (fine : arrival_judgement t arrival ≡ Fine) where
+    (called : AreCalled made t) (number : ℕ) (arrival : Arrival) (came : CameFrom frames arrival) (harmless : IsHarmless t arrival) where
   abbrev now : ℕ
   now = max t.now arrival.moment
 
@@ -92,13 +111,13 @@ module _ (laws : FrameLaws) (codec : CodecLaws) (ids : List ℕ) (low : (n : ℕ
     abbrev its : IsDelivered (setting_for t.me) t.sessions coming d
     its = laws.delivered (setting_for t.me) t.sessions coming d gives
 
-    pub is_fine : IsFine t now d
-    is_fine = judged_fine t arrival.mark.step now _ d gives (judges_fine t arrival fine) (ap (λ (m : Mark). m.step) its.mark)
+    pub may_come : MayCome t now d
+    may_come = judged_harmless t arrival.mark.step now _ d gives (judges_harmless t arrival harmless) (ap (λ (m : Mark). m.step) its.mark)
 
     -- the transfer, where its frames are members' alone
     pub made_by_member : is_forged ids (Some d.ident) ≡ true → WasMade made d
     made_by_member forged = was_made laws ids low high made are (setting_for t.me) frames bus t.sessions heard coming
-        (record { frame = came.frame; there = came.there; id = came.id; bytes = came.bytes; mark = came.mark }) d gives is_fine.untorn forged (inl some)
+        (record { frame = came.frame; there = came.there; id = came.id; bytes = came.bytes; mark = came.mark }) d gives may_come.untorn forged (inl some)
 
     pub wants : IsWanted rows t.me coming.id d.ident
     wants = subst (λ (i : Ident). IsWanted rows t.me coming.id i) (sym its.ident) (wanted_is rows t.me coming.id its.w its.accepted)
@@ -120,22 +139,28 @@ module _ (laws : FrameLaws) (codec : CodecLaws) (ids : List ℕ) (low : (n : ℕ
       pub listed_made : WasMade made d
       listed_made = made_by_member (members_own ids d.ident (listed_source listed) (ap is_anonymous is_kind ∙ known))
 
-    fresh_response : is_listed d then_ ≡ true → d.ident.kind ≡ Response → IsFresh t d now
-    fresh_response listed k = record { fresh = is_fine.fresh; kind = k; member = high d.ident.source (listed_source listed) }
+    may_answer : is_listed d then_ ≡ true → d.ident.kind ≡ Response → MayAnswer t d now
+    may_answer listed k = record { answers = may_come.answers; kind = k; member = high d.ident.source (listed_source listed) }
+
+    -- whoever gives up calls has what it had stored
+    heard_then : (answer : Said) → IsHeard bag t.raft_server.store answer → IsHeard bag then_.raft_server.store answer
+    heard_then answer is = subst (λ (store : Store). IsHeard bag store answer) (sym (store_stays (members_of t) t.me number (overdue t.times now all_nodes) t.raft_server)) is
 
     answers_from : is_listed d then_ ≡ true → d.ident.kind ≡ Response → (call : Request)
         → then_.raft_server.memory.pending d.ident.source ≡ Some call → AnswersFrom bag then_.raft_server then_.times d call
     answers_from listed k call pending = record {
       votes = λ one thirty value read waits.
           let w = awaited_by (then_.raft_server.memory.pending d.ident.source) (then_.times.sending d.ident.source) call false d.id pending waits in
-          vote_said codec ids made are bag says fits answered t called now d (fresh_response listed k) x.0 x.1 x.2 own call
+          heard_then (answer_of d.mark.step d.ident.source call value.term value.granted)
+          (vote_said codec ids made are bag says fits answered t called now d (may_answer listed k) x.0 x.1 x.2 own call
           (is_vote x.0.offer.what (x.2.kind ∙ k) (λ e. one (sym x.2.number ∙ e)) (λ e. thirty (sym x.2.number ∙ e))) value read w.service w.sent
-          (waited t number arrival.moment d.ident.source small call w.sent pending w.is) w.same;
+          (waited t number arrival.moment d.ident.source small call w.sent pending w.is) w.same);
       appends = λ thirty value read waits.
           let w = awaited_by (then_.raft_server.memory.pending d.ident.source) (then_.times.sending d.ident.source) call true d.id pending waits in
-          append_said codec ids made are bag says fits answered t called now d (fresh_response listed k) x.0 x.1 x.2 own call
+          heard_then (answer_of d.mark.step d.ident.source call value.term value.success)
+          (append_said codec ids made are bag says fits answered t called now d (may_answer listed k) x.0 x.1 x.2 own call
           (is_append x.0.offer.what (x.2.kind ∙ k) (x.2.number ∙ thirty)) value read w.service w.sent
-          (waited t number arrival.moment d.ident.source small call w.sent pending w.is) w.same;
+          (waited t number arrival.moment d.ident.source small call w.sent pending w.is) w.same);
     }
       where
         x : WasMade made d

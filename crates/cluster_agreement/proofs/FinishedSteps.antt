@@ -87,7 +87,7 @@ module _ (laws : StepLaws) (more : MoreLaws) (frame_laws : FrameLaws) (codec : C
   takes : (e : Event) → event ≡ e → TakesFrom number run.bag t e
   takes (Tick now word) same = tt
   takes (Rx arrival) same = takes_from frame_laws codec w.ids low high made shows.holds.transfers run.bag shows.holds.said shows.holds.written shows.holds.answered
-      w.frames shows.bus t (low t.me listed) is.works.among is.works.heard is.works.called number arrival (may.came arrival same) (may.fine arrival same)
+      w.frames shows.bus t (low t.me listed) is.works.among is.works.heard is.works.called number arrival (may.came arrival same) (may.harmless arrival same)
 
   pub may_step : MayStep t number event w.ids run.bag
   may_step = record {

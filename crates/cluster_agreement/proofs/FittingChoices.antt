@@ -15,15 +15,15 @@ use Rattle.replay_text.specs.declared.row.Row.{Row}
 use Rattle.replay_text.specs.declared.row.Row.TheVariants.{Crash}
 use Rattle.alloc_spec.specs.Transfers.{SentTransfer}
 use Rattle.cluster_spec.specs.Cluster.{Cluster, after_rows, cluster, after_row, world_of}
-use Rattle.cluster_spec.specs.Lawful.{Lawful, cause, no_node, no_stop}
+use Rattle.cluster_spec.specs.Lawful.{DoNoHarm, DoesNoHarm, cause, no_node, no_stop}
 use Rattle.cluster_spec.specs.Members.{Failure, MemberStatus, stored_after}
 use Rattle.cluster_spec.specs.Members.MemberStatus.{Down, Failed, Up}
 use Rattle.cluster_spec.specs.Choices.{AgreesWithDisk, CrashAgreesWithDisk, RowAgreesWithDisk, chosen_store, one_if}
 use Rattle.cluster_agreement.specs.Shows.{Shows, ShowsFailed, ShowsMember}
 use Rattle.cluster_agreement.proofs.CutOffSteps.{found_few}
 use Rattle.cluster_agreement.proofs.Failures.{AreApart, IsOver, apart_after, apart_at_first, failed_at, failed_in, over_after, over_by_stop}
-use Rattle.cluster_agreement.proofs.OneRowMore.{fits, grown, lawful}
-use Rattle.cluster_agreement.proofs.RowsWithoutEvents.{is_one, past_first}
+use Rattle.cluster_agreement.proofs.OneRowMore.{fits, grown, harmless}
+use Rattle.cluster_agreement.proofs.RowsWithoutEvents.{is_lawful, is_one, past_first}
 
 -- ---- another choice at one row
 
@@ -66,16 +66,16 @@ is_found count few = elim (eqb_tells count 1) [
   | inr apart ↦ ap one_if apart.0 ∙ omega (arith, few, apart.1)
 ]
 
--- every list of rows that are lawful shows a run, whatever choice fits it
+-- every list of rows that do no harm shows a run, whatever choice fits it
 abbrev pub AreShown : List ℕ → Type 0
-AreShown ids = (choice : ℕ → Bool) (rows : List Row) → Lawful (cluster ids) rows → AgreesWithDisk choice (cluster ids) rows
+AreShown ids = (choice : ℕ → Bool) (rows : List Row) → DoNoHarm (cluster ids) rows → AgreesWithDisk choice (cluster ids) rows
     → (made : List SentTransfer) × (run : World) × Shows choice made (world_of ids rows) run
 
 module _ (ids : List ℕ) (shown : AreShown ids) where
   abbrev AChoice : List Row → Type 0
   AChoice rows = (choice : ℕ → Bool) × AgreesWithDisk choice (cluster ids) rows
 
-  module _ (rows : List Row) (lawful_rows : Lawful (cluster ids) rows) (choice : ℕ → Bool) (fitting : AgreesWithDisk choice (cluster ids) rows) where
+  module _ (rows : List Row) (harmless_rows : DoNoHarm (cluster ids) rows) (choice : ℕ → Bool) (fitting : AgreesWithDisk choice (cluster ids) rows) where
     abbrev w : Cluster
     w = world_of ids rows
 
@@ -100,7 +100,7 @@ module _ (ids : List ℕ) (shown : AreShown ids) where
 
       agrees : (failure : Failure) → (w.member n).status ≡ Failed failure → chosen_store (chosen failure) failure ≡ store_of found
       agrees failure e =
-          let r = shown choice rows lawful_rows fitting in
+          let r = shown choice rows harmless_rows fitting in
           let is : ShowsFailed choice r.1 n failure disk = subst (λ (status : MemberStatus). ShowsMember choice r.0 w.ids w.frames r.1 n status disk) e (r.2.lives n listed) in
           ap (λ (b : Bool). stored_after failure (one_if b)) (at_here choice failure.row failure.row (found_by pattern disk == 1) refl)
           ∙ (ap (stored_after failure) (is_found (found_by pattern disk) (found_few pattern disk.unsynced disk)) ∙ sym (is.found pattern))
@@ -117,17 +117,18 @@ module _ (ids : List ℕ) (shown : AreShown ids) where
             (asks (chosen failure) true now (Failed failure) e (agrees failure e)),
       )
 
-    one_row_more : (row : Row) → cause w row ≡ None → AChoice (rows ++ row ∷ [])
-    one_row_more (Crash n calls pattern) lawful_row =
-        by_member_status n calls pattern (is_one w n (past_first (no_node w n) (no_stop w n calls) lawful_row).0) (calls == 0) refl (w.member n).status refl
-    one_row_more row lawful_row = (choice, fits choice (cluster ids) rows row fitting tt)
+    one_row_more : (row : Row) → DoesNoHarm w row → AChoice (rows ++ row ∷ [])
+    one_row_more (Crash n calls pattern) harmless_row =
+        by_member_status n calls pattern (is_one w n (past_first (no_node w n) (no_stop w n calls)
+        (is_lawful (cause w (Crash n calls pattern)) harmless_row)).0) (calls == 0) refl (w.member n).status refl
+    one_row_more row harmless_row = (choice, fits choice (cluster ids) rows row fitting tt)
 
   -- the rows that are left, behind those that a choice fits
-  onward : (more rows : List Row) → Lawful (cluster ids) rows → AChoice rows → Lawful (world_of ids rows) more → AChoice (rows ++ more)
-  onward [] rows lawful_rows a rest = subst AChoice (sym (append-nil rows)) a
-  onward (row ∷ more) rows lawful_rows a rest = subst AChoice (append_assoc rows (row ∷ []) more)
-      (onward more (rows ++ row ∷ []) (lawful (cluster ids) rows row lawful_rows rest.0) (one_row_more rows lawful_rows a.0 a.1 row rest.0)
-      (subst (λ (w : Cluster). Lawful w more) (sym (grown (cluster ids) rows row)) rest.1))
+  onward : (more rows : List Row) → DoNoHarm (cluster ids) rows → AChoice rows → DoNoHarm (world_of ids rows) more → AChoice (rows ++ more)
+  onward [] rows harmless_rows a rest = subst AChoice (sym (append-nil rows)) a
+  onward (row ∷ more) rows harmless_rows a rest = subst AChoice (append_assoc rows (row ∷ []) more)
+      (onward more (rows ++ row ∷ []) (harmless (cluster ids) rows row harmless_rows rest.0) (one_row_more rows harmless_rows a.0 a.1 row rest.0)
+      (subst (λ (w : Cluster). DoNoHarm w more) (sym (grown (cluster ids) rows row)) rest.1))
 
-  pub a_choice : (rows : List Row) → Lawful (cluster ids) rows → AChoice rows
-  a_choice rows lawful_rows = onward rows [] tt ((λ row. false), tt) lawful_rows
+  pub a_choice : (rows : List Row) → DoNoHarm (cluster ids) rows → AChoice rows
+  a_choice rows harmless_rows = onward rows [] tt ((λ row. false), tt) harmless_rows

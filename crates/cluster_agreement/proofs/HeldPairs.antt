@@ -18,7 +18,7 @@ use Rattle.transfer_tx.specs.Queue.{Queued, queued_frames}
 use Rattle.alloc_spec.specs.Transfers.{SentTransfer, outgoing, signature_of}
 use Rattle.cluster_spec.specs.Choices.{AgreesWithDisk}
 use Rattle.cluster_spec.specs.Cluster.{AreMembers, Cluster, cluster, no_frame, world_of}
-use Rattle.cluster_spec.specs.Lawful.{Lawful}
+use Rattle.cluster_spec.specs.Lawful.{DoNoHarm}
 use Rattle.cluster_spec.specs.Refinement.{events, transfers_of_rows}
 use Rattle.cluster_agreement.specs.Allocatees.{Allocatees, HasAllocatees, Holds, IsGivenOnBus, MayHave}
 use Rattle.cluster_agreement.specs.Asking.{IsGiven}
@@ -29,7 +29,7 @@ use Rattle.cluster_agreement.specs.LawsBelow.{FrameLaws}
 use Rattle.cluster_agreement.specs.Mirrors.{Mirrors, OffersAreMade}
 use Rattle.cluster_agreement.specs.Shows.{Shows}
 use Rattle.cluster_agreement.proofs.HeadlineOfRuns.{pair_listed, still_pair}
-use Rattle.cluster_agreement.proofs.Concatenations.{first_fits, first_lawful, ids_stay}
+use Rattle.cluster_agreement.proofs.Concatenations.{first_fits, first_harmless, ids_stay}
 use Rattle.cluster_agreement.proofs.MirroredRuns.{mirrors}
 use Rattle.cluster_agreement.proofs.Lists.{in_at}
 use Rattle.cluster_agreement.proofs.OfferedAllocations.{IsAllocationOf, piece_on_bus, says_pair, was_made}
@@ -135,19 +135,19 @@ module _ (choice : ℕ → Bool) (made : List SentTransfer) (w : Cluster) (run :
 -- ---- along rows
 
 pub record HoldingLaws : Type 0 where
-  pub rows : (choice : ℕ → Bool) (ids : List ℕ) (rows : List Row) → AreMembers ids → Lawful (cluster ids) rows → AgreesWithDisk choice (cluster ids) rows
+  pub rows : (choice : ℕ → Bool) (ids : List ℕ) (rows : List Row) → AreMembers ids → DoNoHarm (cluster ids) rows → AgreesWithDisk choice (cluster ids) rows
       → Continues choice (transfers_of_rows (cluster ids) rows []) (world_of ids rows) (initial_world ids) (events choice (cluster ids) rows)
   pub offers : (choice : ℕ → Bool) (made : List SentTransfer) (w : Cluster) (run : machine.World) → AreMembers w.ids → Shows choice made w run → OffersAreMade w run
   pub safe : InEveryRun IsSafe
   pub sound : InEveryRun Invariants
-  pub headline : (ids : List ℕ) (rows : List Row) → AreMembers ids → Lawful (cluster ids) rows → HasHeadline ids rows
+  pub headline : (ids : List ℕ) (rows : List Row) → AreMembers ids → DoNoHarm (cluster ids) rows → HasHeadline ids rows
   pub frames : FrameLaws
 
 module _ (laws : HoldingLaws) (ids : List ℕ) (members : AreMembers ids) (choice : ℕ → Bool) where
-  had_at : (rows : List Row) → Lawful (cluster ids) rows → AgreesWithDisk choice (cluster ids) rows → (uid : List ℕ) (node : ℕ)
+  had_at : (rows : List Row) → DoNoHarm (cluster ids) rows → AgreesWithDisk choice (cluster ids) rows → (uid : List ℕ) (node : ℕ)
       → MayHave (world_of ids rows) uid node → HasPair (the_list choice (world_of ids rows)) uid node
-  had_at rows lawful fits uid node has =
-      let is = laws.rows choice ids rows members lawful fits in
+  had_at rows harmless fits uid node has =
+      let is = laws.rows choice ids rows members harmless fits in
       let so_far = events choice (cluster ids) rows in
       let made = transfers_of_rows (cluster ids) rows [] in
       let w = world_of ids rows in
@@ -162,11 +162,11 @@ module _ (laws : HoldingLaws) (ids : List ℕ) (members : AreMembers ids) (choic
       ]
 
   -- the list at a moment gives nothing twice
-  once_at : (rows : List Row) → Lawful (cluster ids) rows → AgreesWithDisk choice (cluster ids) rows → IsInjective (the_list choice (world_of ids rows))
-  once_at rows lawful fits = ((laws.headline ids rows members lawful).holds rows [] [] choice (sym (append-nil rows))
+  once_at : (rows : List Row) → DoNoHarm (cluster ids) rows → AgreesWithDisk choice (cluster ids) rows → IsInjective (the_list choice (world_of ids rows))
+  once_at rows harmless fits = ((laws.headline ids rows members harmless).holds rows [] [] choice (sym (append-nil rows))
       (subst (λ (l : List Row). AgreesWithDisk choice (cluster ids) l) (sym (append-nil rows)) fits)).injective
 
-  module _ (first more rest : List Row) (lawful : Lawful (cluster ids) (first ++ more)) (fits : AgreesWithDisk choice (cluster ids) (first ++ more)) where
+  module _ (first more rest : List Row) (harmless : DoNoHarm (cluster ids) (first ++ more)) (fits : AgreesWithDisk choice (cluster ids) (first ++ more)) where
     abbrev now : Cluster
     now = world_of ids first
 
@@ -174,23 +174,23 @@ module _ (laws : HoldingLaws) (ids : List ℕ) (members : AreMembers ids) (choic
     later = world_of ids (first ++ more)
 
     between : Headline choice now later
-    between = (laws.headline ids (first ++ more) members lawful).holds first more [] choice (ap (λ (l : List Row). first ++ l) (sym (append-nil more))) fits
+    between = (laws.headline ids (first ++ more) members harmless).holds first more [] choice (ap (λ (l : List Row). first ++ l) (sym (append-nil more))) fits
 
     had_now : (uid : List ℕ) (node : ℕ) → MayHave now uid node → HasPair (the_list choice later) uid node
     had_now uid node has = still_pair (the_list choice now) (the_list choice later) between.grows uid node
-        (had_at first (first_lawful (cluster ids) first more lawful) (first_fits choice (cluster ids) first more fits) uid node has)
+        (had_at first (first_harmless (cluster ids) first more harmless) (first_fits choice (cluster ids) first more fits) uid node has)
 
     had_later : (uid : List ℕ) (node : ℕ) → MayHave later uid node → HasPair (the_list choice later) uid node
-    had_later = had_at (first ++ more) lawful fits
+    had_later = had_at (first ++ more) harmless fits
 
     pub allocatees : Allocatees choice now later
     allocatees = record {
       held = had_now;
-      apart = λ uid other node x y. one_uid (the_list choice later) (once_at (first ++ more) lawful fits) uid other node (had_now uid node x) (had_later other node y);
-      same = λ uid node other x y. one_node (the_list choice later) (once_at (first ++ more) lawful fits) uid node other (had_now uid node x) (had_later uid other y);
+      apart = λ uid other node x y. one_uid (the_list choice later) (once_at (first ++ more) harmless fits) uid other node (had_now uid node x) (had_later other node y);
+      same = λ uid node other x y. one_node (the_list choice later) (once_at (first ++ more) harmless fits) uid node other (had_now uid node x) (had_later uid other y);
     }
 
-pub has_allocatees : HoldingLaws → (ids : List ℕ) (rows : List Row) → AreMembers ids → Lawful (cluster ids) rows → HasAllocatees ids rows
+pub has_allocatees : HoldingLaws → (ids : List ℕ) (rows : List Row) → AreMembers ids → DoNoHarm (cluster ids) rows → HasAllocatees ids rows
 has_allocatees laws ids rows members lawful = λ first more rest choice cut fits.
     allocatees laws ids members choice first more rest
-    (first_lawful (cluster ids) (first ++ more) rest (subst (λ (l : List Row). Lawful (cluster ids) l) (cut ∙ sym (append_assoc first more rest)) lawful)) fits
+    (first_harmless (cluster ids) (first ++ more) rest (subst (λ (l : List Row). DoNoHarm (cluster ids) l) (cut ∙ sym (append_assoc first more rest)) harmless)) fits

@@ -16,7 +16,7 @@ use Rattle.replay_text.specs.declared.row.Row.{Row}
 use Rattle.alloc_spec.specs.AllocatorState.{AllocatorState}
 use Rattle.alloc_spec.specs.Transfers.{SentTransfer}
 use Rattle.cluster_spec.specs.Cluster.{AreMembers, Cluster, cluster, world_of}
-use Rattle.cluster_spec.specs.Lawful.{Lawful}
+use Rattle.cluster_spec.specs.Lawful.{DoNoHarm}
 use Rattle.cluster_spec.specs.Logs.{IsFound, IsGivenFrom, IsOfAllocation, committed, stored_on}
 use Rattle.cluster_spec.specs.Members.{MemberStatus, stored_after}
 use Rattle.cluster_spec.specs.Members.MemberStatus.{Down, Failed, Up}
@@ -31,7 +31,7 @@ use Rattle.transfer_tx.specs.Queue.{Queued}
 use Rattle.cluster_agreement.proofs.CutOffSteps.{found_few}
 use Rattle.cluster_agreement.proofs.HeadlineOfRuns.{pair_committed}
 use Rattle.cluster_agreement.proofs.StopsAndOpenings.{down_finds, firm_finds}
-use Rattle.cluster_agreement.proofs.Concatenations.{events_joined, first_fits, first_lawful, ids_stay, lawful_parted, run_joined}
+use Rattle.cluster_agreement.proofs.Concatenations.{events_joined, first_fits, first_harmless, ids_stay, lawful_parted, run_joined}
 
 -- ---- a world that is shown mirrors its run
 
@@ -75,7 +75,7 @@ module _ (choice : ℕ → Bool) (made : List SentTransfer) (w : Cluster) (run :
 
 -- what is known of lists of rows, as their laws say it
 pub record ListLaws : Type 0 where
-  pub rows : (choice : ℕ → Bool) (ids : List ℕ) (rows : List Row) → AreMembers ids → Lawful (cluster ids) rows → AgreesWithDisk choice (cluster ids) rows
+  pub rows : (choice : ℕ → Bool) (ids : List ℕ) (rows : List Row) → AreMembers ids → DoNoHarm (cluster ids) rows → AgreesWithDisk choice (cluster ids) rows
       → Continues choice (transfers_of_rows (cluster ids) rows []) (world_of ids rows) (initial_world ids) (events choice (cluster ids) rows)
   pub offers : (choice : ℕ → Bool) (made : List SentTransfer) (w : Cluster) (run : machine.World) → AreMembers w.ids → Shows choice made w run
       → OffersAreMade w run
@@ -87,18 +87,18 @@ pub record ListLaws : Type 0 where
       → machine.Lawful (initial_world members) first → machine.Lawful (machine.run (initial_world members) first) rest → later.ids ≡ now.ids
       → Mirrors choice now (machine.run (initial_world members) first)
       → Mirrors choice later (machine.run (machine.run (initial_world members) first) rest) → Headline choice now later
-  pub choices : (ids : List ℕ) (rows : List Row) → AreMembers ids → Lawful (cluster ids) rows → (choice : ℕ → Bool) × AgreesWithDisk choice (cluster ids) rows
+  pub choices : (ids : List ℕ) (rows : List Row) → AreMembers ids → DoNoHarm (cluster ids) rows → (choice : ℕ → Bool) × AgreesWithDisk choice (cluster ids) rows
 
 module _ (laws : ListLaws) (ids : List ℕ) (members : AreMembers ids) (choice : ℕ → Bool) where
-  mirrored : (rows : List Row) → Lawful (cluster ids) rows → AgreesWithDisk choice (cluster ids) rows
+  mirrored : (rows : List Row) → DoNoHarm (cluster ids) rows → AgreesWithDisk choice (cluster ids) rows
       → Mirrors choice (world_of ids rows) (machine.run (initial_world ids) (events choice (cluster ids) rows))
-  mirrored rows lawful fits =
-      let is = laws.rows choice ids rows members lawful fits in
+  mirrored rows harmless fits =
+      let is = laws.rows choice ids rows members harmless fits in
       mirrors choice (transfers_of_rows (cluster ids) rows []) (world_of ids rows) (machine.run (initial_world ids) (events choice (cluster ids) rows)) is.shows is.writable
       (laws.offers choice (transfers_of_rows (cluster ids) rows []) (world_of ids rows) (machine.run (initial_world ids) (events choice (cluster ids) rows))
       (subst AreMembers (sym (ids_stay (cluster ids) rows)) members) is.shows)
 
-  module _ (first more : List Row) (lawful : Lawful (cluster ids) (first ++ more)) (fits : AgreesWithDisk choice (cluster ids) (first ++ more)) where
+  module _ (first more : List Row) (harmless : DoNoHarm (cluster ids) (first ++ more)) (fits : AgreesWithDisk choice (cluster ids) (first ++ more)) where
     abbrev early : List Event
     early = events choice (cluster ids) first
 
@@ -108,7 +108,7 @@ module _ (laws : ListLaws) (ids : List ℕ) (members : AreMembers ids) (choice :
     both : machine.Lawful (initial_world ids) early × machine.Lawful (machine.run (initial_world ids) early) late
     both = lawful_parted (initial_world ids) early late
         (subst (λ (l : List Event). machine.Lawful (initial_world ids) l) (events_joined choice (cluster ids) first more)
-        (laws.rows choice ids (first ++ more) members lawful fits).lawful)
+        (laws.rows choice ids (first ++ more) members harmless fits).lawful)
 
     same_run : machine.run (initial_world ids) (events choice (cluster ids) (first ++ more)) ≡ machine.run (machine.run (initial_world ids) early) late
     same_run = ap (λ (l : List Event). machine.run (initial_world ids) l) (events_joined choice (cluster ids) first more) ∙ run_joined (initial_world ids) early late
@@ -116,17 +116,17 @@ module _ (laws : ListLaws) (ids : List ℕ) (members : AreMembers ids) (choice :
     pub between : Headline choice (world_of ids first) (world_of ids (first ++ more))
     between = laws.headline choice ids early late (world_of ids first) (world_of ids (first ++ more)) both.0 both.1
         (ids_stay (cluster ids) (first ++ more) ∙ sym (ids_stay (cluster ids) first))
-        (mirrored first (first_lawful (cluster ids) first more lawful) (first_fits choice (cluster ids) first more fits))
-        (subst (λ (r : machine.World). Mirrors choice (world_of ids (first ++ more)) r) same_run (mirrored (first ++ more) lawful fits))
+        (mirrored first (first_harmless (cluster ids) first more harmless) (first_fits choice (cluster ids) first more fits))
+        (subst (λ (r : machine.World). Mirrors choice (world_of ids (first ++ more)) r) same_run (mirrored (first ++ more) harmless fits))
 
   -- ---- the bus at one moment
 
-  module _ (rows : List Row) (lawful : Lawful (cluster ids) rows) (fits : AgreesWithDisk choice (cluster ids) rows) where
+  module _ (rows : List Row) (harmless : DoNoHarm (cluster ids) rows) (fits : AgreesWithDisk choice (cluster ids) rows) where
     pub on_bus : (frame : Queued) (n : ℕ) → In frame (world_of ids rows).frames → IsOfAllocation frame n
         → In n ids × IsGivenFrom (committed choice (world_of ids rows) n) (transfers_of_rows (cluster ids) rows []) frame n
     on_bus frame n there of =
         let so_far = events choice (cluster ids) rows in
-        let is = laws.rows choice ids rows members lawful fits in
+        let is = laws.rows choice ids rows members harmless fits in
         let run = machine.run (initial_world ids) so_far in
         let its = laws.bus choice (transfers_of_rows (cluster ids) rows []) (world_of ids rows) run
         (subst AreMembers (sym (ids_stay (cluster ids) rows)) members) is.shows frame n there of in (
@@ -137,18 +137,18 @@ module _ (laws : ListLaws) (ids : List ℕ) (members : AreMembers ids) (choice :
             by = its.1.by;
             what = its.1.what;
             one = its.1.one;
-            pair = λ answer reads gives. pair_committed choice (world_of ids rows) run (mirrored rows lawful fits) (laws.safe ids so_far is.lawful)
+            pair = λ answer reads gives. pair_committed choice (world_of ids rows) run (mirrored rows harmless fits) (laws.safe ids so_far is.lawful)
                 (laws.sound ids so_far is.lawful)
                 (record { step = its.1.whose.step; from = n; uid = answer.uid.items; node = answer.node }) its.0 (its.1.said answer reads gives);
           },
         )
 
-pub has_headline : ListLaws → (ids : List ℕ) (rows : List Row) → AreMembers ids → Lawful (cluster ids) rows → HasHeadline ids rows
+pub has_headline : ListLaws → (ids : List ℕ) (rows : List Row) → AreMembers ids → DoNoHarm (cluster ids) rows → HasHeadline ids rows
 has_headline laws ids rows members lawful = record {
-  some = laws.choices ids rows members lawful;
+  some = laws.choices ids rows members harmless;
   holds = λ first more rest choice cut fits. between laws ids members choice first more
-      (first_lawful (cluster ids) (first ++ more) rest
-      (subst (λ (l : List Row). Lawful (cluster ids) l) (cut ∙ sym (append_assoc first more rest)) lawful)) fits;
+      (first_harmless (cluster ids) (first ++ more) rest
+      (subst (λ (l : List Row). DoNoHarm (cluster ids) l) (cut ∙ sym (append_assoc first more rest)) harmless)) fits;
   bus = λ first rest choice cut fits. on_bus laws ids members choice first
-      (first_lawful (cluster ids) first rest (subst (λ (l : List Row). Lawful (cluster ids) l) cut lawful)) fits;
+      (first_harmless (cluster ids) first rest (subst (λ (l : List Row). DoNoHarm (cluster ids) l) cut harmless)) fits;
 }

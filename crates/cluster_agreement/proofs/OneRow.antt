@@ -1,6 +1,6 @@
--- Any row without a cause against it: its events continue the run.
-use Rattle.std.proofs.Common.{◌≡◌, ℕ, zero, suc, ◌+◌, ◌-◌, ◌≤◌, Bool, true, false, List, [], ◌∷◌, length, refl, sym, ap, subst, ◌∙◌, arith, inl, inr, None}
-use Rattle.std.specs.Prelude.{◌==◌, ◌||◌, nat_lt, if◌then◌else◌}
+-- Any row that does no harm: its events continue the run.
+use Rattle.std.proofs.Common.{◌≡◌, ℕ, zero, suc, ◌+◌, ◌-◌, ◌≤◌, Bool, true, false, List, [], ◌∷◌, length, refl, sym, ap, subst, ◌∙◌, arith, inl, inr, Some, None}
+use Rattle.std.specs.Prelude.{◌==◌, ◌||◌, not, nat_lt, if◌then◌else◌}
 use Rattle.std.proofs.lemmas.Bool.{ltb-false}
 use Rattle.can_frame.specs.declared.frame.Frame.{Frame}
 use Rattle.can_frame.specs.declared.step.Judged.{Judged}
@@ -17,13 +17,13 @@ use Rattle.replay_text.specs.declared.row.Row.TheVariants.{AEnd, AOpen, ARx, ASe
 use Rattle.alloc_spec_laws.specs.Sound.{IsOnTheBus}
 use Rattle.alloc_spec.specs.StepState.{messages}
 use Rattle.alloc_spec.specs.Step.{Event, step}
-use Rattle.alloc_spec.specs.Judging.{arrival_judgement}
+use Rattle.alloc_spec.specs.Judging.{IsHarmless, arrival_judgement}
 use Rattle.alloc_spec.specs.AllocatorState.{AllocatorState}
 use Rattle.alloc_spec.specs.Transfers.{SentTransfer}
 use Rattle.transfer_rx.specs.Reassembly.{Arrival}
-use Rattle.cluster_spec.specs.declared.unlawful.Unlawful.TheVariants.{NoFrame}
-use Rattle.cluster_spec.specs.Cluster.{AreMembers, Cluster, arrival_at, frame_at, after_row, no_frame, receipt_of, with_step, tick_of}
-use Rattle.cluster_spec.specs.Lawful.{already_running, cause, arrival_refusal, no_node, no_such_frame, not_running, cause_of_judgement, or_else}
+use Rattle.cluster_spec.specs.declared.unlawful.Unlawful.TheVariants.{NoFrame, NoNode, Stale as IsStale, Stopped}
+use Rattle.cluster_spec.specs.Cluster.{AreMembers, Cluster, arrival_at, frame_at, after_row, is_member, no_frame, receipt_of, with_step, tick_of}
+use Rattle.cluster_spec.specs.Lawful.{DoesNoHarm, IsHarmlessAt, already_running, cause, arrival_refusal, is_void_at, no_node, no_such_frame, not_running, cause_of_judgement, or_else}
 use Rattle.cluster_spec.specs.Members.{Failure, MemberStatus, Member, is_running, puts_of, member_after_step}
 use Rattle.cluster_spec.specs.Members.MemberStatus.{Down, Failed, Up}
 use Rattle.cluster_spec.specs.Choices.{RowAgreesWithDisk}
@@ -34,7 +34,7 @@ use Rattle.cluster_agreement.specs.Frames.{CameFrom}
 use Rattle.cluster_agreement.specs.Said.{IsRunWritable}
 use Rattle.cluster_agreement.specs.Shows.{Shows}
 use Rattle.cluster_agreement.proofs.Lists.{in_at, tell}
-use Rattle.cluster_agreement.proofs.RowsWithoutEvents.{changed_shown, eqb_is, is_down, is_one, is_up, not_because, past_first}
+use Rattle.cluster_agreement.proofs.RowsWithoutEvents.{changed_shown, eqb_is, is_down, is_lawful, is_one, is_up, not_because, past_first, past_other}
 use Rattle.cluster_agreement.proofs.StepEffects.{one_arrival}
 
 -- what is known of each kind of row, as its law says it
@@ -103,17 +103,49 @@ is_fine Fine e = refl
 is_fine Torn e = absurd (cc (e))
 is_fine Stale e = absurd (cc (e))
 
-pub may_tick : (w : Cluster) (t : AllocatorState) (moment word : ℕ) → MayHappen w.frames t (tick_of moment word)
-may_tick w t moment word = record { came = λ arrival e. absurd (cc (e)); fine = λ arrival e. absurd (cc (e)) }
+is_stale : (judgement : Judged) → cause_of_judgement judgement ≡ Some IsStale → judgement ≡ Stale
+is_stale Fine e = absurd (cc (e))
+is_stale Torn e = absurd (cc (e))
+is_stale Stale e = refl
 
-pub may_receive : (w : Cluster) (t : AllocatorState) (k moment : ℕ) → In (frame_at w.frames k) w.frames
-    → cause_of_judgement (arrival_judgement t (arrival_at (frame_at w.frames k) moment)) ≡ None → MayHappen w.frames t (receipt_of w k moment)
-may_receive w t k moment there passes = record {
-  came = λ arrival e. subst (λ (a : Arrival). CameFrom w.frames a) (one_arrival (arrival_at (frame_at w.frames k) moment) arrival e)
-      (record { frame = frame_at w.frames k; there = there; id = refl; bytes = refl; mark = refl });
-  fine = λ arrival e. subst (λ (a : Arrival). arrival_judgement t a ≡ Fine) (one_arrival (arrival_at (frame_at w.frames k) moment) arrival e)
-      (is_fine (arrival_judgement t (arrival_at (frame_at w.frames k) moment)) passes);
+pub is_harmless : (t : AllocatorState) (arrival : Arrival) → IsHarmlessAt (Up t) arrival → IsHarmless t arrival
+is_harmless t arrival (inl e) = inl (is_fine (arrival_judgement t arrival) e)
+is_harmless t arrival (inr e) = inr (is_stale (arrival_judgement t arrival) e.0, e.1)
+
+-- ---- what a row that does no harm says
+
+-- a frame of the bus comes to a running member, and does no harm
+pub record IsReceived (w : Cluster) (n k moment : ℕ) : Type 0 where
+  pub listed : In n w.ids
+  pub running : is_running (w.member n).status ≡ true
+  pub there : In (frame_at w.frames k) w.frames
+  pub harmless : IsHarmlessAt (w.member n).status (arrival_at (frame_at w.frames k) moment)
+
+pub received : (w : Cluster) (n k moment : ℕ) → DoesNoHarm w (Rx n k moment) → IsReceived w n k moment
+received w n k moment harmless =
+    let frame : Arrival = arrival_at (frame_at w.frames k) moment in
+    let status = (w.member n).status in
+    let void = is_void_at status frame in
+    let last = arrival_refusal status frame in
+    let first = past_other NoNode (not (is_member w.ids n)) void (or_else (not_running w n) (or_else (no_such_frame w k) last)) (λ e. cc (e)) harmless in
+    let second = past_other Stopped (not (is_running status)) void (or_else (no_such_frame w k) last) (λ e. cc (e)) first.1 in
+    let third = past_other NoFrame ((k == 0) || nat_lt (length w.frames) k) void last (λ e. cc (e)) second.1 in
+    record { listed = is_one w n first.0; running = is_up status second.0; there = stands w k third.0; harmless = third.1 }
+
+pub may_tick : (w : Cluster) (t : AllocatorState) (moment word : ℕ) → MayHappen w.frames t (tick_of moment word)
+may_tick w t moment word = record { came = λ arrival e. absurd (cc (e)); harmless = λ arrival e. absurd (cc (e)) }
+
+pub may_receive : (w : Cluster) (n k moment : ℕ) (t : AllocatorState) → IsReceived w n k moment → (w.member n).status ≡ Up t
+    → MayHappen w.frames t (receipt_of w k moment)
+may_receive w n k moment t is runs = record {
+  came = λ arrival e. subst (λ (a : Arrival). CameFrom w.frames a) (one_arrival frame arrival e)
+      (record { frame = frame_at w.frames k; there = is.there; id = refl; bytes = refl; mark = refl });
+  harmless = λ arrival e. subst (λ (a : Arrival). IsHarmless t a) (one_arrival frame arrival e)
+      (is_harmless t frame (subst (λ (status : MemberStatus). IsHarmlessAt status frame) runs is.harmless));
 }
+  where
+    frame : Arrival
+    frame = arrival_at (frame_at w.frames k) moment
 
 -- ---- rows
 
@@ -190,17 +222,10 @@ module _ (laws : RowLaws) (choice : ℕ → Bool) (made : List SentTransfer) (w 
       let first = past_first (no_node w n) (not_running w n) lawful in
       step_row n (is_one w n first.0) (tick_of ms word) tt (λ t runs. may_tick w t ms word) (is_up (w.member n).status first.1)
 
-  rx_row : (n k ms : ℕ) → cause w (Rx n k ms) ≡ None → Goes (Rx n k ms)
-  rx_row n k ms lawful =
-      let last = arrival_refusal (w.member n).status (arrival_at (frame_at w.frames k) ms) in
-      let first = past_first (no_node w n) (or_else (not_running w n) (or_else (no_such_frame w k) last)) lawful in
-      let second = past_first (not_running w n) (or_else (no_such_frame w k) last) first.1 in
-      let third = past_first (no_such_frame w k) last second.1 in
-      let there = stands w k third.0 in
-      step_row n (is_one w n first.0) (receipt_of w k ms) (shows.narrow (frame_at w.frames k) there)
-      (λ t runs. may_receive w t k ms there
-      (subst (λ (status : MemberStatus). arrival_refusal status (arrival_at (frame_at w.frames k) ms) ≡ None) runs third.1))
-      (is_up (w.member n).status second.0)
+  rx_row : (n k ms : ℕ) → DoesNoHarm w (Rx n k ms) → Goes (Rx n k ms)
+  rx_row n k ms harmless =
+      let is = received w n k ms harmless in
+      step_row n is.listed (receipt_of w k ms) (shows.narrow (frame_at w.frames k) is.there) (λ t runs. may_receive w n k ms t is runs) is.running
 
   crash_row : (n calls : ℕ) (pattern : Pattern) → cause w (Crash n calls pattern) ≡ None → RowAgreesWithDisk choice w (Crash n calls pattern)
       → Goes (Crash n calls pattern)
@@ -215,17 +240,19 @@ module _ (laws : RowLaws) (choice : ℕ → Bool) (made : List SentTransfer) (w 
       at_once lawful fits = let first = past_first (no_node w n) (not_running w n) lawful in
           stop_row n (is_one w n first.0) pattern fits (w.member n).status refl (is_up (w.member n).status first.1)
 
-  pub row_shown : (row : Row) → cause w row ≡ None → RowAgreesWithDisk choice w row → Goes row
-  row_shown (Open n told ms word) lawful fits = let first = past_first (no_node w n) (already_running w n) lawful in
+  pub row_shown : (row : Row) → DoesNoHarm w row → RowAgreesWithDisk choice w row → Goes row
+  row_shown (Open n told ms word) harmless fits =
+      let first = past_first (no_node w n) (already_running w n) (is_lawful (cause w (Open n told ms word)) harmless) in
       open_row n (is_one w n first.0) told ms word (is_down (w.member n).status first.1) (is_open_on (w.member n).disk) refl
-  row_shown (Tick n ms word) lawful fits = tick_row n ms word lawful
-  row_shown (Rx n k ms) lawful fits = rx_row n k ms lawful
-  row_shown (Send n) lawful fits = quiet (after_row w (Send n)) (laws.sent choice made w run members shows n lawful)
-  row_shown (Ext frame) lawful fits = quiet (after_row w (Ext frame)) (laws.outside choice made w run shows frame lawful)
-  row_shown (Crash n calls pattern) lawful fits = crash_row n calls pattern lawful fits
-  row_shown (Fault n call) lawful fits = quiet (after_row w (Fault n call)) (laws.failure_armed choice made w run shows n call)
-  row_shown (AOpen a uid pref ms word) lawful fits = quiet (after_row w (AOpen a uid pref ms word)) (laws.came choice made w run shows a uid pref ms word)
-  row_shown (ATick a ms word) lawful fits = quiet (after_row w (ATick a ms word)) (laws.ticked choice made w run members shows a ms word)
-  row_shown (ARx a k ms word) lawful fits = quiet (after_row w (ARx a k ms word)) (laws.received choice made w run members shows a k ms word lawful)
-  row_shown (ASend a) lawful fits = quiet (after_row w (ASend a)) (laws.put choice made w run shows a lawful)
-  row_shown (AEnd a) lawful fits = quiet (after_row w (AEnd a)) (laws.left choice made w run shows a)
+  row_shown (Tick n ms word) harmless fits = tick_row n ms word (is_lawful (cause w (Tick n ms word)) harmless)
+  row_shown (Rx n k ms) harmless fits = rx_row n k ms harmless
+  row_shown (Send n) harmless fits = quiet (after_row w (Send n)) (laws.sent choice made w run members shows n (is_lawful (cause w (Send n)) harmless))
+  row_shown (Ext frame) harmless fits = quiet (after_row w (Ext frame)) (laws.outside choice made w run shows frame (is_lawful (cause w (Ext frame)) harmless))
+  row_shown (Crash n calls pattern) harmless fits = crash_row n calls pattern (is_lawful (cause w (Crash n calls pattern)) harmless) fits
+  row_shown (Fault n call) harmless fits = quiet (after_row w (Fault n call)) (laws.failure_armed choice made w run shows n call)
+  row_shown (AOpen a uid pref ms word) harmless fits = quiet (after_row w (AOpen a uid pref ms word)) (laws.came choice made w run shows a uid pref ms word)
+  row_shown (ATick a ms word) harmless fits = quiet (after_row w (ATick a ms word)) (laws.ticked choice made w run members shows a ms word)
+  row_shown (ARx a k ms word) harmless fits = quiet (after_row w (ARx a k ms word))
+      (laws.received choice made w run members shows a k ms word (is_lawful (cause w (ARx a k ms word)) harmless))
+  row_shown (ASend a) harmless fits = quiet (after_row w (ASend a)) (laws.put choice made w run shows a (is_lawful (cause w (ASend a)) harmless))
+  row_shown (AEnd a) harmless fits = quiet (after_row w (AEnd a)) (laws.left choice made w run shows a)

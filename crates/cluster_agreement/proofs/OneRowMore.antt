@@ -5,7 +5,7 @@ use Rattle.std.proofs.lemmas.List.{append_assoc, append-nil}
 use Rattle.raft_model.specs.Runs.{Event}
 use Rattle.replay_text.specs.declared.row.Row.{Row}
 use Rattle.cluster_spec.specs.Cluster.{Cluster, after_rows, after_row}
-use Rattle.cluster_spec.specs.Lawful.{Lawful, cause}
+use Rattle.cluster_spec.specs.Lawful.{DoNoHarm, DoesNoHarm, Lawful, cause}
 use Rattle.alloc_spec.specs.Transfers.{SentTransfer}
 use Rattle.cluster_spec.specs.Choices.{AgreesWithDisk, RowAgreesWithDisk}
 use Rattle.cluster_spec.specs.Refinement.{events, transfers_of_rows, transfers_of_row, row_events}
@@ -17,6 +17,10 @@ grown w (first ∷ rows) row = grown (after_row w first) rows row
 pub lawful : (w : Cluster) (rows : List Row) (row : Row) → Lawful w rows → cause (after_rows w rows) row ≡ None → Lawful w (rows ++ row ∷ [])
 lawful w [] row each last = (last, tt)
 lawful w (first ∷ rows) row each last = (each.0, lawful (after_row w first) rows row each.1 last)
+
+pub harmless : (w : Cluster) (rows : List Row) (row : Row) → DoNoHarm w rows → DoesNoHarm (after_rows w rows) row → DoNoHarm w (rows ++ row ∷ [])
+harmless w [] row each last = (last, tt)
+harmless w (first ∷ rows) row each last = (each.0, harmless (after_row w first) rows row each.1 last)
 
 pub shown : (choice : ℕ → Bool) (w : Cluster) (rows : List Row) (row : Row)
     → events choice w (rows ++ row ∷ []) ≡ events choice w rows ++ row_events choice (after_rows w rows) row

@@ -1,5 +1,5 @@
 -- Rows that show no event: frames from outside, frames that are sent, and disks that are armed.
-use Rattle.std.proofs.Common.{◌≡◌, ℕ, zero, suc, ◌+◌, ◌<◌, ◌≤◌, ◌^◌, Bool, true, false, List, [], ◌∷◌, ◌++◌, take, drop, refl, sym, ap, subst, ◌∙◌, arith, inl, inr, Option, Some, None}
+use Rattle.std.proofs.Common.{◌≡◌, ◌≢◌, ◌⊎◌, ℕ, zero, suc, ◌+◌, ◌<◌, ◌≤◌, ◌^◌, Bool, true, false, List, [], ◌∷◌, ◌++◌, take, drop, refl, sym, ap, subst, ◌∙◌, arith, inl, inr, Option, Some, None}
 use Rattle.std.specs.Prelude.{◌==◌, cond, find, not, remove, if◌then◌else◌}
 use Rattle.std.specs.List.{position_or_len}
 use Rattle.std.proofs.lemmas.Bool.Decides.{eqb_tells}
@@ -27,7 +27,7 @@ use Rattle.alloc_spec.specs.AllocatorState.{AllocatorState}
 use Rattle.alloc_spec.specs.Step.{after_pop}
 use Rattle.alloc_spec.specs.Transfers.{SentTransfer, ident_of, kind_of}
 use Rattle.cluster_spec.specs.declared.unlawful.Unlawful.{Unlawful}
-use Rattle.cluster_spec.specs.declared.unlawful.Unlawful.TheVariants.{Forged, NoNode, Running, Stopped}
+use Rattle.cluster_spec.specs.declared.unlawful.Unlawful.TheVariants.{Forged, NoNode, Running, Stale as IsStale, Stopped}
 use Rattle.cluster_spec.specs.Cluster.{Cluster, arrival_at, from_outside, in_list, is_member, after_row, with_member}
 use Rattle.cluster_spec.specs.Lawful.{because, cause, is_forged, no_node, not_running, nothing_to_send, or_else}
 use Rattle.cluster_spec.specs.Members.{MemberStatus, Member, after_sending, with_stop_armed, with_failure_armed, is_running, next_frame, stopped_with, stored_after}
@@ -75,6 +75,24 @@ pub is_down : (status : MemberStatus) → because Running (is_running status) �
 is_down Down e = refl
 is_down (Up t) e = absurd (cc (not_because Running true e))
 is_down (Failed failure) e = absurd (cc (not_because Running true e))
+
+-- ---- what a row that does no harm says
+
+-- it has no cause against it, or is refused as stale and brings what counts for nothing
+abbrev pub Passes : Option Unlawful → (void : Bool) → Type 0
+Passes why void = (why ≡ None) ⊎ ((why ≡ Some IsStale) × (void ≡ true))
+
+-- a row that is refused as stale is not refused for another cause before
+pub past_other : (why : Unlawful) (test void : Bool) (rest : Option Unlawful) → why ≢ IsStale → Passes (or_else (because why test) rest) void
+    → (because why test ≡ None) × Passes rest void
+past_other why true void rest other (inl e) = absurd (cc (e))
+past_other why true void rest other (inr e) = absurd (other (cc (e.0)))
+past_other why false void rest other is = (refl, is)
+
+-- a row that brings no member such a response is lawful
+pub is_lawful : (why : Option Unlawful) → Passes why false → why ≡ None
+is_lawful why (inl e) = e
+is_lawful why (inr e) = never e.1
 
 -- ---- a frame more on the bus, from elsewhere
 

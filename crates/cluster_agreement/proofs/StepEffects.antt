@@ -119,17 +119,17 @@ module _ (laws : StepLaws) (frame_laws : FrameLaws) (codec : CodecLaws) (ids : L
   known_at d (Rx arrival) same is =
       let a : is.arrival ≡ arrival = sym (one_arrival arrival is.arrival is.comes) in
       let came = may.came arrival same in
-      let fine = may.fine arrival same in
+      let harmless = may.harmless arrival same in
       let gives = subst (λ (b : Arrival). rx.answer (setting_for t.me) t.sessions (record b { moment = max t.now arrival.moment }) ≡ rx.Gives d) a is.gives in record {
         wants = (
           arrival.id,
           wants frame_laws codec ids low high made holds.transfers bag holds.said holds.written holds.answered frames bus t (low t.me listed)
-              works.among works.heard works.called number arrival came fine d gives,
+              works.among works.heard works.called number arrival came harmless d gives,
         );
         source = made_by_member frame_laws codec ids low high made holds.transfers bag holds.said holds.written holds.answered frames bus t (low t.me listed)
-            works.among works.heard works.called number arrival came fine d gives;
+            works.among works.heard works.called number arrival came harmless d gives;
         own = service_dest frame_laws codec ids low high made holds.transfers bag holds.said holds.written holds.answered frames bus t (low t.me listed)
-            works.among works.heard works.called number arrival came fine d gives;
+            works.among works.heard works.called number arrival came harmless d gives;
       }
 
   known : (d : Delivery) → IsDelivered t number event d → IsKnown d

@@ -1,6 +1,7 @@
--- What a server takes from members was said by them: requests are in the bag, and an answer that a call takes answers that very call.
-use Rattle.std.proofs.Common.{◌≡◌, ◌≢◌, ℕ, ◌<◌, ◌≤◌, Bool, true, false, List, refl, sym, ap, subst, ◌∙◌, arith, inl, inr, Option, Some, None}
+-- What a server takes from members was said by them: requests are in the bag, and an answer that a call takes answers that very call, or counts for nothing.
+use Rattle.std.proofs.Common.{◌≡◌, ◌≢◌, ◌⊎◌, ℕ, ◌<◌, ◌≤◌, Bool, true, false, List, refl, sym, ap, subst, ◌∙◌, arith, inl, inr, Option, Some, None}
 use Rattle.std.specs.Prelude.{◌-◌, ◌==◌, ◌&&◌, not, nat_eq, nat_le, nat_lt, if◌then◌else◌, IfSome}
+use Rattle.std.proofs.lemmas.Bool.{ltb-true}
 use Rattle.std.proofs.lemmas.Bool.Decides.{eqb_tells, leb_tells}
 use Rattle.can_frame.specs.declared.entry.Entry.{Entry}
 use Rattle.can_frame.specs.declared.identifier.Kind.TheVariants.{Request as RequestKind, Response}
@@ -20,11 +21,12 @@ use Rattle.raft_core.specs.Times.{Sending, awaits}
 use Rattle.raft_model.specs.Lists.{In}
 use Rattle.raft_model.specs.Messages.{Answer, Message, Request}
 use Rattle.raft_model.specs.Messages.Message.{Answers, Requests}
+use Rattle.raft_model.specs.Moves.{IsHeard}
 use Rattle.transfer_rx.specs.Reassembly.{Delivery}
 use Rattle.alloc_spec_laws.specs.Coming.{RequestsFrom}
 use Rattle.alloc_spec_laws.specs.Saying.{IsSaid, SaysAnswer, SaysRequest, append_bytes, vote_bytes}
 use Rattle.alloc_spec.specs.Ending.{append_call_bytes, vote_call_bytes}
-use Rattle.alloc_spec.specs.Judging.{is_response, is_stale, misses, service_of, would_take}
+use Rattle.alloc_spec.specs.Judging.{counts_for_nothing, is_response, is_stale, is_void, is_void_append, is_void_vote, misses, service_of, would_take}
 use Rattle.alloc_spec.specs.AllocatorState.{AllocatorState}
 use Rattle.alloc_spec.specs.Transfers.{SentTransfer, kind_of, message_by, number_of}
 use Rattle.cluster_agreement.specs.Frames.{AreTransfers, IsTransferOf}
@@ -195,17 +197,18 @@ module _ (codec : CodecLaws) (ids : List ℕ) (made : List SentTransfer) (bag : 
 
 -- ---- answers
 
--- where the call of a server to the source of a response waits for it, and the server would not take it wrongly
-pub record IsFresh (t : AllocatorState) (d : Delivery) (now : ℕ) : Type 0 where
-  pub fresh : is_stale t d now ≡ false
+-- a response of a member that answers no earlier call, or counts for nothing
+pub record MayAnswer (t : AllocatorState) (d : Delivery) (now : ℕ) : Type 0 where
+  pub answers : (is_stale t d now ≡ false) ⊎ (is_void t.raft_server.store.term d ≡ true)
   pub kind : d.ident.kind ≡ Response
   pub member : d.ident.source ≤ 125
 
-re_is : (t : AllocatorState) (d : Delivery) (now : ℕ) → IsFresh t d now → (call : Request) (sending : Sending) → Waits t now d.ident.source call sending
-    → d.ident.number ≡ service_of call → sending.id ≡ d.id → d.mark.re ≡ call.step
-re_is t d now is call sending waits number id = elim (eqb_tells d.mark.re call.step) [
+-- where the call of a server to its source waits for it, one that answers no earlier call answers that very call
+re_is : (t : AllocatorState) (d : Delivery) (now : ℕ) → MayAnswer t d now → is_stale t d now ≡ false → (call : Request) (sending : Sending)
+    → Waits t now d.ident.source call sending → d.ident.number ≡ service_of call → sending.id ≡ d.id → d.mark.re ≡ call.step
+re_is t d now is fresh call sending waits number id = elim (eqb_tells d.mark.re call.step) [
   | inl same ↦ same.1
-  | inr apart ↦ never (sym is.fresh ∙ stale apart.0)
+  | inr apart ↦ never (sym fresh ∙ stale apart.0)
 ]
   where
     and_true : (a b : Bool) → a ≡ true → b ≡ true → (a && b) ≡ true
@@ -269,15 +272,26 @@ awaited_by pending sending call append id e is = awaited call sending append id 
 one_sending : (x y : Sending) → Some x ≡ Some y → x ≡ y
 one_sending x y e = cc (e)
 
+-- ---- what counts for nothing
+
+nothing_from : (own term : ℕ) (success : Bool) → counts_for_nothing own term success ≡ true → (success ≡ false) ⊎ (term < own)
+nothing_from own term true e = inr (ltb-true term own e)
+nothing_from own term false e = inl refl
+
+void_at : (own : ℕ) (d : Delivery) (number : ℕ) → d.ident.number ≡ number → is_void own d ≡ true
+    → (if nat_eq number 30 then is_void_append own (append_answer_of d.payload) else is_void_vote own (vote_answer_of d.payload)) ≡ true
+void_at own d number is e =
+    ap (λ (n : ℕ). if nat_eq n 30 then is_void_append own (append_answer_of d.payload) else is_void_vote own (vote_answer_of d.payload)) (sym is) ∙ e
+
 -- ---- answers
 
 module _ (codec : CodecLaws) (ids : List ℕ) (made : List SentTransfer) (are : AreTransfers ids made) (bag : List Message) (says : AreSaid made bag)
     (fits : AreWritable ids bag) (answered : AreAnswered made) (t : AllocatorState) (called : AreCalled made t) (now : ℕ) (d : Delivery)
-    (fresh : IsFresh t d now) (x : SentTransfer) (there : In x made) (is : IsTransferOf d x) (to_me : d.ident.dest ≡ t.me) (call : Request) where
-  -- the call that waits is the one that the response answers
-  one_call : (sent : Sending) → Waits t now d.ident.source call sent → d.ident.number ≡ service_of call → sent.id ≡ d.id
+    (may : MayAnswer t d now) (x : SentTransfer) (there : In x made) (is : IsTransferOf d x) (to_me : d.ident.dest ≡ t.me) (call : Request) where
+  -- the call that waits is the one that the response answers, where that is no earlier one
+  one_call : is_stale t d now ≡ false → (sent : Sending) → Waits t now d.ident.source call sent → d.ident.number ≡ service_of call → sent.id ≡ d.id
       → (answer : Answer) (service : What) → carrier call.append ≡ service → IsAnswered made x answer service → answer.request ≡ call
-  one_call sent waits number id answer service carries z =
+  one_call fresh sent waits number id answer service carries z =
       one_request answer.request call (sym z.says ∙ (ap (λ (w : SentTransfer). w.offer.says) same ∙ y.says))
     where
       made_call : (sending : Sending) × (t.times.sending d.ident.source ≡ Some sending)
@@ -288,7 +302,7 @@ module _ (codec : CodecLaws) (ids : List ℕ) (made : List SentTransfer) (are : 
       y = made_call.2
 
       re : d.mark.re ≡ call.step
-      re = re_is t d now fresh call sent waits number id
+      re = re_is t d now may fresh call sent waits number id
 
       same : z.asked ≡ y.call
       same = are.once z.asked y.call z.was_made y.was_made
@@ -305,8 +319,19 @@ module _ (codec : CodecLaws) (ids : List ℕ) (made : List SentTransfer) (are : 
 
   pub vote_said : x.offer.what ≡ Vote → (value : VoteAnswer) → vote_answer_of d.payload ≡ Some value → call.append ≡ false
       → (sent : Sending) → Waits t now d.ident.source call sent → sent.id ≡ d.id
-      → In (Answers (handled.answer_of d.mark.step d.ident.source call value.term value.granted)) bag
-  vote_said what value read service sent waits id = subst (λ (a : Answer). In (Answers a) bag) whole inside
+      → IsHeard bag t.raft_server.store (handled.answer_of d.mark.step d.ident.source call value.term value.granted)
+  vote_said what value read service sent waits id = elim may.answers [
+    | inl fresh ↦ inl (subst (λ (a : Answer). In (Answers a) bag) (whole fresh) inside)
+    | inr void ↦ inr (record {
+      said = said.answer;
+      was_said = inside;
+      term = ap (λ (v : VoteAnswer). v.term) same;
+      success = ap (λ (v : VoteAnswer). v.granted) same;
+      for_nothing = nothing_from t.raft_server.store.term value.term value.granted
+          (ap (λ (o : Option VoteAnswer). is_void_vote t.raft_server.store.term o) (sym read)
+          ∙ void_at t.raft_server.store.term d 31 (sym is.number ∙ ap number_of what) void);
+    })
+  ]
     where
       said : SaysAnswer x.step x.by x.offer.to x.offer.re false vote_bytes x.offer.payload x.offer.says
       said = said_of Vote what
@@ -314,8 +339,8 @@ module _ (codec : CodecLaws) (ids : List ℕ) (made : List SentTransfer) (are : 
       inside : In (Answers said.answer) bag
       inside = in_bag Vote what (Answers said.answer) said.is
 
-      asked : said.answer.request ≡ call
-      asked = one_call sent waits (sym is.number ∙ (ap number_of what ∙ sym (ap (λ (b : Bool). if b then 30 else 31) service))) id said.answer VoteQ
+      asked : is_stale t d now ≡ false → said.answer.request ≡ call
+      asked fresh = one_call fresh sent waits (sym is.number ∙ (ap number_of what ∙ sym (ap (λ (b : Bool). if b then 30 else 31) service))) id said.answer VoteQ
           (ap carrier service) (answered.votes x said.answer there what said.is)
 
       same : record { term = said.answer.term; granted = said.answer.success } ≡ value
@@ -323,17 +348,28 @@ module _ (codec : CodecLaws) (ids : List ℕ) (made : List SentTransfer) (are : 
           (sym (codec.vote_answers (record { term = said.answer.term; granted = said.answer.success }) (fits.answers said.answer inside))
           ∙ (ap vote_answer_of (sym said.written ∙ is.payload) ∙ read))
 
-      whole : said.answer ≡ handled.answer_of d.mark.step d.ident.source call value.term value.granted
-      whole =
+      whole : is_stale t d now ≡ false → said.answer ≡ handled.answer_of d.mark.step d.ident.source call value.term value.granted
+      whole fresh =
           ap (λ (n : ℕ). record said.answer { step = n }) (said.step ∙ is.step)
           ∙ (ap (λ (n : ℕ). record said.answer { step = d.mark.step; from = n }) (said.from ∙ is.by)
-          ∙ (ap (λ (r : Request). record said.answer { step = d.mark.step; from = d.ident.source; request = r }) asked
+          ∙ (ap (λ (r : Request). record said.answer { step = d.mark.step; from = d.ident.source; request = r }) (asked fresh)
           ∙ ap (λ (v : VoteAnswer). handled.answer_of d.mark.step d.ident.source call v.term v.granted) same))
 
   pub append_said : x.offer.what ≡ App → (value : AppendAnswer) → append_answer_of d.payload ≡ Some value → call.append ≡ true
       → (sent : Sending) → Waits t now d.ident.source call sent → sent.id ≡ d.id
-      → In (Answers (handled.answer_of d.mark.step d.ident.source call value.term value.success)) bag
-  append_said what value read service sent waits id = subst (λ (a : Answer). In (Answers a) bag) whole inside
+      → IsHeard bag t.raft_server.store (handled.answer_of d.mark.step d.ident.source call value.term value.success)
+  append_said what value read service sent waits id = elim may.answers [
+    | inl fresh ↦ inl (subst (λ (a : Answer). In (Answers a) bag) (whole fresh) inside)
+    | inr void ↦ inr (record {
+      said = said.answer;
+      was_said = inside;
+      term = ap (λ (v : AppendAnswer). v.term) same;
+      success = ap (λ (v : AppendAnswer). v.success) same;
+      for_nothing = nothing_from t.raft_server.store.term value.term value.success
+          (ap (λ (o : Option AppendAnswer). is_void_append t.raft_server.store.term o) (sym read)
+          ∙ void_at t.raft_server.store.term d 30 (sym is.number ∙ ap number_of what) void);
+    })
+  ]
     where
       said : SaysAnswer x.step x.by x.offer.to x.offer.re true append_bytes x.offer.payload x.offer.says
       said = said_of App what
@@ -341,8 +377,8 @@ module _ (codec : CodecLaws) (ids : List ℕ) (made : List SentTransfer) (are : 
       inside : In (Answers said.answer) bag
       inside = in_bag App what (Answers said.answer) said.is
 
-      asked : said.answer.request ≡ call
-      asked = one_call sent waits (sym is.number ∙ (ap number_of what ∙ sym (ap (λ (b : Bool). if b then 30 else 31) service))) id said.answer AppQ
+      asked : is_stale t d now ≡ false → said.answer.request ≡ call
+      asked fresh = one_call fresh sent waits (sym is.number ∙ (ap number_of what ∙ sym (ap (λ (b : Bool). if b then 30 else 31) service))) id said.answer AppQ
           (ap carrier service) (answered.appends x said.answer there what said.is)
 
       same : record { term = said.answer.term; success = said.answer.success } ≡ value
@@ -350,9 +386,9 @@ module _ (codec : CodecLaws) (ids : List ℕ) (made : List SentTransfer) (are : 
           (sym (codec.append_answers (record { term = said.answer.term; success = said.answer.success }) (fits.answers said.answer inside))
           ∙ (ap append_answer_of (sym said.written ∙ is.payload) ∙ read))
 
-      whole : said.answer ≡ handled.answer_of d.mark.step d.ident.source call value.term value.success
-      whole =
+      whole : is_stale t d now ≡ false → said.answer ≡ handled.answer_of d.mark.step d.ident.source call value.term value.success
+      whole fresh =
           ap (λ (n : ℕ). record said.answer { step = n }) (said.step ∙ is.step)
           ∙ (ap (λ (n : ℕ). record said.answer { step = d.mark.step; from = n }) (said.from ∙ is.by)
-          ∙ (ap (λ (r : Request). record said.answer { step = d.mark.step; from = d.ident.source; request = r }) asked
+          ∙ (ap (λ (r : Request). record said.answer { step = d.mark.step; from = d.ident.source; request = r }) (asked fresh)
           ∙ ap (λ (v : AppendAnswer). handled.answer_of d.mark.step d.ident.source call v.term v.success) same))

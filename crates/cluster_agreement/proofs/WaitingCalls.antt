@@ -48,6 +48,13 @@ module _ (members : List ℕ) (me number : ℕ) (given : Given) (peer : ℕ) (re
         kept = λ i. elim i [ inl same ↦ apart peer node one.0 same | inr j ↦ later.kept j ];
       }
 
+-- whoever gives up calls stores nothing
+pub store_stays : (members : List ℕ) (me number : ℕ) (nodes : List ℕ) (raft_server : RaftServer)
+    → (server_after_all members me number raft_server (moves_of_expire nodes)).store ≡ raft_server.store
+store_stays members me number [] raft_server = refl
+store_stays members me number (node ∷ nodes) raft_server =
+    store_stays members me number nodes (record raft_server { memory = record raft_server.memory { pending = at raft_server.memory.pending node None } })
+
 -- ---- which calls are given up
 
 in_range : (from count x : ℕ) → from ≤ x → x < from + count → In x (range_with_len from count)

@@ -9,8 +9,8 @@
 -- synced. A row is lawful where no cause of `Lawful` refuses it: it makes sense when it comes (its member runs, its
 -- frame exists ..), a frame from outside is not forged, and one that is delivered is not torn or stale for its
 -- receiver. A frame with a source is forged where the source is a member, and where it is an Allocation, a Discovery, a
--- RequestVote or an AppendEntries, whatever its source. A row does no harm (`DoNoHarm`) where it is lawful, and where it
--- brings a member a stale response that refuses, or has a term below the member's own: that counts for nothing.
+-- RequestVote or an AppendEntries, whatever its source. A row does no harm (`DoNoHarm`) where it is lawful, and where
+-- it brings a member a stale response that refuses, or has a term below the member's own: that counts for nothing.
 --
 -- Then each allocator's committed log is always a prefix of one growing list of entries, in which no node ID and no
 -- unique ID is given twice; at each cut, every Allocation with a node ID other than 0 that waits whole in a queue, or

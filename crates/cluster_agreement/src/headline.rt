@@ -76,8 +76,8 @@ pub fn lawful_rows_do_no_harm()
     ensures { (w : Cluster) (rows : List Row) → Lawful w rows → DoNoHarm w rows }
 {}
 
-/// What a list of rows that do no harm shows is a lawful run of the message machine, from its beginning, whatever choice
-/// fits what the stops find.
+/// What a list of rows that do no harm shows is a lawful run of the message machine, from its beginning, whatever
+/// choice fits what the stops find.
 pub fn rows_are_shown()
     ensures { (choice : ℕ → Bool) (ids : List ℕ) (rows : List Row) → AreMembers ids →
         DoNoHarm (cluster ids) rows → AgreesWithDisk choice (cluster ids) rows →

@@ -1,7 +1,7 @@
 //! The headline, as a law over the definitions of the world (`cluster_spec`), and the laws that it stands on.
 //! There is no code here that runs.
 //!
-//! The headline ([`headline::the_headline`]): for every cluster and every list of lawful rows each committed
+//! The headline ([`headline::the_headline`]): for every cluster and every list of rows that do no harm each committed
 //! log is a prefix of one injective list, at every cut; the list only grows, and has no member's node ID;
 //! every Allocation with a node ID other than 0 that waits to go out, or was on the bus, is a pair of it by
 //! then; and the log of every later leader whose term is at least a member's stored one begins with what that
@@ -18,9 +18,10 @@
 //! - openings, also those that fail or put ([`rows::openings_are_shown`]);
 //! - steps that finish ([`rows::finished_steps_are_shown`]), of which the core is that what is delivered
 //!   was made ([`transfers::what_is_delivered_was_made`]), and that requests and answers that a member takes
-//!   were said, an answer to the very call that takes it ([`transfers::what_a_member_takes_was_said`]);
+//!   were said, an answer to the very call that takes it or one that counts for nothing
+//!   ([`transfers::what_a_member_takes_was_said`]);
 //! - steps that a disk cuts off, with the member or without it ([`rows::cut_steps_are_shown`]);
-//! - so for any row without a cause against it ([`rows::a_row_is_shown`]), and for all rows, one after
+//! - so for any row that does no harm ([`rows::a_row_is_shown`]), and for all rows, one after
 //!   another ([`headline::rows_are_shown`]).
 //!
 //! A row of an allocatee leaves the run as it is ([`rows::rows_of_allocatees_are_shown`]).

@@ -38,8 +38,8 @@ pub fn what_is_delivered_was_made()
     what_is_said_of_frames();
 }
 
-/// What a row that does no harm delivers to a running member, with a member's source or of a data type that members alone
-/// send, is one transfer that a member made by then, and no other; a request or a response is for the receiver;
+/// What a row that does no harm delivers to a running member, with a member's source or of a data type that members
+/// alone send, is one transfer that a member made by then, and no other; a request or a response is for the receiver;
 /// and what it says is in the bag of the run that the world shows.
 pub fn what_a_row_delivers_is_one_transfer()
     ensures { (choice : ℕ → Bool) (made : List SentTransfer) (w : Cluster) (run : World) → AreMembers w.ids →

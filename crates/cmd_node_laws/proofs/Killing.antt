@@ -24,7 +24,7 @@ use Rattle.alloc_spec.specs.AllocatorState.{AllocatorState}
 use Rattle.alloc_ghost_erasure.specs.Unmarked.{unmarked_event, unmarked_server}
 use Rattle.cluster_spec.specs.declared.unlawful.Unlawful.TheVariants.{NoNode}
 use Rattle.cluster_spec.specs.Cluster.{Cluster, after_rows, arrival_at, frame_at, from_outside, is_member, after_row, receipt_of, tick_of}
-use Rattle.cluster_spec.specs.Lawful.{Lawful, because, cause, arrival_refusal, no_such_frame, not_running, or_else}
+use Rattle.cluster_spec.specs.Lawful.{DoNoHarm, DoesNoHarm, IsHarmlessAt, because, cause, no_such_frame, not_running, or_else}
 use Rattle.cluster_spec.specs.Members.{is_running}
 use Rattle.cmd_node.specs.Frames.{event_in, is_frame, receipt}
 use Rattle.cmd_node.specs.Puts.{heard_puts, step_puts, taken_puts, tick_puts, turn_puts}
@@ -32,21 +32,21 @@ use Rattle.cmd_node.specs.Turn.{Turning, turn_after_tick}
 use Rattle.cmd_node_laws.specs.Traces.{Came, IsForeign, IsKilled, MayOccur, Silence, RowsFrom, WasSent, came_rows, rows_of, rows_then, while_running}
 use Rattle.cmd_node_laws.specs.Mirrored.{AreCalm, Carries}
 use Rattle.cmd_node_laws.proofs.Killed.{IsDead, RunsArmed, arm_leaves, not_zero, step_cut, stop_dead, stored_at}
-use Rattle.cmd_node_laws.proofs.Lawfully.{foreign_judged}
-use Rattle.cmd_node_laws.proofs.Places.{after_both, lawful_both}
-use Rattle.cmd_node_laws.proofs.Rows.{Runs, ext_frame, ext_lawful, ext_there, step_state_of, rx_lawful, stop_lawful, tick_lawful}
+use Rattle.cmd_node_laws.proofs.Harmless.{foreign_judged}
+use Rattle.cmd_node_laws.proofs.Places.{after_both, harmless_both}
+use Rattle.cmd_node_laws.proofs.Rows.{Runs, ext_frame, ext_lawful, ext_there, step_state_of, rx_harmless, stop_lawful, tick_lawful}
 use Rattle.cmd_node_laws.proofs.Stored.{after_noted, after_some, all_of, some_of_first, some_of_rest}
 use Rattle.cmd_node_laws.proofs.Turning.{MarkLaws, puts_as, same_event}
 
--- lawful rows after which the member is dead, and this is stored
+-- rows that do no harm after which the member is dead, and this is stored
 pub record Finishes (n : ℕ) (w : Cluster) (rows : List Row) (state : Stored) : Type 0 where
-  pub lawful : Lawful w rows
+  pub harmless : DoNoHarm w rows
   pub dead : IsDead n (after_rows w rows)
   pub stored : stored_at n (after_rows w rows) ≡ state
 
-pub finishes_on : (n : ℕ) (w : Cluster) (first rest : List Row) (state : Stored) → Lawful w first → Finishes n (after_rows w first) rest state → Finishes n w (first ++ rest) state
-finishes_on n w first rest state lawful is = record {
-  lawful = lawful_both w first rest lawful is.lawful;
+pub finishes_on : (n : ℕ) (w : Cluster) (first rest : List Row) (state : Stored) → DoNoHarm w first → Finishes n (after_rows w first) rest state → Finishes n w (first ++ rest) state
+finishes_on n w first rest state harmless is = record {
+  harmless = harmless_both w first rest harmless is.harmless;
   dead = subst (IsDead n) (sym (after_both w first rest)) is.dead;
   stored = ap (stored_at n) (after_both w first rest) ∙ is.stored;
 }
@@ -66,12 +66,12 @@ pub stop_running : (n : ℕ) (w : Cluster) (server : AllocatorState) (left : ℕ
 stop_running n w server left is =
     subst (λ (b : Bool). Finishes n w (if b then Crash n 0 Old ∷ [] else []) (stored_at n w)) (sym (running_now n w server left is))
     (let r = stop_dead n w server left is in
-    record { lawful = (stop_lawful w n is.runs.member (running_now n w server left is), tt); dead = r.0; stored = r.1 })
+    record { harmless = (inl (stop_lawful w n is.runs.member (running_now n w server left is)), tt); dead = r.0; stored = r.1 })
 
 pub stop_stopped : (n : ℕ) (w : Cluster) → IsDead n w → Finishes n w (stop_told n w) (stored_at n w)
 stop_stopped n w is =
     subst (λ (b : Bool). Finishes n w (if b then Crash n 0 Old ∷ [] else []) (stored_at n w)) (sym (dead_now n w is))
-    (record { lawful = tt; dead = is; stored = refl })
+    (record { harmless = tt; dead = is; stored = refl })
 
 pub arm_lawful : (n : ℕ) (w : Cluster) (call : ℕ) → 0 < call → is_member w.ids n ≡ true → cause w (Crash n call Old) ≡ None
 arm_lawful n w call some member = λ i. or_else (because NoNode (not (member i))) (if not_zero call some i then not_running w n else None)
@@ -89,14 +89,14 @@ module _ (marks : MarkLaws)
   -- ---- a frame that comes while so many puts are left
 
   rx_finishes : (w : Cluster) (k moment : ℕ) (server : AllocatorState) (left : ℕ) (puts : List PutWithOrigin) → RunsArmed n w server left → no_such_frame w k ≡ None
-      → arrival_refusal (w.member n).status (arrival_at (frame_at w.frames k) moment) ≡ None → (step_state_of w server (receipt_of w k moment)).puts ≡ puts
+      → IsHarmlessAt (w.member n).status (arrival_at (frame_at w.frames k) moment) → (step_state_of w server (receipt_of w k moment)).puts ≡ puts
       → Finishes n w (Rx n k moment ∷ stop_told n (after_row w (Rx n k moment))) (after_some left puts (stored_at n w))
-  rx_finishes w k moment server left puts is there fine same = elim (step_cut n w server (receipt_of w k moment) left is) [
-    | inl on ↦ finishes_on n w (Rx n k moment ∷ []) (stop_told n w1) (after_some left puts (stored_at n w)) (lawful, tt)
+  rx_finishes w k moment server left puts is there may same = elim (step_cut n w server (receipt_of w k moment) left is) [
+    | inl on ↦ finishes_on n w (Rx n k moment ∷ []) (stop_told n w1) (after_some left puts (stored_at n w)) (harmless, tt)
         (as_stored n w1 (stop_told n w1) (stored_at n w1) (after_some left puts (stored_at n w))
         (on.stored ∙ sym (all_of own left (stored_at n w) (omega (arith, on.more_is))) ∙ ap (λ (p : List PutWithOrigin). after_some left p (stored_at n w)) same)
         (stop_running n w1 (step_state_of w server (receipt_of w k moment)).allocator on.more on.runs))
-    | inr off ↦ finishes_on n w (Rx n k moment ∷ []) (stop_told n w1) (after_some left puts (stored_at n w)) (lawful, tt)
+    | inr off ↦ finishes_on n w (Rx n k moment ∷ []) (stop_told n w1) (after_some left puts (stored_at n w)) (harmless, tt)
         (as_stored n w1 (stop_told n w1) (stored_at n w1) (after_some left puts (stored_at n w))
         (off.stored ∙ ap (λ (p : List PutWithOrigin). after_some left p (stored_at n w)) same)
         (stop_stopped n w1 off.dead))
@@ -108,8 +108,8 @@ module _ (marks : MarkLaws)
       own : List PutWithOrigin
       own = (step_state_of w server (receipt_of w k moment)).puts
 
-      lawful : cause w (Rx n k moment) ≡ None
-      lawful = rx_lawful w n k moment server is.runs there fine
+      harmless : DoesNoHarm w (Rx n k moment)
+      harmless = rx_harmless w n k moment server is.runs there may
 
   -- what comes of an item
   abbrev item_puts : ℕ → Received → Turning → List PutWithOrigin
@@ -141,9 +141,9 @@ module _ (marks : MarkLaws)
       (puts_as marks deliveries n server t.running.allocator (w.rows + 1) (suc (length t.lines)) (receipt_of w k moment) (receipt moment raw) same (same_event marks deliveries n raw (frame_at w.frames k) moment carries)
       ∙ of_frame raw moment t carries.frame)
   came_finishes w t moment (Item raw) (IsForeign frame) server left is same may carries =
-      finishes_on n w (Ext frame ∷ []) (Rx n (length w.frames + 1) moment ∷ stop_told n (after_row out (Rx n (length w.frames + 1) moment))) (after_some left (item_puts moment (Item raw) t) (stored_at n w)) (ext_lawful w frame may, tt)
+      finishes_on n w (Ext frame ∷ []) (Rx n (length w.frames + 1) moment ∷ stop_told n (after_row out (Rx n (length w.frames + 1) moment))) (after_some left (item_puts moment (Item raw) t) (stored_at n w)) (inl (ext_lawful w frame may), tt)
       (rx_finishes out (length w.frames + 1) moment server left (item_puts moment (Item raw) t) (record { runs = record { member = is.runs.member; up = is.runs.up }; arm = is.arm; others = is.others })
-      (ext_there w frame) (foreign_judged deliveries n w frame moment server is.runs may)
+      (ext_there w frame) (inl (foreign_judged deliveries n w frame moment server is.runs may))
       (puts_as marks deliveries n server t.running.allocator (w.rows + 1 + 1) (suc (length t.lines)) (Comes (arrival_at last moment)) (receipt moment raw) same
       (ap (λ (q : Queued). unmarked_event (Comes (arrival_at q moment))) (ext_frame w.frames outside) ∙ same_event marks deliveries n raw outside moment carries)
       ∙ of_frame raw moment t carries.frame))
@@ -173,7 +173,7 @@ module _ (marks : MarkLaws)
   unfolding turn_puts
   killed_told w t moment puts came server calm runs same may carries =
       finishes_on n w (ticked_rows puts moment word) (rows_then (while_running n (came_rows n moment came)) (stop_told n) w2) state
-      (arm_lawful n w (4 * puts + 1) (omega arith) runs.member, (tick_lawful w1 n moment word server arm.0.runs, tt))
+      (inl (arm_lawful n w (4 * puts + 1) (omega arith) runs.member), (inl (tick_lawful w1 n moment word server arm.0.runs), tt))
       (elim (step_cut n w1 server (tick_of moment word) puts arm.0) [
         | inl on ↦
             subst (λ (b : Bool). Finishes n w2 (rows_then (λ v. if b then came_rows n moment came v else []) (stop_told n) w2) state) (sym (running_now n w2 tick.allocator on.more on.runs))

@@ -2,7 +2,7 @@ pub mod Calm
 pub mod Places
 pub mod Foreign
 pub mod Rows
-pub mod Lawfully
+pub mod Harmless
 pub mod Turning
 pub mod Armed
 pub mod Stored

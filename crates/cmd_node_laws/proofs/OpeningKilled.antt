@@ -101,8 +101,10 @@ module _ (n : ℕ) (rules : Rules) (moment word puts : ℕ) (x : Member) (calm :
 pub opening_killed : (n : ℕ) (told : Bool) (moment word puts : ℕ) (w : Cluster) → AreCalm w → MayOpen n w
     → Finishes n w (rows_of (IsKilledAtOpening n told moment word puts) w) (opened_in_part puts (stored_at n w))
 opening_killed n told moment word puts w calm may =
-    finishes_on n w (Crash n (4 * puts + 3) Old ∷ Open n told moment word ∷ []) (stop_told n (opens (after_row w (Crash n (4 * puts + 3) Old)))) state
-    (arm_lawful n w (4 * puts + 3) (omega arith) may.0, (subst (λ (v : Cluster). cause v (Open n told moment word) ≡ None) (sym world) (open_lawful v1 n told moment word may.0 is_down_still), tt))
+    finishes_on n w (Crash n (4 * puts + 3) Old ∷ Open n told moment word ∷ []) (stop_told n (opens (after_row w (Crash n (4 * puts + 3) Old)))) state (
+      inl (arm_lawful n w (4 * puts + 3) (omega arith) may.0),
+      (inl (subst (λ (v : Cluster). cause v (Open n told moment word) ≡ None) (sym world) (open_lawful v1 n told moment word may.0 is_down_still)), tt),
+    )
     (subst (λ (v : Cluster). Finishes n (opens v) (stop_told n (opens v)) state) (sym world) ends)
   where
     opens : Cluster → Cluster

@@ -6,7 +6,7 @@ use Rattle.raft_model.specs.Lists.{at_here, at_other}
 use Rattle.replay_text.specs.declared.row.Row.{Row}
 use Rattle.transfer_tx.specs.Queue.{Queued}
 use Rattle.cluster_spec.specs.Cluster.{Cluster, after_rows, after_row, with_member}
-use Rattle.cluster_spec.specs.Lawful.{Lawful}
+use Rattle.cluster_spec.specs.Lawful.{DoNoHarm}
 use Rattle.cluster_spec.specs.Members.{Member}
 use Rattle.cmd_node.specs.Frames.{raw_of}
 use Rattle.cmd_node_laws.specs.Mirrored.{AreCalm, IsCalm, raw_by, sent_by, sent_in}
@@ -30,9 +30,9 @@ pub after_both : (w : Cluster) (first rest : List Row) → after_rows w (first +
 after_both w [] rest = refl
 after_both w (row ∷ first) rest = after_both (after_row w row) first rest
 
-pub lawful_both : (w : Cluster) (first rest : List Row) → Lawful w first → Lawful (after_rows w first) rest → Lawful w (first ++ rest)
-lawful_both w [] rest a b = b
-lawful_both w (row ∷ first) rest a b = (a.0, lawful_both (after_row w row) first rest a.1 b)
+pub harmless_both : (w : Cluster) (first rest : List Row) → DoNoHarm w first → DoNoHarm (after_rows w first) rest → DoNoHarm w (first ++ rest)
+harmless_both w [] rest a b = b
+harmless_both w (row ∷ first) rest a b = (a.0, harmless_both (after_row w row) first rest a.1 b)
 
 pub queued_both : (n : ℕ) (w : Cluster) (first rest : List Row) → sent_by n w (first ++ rest) ≡ sent_by n w first ++ sent_by n (after_rows w first) rest
 queued_both n w [] rest = refl

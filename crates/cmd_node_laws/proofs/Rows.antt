@@ -1,5 +1,5 @@
 -- What each row of a trace leaves, in a world where nothing is set to fail.
-use Rattle.std.proofs.Common.{◌≡◌, ℕ, ◌+◌, ◌≤◌, Bool, true, false, List, [], ◌∷◌, ◌++◌, length, refl, ap, ◌∙◌, arith, None, Some}
+use Rattle.std.proofs.Common.{◌≡◌, ℕ, ◌+◌, ◌≤◌, Bool, true, false, List, [], ◌∷◌, ◌++◌, length, refl, ap, ◌∙◌, arith, inl, inr, Option, None, Some}
 use Rattle.std.specs.Prelude.{◌-◌, ◌==◌, ◌||◌, nat_lt, not}
 use Rattle.std.proofs.lemmas.List.{get_or_at, length-append}
 use Rattle.can_frame.specs.declared.frame.Frame.{Frame}
@@ -10,9 +10,10 @@ use Rattle.transfer_tx.specs.Queue.{Queued, next_out}
 use Rattle.alloc_spec.specs.StepState.{StepState}
 use Rattle.alloc_spec.specs.Step.{Event, after_pop, step}
 use Rattle.alloc_spec.specs.AllocatorState.{AllocatorState}
-use Rattle.cluster_spec.specs.declared.unlawful.Unlawful.TheVariants.{Forged, NoFrame, NoNode, Running, Stopped}
+use Rattle.cluster_spec.specs.declared.unlawful.Unlawful.{Unlawful}
+use Rattle.cluster_spec.specs.declared.unlawful.Unlawful.TheVariants.{Forged, NoFrame, NoNode, Running, Stale as IsStale, Stopped}
 use Rattle.cluster_spec.specs.Cluster.{Cluster, arrival_at, frame_at, from_outside, in_list, is_member, after_row, no_frame, rules_of, with_member}
-use Rattle.cluster_spec.specs.Lawful.{because, cause, is_forged, arrival_refusal, no_such_frame, nothing_to_send, or_else}
+use Rattle.cluster_spec.specs.Lawful.{DoesNoHarm, IsHarmlessAt, because, cause, is_forged, arrival_refusal, no_such_frame, nothing_to_send, or_else}
 use Rattle.cluster_spec.specs.Members.{MemberStatus, Member, after_sending, is_running, next_frame, member_after_step, puts_of, stopped_with}
 use Rattle.cluster_spec.specs.Members.MemberStatus.{Down, Failed, Up}
 use Rattle.cmd_node_laws.specs.Traces.{MayTurn}
@@ -78,10 +79,16 @@ step_stored w n server event calm runs =
 pub tick_lawful : (w : Cluster) (n moment word : ℕ) (server : AllocatorState) → Runs n w server → cause w (Tick n moment word) ≡ None
 tick_lawful w n moment word server runs = λ i. or_else (because NoNode (not (runs.member i))) (because Stopped (not (running n w server runs i)))
 
-pub rx_lawful : (w : Cluster) (n k moment : ℕ) (server : AllocatorState) → Runs n w server → no_such_frame w k ≡ None
-    → arrival_refusal (w.member n).status (arrival_at (frame_at w.frames k) moment) ≡ None → cause w (Rx n k moment) ≡ None
-rx_lawful w n k moment server runs there fine =
-    λ i. or_else (because NoNode (not (runs.member i))) (or_else (because Stopped (not (running n w server runs i))) (or_else (there i) (fine i)))
+-- a frame of the bus is refused at a member that runs as what it would deliver is
+rx_cause : (w : Cluster) (n k moment : ℕ) (server : AllocatorState) → Runs n w server → no_such_frame w k ≡ None → (why : Option Unlawful)
+    → arrival_refusal (w.member n).status (arrival_at (frame_at w.frames k) moment) ≡ why → cause w (Rx n k moment) ≡ why
+rx_cause w n k moment server runs there why is =
+    λ i. or_else (because NoNode (not (runs.member i))) (or_else (because Stopped (not (running n w server runs i))) (or_else (there i) (is i)))
+
+pub rx_harmless : (w : Cluster) (n k moment : ℕ) (server : AllocatorState) → Runs n w server → no_such_frame w k ≡ None
+    → IsHarmlessAt (w.member n).status (arrival_at (frame_at w.frames k) moment) → DoesNoHarm w (Rx n k moment)
+rx_harmless w n k moment server runs there (inl fine) = inl (rx_cause w n k moment server runs there None fine)
+rx_harmless w n k moment server runs there (inr late) = inr (rx_cause w n k moment server runs there (Some IsStale) late.0, late.1)
 
 -- ---- its next frame
 

@@ -29,7 +29,7 @@ use Rattle.cmd_node.specs.Frames.{event_in, is_frame, raw_of, receipt}
 use Rattle.cmd_node.specs.Turn.{Running, Turning, turn_after_hearing, turn_after_step, turn_after_sending, turn_after_frame, turn_after_taking, turn_after_tick, turn}
 use Rattle.cmd_node_laws.specs.Traces.{Came, IsForeign, MayOccur, Silence, RowsFrom, Turns, WasSent, came_rows, out_rows, rows_of, send_if, rows_then}
 use Rattle.cmd_node_laws.specs.Mirrored.{AreCalm, Carries, IsOnLink, raw_by}
-use Rattle.cmd_node_laws.proofs.Lawfully.{Goes, came_goes, goes_on, send_goes, tick_goes}
+use Rattle.cmd_node_laws.proofs.Harmless.{Goes, came_goes, goes_on, send_goes, tick_goes}
 use Rattle.cmd_node_laws.proofs.Places.{after_both, own_is, sent_both}
 use Rattle.cmd_node_laws.proofs.Rows.{Runs, after_event, ext_frame, send_world, step_stored}
 use Rattle.cmd_node_laws.proofs.Stored.{after_noted}
@@ -111,7 +111,7 @@ module _ (marks : MarkLaws)
 
   nothing_told : (w : Cluster) (r : Running) (server : AllocatorState) → AreCalm w → Runs n w server → unmarked_server server ≡ unmarked_server r.allocator → Tells n w [] r r
   nothing_told w r server calm runs same = record {
-    goes = record { lawful = tt; calm = calm; server = server; runs = runs };
+    goes = record { harmless = tt; calm = calm; server = server; runs = runs };
     same = same;
     sent = sym (append-nil r.sent);
     stored = λ is. is;

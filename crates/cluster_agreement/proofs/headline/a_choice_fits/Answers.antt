@@ -6,9 +6,9 @@ use Rattle.cluster_agreement.proofs.FittingChoices.{a_choice}
 use Rattle.cluster_agreement.proofs.headline.a_choice_fits.Goals as goal
 
 pub returns : goal.returns
-returns c = λ ids rows members lawful.
+returns c = λ ids rows members harmless.
     a_choice ids (λ choice some each fits. (
       transfers_of_rows (cluster ids) some [],
       run (initial_world ids) (events choice (cluster ids) some),
       (c.rows_are_shown.ensures choice ids some members each fits).shows,
-    )) rows lawful
+    )) rows harmless

@@ -50,8 +50,8 @@ may = (
       (
         (record { member = refl; runs = refl }, tt),
         (
-          (record { member = refl; runs = refl }, (refl, refl)),
-          ((record { member = refl; runs = refl }, λ e. tt), ((refl, refl), ((record { member = refl; runs = refl }, (refl, refl)), tt))),
+          (record { member = refl; runs = refl }, (refl, inl refl)),
+          ((record { member = refl; runs = refl }, λ e. tt), ((refl, refl), ((record { member = refl; runs = refl }, (refl, inl refl)), tt))),
         ),
       ),
     ),

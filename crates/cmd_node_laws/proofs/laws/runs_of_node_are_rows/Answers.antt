@@ -5,7 +5,7 @@ pub returns-clause-done : goal.returns-clause-done
 returns-clause-done g c = λ ids mine before during rules turns given links disks readings is left.
     let laws : FollowLaws = record {
       killed = c.kills_are_events.ensures;
-      calm = c.traces_are_lawful.ensures.calm;
+      calm = c.traces_do_no_harm.ensures.calm;
       followed = c.processes_are_followed.ensures;
       stored = c.stores_are_followed.ensures;
     } in
@@ -15,7 +15,7 @@ pub returns-clause-cut : goal.returns-clause-cut
 returns-clause-cut g c = λ ids mine before during rules taken place given links disks readings within is left.
     let laws : FollowLaws = record {
       killed = c.kills_are_events.ensures;
-      calm = c.traces_are_lawful.ensures.calm;
+      calm = c.traces_do_no_harm.ensures.calm;
       followed = c.processes_are_followed.ensures;
       stored = c.stores_are_followed.ensures;
     } in
@@ -25,7 +25,7 @@ pub returns-clause-opening : goal.returns-clause-opening
 returns-clause-opening g c = λ ids mine before during rules given links_old links disks_old disks readings_old readings id tell cut is.
     let laws : FollowLaws = record {
       killed = c.kills_are_events.ensures;
-      calm = c.traces_are_lawful.ensures.calm;
+      calm = c.traces_do_no_harm.ensures.calm;
       followed = c.processes_are_followed.ensures;
       stored = c.stores_are_followed.ensures;
     } in

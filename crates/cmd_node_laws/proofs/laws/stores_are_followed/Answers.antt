@@ -5,4 +5,4 @@ use Rattle.cmd_node_laws.proofs.laws.stores_are_followed.Goals as goal
 
 pub returns : goal.returns
 returns c = λ ids trace r members may listed is.
-    stored_as ids (all_rows trace (cluster ids)) r (c.traces_are_lawful.ensures.headline ids trace members may) (same_ids_of ids (all_rows trace (cluster ids))) listed is
+    stored_as ids (all_rows trace (cluster ids)) r (c.traces_do_no_harm.ensures.headline ids trace members may) (same_ids_of ids (all_rows trace (cluster ids))) listed is

@@ -46,9 +46,9 @@ returns-clause-sent c = λ w n trace at is may run.
     (all_follow marks c.calls_are_steps.ensures.steps n trace w at is may run).sent
 
 pub returns-clause-headline : goal.returns-clause-headline
-returns-clause-headline c = λ ids n before trace at members lawful is may run.
+returns-clause-headline c = λ ids n before trace at members harmless is may run.
     let marks : MarkLaws = record { step = c.marks_change_marks_alone.ensures.step; popped = c.marks_change_marks_alone.ensures.popped; next = c.marks_change_marks_alone.ensures.next } in (
-      c.the_headline.ensures ids (before ++ all_rows n trace) members lawful,
+      c.the_headline.ensures ids (before ++ all_rows n trace) members harmless,
       subst (λ (v : Cluster). IsMember n v (at (length (calls_in trace)))) (sym (after_both (cluster ids) before (all_rows n trace)))
           (all_follow marks c.calls_are_steps.ensures.steps n trace (world_of ids before) at is may run).is,
     )
