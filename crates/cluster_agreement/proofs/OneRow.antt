@@ -121,8 +121,8 @@ pub record IsReceived (w : Cluster) (n k moment : ℕ) : Type 0 where
   pub there : In (frame_at w.frames k) w.frames
   pub harmless : IsHarmlessAt (w.member n).status (arrival_at (frame_at w.frames k) moment)
 
-pub received : (w : Cluster) (n k moment : ℕ) → DoesNoHarm w (Rx n k moment) → IsReceived w n k moment
-received w n k moment harmless =
+pub is_received : (w : Cluster) (n k moment : ℕ) → DoesNoHarm w (Rx n k moment) → IsReceived w n k moment
+is_received w n k moment harmless =
     let frame : Arrival = arrival_at (frame_at w.frames k) moment in
     let status = (w.member n).status in
     let void = is_void_at status frame in
@@ -224,7 +224,7 @@ module _ (laws : RowLaws) (choice : ℕ → Bool) (made : List SentTransfer) (w 
 
   rx_row : (n k ms : ℕ) → DoesNoHarm w (Rx n k ms) → Goes (Rx n k ms)
   rx_row n k ms harmless =
-      let is = received w n k ms harmless in
+      let is = is_received w n k ms harmless in
       step_row n is.listed (receipt_of w k ms) (shows.narrow (frame_at w.frames k) is.there) (λ t runs. may_receive w n k ms t is runs) is.running
 
   crash_row : (n calls : ℕ) (pattern : Pattern) → cause w (Crash n calls pattern) ≡ None → RowAgreesWithDisk choice w (Crash n calls pattern)

@@ -22,7 +22,7 @@ use Rattle.cluster_agreement.specs.LawsBelow.{FrameLaws}
 use Rattle.cluster_agreement.proofs.DeliveredTransfers.{was_made}
 use Rattle.cluster_agreement.proofs.Deliveries.{MayCome, judged_harmless, judges_harmless}
 use Rattle.cluster_agreement.proofs.Idents.{one_what, service_is, wanted_is}
-use Rattle.cluster_agreement.proofs.OneRow.{IsReceived, is_harmless, received}
+use Rattle.cluster_agreement.proofs.OneRow.{IsReceived, is_harmless, is_received}
 
 module _ (laws : FrameLaws) (choice : ℕ → Bool) (made : List SentTransfer) (w : Cluster) (run : machine.World) (members : AreMembers w.ids)
     (shows : Shows choice made w run) (n k ms : ℕ) (d : Delivery) (harmless : DoesNoHarm w (Rx n k ms)) (is : IsDeliveredTo w n k ms d) where
@@ -36,7 +36,7 @@ module _ (laws : FrameLaws) (choice : ℕ → Bool) (made : List SentTransfer) (
   coming = at_step (at_moment ms t) frame
 
   comes : IsReceived w n k ms
-  comes = received w n k ms harmless
+  comes = is_received w n k ms harmless
 
   there : ShowsUp made w.ids w.frames run n t (w.member n).disk
   there = subst (λ (status : MemberStatus). ShowsMember choice made w.ids w.frames run n status (w.member n).disk) is.runs (shows.lives n comes.listed)

@@ -25,7 +25,7 @@ use Rattle.cluster_agreement.specs.Said.{IsRunWritable}
 use Rattle.cluster_agreement.specs.Shows.{Shows}
 use Rattle.cluster_agreement.proofs.Concatenations.{first_harmless, ids_stay, row_harmless}
 use Rattle.cluster_agreement.proofs.MirroredRuns.{same_server}
-use Rattle.cluster_agreement.proofs.OneRow.{may_receive, may_tick, received}
+use Rattle.cluster_agreement.proofs.OneRow.{is_received, may_receive, may_tick}
 use Rattle.cluster_agreement.proofs.RowsWithoutEvents.{is_lawful, is_one, past_first}
 
 -- what is known of steps and of lists of rows, as their laws say it
@@ -57,7 +57,7 @@ module _ (laws : DutyLaws) (choice : ℕ → Bool) (made : List SentTransfer) (w
       let first = past_first (no_node w n) (not_running w n) (is_lawful (cause w (Tick n ms word)) harmless) in
       in_status n (tick_of ms word) (is_one w n first.0) tt (λ t runs. may_tick w t ms word) (w.member n).status refl
   in_row (Rx n k ms) harmless =
-      let is = received w n k ms harmless in
+      let is = is_received w n k ms harmless in
       in_status n (receipt_of w k ms) is.listed (shows.narrow (frame_at w.frames k) is.there) (λ t runs. may_receive w n k ms t is runs) (w.member n).status refl
   in_row (Open n told ms word) harmless = tt
   in_row (Send n) harmless = tt
