@@ -5,6 +5,7 @@ use Rattle.outside.specs.declared.received.RawFrame.{RawFrame}
 use Rattle.outside.specs.declared.received.Received.{Received}
 use Rattle.cmd_base.specs.declared.status.Status.{Status}
 use Rattle.alloc_spec.specs.Rules.{Rules}
+use Rattle.bus_physics.specs.Runs.{StandOnBus}
 use Rattle.cluster_spec.specs.Cluster.{AreMembers, cluster}
 use Rattle.cmd_base.specs.declared.status.Status.TheVariants.{Done, Usage, BadRow, Unlawful, ReadFault, WriteFault, Memory, Limit, LinkFault, DiskFault, Damaged, Differ, NoPart, NoValue}
 use Rattle.cmd_node.specs.CutRun.{IsCutAtOpening, IsCutAtTurn, KeepsImages, KeepsOrOpens}
@@ -35,7 +36,8 @@ module _ {L D : Type 0} (coming : L → Option (List Received)) (sent : L → Op
       (cut : IsCutAtOpening disk mine links_old links disks_old disks readings_old readings (KeepsOrOpens disk) id) →
       IsRunIn ids before during rules mine given (Opening cut.place) → let w = world_after ids before in
       IsCutOpeningAsTold disk disks_old disks rules mine given w (world_after ids (before ++ during)) (all_rows during w) cut.place)
-      (promise : (ids : List ℕ) (trace : List Event) → AreMembers ids → MayAllHappen trace (cluster ids) → KeepsPromise ids (all_rows trace (cluster ids))) where
+      (promise : (ids : List ℕ) (trace : List Event) → AreMembers ids → MayAllHappen trace (cluster ids) → KeepsPromise ids (all_rows trace (cluster ids)))
+      (on_bus : StandOnBus rules mine) where
     cut_in_traces : (given : Given) (id : ℕ) → Tell coming sent disk links_old disks_old readings_old given →
         IsCutInTurn coming sent link_faults disk rules turns mine links_old links disks_old disks readings_old readings id → IsCutInTraces coming sent disk links disks rules mine given turns id
     cut_in_traces given id tell is =
@@ -121,4 +123,5 @@ module _ {L D : Type 0} (coming : L → Option (List Received)) (sent : L → Op
         | inr (inr damaged) ↦ let left = subst Ended damaged.1 runs.leaves in inl (opening_in_traces given id tell (widened id left.end.1))
       ];
       broken = λ given tell is. let left = subst Ended is runs.leaves in by_end given tell left.0 left.1.end;
+      bus = on_bus;
     }

@@ -25,6 +25,7 @@ ghost use Rattle.allocator_app.specs.declared.told.Told.{Told};
 use crate::plans::Plan;
 use crate::replay::replay;
 use crate::words::plan;
+use bus_physics::laws::runs_stand_on_a_bus;
 use cluster_agreement::allocatees::the_allocatees;
 use cluster_agreement::headline::{lawful_rows_do_no_harm, rows_are_safe, the_headline};
 use cmd_base::Status;
@@ -154,7 +155,8 @@ pub fn run<S: Source, K: Sink, L: Link, D: Disk, C: Clock>(
         (K.written sink.old) (K.written sink.new) result ×
         KeepsPromise (members size) (soaked told seed rounds size).rows) }
     // Allocators over links and disks: what is left and written; and in every trace of processes in
-    // which the run stands it is what the world of the trace says, along whose rows the promise holds.
+    // which the run stands it is what the world of the trace says, along whose rows the promise holds. In
+    // a trace that happens on a physical bus it stands without a premise on what is torn or stale.
     ensures nodes { (told : Told) (base turns : ℕ) (ids : List ℕ) →
         IsNode told base turns ids (map string_bytes words.now) →
         (result ≡ Status.Usage) ⊎ RunsInTraces L.coming L.sent L.faults D.Disk (rules_of told) turns ids
@@ -191,6 +193,7 @@ pub fn run<S: Source, K: Sink, L: Link, D: Disk, C: Clock>(
     lawful_rows_do_no_harm();
     rows_are_lawful();
     runs_of_node_are_rows::<L, D>();
+    runs_stand_on_a_bus();
     rows_are_safe();
     the_headline();
     the_allocatees();

@@ -3,3 +3,4 @@ pub mod Reuse
 pub mod Example
 pub mod Schedule
 pub mod Processes
+pub mod Runs

@@ -5,6 +5,7 @@ ghost use Rattle.can_frame.specs.Cutting.{frame_count};
 ghost use Rattle.can_frame.specs.declared.step.What.TheVariants.{Alloc};
 ghost use Rattle.raft_model.specs.Lists.{In};
 ghost use Rattle.replay_text.specs.declared.row.Row.{Row};
+ghost use Rattle.alloc_spec.specs.Rules.{Rules};
 ghost use Rattle.alloc_spec.specs.Transfers.{SentTransfer};
 ghost use Rattle.replay_text.specs.declared.row.Row.TheVariants.{ARx, Rx};
 ghost use Rattle.cluster_spec.specs.declared.unlawful.Unlawful.TheVariants.{Stale, Torn};
@@ -22,6 +23,7 @@ ghost use Rattle.bus_physics.specs.Reuse.{IsStaleAt, IsTornAt, IsTornAtDevice, L
 ghost use Rattle.cluster_agreement.specs.Headline.{HasHeadline};
 ghost use Rattle.cmd_node_laws.specs.Traces.{Event, MayAllHappen, all_rows};
 ghost use Rattle.bus_physics.specs.Processes.{MayAllDo};
+ghost use Rattle.bus_physics.specs.Runs.{StandOnBus};
 ghost use Rattle.bus_physics.specs.Schedule.{HappenOnBus, LawfulButForBus, LosesFrames};
 
 use alloc_spec_laws::laws::transfers_of_a_step_are_apart;
@@ -209,4 +211,11 @@ pub fn traces_on_a_bus_may_happen()
     a_member_puts_nothing_together_of_two();
     no_response_outlives_its_transfer_id();
     traces_are_lawful();
+}
+
+/// So a run of `node` whose trace happens on a physical bus stands in it, or a transfer loses frames.
+pub fn runs_stand_on_a_bus()
+    ensures { (rules : Rules) (mine : List ℕ) → StandOnBus rules mine }
+{
+    traces_on_a_bus_may_happen();
 }

@@ -62,7 +62,7 @@ returns-clause-nodes g c = λ told base turns ids asks.
       headline = c.traces_do_no_harm.ensures.headline ids trace members may;
       allocatees = c.traces_do_no_harm.ensures.allocatees ids trace members may;
       safe = c.traces_do_no_harm.ensures.safe ids trace members may;
-    }) (rw (only_node c.in-Some.plan _ c.in-Some.ensures.some told base turns ids asks) at c.follow.ensures.followed))
+    }) (c.runs_stand_on_a_bus.ensures (rules_of told) ids) (rw (only_node c.in-Some.plan _ c.in-Some.ensures.some told base turns ids asks) at c.follow.ensures.followed))
 
 pub returns-clause-new : goal.returns-clause-new
 returns-clause-new g c = λ ids asks.

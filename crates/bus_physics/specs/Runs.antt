@@ -1,0 +1,28 @@
+-- A run of `node` in a trace whose rows happen at times on a physical bus.
+use Rattle.std.specs.Prelude.{◌≡◌, ◌⊎◌, ℕ, List, [], ◌++◌}
+use Rattle.alloc_spec.specs.Rules.{Rules}
+use Rattle.cluster_spec.specs.Cluster.{AreMembers, cluster}
+use Rattle.cmd_node.specs.Opening.{Given}
+use Rattle.cmd_node_laws.specs.Processes.{Point}
+use Rattle.cmd_node_laws.specs.Stands.{IsRunIn}
+use Rattle.cmd_node_laws.specs.Traces.{Event, MayAllHappen, all_rows}
+use Rattle.bus_physics.specs.Physics.{HoldsAreShort, Limits, Timed, rows_in}
+use Rattle.bus_physics.specs.Processes.{MayAllDo}
+use Rattle.bus_physics.specs.Schedule.{HappenOnBus, LosesFrames}
+
+-- The rows of the trace happen at these times on such a bus. Of what comes from it nothing is asked but that it was
+-- sent; but for that the run stands in the trace.
+pub record IsRunOnBus (limits : Limits) (timed : List Timed) (ids : List ℕ) (before during : List Event) (rules : Rules)
+    (mine : List ℕ) (given : Given) (to : Point) : Type 0 where
+  pub members : AreMembers ids
+  pub short : HoldsAreShort limits
+  pub times : rows_in timed ≡ all_rows (before ++ during) (cluster ids)
+  pub happens : HappenOnBus limits ids [] timed
+  pub may : MayAllDo (before ++ during) (cluster ids)
+  pub stands : MayAllHappen (before ++ during) (cluster ids) → IsRunIn ids before during rules mine given to
+
+-- such a run stands in the trace, or a transfer loses frames
+abbrev pub StandOnBus : Rules → List ℕ → Type 0
+StandOnBus rules mine = (limits : Limits) (timed : List Timed) (ids : List ℕ) (before during : List Event) (given : Given)
+    (to : Point) → IsRunOnBus limits timed ids before during rules mine given to →
+    IsRunIn ids before during rules mine given to ⊎ LosesFrames ids timed
