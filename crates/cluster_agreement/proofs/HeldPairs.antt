@@ -191,6 +191,6 @@ module _ (laws : HoldingLaws) (ids : List ℕ) (members : AreMembers ids) (choic
     }
 
 pub has_allocatees : HoldingLaws → (ids : List ℕ) (rows : List Row) → AreMembers ids → DoNoHarm (cluster ids) rows → HasAllocatees ids rows
-has_allocatees laws ids rows members lawful = λ first more rest choice cut fits.
+has_allocatees laws ids rows members harmless = λ first more rest choice cut fits.
     allocatees laws ids members choice first more rest
     (first_harmless (cluster ids) (first ++ more) rest (subst (λ (l : List Row). DoNoHarm (cluster ids) l) (cut ∙ sym (append_assoc first more rest)) harmless)) fits

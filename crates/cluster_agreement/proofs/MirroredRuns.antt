@@ -144,7 +144,7 @@ module _ (laws : ListLaws) (ids : List ℕ) (members : AreMembers ids) (choice :
         )
 
 pub has_headline : ListLaws → (ids : List ℕ) (rows : List Row) → AreMembers ids → DoNoHarm (cluster ids) rows → HasHeadline ids rows
-has_headline laws ids rows members lawful = record {
+has_headline laws ids rows members harmless = record {
   some = laws.choices ids rows members harmless;
   holds = λ first more rest choice cut fits. between laws ids members choice first more
       (first_harmless (cluster ids) (first ++ more) rest
