@@ -1,5 +1,5 @@
 -- All rows, one after another: their events continue the run.
-use Rattle.std.proofs.Common.{◌≡◌, ℕ, Bool, List, [], ◌∷◌, ◌++◌, sym, subst, arith}
+use Rattle.std.proofs.Common.{ℕ, Bool, List, [], ◌∷◌, ◌++◌, sym, subst, arith}
 use Rattle.raft_model.specs.Invariants.{Invariants}
 use Rattle.raft_model.specs.Runs as machine
 use Rattle.raft_model.specs.Runs.{Event, InEveryRun, initial_world}

@@ -14,7 +14,7 @@ use Rattle.transfer_rx.specs.declared.accept.AcceptRow.{AcceptRow}
 use Rattle.transfer_rx.specs.declared.accept.Wanted.{Wanted}
 use Rattle.transfer_rx.specs.declared.key.Key.{Key}
 use Rattle.transfer_rx.specs.Acceptance.{accepted, first_signature, is_for, is_service, wanted, with_signature}
-use Rattle.transfer_rx.specs.Keys.{is_anonymous, same_key, same_kind}
+use Rattle.transfer_rx.specs.Keys.{same_key, same_kind}
 use Rattle.alloc_spec_laws.specs.Sound.{IsDestination}
 use Rattle.alloc_spec.specs.Accepted.{rows}
 use Rattle.alloc_spec.specs.Transfers.{ident_of, kind_of, number_of}

@@ -2,7 +2,6 @@
 use Rattle.std.proofs.Common.{◌≡◌, ℕ, ◌≤◌, Bool, List, true, refl, sym, ap, subst, ◌∙◌, inl}
 use Rattle.can_frame.specs.declared.identifier.Ident.{Ident}
 use Rattle.can_frame.specs.declared.mark.Mark.{Mark}
-use Rattle.raft_model.specs.Lists.{In}
 use Rattle.raft_model.specs.Runs as machine
 use Rattle.replay_text.specs.declared.row.Row.TheVariants.{Rx}
 use Rattle.alloc_spec.specs.Accepted.{rows, setting_for}

@@ -1,9 +1,9 @@
 -- Fronts of logs.
-use Rattle.std.proofs.Common.{◌≡◌, ℕ, zero, suc, ◌<◌, ◌≤◌, List, length, take, refl, sym, ap, ◌∙◌, arith, length-take, get_or-take}
+use Rattle.std.proofs.Common.{◌≡◌, ℕ, ◌<◌, ◌≤◌, List, length, take, sym, ap, ◌∙◌, arith, length-take, get_or-take}
 use Rattle.std.specs.Prelude.{slice_index_or}
 use Rattle.std.proofs.lemmas.List.{take-take}
 use Rattle.can_frame.specs.declared.entry.Entry.{Entry}
-use Rattle.can_frame.specs.Log.{IsPrefix, blank, entry_at}
+use Rattle.can_frame.specs.Log.{IsPrefix, blank}
 
 pub prefix_length : (a b : List Entry) → IsPrefix a b → length a ≤ length b
 prefix_length a b e = let n : length (take (length a) b) ≡ length a = ap length e in omega (arith, n, length-take (length a) b)
