@@ -19,6 +19,7 @@ pub mod Unstale
 pub mod UntornMembers
 pub mod LastCall
 pub mod Waiting
+pub mod Waking
 pub mod StepCalls
 pub mod Spacing
 pub mod SpacedVotes

@@ -17,7 +17,7 @@ use Rattle.cluster_spec.specs.Refinement.{transfers_of_rows}
 use Rattle.cluster_agreement.specs.LawsBelow.{FrameLaws}
 use Rattle.cluster_agreement.specs.Said.{carrier}
 use Rattle.cluster_agreement.proofs.Concatenations.{ids_stay}
-use Rattle.bus_physics.specs.Physics.{ClockIsNotFast, IsAnswered, Limits, RestsWhenOpened, Timed, WaitsForAnswers, heard_by, rows_in, time_of}
+use Rattle.bus_physics.specs.Physics.{ClockIsNotFast, HoldsAreShort, IsAnswered, Limits, RestsBeforeOpening, Timed, WaitsForAnswers, heard_by, rows_in, time_of}
 use Rattle.bus_physics.proofs.HeardAnswers.{answers_are_heard}
 use Rattle.bus_physics.proofs.Single.{IsShown}
 use Rattle.bus_physics.proofs.SpacedCalls.{AreSettled, Known, along}
@@ -35,42 +35,35 @@ module _ (laws : FrameLaws) (called : (t : AllocatorState) (number : ℕ) (event
   abbrev made : List SentTransfer
   made = transfers_of_rows (cluster ids) (rows_in before) []
 
-  module _ (append : Bool) (p width : ℕ) (P : ℕ → ℕ → Memory → Times → ℕ → Type 0) (spaced : IsSpaced append p width P) (small : p < 128)
-      (enough : 2 * limits.hold + limits.drift < width) (narrow : width ≤ 32000) where
-    known : (rows : List Row) → Lawful (cluster ids) rows → Known append p width P spaced small n limits all (world_of ids rows) (transfers_of_rows (cluster ids) rows [])
-    known rows so_far = record {
-      earlier = (shown rows so_far).shows.past;
-      answered = answers_are_heard append p width P spaced small n laws (shown rows so_far).choice (transfers_of_rows (cluster ids) rows []) (world_of ids rows)
-          (shown rows so_far).run (subst AreMembers (sym (ids_stay (cluster ids) rows)) members) (shown rows so_far).shows
-          (waits_along called n rows (cluster ids) [] (λ t up. absurd (cc (up))) (λ x i. absurd i));
-    }
+  module _ (short : HoldsAreShort limits) (rests : RestsBeforeOpening limits all made n) where
+    module _ (append : Bool) (p width : ℕ) (P : ℕ → ℕ → Memory → Times → ℕ → Type 0) (spaced : IsSpaced append p width P) (small : p < 128)
+        (wide : 21000 ≤ width) (narrow : width ≤ 32000) where
+      known : (rows : List Row) → Lawful (cluster ids) rows → Known append p width P spaced small n limits all (world_of ids rows) (transfers_of_rows (cluster ids) rows [])
+      known rows so_far = record {
+        earlier = (shown rows so_far).shows.past;
+        answered = answers_are_heard append p width P spaced small n laws (shown rows so_far).choice (transfers_of_rows (cluster ids) rows []) (world_of ids rows)
+            (shown rows so_far).run (subst AreMembers (sym (ids_stay (cluster ids) rows)) members) (shown rows so_far).shows
+            (waits_along called n rows (cluster ids) [] (λ t up. absurd (cc (up))) (λ x i. absurd i));
+      }
 
-    settled : AreSettled append p width P spaced small n limits all made (heard_by n (cluster ids) (rows_in before))
-    settled = along append p width P spaced small n limits all enough narrow ids known before [] (now ∷ []) (cluster ids) [] [] [] refl refl refl refl tt lawful slow
-        (λ t up. absurd (cc (up))) (λ x y i. absurd i)
+      settled : AreSettled append p width P spaced small n limits all made (heard_by n (cluster ids) (rows_in before))
+      settled = along append p width P spaced small n limits all short wide narrow ids known before [] (now ∷ []) (cluster ids) [] [] [] refl refl refl refl tt lawful slow
+          rests (λ t up. absurd (cc (up))) (λ x y i. absurd i)
 
-    module _ (rests : RestsWhenOpened limits all made n) (x y : SentTransfer) (i : In x made) (j : In y made) (by : x.by ≡ n) (by_too : y.by ≡ n)
-        (what : x.offer.what ≡ y.offer.what) (to : x.offer.to ≡ y.offer.to) (id : x.offer.id ≡ y.offer.id) (less : x.step < y.step)
-        (kind : (x.offer.what ≡ AppQ) ⊎ (x.offer.what ≡ VoteQ)) where
-      pub comes_late : x.offer.what ≡ carrier append → x.offer.to ≡ p
-          → (time_of all x.step + 2 * limits.hold < time_of all y.step)
+      pub comes_late : (x y : SentTransfer) → In x made → In y made → x.by ≡ n → y.by ≡ n → x.offer.what ≡ y.offer.what → x.offer.to ≡ y.offer.to
+          → x.offer.id ≡ y.offer.id → x.step < y.step → x.offer.what ≡ carrier append → x.offer.to ≡ p
+          → (time_of all x.step + 2 * limits.hold < time_of all y.step) ⊎ IsAnswered made (heard_by n (cluster ids) (rows_in before)) x
+      comes_late x y i j by by_too what to id less carries here =
+          settled x y i j (record { by = by; what = carries; to = here }) (record { by = by_too; what = sym what ∙ carries; to = sym to ∙ here }) id less
+
+    pub round_late : WaitsForAnswers limits all made (heard_by n (cluster ids) (rows_in before)) n
+    round_late x y i j by by_too what to id less kind = by_kind kind where
+      small : kind_of x.offer.what ≡ RequestKind → x.offer.to < 128
+      small is = let r = subst (λ (k : _). IsDestination k x.offer.to) is ((shown (rows_in before) lawful).shows.holds.transfers.ranges x i).to in omega (arith, r.1)
+
+      by_kind : (x.offer.what ≡ AppQ) ⊎ (x.offer.what ≡ VoteQ) → (time_of all x.step + 2 * limits.hold < time_of all y.step)
           ⊎ IsAnswered made (heard_by n (cluster ids) (rows_in before)) x
-      comes_late carries here = elim (settled x y i j (record { by = by; what = carries; to = here })
-          (record { by = by_too; what = sym what ∙ carries; to = sym to ∙ here }) id less) [
-            | inl far ↦ inl far
-            | inr (inl answered) ↦ inr answered
-            | inr (inr opened) ↦ inl (rests x y i j by by_too what to id kind opened)
-          ]
-
-  pub round_late : 2 * limits.hold + limits.drift < 21000 → RestsWhenOpened limits all made n
-      → WaitsForAnswers limits all made (heard_by n (cluster ids) (rows_in before)) n
-  round_late enough rests x y i j by by_too what to id less kind = by_kind kind where
-    small : kind_of x.offer.what ≡ RequestKind → x.offer.to < 128
-    small is = let r = subst (λ (k : _). IsDestination k x.offer.to) is ((shown (rows_in before) lawful).shows.holds.transfers.ranges x i).to in omega (arith, r.1)
-
-    by_kind : (x.offer.what ≡ AppQ) ⊎ (x.offer.what ≡ VoteQ) → (time_of all x.step + 2 * limits.hold < time_of all y.step)
-        ⊎ IsAnswered made (heard_by n (cluster ids) (rows_in before)) x
-    by_kind (inl append) = comes_late true x.offer.to 32000 (λ M b m times moment. Open x.offer.to M b m times moment) (spaced_appends x.offer.to) (small (ap kind_of append))
-        (omega (arith, enough)) (omega arith) rests x y i j by by_too what to id less kind append refl
-    by_kind (inr vote) = comes_late false x.offer.to 21000 (λ M b m times moment. Asked x.offer.to M b m times moment) (spaced_votes x.offer.to) (small (ap kind_of vote))
-        enough (omega arith) rests x y i j by by_too what to id less kind vote refl
+      by_kind (inl append) = comes_late true x.offer.to 32000 (λ M b m times moment. Open x.offer.to M b m times moment) (spaced_appends x.offer.to) (small (ap kind_of append))
+          (omega arith) (omega arith) x y i j by by_too what to id less append refl
+      by_kind (inr vote) = comes_late false x.offer.to 21000 (λ M b m times moment. Asked x.offer.to M b m times moment) (spaced_votes x.offer.to) (small (ap kind_of vote))
+          (omega arith) (omega arith) x y i j by by_too what to id less vote refl

@@ -1,8 +1,9 @@
 -- From the laws of one row to a schedule.
-use Rattle.std.proofs.Common.{◌≡◌, ℕ, Bool, true, false, List, [], ◌∷◌, ◌++◌, refl, sym, ap, subst, ◌∙◌, ◌⊎◌, inl, inr, Option, Some, None, append_assoc}
+use Rattle.std.proofs.Common.{◌≡◌, ℕ, Bool, true, false, List, [], ◌∷◌, ◌++◌, refl, sym, ap, subst, ◌∙◌, ◌⊎◌, inl, inr, Option, Some, None, append_assoc, append-nil}
 use Rattle.std.specs.Prelude.{◌==◌, ◌||◌, ◌&&◌, not, nat_eq, nat_lt, length, is_some, if◌then◌else◌}
 use Rattle.can_frame.specs.Identifier.{identifier_of}
 use Rattle.can_frame.specs.declared.step.Judged.TheVariants.{Fine, Torn as IsTorn}
+use Rattle.raft_model.specs.Lists.{In}
 use Rattle.replay_text.specs.declared.row.Row.{Row}
 use Rattle.replay_text.specs.declared.row.Row.TheVariants.{Open, Tick, Rx, Send, Ext, Crash, Fault, AOpen, ATick, ARx, ASend, AEnd}
 use Rattle.transfer_rx.specs.Reassembly.{Answer, Arrival, Continues, Drops, Gives}
@@ -12,15 +13,17 @@ use Rattle.allocatee.specs.Judging as device
 use Rattle.cluster_spec.specs.declared.unlawful.Unlawful.{Unlawful}
 use Rattle.cluster_spec.specs.declared.unlawful.Unlawful.TheVariants.{NoNode, Stopped, Running, NoFrame, NothingQueued, Forged, Torn, Stale, NoAllocatee, Absent, Present}
 use Rattle.cluster_spec.specs.Cluster.{Cluster, after_row, after_rows, arrival_at, cluster, frame_at, is_member, world_of}
-use Rattle.cluster_spec.specs.Lawful.{Lawful, absent, already_running, arrival_refusal_at, because, cause, cause_of_judgement, is_forged, no_allocatee, no_node, no_such_frame, not_running, nothing_to_send, or_else, present}
+use Rattle.cluster_spec.specs.Lawful.{DoNoHarm, DoesNoHarm, Lawful, absent, already_running, arrival_refusal_at, because, cause, cause_of_judgement, is_forged, no_allocatee, no_node, no_such_frame, not_running, nothing_to_send, or_else, present}
 use Rattle.cluster_spec.specs.Allocatees.{is_place, next_from}
 use Rattle.cluster_spec.specs.Members.{is_running, next_frame}
 use Rattle.cluster_spec.specs.Refinement.{transfers_of_rows}
+use Rattle.cluster_agreement.proofs.Concatenations.{ids_stay}
 use Rattle.cluster_agreement.proofs.Lists.{never}
 use Rattle.cluster_agreement.proofs.OneRowMore.{grown, lawful as one_more}
-use Rattle.bus_physics.specs.Physics.{Limits, Timed, rows_in}
+use Rattle.bus_physics.specs.Physics.{AllComeInTurn, Come, ComeInOrder, ComesAt, ComesInOrder, ComesInTurn, Limits, OfIt, Timed, heard_in, rows_in}
 use Rattle.bus_physics.specs.Reuse.{LacksFrames}
 use Rattle.bus_physics.specs.Schedule.{DeviceHears, MemberHears, HappenOnBus, HappensOnBus, LawfulButForBus, LosesFrames, is_of_bus}
+use Rattle.bus_physics.proofs.Refusals.{of_torn, refused}
 
 -- ---- which rows have which of the two causes
 
@@ -156,6 +159,31 @@ module _ (limits : Limits) (ids : List ℕ) where
       → HappensOnBus limits ids before now row
   of_row before now row e happens = subst (λ (r : Row). HappensOnBus limits ids before now r) e happens
 
+  -- a row more
+  pub lawful_more : (before : List Timed) (t : Timed) (w : Cluster) → w_of before ≡ w → Lawful (cluster ids) (rows_in before)
+      → cause w t.row ≡ None → Lawful (cluster ids) (rows_in (before ++ t ∷ []))
+  lawful_more before t w at lawful e = subst (λ (l : List Row). Lawful (cluster ids) l) (sym (rows_of_more before t))
+      (one_more (cluster ids) (rows_in before) t.row lawful (ap (λ (u : Cluster). cause u t.row) at ∙ e))
+
+  -- frames that come in turn come in order
+  in_order_at : (n : ℕ) (heard : List Queued) (w : Cluster) (row : Row) → ComesAt (ComesInTurn n) n heard w row → ComesAt (ComesInOrder n) n heard w row
+  in_order_at n heard w (Rx m k ms) turn = by (n == m) turn where
+    by : (same : Bool) → OfIt same (ComesInTurn n heard (frame_at w.frames k)) → OfIt same (ComesInOrder n heard (frame_at w.frames k))
+    by true turn = turn.0
+    by false turn = tt
+  in_order_at n heard w row turn = tt
+
+  come_in_order : (n : ℕ) (heard : List Queued) (w : Cluster) (rows : List Row) → Come (ComesInTurn n) n heard w rows → ComeInOrder n heard w rows
+  come_in_order n heard w [] turns = tt
+  come_in_order n heard w (row ∷ rows) turns =
+      (in_order_at n heard w row turns.0, come_in_order n (heard ++ heard_in n w row) (after_row w row) rows turns.1)
+
+  -- so it is of those that a member heard before one that is torn
+  pub heard_in_order : (before : List Timed) (n k ms : ℕ) → AllComeInTurn ids (cluster ids) (rows_in before) → cause (w_of before) (Rx n k ms) ≡ Some Torn
+      → ComeInOrder n [] (cluster ids) (rows_in before)
+  heard_in_order before n k ms turns e = come_in_order n [] (cluster ids) (rows_in before)
+      (turns n (subst (λ (l : List ℕ). In n l) (ids_stay (cluster ids) (rows_in before)) (refused Torn IsTorn of_torn (w_of before) n k ms e).member))
+
   module _ (device_law : DeviceLaw) (torn_law : TornLaw) (stale_law : StaleLaw) where
     -- a row that is refused lacks frames
     pub lost : (before rest : List Timed) (now : Timed) (why : Unlawful) → is_of_bus why ≡ true → Lawful (cluster ids) (rows_in before)
@@ -188,13 +216,28 @@ module _ (limits : Limits) (ids : List ℕ) where
             absurd (device_law before now a k ms word row lawful (of_row before now (ARx a k ms word) row happens)
             (subst (λ (r : Row). cause (w_of before) r ≡ Some why) row e ∙ ap (λ (c : Unlawful). Some c) torn))
 
+    -- a row that does no harm, and happens on the bus, is lawful
+    harmless_row : (before : List Timed) (t : Timed) → Lawful (cluster ids) (rows_in before) → HappensOnBus limits ids before t t.row
+        → (row : Row) → t.row ≡ row → DoesNoHarm (w_of before) row → cause (w_of before) row ≡ None
+    harmless_row before t lawful happens row is (inl fine) = fine
+    harmless_row before t lawful happens (Rx n k ms) is (inr late) = absurd (stale_law before t n k ms is lawful (of_row before t (Rx n k ms) is happens) late.0)
+    harmless_row before t lawful happens row is (inr late) = never late.1
+
+    pub harmless_rows : (rest before : List Timed) (w : Cluster) → w_of before ≡ w → Lawful (cluster ids) (rows_in before)
+        → HappenOnBus limits ids before rest → DoNoHarm w (rows_in rest) → Lawful (cluster ids) (rows_in (before ++ rest))
+    harmless_rows [] before w at lawful happen harmless = subst (λ (l : List Timed). Lawful (cluster ids) (rows_in l)) (sym (append-nil before)) lawful
+    harmless_rows (t ∷ rest) before w at lawful happen harmless =
+        subst (λ (l : List Timed). Lawful (cluster ids) (rows_in l)) (append_assoc before (t ∷ []) rest)
+        (harmless_rows rest (before ++ t ∷ []) (after_row w t.row) (after_more before t ∙ ap (λ (u : Cluster). after_row u t.row) at)
+        (lawful_more before t w at lawful (ap (λ (u : Cluster). cause u t.row) (sym at)
+        ∙ harmless_row before t lawful happen.0 t.row refl (subst (λ (u : Cluster). DoesNoHarm u t.row) (sym at) harmless.0))) happen.1 harmless.1)
+
     pub scheduled : (rest before : List Timed) (w : Cluster) → w_of before ≡ w → Lawful (cluster ids) (rows_in before)
         → HappenOnBus limits ids before rest → LawfulButForBus w (rows_in rest) → Lawful w (rows_in rest) ⊎ LosesFrames ids (before ++ rest)
     scheduled [] before w at lawful happen but = inl tt
     scheduled (now ∷ rest) before w at lawful happen but = by (cause w now.row) refl
         (λ e. scheduled rest (before ++ now ∷ []) (after_row w now.row) (after_more before now ∙ ap (λ (u : Cluster). after_row u now.row) at)
-        (subst (λ (l : List Row). Lawful (cluster ids) l) (sym (rows_of_more before now))
-        (one_more (cluster ids) (rows_in before) now.row lawful (ap (λ (u : Cluster). cause u now.row) at ∙ e))) happen.1 but.1)
+        (lawful_more before now w at lawful e) happen.1 but.1)
       where
         by : (c : Option Unlawful) → cause w now.row ≡ c
             → (cause w now.row ≡ None → Lawful (after_row w now.row) (rows_in rest) ⊎ LosesFrames ids ((before ++ now ∷ []) ++ rest))

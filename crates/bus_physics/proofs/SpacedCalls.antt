@@ -1,5 +1,4 @@
--- Where a transfer ID of a member's calls to a node comes round, much time has passed, or one of them was answered, or
--- the member was opened in between.
+-- Where a transfer ID of a member's calls to a node comes round, much time has passed, or one of them was answered.
 use Rattle.std.proofs.Common.{◌≡◌, ℕ, suc, ◌+◌, ◌*◌, ◌<◌, ◌≤◌, Bool, true, false, List, [], ◌∷◌, ◌++◌, length, refl, sym, ap, subst, ◌∙◌, arith, ◌⊎◌, inl, inr, None, append_assoc}
 use Rattle.std.specs.Prelude.{◌-◌, ◌==◌, max, nat_eq, slice_index_or, if◌then◌else◌}
 use Rattle.std.proofs.lemmas.Bool.Decides.{eqb_tells, leb_tells}
@@ -34,9 +33,10 @@ use Rattle.cluster_agreement.proofs.Concatenations.{rows_joined}
 use Rattle.cluster_agreement.proofs.Lists.{in_front}
 use Rattle.cluster_agreement.proofs.OneRowMore.{lawful as one_more}
 use Rattle.cluster_agreement.proofs.MadeTransfers.{IsNew, made_when, still_made}
-use Rattle.bus_physics.specs.Physics.{IsAnswered, IsNotFast, IsOpenedBetween, IsResponseOf, Limits, OfIt, Reading, Reads, ReadsAt, Timed, heard_by, heard_in, member_readings, now_in, row_of, rows_in, time_of}
+use Rattle.bus_physics.specs.Physics.{HoldsAreShort, IsAnswered, IsNotFast, IsResponseOf, Limits, OfIt, Reading, Reads, ReadsAt, RestsBeforeOpening, Timed, heard_by, heard_in, member_readings, now_in, row_of, rows_in, time_of}
 use Rattle.bus_physics.proofs.Scheduled.{rows_of_more}
 use Rattle.bus_physics.proofs.Now.{now_of_a_step}
+use Rattle.bus_physics.proofs.Waking.{IsAwake}
 use Rattle.bus_physics.proofs.StepCalls.{Called, IsAnswerOf, IsCall, IsQuietAt, IsSpaced, Open, Since, calls_of_a_step, ids_to}
 
 one_up : (a b : AllocatorState) → Up a ≡ Up b → a ≡ b
@@ -123,42 +123,36 @@ module _ (append : Bool) (p width : ℕ) (P : ℕ → ℕ → Memory → Times �
     pub last : (x : SentTransfer) → In x made → IsCallTo x → x.step ≤ later.step
 
   module _ (limits : Limits) (all : List Timed) where
-    -- the member was opened in a row behind a step, and one of these
-    pub record IsOpenedAfter (rows first : ℕ) : Type 0 where
-      pub number : ℕ
-      pub later : first < number
-      pub done : number ≤ rows
-      pub told : Bool
-      pub moment : ℕ
-      pub word : ℕ
-      pub opens : row_of all number ≡ Opens n told moment word
-
     -- since the call so many were made, and its moment is that of a reading
     pub record Waits (past : List Reading) (t : AllocatorState) (x : SentTransfer) : Type 0 where
       pub moment : ℕ
       pub reading : In (record { at = time_of all x.step; now = moment }) past
       pub since : Since append p P x.offer.id moment t.raft_server.memory t.times t.ids t.now
 
+    -- it was answered, or the member rested since, before it was opened at this time
     abbrev pub IsEnded : List SentTransfer → List Queued → ℕ → SentTransfer → Type 0
-    IsEnded made heard rows x = IsAnswered made heard x ⊎ IsOpenedAfter rows x.step
+    IsEnded made heard at x = IsAnswered made heard x ⊎ (time_of all x.step + limits.rest ≤ at)
 
-    pub record Runs (made : List SentTransfer) (heard : List Queued) (past : List Reading) (rows : ℕ) (t : AllocatorState) : Type 0 where
+    pub record Runs (made : List SentTransfer) (heard : List Queued) (past : List Reading) (t : AllocatorState) : Type 0 where
       pub wait : t.times.since ≤ t.now
       pub room : p < length (ids_to append t.ids)
-      pub each : (x : SentTransfer) → In x made → IsCallTo x → IsEnded made heard rows x ⊎ Waits past t x
+      -- the reading of its opening
+      pub opening : Reading
+      pub reading : In opening past
+      pub awake : IsAwake opening.now t.raft_server.memory t.times t.now
+      pub each : (x : SentTransfer) → In x made → IsCallTo x → IsEnded made heard opening.at x ⊎ Waits past t x
 
-    abbrev pub RunsWhereUp : List SentTransfer → List Queued → List Reading → ℕ → MemberStatus → Type 0
-    RunsWhereUp made heard past rows status = (t : AllocatorState) → status ≡ Up t → Runs made heard past rows t
+    abbrev pub RunsWhereUp : List SentTransfer → List Queued → List Reading → MemberStatus → Type 0
+    RunsWhereUp made heard past status = (t : AllocatorState) → status ≡ Up t → Runs made heard past t
 
     abbrev pub IsSettled : List SentTransfer → List Queued → SentTransfer → SentTransfer → Type 0
-    IsSettled made heard x y = (time_of all x.step + 2 * limits.hold < time_of all y.step)
-        ⊎ (IsAnswered made heard x ⊎ IsOpenedBetween all n x.step y.step)
+    IsSettled made heard x y = (time_of all x.step + 2 * limits.hold < time_of all y.step) ⊎ IsAnswered made heard x
 
     abbrev pub AreSettled : List SentTransfer → List Queued → Type 0
     AreSettled made heard = (x y : SentTransfer) → In x made → In y made → IsCallTo x → IsCallTo y → x.offer.id ≡ y.offer.id → x.step < y.step
         → IsSettled made heard x y
 
-    -- what was answered, or ended, stays so
+    -- what was answered stays so
     answered_more : (made more : List SentTransfer) (heard further : List Queued) → ((x : SentTransfer) → In x made → In x more)
         → ((f : Queued) → In f heard → In f further) → (x : SentTransfer) → IsAnswered made heard x → IsAnswered more further x
     answered_more made more heard further grows hears x a = record {
@@ -171,33 +165,10 @@ module _ (append : Bool) (p width : ℕ) (P : ℕ → ℕ → Memory → Times �
       answers = a.answers;
     }
 
-    opened_more : (rows then_ first : ℕ) → rows ≤ then_ → IsOpenedAfter rows first → IsOpenedAfter then_ first
-    opened_more rows then_ first less o = record {
-      number = o.number;
-      later = o.later;
-      done = omega (arith, less, o.done);
-      told = o.told;
-      moment = o.moment;
-      word = o.word;
-      opens = o.opens;
-    }
-
     settled_more : (made more : List SentTransfer) (heard further : List Queued) → ((x : SentTransfer) → In x made → In x more)
         → ((f : Queued) → In f heard → In f further) → (x y : SentTransfer) → IsSettled made heard x y → IsSettled more further x y
     settled_more made more heard further grows hears x y (inl far) = inl far
-    settled_more made more heard further grows hears x y (inr (inl a)) = inr (inl (answered_more made more heard further grows hears x a))
-    settled_more made more heard further grows hears x y (inr (inr o)) = inr (inr o)
-
-    between : (rows : ℕ) (x y : SentTransfer) → rows < y.step → IsOpenedAfter rows x.step → IsOpenedBetween all n x.step y.step
-    between rows x y less o = record {
-      number = o.number;
-      later = o.later;
-      sooner = omega (arith, less, o.done);
-      told = o.told;
-      moment = o.moment;
-      word = o.word;
-      opens = o.opens;
-    }
+    settled_more made more heard further grows hears x y (inr a) = inr (answered_more made more heard further grows hears x a)
 
     answered_by : (made : List SentTransfer) (heard : List Queued) (step : ℕ) → IsHeard made heard step → (x : SentTransfer) → In x made → IsCallTo x → IsAnswered made heard x
     answered_by made heard step h x i call = record {
@@ -212,9 +183,9 @@ module _ (append : Bool) (p width : ℕ) (P : ℕ → ℕ → Memory → Times �
 
     -- ---- a step of the member
 
-    module _ (enough : 2 * limits.hold + limits.drift < width) (narrow : width ≤ 32000) (made : List SentTransfer) (heard further : List Queued)
+    module _ (short : HoldsAreShort limits) (wide : 21000 ≤ width) (narrow : width ≤ 32000) (made : List SentTransfer) (heard further : List Queued)
         (hears : (f : Queued) → In f heard → In f further) (past : List Reading) (rows came : ℕ) (its_time : time_of all (rows + 1) ≡ came)
-        (earlier : (x : SentTransfer) → In x made → x.step ≤ rows) (t : AllocatorState) (runs : Runs made heard past rows t)
+        (earlier : (x : SentTransfer) → In x made → x.step ≤ rows) (t : AllocatorState) (runs : Runs made heard past t)
         (settled : AreSettled made heard) (event : Event)
         (slow : IsNotFast limits past came (max t.now (moment_of event)))
         (heard_it : Answers event (begin_phase (rows + 1) (moment_of event) t).allocator → IsHeard made further (rows + 1)) where
@@ -240,20 +211,21 @@ module _ (append : Bool) (p width : ℕ) (P : ℕ → ℕ → Memory → Times �
         pub moment : waits.moment ≡ M
         pub silent : Answers event begun.allocator → ⊥
 
-      opened : Open append p width P is number Past t.raft_server.memory t.times t.ids t.now
+      opened : Open append p width P is number runs.opening.now Past t.raft_server.memory t.times t.ids t.now
       opened = record {
         wait = runs.wait;
+        awake = runs.awake;
         room = runs.room;
         past = λ id M i. subst (λ (k : ℕ). Since append p P k M t.raft_server.memory t.times t.ids t.now) i.same
             (subst (λ (k : ℕ). Since append p P i.x.offer.id k t.raft_server.memory t.times t.ids t.now) i.moment i.waits.since);
       }
 
-      quiet : (e : Event) → event ≡ e → IsQuietAt append p width P is number Past e begun
+      quiet : (e : Event) → event ≡ e → IsQuietAt append p width P is number runs.opening.now Past e begun
       quiet (Ticks now word) e = tt
       quiet (Receives arrival) e = λ d gives answers id M i. i.silent (subst (λ (x : Event). Answers x begun.allocator) (sym e) (d, gives, answers))
 
-      called : Called append p width P is number Past g.allocator.raft_server.memory g.allocator.times g.allocator.ids g.allocator.now g.offers
-      called = calls_of_a_step append p width P is number Past t event opened (quiet event refl)
+      called : Called append p width P is number runs.opening.now Past g.allocator.raft_server.memory g.allocator.times g.allocator.ids g.allocator.now g.offers
+      called = calls_of_a_step append p width P is number runs.opening.now Past t event opened (quiet event refl)
 
       abbrev more : List SentTransfer
       more = transfers_of_offers number n g.offers made
@@ -261,7 +233,7 @@ module _ (append : Bool) (p width : ℕ) (P : ℕ → ℕ → Memory → Times �
       grows : (x : SentTransfer) → In x made → In x more
       grows x i = still_made number n g.offers made x i
 
-      new_call : (x : SentTransfer) (new : IsNew number n g.offers x) → IsCallTo x → IsCall append p width P is number Past new.offer
+      new_call : (x : SentTransfer) (new : IsNew number n g.offers x) → IsCallTo x → IsCall append p width P is number runs.opening.now Past new.offer
       new_call x new call =
           let same : x.offer ≡ new.offer = ap (λ (y : SentTransfer). y.offer) new.is in
           record {
@@ -273,12 +245,20 @@ module _ (append : Bool) (p width : ℕ) (P : ℕ → ℕ → Memory → Times �
       now_is : g.allocator.now ≡ max t.now (moment_of event)
       now_is = now_of_a_step t number event
 
-      pub runs_then : Runs more further later_past number g.allocator
-      runs_then = record { wait = called.opened.wait; room = called.opened.room; each = λ x i call. by x call (made_when number n g.offers made x i) } where
-        old : (x : SentTransfer) → In x made → IsCallTo x → IsEnded made heard rows x ⊎ Waits past t x
-            → Answers event begun.allocator ⊎ (Answers event begun.allocator → ⊥) → IsEnded more further number x ⊎ Waits later_past g.allocator x
+      pub runs_then : Runs more further later_past g.allocator
+      runs_then = record {
+        wait = called.opened.wait;
+        room = called.opened.room;
+        opening = runs.opening;
+        reading = inr runs.reading;
+        awake = called.opened.awake;
+        each = λ x i call. by x call (made_when number n g.offers made x i);
+      }
+        where
+        old : (x : SentTransfer) → In x made → IsCallTo x → IsEnded made heard runs.opening.at x ⊎ Waits past t x
+            → Answers event begun.allocator ⊎ (Answers event begun.allocator → ⊥) → IsEnded more further runs.opening.at x ⊎ Waits later_past g.allocator x
         old x i call (inl (inl a)) decided = inl (inl (answered_more made more heard further grows hears x a))
-        old x i call (inl (inr o)) decided = inl (inr (opened_more rows number x.step (omega arith) o))
+        old x i call (inl (inr rested)) decided = inl (inr rested)
         old x i call (inr w) (inl answers) =
             inl (inl (answered_more made more further further grows (λ f j. j) x (answered_by made further number (heard_it answers) x i call)))
         old x i call (inr w) (inr silent) = inr (record {
@@ -288,7 +268,7 @@ module _ (append : Bool) (p width : ℕ) (P : ℕ → ℕ → Memory → Times �
               (record { x = x; there = i; call = call; same = refl; waits = w; moment = refl; silent = silent });
         })
 
-        by : (x : SentTransfer) → IsCallTo x → In x made ⊎ IsNew number n g.offers x → IsEnded more further number x ⊎ Waits later_past g.allocator x
+        by : (x : SentTransfer) → IsCallTo x → In x made ⊎ IsNew number n g.offers x → IsEnded more further runs.opening.at x ⊎ Waits later_past g.allocator x
         by x call (inl i) = old x i call (runs.each x i call) (event_is event begun.allocator)
         by x call (inr new) = inr (record {
           moment = g.allocator.now;
@@ -306,19 +286,29 @@ module _ (append : Bool) (p width : ℕ) (P : ℕ → ℕ → Memory → Times �
         -- so much went by on the member's clock, and so on a true one
         far : (w : Waits past t x) → w.moment + width ≤ g.allocator.now → time_of all x.step + 2 * limits.hold < came
         far w passed = elim (leb_tells came (time_of all x.step + 60000)) [
-          | inr long ↦ omega (arith, long.1, enough, narrow)
-          | inl soon ↦ omega (arith, slow (record { at = time_of all x.step; now = w.moment }) w.reading soon.1, passed, now_is, enough)
+          | inr long ↦ omega (arith, long.1, short.round)
+          | inl soon ↦ omega (arith, slow (record { at = time_of all x.step; now = w.moment }) w.reading soon.1, passed, now_is, short.round, wide)
         ]
 
-        old : In x made → IsNew number n g.offers y → IsEnded made heard rows x ⊎ Waits past t x
+        -- it rested before it was opened, and 2,000 ms have passed since
+        far_after_rest : time_of all x.step + limits.rest ≤ runs.opening.at → runs.opening.now + 2000 ≤ g.allocator.now → time_of all x.step + 2 * limits.hold < came
+        far_after_rest rested passed = elim (leb_tells came (runs.opening.at + 60000)) [
+          | inr long ↦ omega (arith, long.1, rested, short.rested)
+          | inl soon ↦ omega (arith, slow runs.opening runs.reading soon.1, passed, now_is, rested, short.rested, short.clock)
+        ]
+
+        at_step : IsNew number n g.offers y → time_of all x.step + 2 * limits.hold < came → time_of all x.step + 2 * limits.hold < time_of all y.step
+        at_step new passed = subst (λ (m : ℕ). time_of all x.step + 2 * limits.hold < m) (sym its_time ∙ ap (time_of all) (sym (step_of y new))) passed
+
+        old : In x made → IsNew number n g.offers y → IsEnded made heard runs.opening.at x ⊎ Waits past t x
             → Answers event begun.allocator ⊎ (Answers event begun.allocator → ⊥) → IsSettled more further x y
-        old k new (inl (inl a)) decided = inr (inl (answered_more made more heard further grows hears x a))
-        old k new (inl (inr o)) decided = inr (inr (between rows x y (omega (arith, step_of y new)) o))
+        old k new (inl (inl a)) decided = inr (answered_more made more heard further grows hears x a)
+        old k new (inl (inr rested)) decided = inl (at_step new (far_after_rest rested (called.over new.offer new.offered (new_call y new called_too))))
         old k new (inr w) (inl answers) =
-            inr (inl (answered_more made more further further grows (λ f l. l) x (answered_by made further number (heard_it answers) x k call)))
+            inr (answered_more made more further further grows (λ f l. l) x (answered_by made further number (heard_it answers) x k call))
         old k new (inr w) (inr silent) =
-            inl (subst (λ (m : ℕ). time_of all x.step + 2 * limits.hold < m) (sym its_time ∙ ap (time_of all) (sym (step_of y new)))
-            (far w (called.far x.offer.id w.moment (record { x = x; there = k; call = call; same = refl; waits = w; moment = refl; silent = silent })
+            inl (at_step new (far w (called.far x.offer.id w.moment
+            (record { x = x; there = k; call = call; same = refl; waits = w; moment = refl; silent = silent })
             new.offer new.offered (new_call y new called_too) (ap (λ (z : SentTransfer). z.offer.id) (sym new.is) ∙ sym id))))
 
         by : In x made ⊎ IsNew number n g.offers x → In y made ⊎ IsNew number n g.offers y → IsSettled more further x y
@@ -330,10 +320,10 @@ module _ (append : Bool) (p width : ℕ) (P : ℕ → ℕ → Memory → Times �
     -- ---- any row
 
     module _ (w : Cluster) (made : List SentTransfer) (heard : List Queued) (past : List Reading) (came : ℕ) (its_time : time_of all (w.rows + 1) ≡ came)
-        (earlier : (x : SentTransfer) → In x made → x.step ≤ w.rows) (runs : RunsWhereUp made heard past w.rows (w.member n).status)
-        (settled : AreSettled made heard) where
+        (earlier : (x : SentTransfer) → In x made → x.step ≤ w.rows) (rests : RestsBeforeOpening limits all made n)
+        (runs : RunsWhereUp made heard past (w.member n).status) (settled : AreSettled made heard) where
       pub record Next (more : List SentTransfer) (further : List Queued) (past_then : List Reading) (status : MemberStatus) : Type 0 where
-        pub running : RunsWhereUp more further past_then (w.rows + 1) status
+        pub running : RunsWhereUp more further past_then status
         pub apart : AreSettled more further
 
       module _ (more : List SentTransfer) (further : List Queued) (grows : (x : SentTransfer) → In x made → In x more)
@@ -341,11 +331,19 @@ module _ (append : Bool) (p width : ℕ) (P : ℕ → ℕ → Memory → Times �
         settled_still : AreSettled more further
         settled_still x y i j c d id less = settled_more made more heard further grows hears x y (settled x y (only x i c) (only y j d) c d id less)
 
-        kept : (t : AllocatorState) → Runs made heard past w.rows t → Runs more further past (w.rows + 1) t
-        kept t r = record { wait = r.wait; room = r.room; each = λ x i c. by x (r.each x (only x i c) c) } where
-          by : (x : SentTransfer) → IsEnded made heard w.rows x ⊎ Waits past t x → IsEnded more further (w.rows + 1) x ⊎ Waits past t x
+        kept : (t : AllocatorState) → Runs made heard past t → Runs more further past t
+        kept t r = record {
+          wait = r.wait;
+          room = r.room;
+          opening = r.opening;
+          reading = r.reading;
+          awake = r.awake;
+          each = λ x i c. by x (r.each x (only x i c) c);
+        }
+          where
+          by : (x : SentTransfer) → IsEnded made heard r.opening.at x ⊎ Waits past t x → IsEnded more further r.opening.at x ⊎ Waits past t x
           by x (inl (inl a)) = inl (inl (answered_more made more heard further grows hears x a))
-          by x (inl (inr o)) = inl (inr (opened_more w.rows (w.rows + 1) x.step (omega arith) o))
+          by x (inl (inr rested)) = inl (inr rested)
           by x (inr v) = inr v
 
         -- its status stays
@@ -368,25 +366,21 @@ module _ (append : Bool) (p width : ℕ) (P : ℕ → ℕ → Memory → Times �
       zeros true = omega (arith, small, length-replicate {A = ℕ} 128 0)
       zeros false = omega (arith, small, length-replicate {A = ℕ} 128 0)
 
-      wait_begun : (nodes : List ℕ) (ms word : ℕ) → (times_with nodes (opened_times ms word)).since ≤ ms
-      wait_begun [] ms word = omega arith
-      wait_begun (node ∷ nodes) ms word = omega arith
+      wait_begun : (nodes : List ℕ) (ms word : ℕ) → (times_with nodes (opened_times ms word)).since ≡ ms
+      wait_begun [] ms word = refl
+      wait_begun (node ∷ nodes) ms word = refl
 
       fresh : (m : ℕ) → n ≡ m → (told : Bool) (ms word : ℕ) → row_of all (w.rows + 1) ≡ Opens m told ms word → (rules : Rules) (store : Store) (u : AllocatorState)
-          → opening_by m rules store ms word ≡ u → Runs made (heard ++ []) (record { at = came; now = ms } ∷ []) (w.rows + 1) u
+          → opening_by m rules store ms word ≡ u → Runs made (heard ++ []) (record { at = came; now = ms } ∷ []) u
       fresh m same told ms word row rules store u is_it =
-          subst (λ (v : AllocatorState). Runs made (heard ++ []) (record { at = came; now = ms } ∷ []) (w.rows + 1) v) is_it (record {
-            wait = wait_begun rules.told ms word;
+          subst (λ (v : AllocatorState). Runs made (heard ++ []) (record { at = came; now = ms } ∷ []) v) is_it (record {
+            wait = omega (arith, wait_begun rules.told ms word);
             room = zeros append;
-            each = λ x i c. inl (inr (record {
-              number = w.rows + 1;
-              later = omega (arith, earlier x i);
-              done = omega arith;
-              told = told;
-              moment = ms;
-              word = word;
-              opens = row ∙ ap (λ (k : ℕ). Opens k told ms word) (sym same);
-            }));
+            opening = record { at = came; now = ms };
+            reading = inl refl;
+            awake = record { wait = omega (arith, wait_begun rules.told ms word); follows = inl refl };
+            each = λ x i c. inl (inr (subst (λ (at : ℕ). time_of all x.step + limits.rest ≤ at) its_time
+                (rests x (w.rows + 1) told ms word i c.by (omega (arith, earlier x i)) (row ∙ ap (λ (k : ℕ). Opens k told ms word) (sym same)))));
           })
 
       opened_row : (m : ℕ) (told : Bool) (ms word : ℕ) → row_of all (w.rows + 1) ≡ Opens m told ms word → (rules : Rules) (same : Bool) → (n == m) ≡ same
@@ -402,7 +396,7 @@ module _ (append : Bool) (p width : ℕ) (P : ℕ → ℕ → Memory → Times �
             status = Up (opening_by m rules (store_of (opening_on (w.member m).disk).store) ms word);
             disk = opening_on (w.member m).disk;
           } else after_failed_opening (w.member m) (opening_on (w.member m).disk)).status ≡ Up u
-              → Runs made (heard ++ []) (record { at = came; now = ms } ∷ []) (w.rows + 1) u
+              → Runs made (heard ++ []) (record { at = came; now = ms } ∷ []) u
           by u true up = fresh m (is_same m e) told ms word row rules (store_of (opening_on (w.member m).disk).store) u (one_up _ u up)
           by u false up = absurd (failed (opening_on (w.member m).disk).calls.stopped up) where
             failed : (b : Bool) → (if b then stopped_with (w.member m).pattern (opening_on (w.member m).disk) (w.member m)
@@ -429,7 +423,7 @@ module _ (append : Bool) (p width : ℕ) (P : ℕ → ℕ → Memory → Times �
               | inr new ↦ absurd (other (ap (λ (z : SentTransfer). z.by) (sym new.is) ∙ c.by))
             ]) (w.member n).status (λ u up. up)
 
-      module _ (enough : 2 * limits.hold + limits.drift < width) (narrow : width ≤ 32000) (event : Event) (further : List Queued)
+      module _ (short : HoldsAreShort limits) (wide : 21000 ≤ width) (narrow : width ≤ 32000) (event : Event) (further : List Queued)
           (hears : (f : Queued) → In f heard → In f further) where
         stepped_own : (status : MemberStatus) → (w.member n).status ≡ status → IsNotFast limits past came (now_in status (moment_of event))
             → ((t : AllocatorState) → status ≡ Up t → Answers event (begin_phase (w.rows + 1) (moment_of event) t).allocator → IsHeard made further (w.rows + 1))
@@ -459,9 +453,9 @@ module _ (append : Bool) (p width : ℕ) (P : ℕ → ℕ → Memory → Times �
               (if b then record (w.member n) { status = Up g.allocator; disk = puts_on (puts_of (w.member n) g) (w.member n).disk }
               else after_cut_off (w.member n) (w.rows + 1) t g (puts_on (puts_of (w.member n) g) (w.member n).disk)).status
           by true = record {
-            running = λ u up. subst (λ (v : AllocatorState). Runs (transfers_of_offers (w.rows + 1) n g.offers made) further reads (w.rows + 1) v) (one_up g.allocator u up)
-                (runs_then enough narrow made heard further hears past w.rows came its_time earlier t (runs t is_it) settled event slow (answered t refl));
-            apart = settled_then enough narrow made heard further hears past w.rows came its_time earlier t (runs t is_it) settled event slow (answered t refl);
+            running = λ u up. subst (λ (v : AllocatorState). Runs (transfers_of_offers (w.rows + 1) n g.offers made) further reads v) (one_up g.allocator u up)
+                (runs_then short wide narrow made heard further hears past w.rows came its_time earlier t (runs t is_it) settled event slow (answered t refl));
+            apart = settled_then short wide narrow made heard further hears past w.rows came its_time earlier t (runs t is_it) settled event slow (answered t refl);
           }
           by false = record {
             running = λ u up. absurd (cut u (puts_on (puts_of (w.member n) g) (w.member n).disk).calls.stopped _ (λ v f. absurd (cc (f))) up);
@@ -470,7 +464,7 @@ module _ (append : Bool) (p width : ℕ) (P : ℕ → ℕ → Memory → Times �
 
       -- ---- a row
 
-      module _ (enough : 2 * limits.hold + limits.drift < width) (narrow : width ≤ 32000) (row : Row) (its_row : row_of all (w.rows + 1) ≡ row)
+      module _ (short : HoldsAreShort limits) (wide : 21000 ≤ width) (narrow : width ≤ 32000) (row : Row) (its_row : row_of all (w.rows + 1) ≡ row)
           (slow : ReadsAt (IsNotFast limits) n past w came row)
           (answered : (k ms : ℕ) → row ≡ Rx n k ms → (t : AllocatorState) → (w.member n).status ≡ Up t
           → Answers (receipt_of w k ms) (begin_phase (w.rows + 1) ms t).allocator → IsHeard made (heard ++ heard_in n w row) (w.rows + 1)) where
@@ -489,7 +483,7 @@ module _ (append : Bool) (p width : ℕ) (P : ℕ → ℕ → Memory → Times �
             subst (λ (k : ℕ). IsNotFast limits past came (now_in (w.member k).status ms)
             → Next (transfers_of_step (w.rows + 1) k (tick_of ms word) (w.member k).status (w.member k) made) (heard ++ [])
             (record { at = came; now = now_in (w.member k).status ms } ∷ past) (member_after_step (w.rows + 1) (tick_of ms word) (w.member k).status (w.member k)).status)
-            (is_same m e) (λ s. stepped_own enough narrow (tick_of ms word) (heard ++ []) (λ f i. in_front f heard [] i) (w.member n).status refl s (λ t up a. absurd a)) slow_
+            (is_same m e) (λ s. stepped_own short wide narrow (tick_of ms word) (heard ++ []) (λ f i. in_front f heard [] i) (w.member n).status refl s (λ t up a. absurd a)) slow_
 
         rx_row : (m k ms : ℕ) → row ≡ Rx m k ms → (same : Bool) → (n == m) ≡ same → OfIt same (IsNotFast limits past came (now_in (w.member m).status ms))
             → Next (transfers_of_step (w.rows + 1) m (receipt_of w k ms) (w.member m).status (w.member m) made) (heard ++ (if same then frame_at w.frames k ∷ [] else []))
@@ -500,7 +494,7 @@ module _ (append : Bool) (p width : ℕ) (P : ℕ → ℕ → Memory → Times �
             subst (λ (j : ℕ). row ≡ Rx j k ms → IsNotFast limits past came (now_in (w.member j).status ms)
             → Next (transfers_of_step (w.rows + 1) j (receipt_of w k ms) (w.member j).status (w.member j) made) (heard ++ frame_at w.frames k ∷ [])
             (record { at = came; now = now_in (w.member j).status ms } ∷ past) (member_after_step (w.rows + 1) (receipt_of w k ms) (w.member j).status (w.member j)).status)
-            (is_same m e) (λ r_ s. stepped_own enough narrow (receipt_of w k ms) (heard ++ frame_at w.frames k ∷ [])
+            (is_same m e) (λ r_ s. stepped_own short wide narrow (receipt_of w k ms) (heard ++ frame_at w.frames k ∷ [])
             (λ f i. in_front f heard (frame_at w.frames k ∷ []) i) (w.member n).status refl s
             (λ t up a. subst (λ (l : List Queued). IsHeard made (heard ++ l) (w.rows + 1)) (ap (λ (x : Row). heard_in n w x) r_ ∙ itself k)
             (answered k ms r_ t up a))) r slow_
@@ -516,20 +510,23 @@ module _ (append : Bool) (p width : ℕ) (P : ℕ → ℕ → Memory → Times �
           apart = settled_still made (heard ++ []) (λ x i. i) (λ f i. in_front f heard [] i) (λ x i c. i);
         }
           where
-            by : (u : AllocatorState) (status : MemberStatus) → (w.member m).status ≡ status → after_sending status ≡ Up u → Runs made (heard ++ []) past (w.rows + 1) u
+            by : (u : AllocatorState) (status : MemberStatus) → (w.member m).status ≡ status → after_sending status ≡ Up u → Runs made (heard ++ []) past u
             by u Down is_it f = absurd (cc (f))
             by u (Failed failure) is_it f = absurd (cc (f))
             by u (Up t) is_it f =
                 let r = kept made (heard ++ []) (λ x i. i) (λ g i. in_front g heard [] i) (λ x i c. i) t (runs t (ap (λ (j : ℕ). (w.member j).status) (is_same m e) ∙ is_it)) in
-                subst (λ (v : AllocatorState). Runs made (heard ++ []) past (w.rows + 1) v) (one_up (after_pop t) u f) (record {
+                subst (λ (v : AllocatorState). Runs made (heard ++ []) past v) (one_up (after_pop t) u f) (record {
                   wait = r.wait;
                   room = r.room;
-                  each = λ x i c. popped x (r.each x i c);
+                  opening = r.opening;
+                  reading = r.reading;
+                  awake = r.awake;
+                  each = λ x i c. popped r.opening.at x (r.each x i c);
                 })
               where
-                popped : (x : SentTransfer) → IsEnded made (heard ++ []) (w.rows + 1) x ⊎ Waits past t x → IsEnded made (heard ++ []) (w.rows + 1) x ⊎ Waits past (after_pop t) x
-                popped x (inl e) = inl e
-                popped x (inr v) = inr (record { moment = v.moment; reading = v.reading; since = v.since })
+                popped : (at : ℕ) (x : SentTransfer) → IsEnded made (heard ++ []) at x ⊎ Waits past t x → IsEnded made (heard ++ []) at x ⊎ Waits past (after_pop t) x
+                popped at x (inl e) = inl e
+                popped at x (inr v) = inr (record { moment = v.moment; reading = v.reading; since = v.since })
 
         crash_row : (m calls : ℕ) (pattern : Pattern) (same : Bool) → (n == m) ≡ same
             → Next made (heard ++ []) past (if same then after_crash calls pattern (w.member m) else w.member n).status
@@ -578,22 +575,50 @@ module _ (append : Bool) (p width : ℕ) (P : ℕ → ℕ → Memory → Times �
     longer [] t = refl
     longer (x ∷ xs) t = ap suc (longer xs t)
 
-    module _ (enough : 2 * limits.hold + limits.drift < width) (narrow : width ≤ 32000) (ids : List ℕ)
+    -- what was sent stays so along rows
+    sent_by_step : (number m : ℕ) (event : Event) (status : MemberStatus) (y : Member) (made : List SentTransfer) (x : SentTransfer) → In x made
+        → In x (transfers_of_step number m event status y made)
+    sent_by_step number m event Down y made x i = i
+    sent_by_step number m event (Failed failure) y made x i = i
+    sent_by_step number m event (Up t) y made x i = by (are_put (puts_of y (step t number event).step_state) y.disk.calls) where
+      by : (b : Bool) → In x (if b then transfers_of_offers number m (step t number event).step_state.offers made else made)
+      by true = still_made number m (step t number event).step_state.offers made x i
+      by false = i
+
+    sent_by_row : (w : Cluster) (row : Row) (made : List SentTransfer) (x : SentTransfer) → In x made → In x (transfers_of_row w row made)
+    sent_by_row w (Tick m ms word) made x i = sent_by_step (w.rows + 1) m (tick_of ms word) (w.member m).status (w.member m) made x i
+    sent_by_row w (Rx m k ms) made x i = sent_by_step (w.rows + 1) m (receipt_of w k ms) (w.member m).status (w.member m) made x i
+    sent_by_row w (Opens m told ms word) made x i = i
+    sent_by_row w (Send m) made x i = i
+    sent_by_row w (Ext frame) made x i = i
+    sent_by_row w (Crash m calls pattern) made x i = i
+    sent_by_row w (Fault m call) made x i = i
+    sent_by_row w (AOpen b uid pref ms word) made x i = i
+    sent_by_row w (ATick b ms word) made x i = i
+    sent_by_row w (ARx b k ms word) made x i = i
+    sent_by_row w (ASend b) made x i = i
+    sent_by_row w (AEnd b) made x i = i
+
+    sent_by_rows : (rows : List Row) (w : Cluster) (made : List SentTransfer) (x : SentTransfer) → In x made → In x (transfers_of_rows w rows made)
+    sent_by_rows [] w made x i = i
+    sent_by_rows (row ∷ rows) w made x i = sent_by_rows rows (after_row w row) (transfers_of_row w row made) x (sent_by_row w row made x i)
+
+    module _ (short : HoldsAreShort limits) (wide : 21000 ≤ width) (narrow : width ≤ 32000) (ids : List ℕ)
         (known : (rows : List Row) → Lawful (cluster ids) rows → Known (world_of ids rows) (transfers_of_rows (cluster ids) rows [])) where
       pub along : (rest done tail : List Timed) (w : Cluster) (made : List SentTransfer) (heard : List Queued) (past : List Reading)
           → world_of ids (rows_in done) ≡ w → transfers_of_rows (cluster ids) (rows_in done) [] ≡ made → all ≡ done ++ (rest ++ tail) → w.rows ≡ length done
           → Lawful (cluster ids) (rows_in done) → Lawful w (rows_in rest) → Reads (IsNotFast limits) n past w rest
-          → RunsWhereUp made heard past w.rows (w.member n).status → AreSettled made heard
+          → RestsBeforeOpening limits all (transfers_of_rows w (rows_in rest) made) n → RunsWhereUp made heard past (w.member n).status → AreSettled made heard
           → AreSettled (transfers_of_rows w (rows_in rest) made) (heard ++ heard_by n w (rows_in rest))
-      along [] done tail w made heard past world sent split count before lawful slow runs settled =
+      along [] done tail w made heard past world sent split count before lawful slow rests runs settled =
           λ x y i j c d id less. settled_more made made heard (heard ++ []) (λ z k. k) (λ f k. in_front f heard [] k) x y (settled x y i j c d id less)
-      along (t ∷ rest) done tail w made heard past world sent split count before lawful slow runs settled =
+      along (t ∷ rest) done tail w made heard past world sent split count before lawful slow rests runs settled =
           subst (λ (l : List Queued). AreSettled (transfers_of_rows w (rows_in (t ∷ rest)) made) l)
           (append_assoc heard (heard_in n w t.row) (heard_by n (after_row w t.row) (rows_in rest)))
           (along rest (done ++ t ∷ []) tail (after_row w t.row) (transfers_of_row w t.row made) (heard ++ heard_in n w t.row)
           (member_readings n past w t.at t.row)
           (grown_world) (grown_made) (split ∙ sym (append_assoc done (t ∷ []) (rest ++ tail))) (omega (arith, count, longer done t)) more lawful.1 slow.1
-          next.running next.apart)
+          rests next.running next.apart)
         where
           here : Known w made
           here = subst (λ (v : Cluster). Known v made) world (subst (λ (l : List SentTransfer). Known (world_of ids (rows_in done)) l) sent (known (rows_in done) before))
@@ -627,7 +652,10 @@ module _ (append : Bool) (p width : ℕ) (P : ℕ → ℕ → Memory → Times �
           itself : slice_index_or all (w.rows + 1 - 1) (record { at = 0; row = Send 0 }) ≡ t
           itself = ap (λ (l : List Timed). slice_index_or l (w.rows + 1 - 1) (record { at = 0; row = Send 0 })) split ∙ at_place w.rows count
 
-          next : Next w made heard past t.at (ap (λ (x : Timed). x.at) itself) here.earlier runs settled (transfers_of_row w t.row made) (heard ++ heard_in n w t.row)
+          rests_here : RestsBeforeOpening limits all made n
+          rests_here x number told ms word i = rests x number told ms word (sent_by_rows (rows_in (t ∷ rest)) w made x i)
+
+          next : Next w made heard past t.at (ap (λ (x : Timed). x.at) itself) here.earlier rests_here runs settled (transfers_of_row w t.row made) (heard ++ heard_in n w t.row)
               (member_readings n past w t.at t.row) ((after_row w t.row).member n).status
-          next = next_row w made heard past t.at (ap (λ (x : Timed). x.at) itself) here.earlier runs settled enough narrow t.row (ap (λ (x : Timed). x.row) itself) slow.0
+          next = next_row w made heard past t.at (ap (λ (x : Timed). x.at) itself) here.earlier rests_here runs settled short wide narrow t.row (ap (λ (x : Timed). x.row) itself) slow.0
               (λ k ms e u up a. here.answered t.row lawful.0 heard k ms e u up a)

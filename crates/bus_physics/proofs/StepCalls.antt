@@ -62,6 +62,7 @@ use Rattle.alloc_spec.proofs.Blanks.{adds_blank, move_with_blank, tick_with_blan
 use Rattle.cluster_agreement.specs.Said.{carrier}
 use Rattle.cluster_agreement.proofs.Lists.{never, tell}
 use Rattle.bus_physics.proofs.LastCall.{event_offers}
+use Rattle.bus_physics.proofs.Waking.{HasWaited, IsAwake, awake_after, awake_later, moved_since}
 
 -- ---- why a member makes a move
 
@@ -103,50 +104,23 @@ pub record IsSpaced (append : Bool) (p width : ℕ) (P : ℕ → ℕ → Memory 
       → P now 0 (memory_after members me number server move) (times_after members me given server move times) now
   pub far : (M b : ℕ) (m : Memory) (times : Times) (now : ℕ) → P M b m times now → (move : Move) → IsOwnCall append p m move → 31 ≤ b → M + width ≤ now
 
--- ---- the wait for an election began by now
+-- ---- of these moves a member stands for election only after the least wait, and a follower makes no call
 
-down : (now : ℕ) (role : Role) (times : Times) → times.since ≤ now → (step_down now role times).since ≤ now
-down now Follower times low = low
-down now Candidate times low = omega arith
-down now Leader times low = omega arith
+waited_by : (append : Bool) (p : ℕ) (server : RaftServer) (times : Times) (now : ℕ) (move : Move) → IsReason append p server times now move → HasWaited times now move
+waited_by append p server times now TimeOut reason = reason.1
+waited_by append p server times now move reason = tt
 
-down_if : (lower : Bool) (now : ℕ) (role : Role) (times : Times) → times.since ≤ now → (if lower then step_down now role times else times).since ≤ now
-down_if true now role times low = down now role times low
-down_if false now role times low = low
+waited_to_call : (append : Bool) (p : ℕ) (m : Memory) (times : Times) (now : ℕ) (move : Move) → IsOwnCall append p m move → HasWaited times now move
+waited_to_call true p m times now (CallToAppend q previous with_entry) own = tt
+waited_to_call false p m times now (CallForVote q) own = tt
+waited_to_call append p m times now move own = absurd own
 
-moved_since : (members : List ℕ) (me number now : ℕ) (given : Given) → given.now ≡ now → (server : RaftServer) (times : Times) → times.since ≤ now → (move : Move)
-    → (times_after members me given server move times).since ≤ now
-moved_since members me number now given is server times low TimeOut = by (has_quorum members (own_vote me)) where
-  by : (quorum : Bool) → (if quorum then win (stand given times) else stand given times).since ≤ now
-  by true = omega (arith, is)
-  by false = omega (arith, is)
-moved_since members me number now given is server times low (TakeVoteRequest request true) = omega (arith, is)
-moved_since members me number now given is server times low (TakeVoteRequest request false) =
-    subst (λ (n : ℕ). (if nat_lt server.store.term request.term then step_down n server.memory.role times else times).since ≤ now) (sym is)
-    (down_if (nat_lt server.store.term request.term) now server.memory.role times low)
-moved_since members me number now given is server times low (TakeVoteAnswer answer) =
-    by (nat_lt server.store.term answer.term) (counts server answer && has_quorum members (votes_with server.memory answer)) where
-      by : (higher won : Bool) → (if higher then step_down given.now server.memory.role (end_vote_call answer.from times)
-          else (if won then win (end_vote_call answer.from times) else end_vote_call answer.from times)).since ≤ now
-      by true won = subst (λ (n : ℕ). (step_down n server.memory.role (end_vote_call answer.from times)).since ≤ now) (sym is)
-          (down now server.memory.role (end_vote_call answer.from times) low)
-      by false true = low
-      by false false = low
-moved_since members me number now given is server times low (TakeAppendRequest request Outdated) = low
-moved_since members me number now given is server times low (TakeAppendRequest request Refused) = omega (arith, is)
-moved_since members me number now given is server times low (TakeAppendRequest request Held) = omega (arith, is)
-moved_since members me number now given is server times low (TakeAppendRequest request (Added entry)) = omega (arith, is)
-moved_since members me number now given is server times low (TakeAppendAnswer answer) =
-    subst (λ (n : ℕ). (if nat_lt server.store.term answer.term then step_down n server.memory.role (end_call answer.from times) else end_call answer.from times).since ≤ now) (sym is)
-    (down_if (nat_lt server.store.term answer.term) now server.memory.role (end_call answer.from times) low)
-moved_since members me number now given is server times low (ProposeEntry entry) = low
-moved_since members me number now given is server times low (CommitTo index) = low
-moved_since members me number now given is server times low TellPair = low
-moved_since members me number now given is server times low TellNothing = low
-moved_since members me number now given is server times low (CallForVote q) = low
-moved_since members me number now given is server times low (CallToAppend q previous with_entry) = low
-moved_since members me number now given is server times low (AnswerAgain place) = low
-moved_since members me number now given is server times low (GiveUp q) = low
+over_at_call : (append : Bool) (p opening : ℕ) (m : Memory) (times : Times) (now : ℕ) (move : Move) → IsOwnCall append p m move → IsAwake opening m times now → opening + 2000 ≤ now
+over_at_call append p opening m times now move own awake = elim awake.follows [ inl role ↦ absurd (by append move own role) | inr over ↦ over ] where
+  by : (append : Bool) (move : Move) → IsOwnCall append p m move → m.role ≡ Follower → ⊥
+  by true (CallToAppend q previous with_entry) own role = absurd (cc (sym role ∙ own.0))
+  by false (CallForVote q) own role = absurd (cc (sym role ∙ own.0))
+  by append move own role = absurd own
 
 -- ---- transfer IDs
 
@@ -243,10 +217,12 @@ pub record Since (append : Bool) (p : ℕ) (P : ℕ → ℕ → Memory → Times
   pub spaced : P M more m times now
   pub next : slice_index (ids_to append ids) p ≡ (id + 1 + more) % 32
 
-module _ (append : Bool) (p width : ℕ) (P : ℕ → ℕ → Memory → Times → ℕ → Type 0) (is : IsSpaced append p width P) (number : ℕ)
+-- the member was opened at this moment
+module _ (append : Bool) (p width : ℕ) (P : ℕ → ℕ → Memory → Times → ℕ → Type 0) (is : IsSpaced append p width P) (number opening : ℕ)
     (Past : ℕ → ℕ → Type 0) where
   pub record Open (m : Memory) (times : Times) (ids : Ids) (now : ℕ) : Type 0 where
     pub wait : times.since ≤ now
+    pub awake : IsAwake opening m times now
     pub room : p < length (ids_to append ids)
     pub past : (id M : ℕ) → Past id M → Since append p P id M m times ids now
 
@@ -274,6 +250,7 @@ module _ (append : Bool) (p width : ℕ) (P : ℕ → ℕ → Memory → Times �
       → Open (memory_after members me number server move) (times_after members me given server move times) ids now
   moved server times ids now members me given e move reason k = record {
     wait = moved_since members me number now given e server times k.wait move;
+    awake = awake_after opening members me number now given e server times k.wait move (waited_by append p server times now move reason) k.awake;
     room = k.room;
     past = λ id M i. since_moved server times ids now members me given e move reason id M (k.past id M i);
   }
@@ -283,6 +260,7 @@ module _ (append : Bool) (p width : ℕ) (P : ℕ → ℕ → Memory → Times �
       → Opens (with_transfer number what to payload says g)
   sends what to payload says g other k = record {
     wait = k.wait;
+    awake = k.awake;
     room = subst (λ (l : List ℕ). p < length l) (sym (counted (has_room g.allocator.queue payload))) k.room;
     past = λ id M i. same_ids id M g.allocator.raft_server.memory g.allocator.times g.allocator.ids
         (counted_if (has_room g.allocator.queue payload) what to g.allocator.ids) g.allocator.now
@@ -488,12 +466,13 @@ module _ (append : Bool) (p width : ℕ) (P : ℕ → ℕ → Memory → Times �
       either Opens (is_listed d g.allocator) _ g (λ e. voted d (asked_vote says d.mark.step d.ident.source g.allocator.me) g k) (λ e. k))))
 
   -- an answer of this service: of node p to the calls in question there is none, or none of them counts any more
-  call_ends : (own : Bool) (d : Delivery) (take : Request → Move) (g : StepState) → is_awaited g.allocator.raft_server g.allocator.times d.ident.source own d.id ≡ true
+  call_ends : (own : Bool) (d : Delivery) (take : Request → Move) → ((call : Request) (times : Times) (now : ℕ) → HasWaited times now (take call)) → (g : StepState)
+      → is_awaited g.allocator.raft_server g.allocator.times d.ident.source own d.id ≡ true
       → ((call : Request) (server : RaftServer) (times : Times) (now : ℕ) → server.memory.pending d.ident.source ≡ Some call → call.append ≡ own
       → (append ≡ own → (p == d.ident.source) ≡ false) → IsReason append p server times now (take call))
       → (append ≡ own → (p == d.ident.source) ≡ true → (id M : ℕ) → Past id M → ⊥)
       → Opens g → Opens (answers_call number take (g.allocator.raft_server.memory.pending d.ident.source) g)
-  call_ends own d take g awaited reason quiet k = by (g.allocator.raft_server.memory.pending d.ident.source) refl where
+  call_ends own d take idle g awaited reason quiet k = by (g.allocator.raft_server.memory.pending d.ident.source) refl where
     by : (pending : Option Request) → g.allocator.raft_server.memory.pending d.ident.source ≡ pending → Opens (answers_call number take pending g)
     by None e = k
     by (Some call) e =
@@ -505,6 +484,8 @@ module _ (append : Bool) (p width : ℕ) (P : ℕ → ℕ → Memory → Times �
         ended : Opens then_
         ended = record {
           wait = moved_since (members_of g.allocator) g.allocator.me number g.allocator.now (given_at g.allocator.now) refl g.allocator.raft_server g.allocator.times k.wait (take call);
+          awake = awake_after opening (members_of g.allocator) g.allocator.me number g.allocator.now (given_at g.allocator.now) refl g.allocator.raft_server
+              g.allocator.times k.wait (take call) (idle call g.allocator.times g.allocator.now) k.awake;
           room = k.room;
           past = λ id M i. since_moved g.allocator.raft_server g.allocator.times g.allocator.ids g.allocator.now (members_of g.allocator) g.allocator.me
               (given_at g.allocator.now) refl (take call)
@@ -517,14 +498,15 @@ module _ (append : Bool) (p width : ℕ) (P : ℕ → ℕ → Memory → Times �
   abbrev IsQuiet : Delivery → StepState → Type 0
   IsQuiet d g = IsAnswerOf append p d (members_of g.allocator) g.allocator.raft_server g.allocator.times → (id M : ℕ) → Past id M → ⊥
 
-  answer_comes : (own : Bool) (d : Delivery) (take : Request → Move) (g : StepState) → is_listed d g.allocator ≡ true → d.ident.kind ≡ Response → nat_eq d.ident.number 1 ≡ false
+  answer_comes : (own : Bool) (d : Delivery) (take : Request → Move) → ((call : Request) (times : Times) (now : ℕ) → HasWaited times now (take call)) → (g : StepState)
+      → is_listed d g.allocator ≡ true → d.ident.kind ≡ Response → nat_eq d.ident.number 1 ≡ false
       → nat_eq d.ident.number 30 ≡ own
       → ((call : Request) (server : RaftServer) (times : Times) (now : ℕ) → server.memory.pending d.ident.source ≡ Some call → call.append ≡ own
       → (append ≡ own → (p == d.ident.source) ≡ false) → IsReason append p server times now (take call))
       → IsQuiet d g → Opens g → is_awaited g.allocator.raft_server g.allocator.times d.ident.source own d.id ≡ true
       → Opens (answers_call number take (g.allocator.raft_server.memory.pending d.ident.source) g)
-  answer_comes own d take g listed kind other service reason quiet k awaited =
-      call_ends own d take g awaited reason (λ same here. quiet (record {
+  answer_comes own d take idle g listed kind other service reason quiet k awaited =
+      call_ends own d take idle g awaited reason (λ same here. quiet (record {
         listed = listed;
         kind = kind;
         other = other;
@@ -542,12 +524,12 @@ module _ (append : Bool) (p width : ℕ) (P : ℕ → ℕ → Memory → Times �
       (λ service. read (takes_append_answer number d) (append_answer_of d.payload) g k (λ says.
       either Opens (is_listed d g.allocator) (ends_append_call number d says g) g
       (λ listed. either Opens (is_awaited g.allocator.raft_server g.allocator.times d.ident.source true d.id) _ g
-      (answer_comes true d (append_answered d says) g listed kind other service
+      (answer_comes true d (append_answered d says) (λ call times now. tt) g listed kind other service
       (λ call server times now e own f. record { asked = call; pending = e; service = own; other = f }) quiet k) (λ e. k)) (λ e. k)))
       (λ service. read (takes_vote_answer number d) (vote_answer_of d.payload) g k (λ says.
       either Opens (is_listed d g.allocator) (ends_vote_call number d says g) g
       (λ listed. either Opens (is_awaited g.allocator.raft_server g.allocator.times d.ident.source false d.id) _ g
-      (answer_comes false d (vote_answered d says) g listed kind other service
+      (answer_comes false d (vote_answered d says) (λ call times now. tt) g listed kind other service
       (λ call server times now e own f. record { asked = call; pending = e; service = own; other = f }) quiet k) (λ e. k)) (λ e. k))))
 
   comes_by : (d : Delivery) (kind : Kind) (g : StepState) → d.ident.kind ≡ kind → IsQuiet d g → Opens g → Shows (by_kind number d kind g)
@@ -604,6 +586,7 @@ module _ (append : Bool) (p width : ℕ) (P : ℕ → ℕ → Memory → Times �
 
   pub record Called (m : Memory) (times : Times) (ids : Ids) (now : ℕ) (offers : List Offer) : Type 0 where
     pub opened : Open m times ids now
+    pub over : (offer : Offer) → In offer offers → IsCall offer → opening + 2000 ≤ now
     pub far : (id M : ℕ) → Past id M → (offer : Offer) → In offer offers → IsCall offer → offer.id ≡ id → M + width ≤ now
     pub own : (offer : Offer) → In offer offers → IsCall offer → Since append p P offer.id now m times ids now
 
@@ -622,7 +605,8 @@ module _ (append : Bool) (p width : ℕ) (P : ℕ → ℕ → Memory → Times �
       → length (ids_to append then_) ≡ length (ids_to append ids) → slice_index (ids_to append then_) p ≡ slice_index (ids_to append ids) p
       → Called m times ids now offers → Called m times then_ now (offers ++ new ∷ [])
   same_but m times ids then_ now offers new none long next k = record {
-    opened = record { wait = k.opened.wait; room = omega (arith, k.opened.room, long); past = λ id M i. same_ids id M m times ids then_ now next (k.opened.past id M i) };
+    opened = record { wait = k.opened.wait; awake = k.opened.awake; room = omega (arith, k.opened.room, long); past = λ id M i. same_ids id M m times ids then_ now next (k.opened.past id M i) };
+    over = λ offer j call. k.over offer (one_more offers new none offer j call) call;
     far = λ id M i offer j call same. k.far id M i offer (one_more offers new none offer j call) call same;
     own = λ offer j call. same_ids offer.id now m times ids then_ now next (k.own offer (one_more offers new none offer j call) call);
   }
@@ -632,6 +616,7 @@ module _ (append : Bool) (p width : ℕ) (P : ℕ → ℕ → Memory → Times �
       → Called (memory_after members me number server move) (times_after members me given server move times) ids now offers
   after_move server times ids now offers members me given e move reason k = record {
     opened = moved server times ids now members me given e move reason k.opened;
+    over = k.over;
     far = k.far;
     own = λ offer i call. since_moved server times ids now members me given e move reason offer.id now (k.own offer i call);
   }
@@ -722,10 +707,13 @@ module _ (append : Bool) (p width : ℕ) (P : ℕ → ℕ → Memory → Times �
     fits room = record {
       opened = record {
         wait = moved_since (members_of g.allocator) g.allocator.me number now given refl server g.allocator.times k.opened.wait move;
+        awake = awake_after opening (members_of g.allocator) g.allocator.me number now given refl server g.allocator.times k.opened.wait move
+            (waited_to_call append p server.memory g.allocator.times now move own) k.opened.awake;
         room = subst (λ (l : List ℕ). p < length l) (sym (own_after append what p ids carried))
             (omega (arith, k.opened.room, length-set (ids_to append ids) p (id_after (slice_index (ids_to append ids) p))));
         past = λ id M i. further id M (k.opened.past id M i);
       };
+      over = λ offer j is_call. over_at_call append p opening server.memory g.allocator.times now move own k.opened.awake;
       far = λ id M i offer j is_call same. elim (in_append offer g.offers (new ∷ []) j) [
         | inl earlier ↦ k.far id M i offer earlier is_call same
         | inr (inl e) ↦
@@ -813,6 +801,7 @@ module _ (append : Bool) (p width : ℕ) (P : ℕ → ℕ → Memory → Times �
   older : (t : AllocatorState) (moment : ℕ) → Open t.raft_server.memory t.times t.ids t.now → Opens (initial_state (at_moment moment t))
   older t moment k = record {
     wait = grind (arith, k.wait);
+    awake = awake_later opening t.raft_server.memory t.times t.now (max t.now moment) (grind arith) k.awake;
     room = k.room;
     past = λ id M i. let c = k.past id M i in
         record { more = c.more; spaced = is.later M c.more t.raft_server.memory t.times t.now (max t.now moment) (grind arith) c.spaced; next = c.next };
@@ -824,6 +813,7 @@ module _ (append : Bool) (p width : ℕ) (P : ℕ → ℕ → Memory → Times �
   calls_of_a_step t event k quiet =
       all_calls (drop 1 (members_of told.allocator)) told (record {
         opened = tells committed (commits seen (happens event begun quiet (expired (initial_state (at_moment (moment_of event) t)) (older t (moment_of event) k))));
+        over = λ offer j is_call. absurd (no_call offer j is_call);
         far = λ id M i offer j is_call. absurd (no_call offer j is_call);
         own = λ offer j is_call. absurd (no_call offer j is_call);
       })

@@ -10,19 +10,18 @@ use Rattle.transfer_rx.specs.Reassembly.{Arrival}
 use Rattle.alloc_spec.specs.Judging.{arrival_judgement}
 use Rattle.cluster_spec.specs.declared.unlawful.Unlawful.{Unlawful}
 use Rattle.cluster_spec.specs.Cluster.{Cluster, after_row, after_rows, arrival_at, cluster, frame_at, is_member}
-use Rattle.cluster_spec.specs.Lawful.{Lawful, arrival_refusal, because, cause, cause_of_judgement, no_such_frame, or_else}
+use Rattle.cluster_spec.specs.Lawful.{DoNoHarm, DoesNoHarm, Lawful, arrival_refusal, brings_void_to, because, cause, cause_of_judgement, no_such_frame, or_else}
 use Rattle.cluster_spec.specs.declared.unlawful.Unlawful.TheVariants.{NoNode, Stopped}
 use Rattle.cluster_spec.specs.Members.{MemberStatus, is_running}
 use Rattle.cluster_spec.specs.Members.MemberStatus.{Down, Failed, Up}
 use Rattle.cluster_agreement.proofs.Concatenations.{ids_stay}
 use Rattle.cluster_agreement.proofs.Lists.{never}
-use Rattle.cluster_agreement.proofs.OneRowMore.{lawful as one_more}
 use Rattle.cmd_node_laws.specs.Traces.{Event, IsForeign, IsKilled, IsKilledAtOpening, MayAllHappen, MayHappen, OfAllocatee, Opens, Silence, Stops, Turns, WasSent, all_rows, came_rows, rows_of, RowsFrom, while_running}
 use Rattle.cmd_node_laws.proofs.Places.{after_both}
 use Rattle.bus_physics.specs.Physics.{Limits, Timed, rows_in}
 use Rattle.bus_physics.specs.Processes.{MayAllDo, MayDo}
 use Rattle.bus_physics.specs.Schedule.{HappenOnBus, HappensOnBus, LosesFrames, is_of_bus}
-use Rattle.bus_physics.proofs.Scheduled.{DeviceLaw, StaleLaw, TornLaw, after_more, lost, rows_of_more, w_of}
+use Rattle.bus_physics.proofs.Scheduled.{DeviceLaw, StaleLaw, TornLaw, after_more, harmless_rows, lawful_more, lost, w_of}
 
 -- ---- a frame that a member would not take
 
@@ -116,13 +115,12 @@ module _ (limits : Limits) (ids : List ℕ) where
             ∙ row_refused w n k moment why (ap (λ (l : List ℕ). is_member l n) same ∙ member) is.1 there e)))
 
     abbrev pub Quiet : Cluster → Type 0
-    Quiet w = (e : Event) → MayHappen e w → Lawful w (rows_of e w)
+    Quiet w = (e : Event) → MayHappen e w → DoNoHarm w (rows_of e w)
 
-    -- a row more
-    lawful_more : (before : List Timed) (t : Timed) (w : Cluster) → w_of limits ids before ≡ w → Lawful (cluster ids) (rows_in before)
-        → cause w t.row ≡ None → Lawful (cluster ids) (rows_in (before ++ t ∷ []))
-    lawful_more before t w at lawful e = subst (λ (l : List Row). Lawful (cluster ids) l) (sym (rows_of_more limits ids before t))
-        (one_more (cluster ids) (rows_in before) t.row lawful (ap (λ (u : Cluster). cause u t.row) at ∙ e))
+    -- a row that brings no response at all is lawful
+    lawful_row : (w : Cluster) (row : Row) → brings_void_to w row ≡ false → DoesNoHarm w row → cause w row ≡ None
+    lawful_row w row none (inl fine) = fine
+    lawful_row w row none (inr late) = never (sym none ∙ late.1)
 
     w_more : (before : List Timed) (t : Timed) (row : Row) (w : Cluster) → w_of limits ids before ≡ w → t.row ≡ row
         → w_of limits ids (before ++ t ∷ []) ≡ after_row w row
@@ -140,11 +138,11 @@ module _ (limits : Limits) (ids : List ℕ) where
       turn n moment word k (t ∷ (r ∷ a)) rows happen may =
           let ticks : t.row ≡ Tick n moment word = cc (rows) in
           let comes : r.row ≡ Rx n k moment = cc (rows) in
-          let ticked = (quiet (Turns n moment word Silence) (may.0, tt)).0 in
+          let ticked = lawful_row w (Tick n moment word) refl (quiet (Turns n moment word Silence) (may.0, tt)).0 in
           elim (hears (before ++ t ∷ []) (a ++ rest) r n k moment (after_row w (Tick n moment word)) (w_more before t (Tick n moment word) w at ticks)
-          (lawful_more before t w at lawful (ap (λ (x : Row). cause w x) ticks ∙ ticked)) comes happen.1.0
+          (lawful_more limits ids before t w at lawful (ap (λ (x : Row). cause w x) ticks ∙ ticked)) comes happen.1.0
           (ap (λ (l : List ℕ). is_member l n) (sym same_ids) ∙ may.0.member) may.1) [
-            | inl fine ↦ inl (may.0, (may.1, fine))
+            | inl fine ↦ inl (may.0, (may.1, inl fine))
             | inr loses ↦ inr (subst (λ (l : List Timed). LosesFrames ids l) (append_assoc before (t ∷ []) (r ∷ (a ++ rest))) loses)
           ]
 
@@ -175,13 +173,13 @@ module _ (limits : Limits) (ids : List ℕ) where
               let comes : r.row ≡ Rx n k moment = cc (rows) in
               let quiet_rows = quiet (IsKilled n moment word Silence puts) (may.0, λ runs. tt) in
               let crashed = w_more before c (Crash n (4 * puts + 1) Old) w at crashes in
-              let lawful_crash = lawful_more before c w at lawful (ap (λ (x : Row). cause w x) crashes ∙ quiet_rows.0) in
+              let lawful_crash = lawful_more limits ids before c w at lawful (ap (λ (x : Row). cause w x) crashes ∙ lawful_row w (Crash n (4 * puts + 1) Old) refl quiet_rows.0) in
               elim (hears ((before ++ c ∷ []) ++ t ∷ []) (a ++ rest) r n k moment ticked
               (w_more (before ++ c ∷ []) t (Tick n moment word) (after_row w (Crash n (4 * puts + 1) Old)) crashed ticks)
-              (lawful_more (before ++ c ∷ []) t (after_row w (Crash n (4 * puts + 1) Old)) crashed lawful_crash
-              (ap (λ (x : Row). cause (after_row w (Crash n (4 * puts + 1) Old)) x) ticks ∙ quiet_rows.1.0)) comes happen.1.1.0
+              (lawful_more limits ids (before ++ c ∷ []) t (after_row w (Crash n (4 * puts + 1) Old)) crashed lawful_crash
+              (ap (λ (x : Row). cause (after_row w (Crash n (4 * puts + 1) Old)) x) ticks ∙ lawful_row (after_row w (Crash n (4 * puts + 1) Old)) (Tick n moment word) refl quiet_rows.1.0)) comes happen.1.1.0
               (ap (λ (l : List ℕ). is_member l n) (sym same_ids) ∙ may.0.member) there) [
-                | inl fine ↦ inl (may.0, λ on. (there, fine))
+                | inl fine ↦ inl (may.0, λ on. (there, inl fine))
                 | inr loses ↦ inr (subst (λ (l : List Timed). LosesFrames ids l)
                     (append_assoc (before ++ c ∷ []) (t ∷ []) (r ∷ (a ++ rest)) ∙ append_assoc before (c ∷ []) (t ∷ (r ∷ (a ++ rest)))) loses)
               ]
@@ -238,28 +236,27 @@ module _ (limits : Limits) (ids : List ℕ) where
         ∙ (sym (append_assoc (rows_of first w) (all_rows done v) (rows_of e (after_rows v (all_rows done v))))
         ∙ ap (λ (u : Cluster). (rows_of first w ++ all_rows done v) ++ rows_of e u) (sym (after_both w (rows_of first w) (all_rows done v))))
 
-    parted : (w : Cluster) (first rest : List Row) → Lawful w (first ++ rest) → Lawful (after_rows w first) rest
-    parted w [] rest lawful = lawful
-    parted w (row ∷ first) rest lawful = parted (after_row w row) first rest lawful.1
+    parted : (w : Cluster) (first rest : List Row) → DoNoHarm w (first ++ rest) → DoNoHarm (after_rows w first) rest
+    parted w [] rest harmless = harmless
+    parted w (row ∷ first) rest harmless = parted (after_row w row) first rest harmless.1
 
-    module _ (lawful_of : (trace : List Event) → MayAllHappen trace (cluster ids) → Lawful (cluster ids) (all_rows trace (cluster ids))) where
+    module _ (harmless_of : (trace : List Event) → MayAllHappen trace (cluster ids) → DoNoHarm (cluster ids) (all_rows trace (cluster ids))) where
       pub traced : (trace done : List Event) (before timed : List Timed) (w : Cluster) → after_rows (cluster ids) (all_rows done (cluster ids)) ≡ w
-          → MayAllHappen done (cluster ids) → rows_in before ≡ all_rows done (cluster ids) → rows_in timed ≡ all_rows trace w
+          → MayAllHappen done (cluster ids) → Lawful (cluster ids) (rows_in before) → rows_in before ≡ all_rows done (cluster ids) → rows_in timed ≡ all_rows trace w
           → HappenOnBus limits ids before timed → MayAllDo trace w → MayAllHappen (done ++ trace) (cluster ids) ⊎ LosesFrames ids (before ++ timed)
-      traced [] done before timed w at so_far same rows happen may =
+      traced [] done before timed w at so_far lawful same rows happen may =
           inl (subst (λ (l : List Event). MayAllHappen l (cluster ids)) (sym (append-nil done)) so_far)
-      traced (e ∷ trace) done before timed w at so_far same rows happen may =
+      traced (e ∷ trace) done before timed w at so_far lawful same rows happen may =
           let v : Cluster = after_rows w (rows_of e w) in
           let cut = parts (rows_of e w) (all_rows trace v) timed rows in
           let happens : HappenOnBus limits ids before (cut.one ++ cut.two) = subst (λ (l : List Timed). HappenOnBus limits ids before l) cut.split happen in
           let quiet : Quiet w = λ x allowed.
-          subst (λ (u : Cluster). Lawful u (rows_of x w)) at
+          subst (λ (u : Cluster). DoNoHarm u (rows_of x w)) at
           (parted (cluster ids) (all_rows done (cluster ids)) (rows_of x w)
-          (subst (λ (u : Cluster). Lawful (cluster ids) (all_rows done (cluster ids) ++ rows_of x u)) at
-          (subst (λ (l : List Row). Lawful (cluster ids) l) (rows_more done x (cluster ids))
-          (lawful_of (done ++ x ∷ []) (may_more done x (cluster ids) so_far (subst (λ (u : Cluster). MayHappen x u) (sym at) allowed)))))) in
+          (subst (λ (u : Cluster). DoNoHarm (cluster ids) (all_rows done (cluster ids) ++ rows_of x u)) at
+          (subst (λ (l : List Row). DoNoHarm (cluster ids) l) (rows_more done x (cluster ids))
+          (harmless_of (done ++ x ∷ []) (may_more done x (cluster ids) so_far (subst (λ (u : Cluster). MayHappen x u) (sym at) allowed)))))) in
           let stands : w_of limits ids before ≡ w = ap (λ (l : List Row). after_rows (cluster ids) l) same ∙ at in
-          let lawful : Lawful (cluster ids) (rows_in before) = subst (λ (l : List Row). Lawful (cluster ids) l) (sym same) (lawful_of done so_far) in
           elim (event before cut.two w stands lawful quiet e cut.one cut.ones (happen_first cut.one cut.two before happens) may.0) [
             | inl allowed ↦
                 let allowed_there : MayHappen e (after_rows (cluster ids) (all_rows done (cluster ids))) = subst (λ (u : Cluster). MayHappen e u) (sym at) allowed in
@@ -268,6 +265,8 @@ module _ (limits : Limits) (ids : List ℕ) where
                 ∙ (after_both (cluster ids) (all_rows done (cluster ids)) (rows_of e (after_rows (cluster ids) (all_rows done (cluster ids))))
                 ∙ ap (λ (u : Cluster). after_rows u (rows_of e u)) at))
                 (may_more done e (cluster ids) so_far allowed_there)
+                (harmless_rows limits ids device_law torn_law stale_law cut.one before w stands lawful (happen_first cut.one cut.two before happens)
+                (subst (λ (l : List Row). DoNoHarm w l) (sym cut.ones) (quiet e allowed)))
                 (rows_of_both before cut.one ∙ (ap (λ (l : List Row). l ++ rows_in cut.one) same
                 ∙ (ap (λ (l : List Row). all_rows done (cluster ids) ++ l) (cut.ones ∙ ap (λ (u : Cluster). rows_of e u) (sym at)) ∙ sym (rows_more done e (cluster ids)))))
                 cut.twos (happen_then cut.one cut.two before happens) may.1 in

@@ -1,5 +1,6 @@
--- What a physical bus does with the frames that an allocatee hears: its clock goes on with the time, and a frame comes
--- after it was made, and not much later. That it may be lost, come twice or overtake another one is not excluded.
+-- What a physical bus does with the frames that members and allocatees hear: a frame comes after it was made, and not much
+-- later, and may be lost, come twice or overtake another one; clocks go on with the time. What a law asks beyond this, as
+-- that a member's clock does not run fast or that frames come in order, has a definition of its own.
 use Rattle.std.specs.Prelude.{⊤, ◌≡◌, ◌≢◌, ◌⊎◌, ℕ, ◌+◌, ◌-◌, ◌*◌, ◌<◌, ◌≤◌, ◌==◌, Bool, true, false, List, [], ◌∷◌, ◌++◌, max, min, slice_index_or, nat_eq, Option, None, Some, if◌then◌else◌}
 use Rattle.can_frame.specs.declared.identifier.Ident.{Ident}
 use Rattle.can_frame.specs.declared.identifier.Kind.TheVariants.{Response}
@@ -35,10 +36,12 @@ rows_in (timed ∷ rest) = timed.row ∷ rows_in rest
 abbrev pub time_of : List Timed → ℕ → ℕ
 time_of all number = (slice_index_or all (number - 1) (record { at = 0; row = Send 0 })).at
 
--- in milliseconds: how long after its making a frame may come, and how far a clock may go wrong within a minute
+-- in milliseconds: how long after its making a frame may come, how far a clock may go wrong within a minute, and for how
+-- long a member made nothing when it is opened
 pub record Limits : Type 0 where
   pub hold : ℕ
   pub drift : ℕ
+  pub rest : ℕ
 
 -- ---- the clock of an allocatee
 
@@ -97,9 +100,13 @@ ArePhysical limits all a past w (timed ∷ rest) = RowIsPhysical limits all a pa
 abbrev pub joining_span : Limits → ℕ
 joining_span limits = limits.hold + 2000 + limits.drift
 
--- two holds and the drift are over before a transfer ID of vote requests comes round, which takes 21 s
-abbrev pub HoldsAreShort : Limits → Type 0
-HoldsAreShort limits = 2 * limits.hold + limits.drift < 21000
+-- Two holds and the drift are over before a transfer ID of vote requests comes round, which takes 21 s; and between what
+-- a member made before its rest and its first call after it was opened, which it makes 2,000 ms later or more. A clock
+-- goes wrong by less than these.
+pub record HoldsAreShort (limits : Limits) : Type 0 where
+  pub round : 2 * limits.hold + limits.drift < 21000
+  pub rested : 2 * limits.hold + limits.drift < limits.rest + 2000
+  pub clock : limits.drift < 2000
 
 -- so far apart, one way or the other
 abbrev pub AreApart : ℕ → ℕ → ℕ → Type 0
@@ -203,29 +210,17 @@ WaitsForAnswers limits all made heard n = (x y : SentTransfer) → In x made →
     → (x.offer.what ≡ AppQ) ⊎ (x.offer.what ≡ VoteQ)
     → (time_of all x.step + 2 * limits.hold < time_of all y.step) ⊎ IsAnswered made heard x
 
--- ---- calls over an opening
+-- ---- a member that is opened
 
 -- what happened in the row with this number
 abbrev pub row_of : List Timed → ℕ → Row
 row_of all number = (slice_index_or all (number - 1) (record { at = 0; row = Send 0 })).row
 
--- member n is opened in a row between these two
-pub record IsOpenedBetween (all : List Timed) (n first second : ℕ) : Type 0 where
-  pub number : ℕ
-  pub later : first < number
-  pub sooner : number < second
-  pub told : Bool
-  pub moment : ℕ
-  pub word : ℕ
-  pub opens : row_of all number ≡ Open n told moment word
-
--- Where member n is opened between two calls to a node under one transfer ID, more time has passed than a call and its
--- answer may take.
-abbrev pub RestsWhenOpened : Limits → List Timed → List SentTransfer → ℕ → Type 0
-RestsWhenOpened limits all made n = (x y : SentTransfer) → In x made → In y made → x.by ≡ n → y.by ≡ n
-    → x.offer.what ≡ y.offer.what → x.offer.to ≡ y.offer.to → x.offer.id ≡ y.offer.id
-    → (x.offer.what ≡ AppQ) ⊎ (x.offer.what ≡ VoteQ) → IsOpenedBetween all n x.step y.step
-    → time_of all x.step + 2 * limits.hold < time_of all y.step
+-- When member n is opened, the rest has passed since each transfer that it made before.
+abbrev pub RestsBeforeOpening : Limits → List Timed → List SentTransfer → ℕ → Type 0
+RestsBeforeOpening limits all made n = (x : SentTransfer) (number : ℕ) (told : Bool) (moment word : ℕ) → In x made
+    → x.by ≡ n → x.step < number → row_of all number ≡ Open n told moment word
+    → time_of all x.step + limits.rest ≤ time_of all number
 
 -- ---- frames in order
 

@@ -7,7 +7,7 @@ use Rattle.cluster_spec.specs.declared.unlawful.Unlawful.TheVariants.{Stale, Tor
 use Rattle.cluster_spec.specs.Cluster.{Cluster, after_row, arrival_at, cluster, frame_at, world_of}
 use Rattle.cluster_spec.specs.Lawful.{Lawful, cause}
 use Rattle.cluster_spec.specs.Refinement.{transfers_of_rows}
-use Rattle.bus_physics.specs.Physics.{AllComeInTurn, AllocatesApart, ArePhysical, ClockGoesOn, ClockIsNotFast, ComeInOrder, ComeInOrderToDevice, ComesInOrderToDevice, ComesInTurn, FramesComeInTime, device_heard_by, Limits, RestsWhenOpened, Timed, UsesIdsApart, heard_by, rows_in}
+use Rattle.bus_physics.specs.Physics.{AllComeInTurn, AllocatesApart, ArePhysical, ClockGoesOn, ClockIsNotFast, ComeInOrderToDevice, ComesInOrderToDevice, ComesInTurn, FramesComeInTime, device_heard_by, Limits, RestsBeforeOpening, Timed, UsesIdsApart, heard_by, rows_in}
 use Rattle.bus_physics.specs.Reuse.{LacksFrames}
 
 -- ---- the premises
@@ -20,8 +20,7 @@ pub record MemberHears (limits : Limits) (ids : List ℕ) (before : List Timed) 
   pub turn : ComesInTurn n (heard_by n (cluster ids) (rows_in before))
       (frame_at (world_of ids (rows_in before)).frames k)
   pub fast : ClockIsNotFast limits n [] (cluster ids) before
-  pub rests : RestsWhenOpened limits (before ++ now ∷ []) (transfers_of_rows (cluster ids) (rows_in before) []) n
-  pub earlier : ComeInOrder n [] (cluster ids) (rows_in before)
+  pub rests : RestsBeforeOpening limits (before ++ now ∷ []) (transfers_of_rows (cluster ids) (rows_in before) []) n
   pub apart : UsesIdsApart limits (before ++ now ∷ []) (transfers_of_rows (cluster ids) (rows_in before) [])
       (heard_by n (cluster ids) (rows_in before)) n
 

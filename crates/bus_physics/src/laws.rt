@@ -16,7 +16,7 @@ ghost use Rattle.bus_physics.specs.Physics.{AllComeInTurn, ComesInTurn, ComesOnc
 ghost use Rattle.bus_physics.specs.Physics.{AllocatesApart, AnswersInOrder, ArePhysical, ClockGoesOn, ComeInOrder};
 ghost use Rattle.bus_physics.specs.Physics.{ComeInOrderToDevice, ComesInOrderToDevice, device_heard_by};
 ghost use Rattle.bus_physics.specs.Physics.{ComesInOrder, FramesComeInTime};
-ghost use Rattle.bus_physics.specs.Physics.{ClockIsNotFast, HoldsAreShort, Limits, RestsWhenOpened, Timed, UsesIdsApart, WaitsForAnswers, heard_by};
+ghost use Rattle.bus_physics.specs.Physics.{ClockIsNotFast, HoldsAreShort, Limits, RestsBeforeOpening, Timed, UsesIdsApart, WaitsForAnswers, heard_by};
 ghost use Rattle.bus_physics.specs.Physics.{rows_in};
 ghost use Rattle.bus_physics.specs.Example.{at_allocatee, at_member, before as first_rows, everything, limits as some_limits, two};
 ghost use Rattle.bus_physics.specs.Reuse.{IsStaleAt, IsTornAt, IsTornAtDevice, LacksFrames};
@@ -29,8 +29,8 @@ ghost use Rattle.bus_physics.specs.Schedule.{HappenOnBus, LawfulButForBus, Loses
 use alloc_spec_laws::laws::transfers_of_a_step_are_apart;
 use allocatee::laws::sessions_of_a_step;
 use cluster_agreement::below::{what_is_said_of_a_step, what_is_said_of_frames};
-use cluster_agreement::headline::{a_choice_fits, rows_are_shown};
-use cmd_node_laws::laws::traces_are_lawful;
+use cluster_agreement::headline::{a_choice_fits, lawful_rows_do_no_harm, rows_are_shown};
+use cmd_node_laws::laws::traces_do_no_harm;
 
 /// What stands behind a row that is refused as torn or as stale, after lawful rows. What a member sent is torn only of
 /// frames of two transfers that it made under one transfer ID, or of frames of one transfer that are not all of it, and
@@ -47,6 +47,7 @@ pub fn what_is_refused()
         IsStaleAt (transfers_of_rows (cluster ids) rows []) (world_of ids rows) n k ms }
 {
     a_choice_fits();
+    lawful_rows_do_no_harm();
     rows_are_shown();
     what_is_said_of_frames();
 }
@@ -58,6 +59,7 @@ pub fn an_allocation_has_at_most_three_frames()
         frame_count (length x.offer.payload) ≤ 3 }
 {
     a_choice_fits();
+    lawful_rows_do_no_harm();
     rows_are_shown();
 }
 
@@ -77,6 +79,7 @@ pub fn a_device_puts_nothing_together_of_two()
 {
     a_choice_fits();
     an_allocation_has_at_most_three_frames();
+    lawful_rows_do_no_harm();
     rows_are_shown();
     sessions_of_a_step();
     what_is_said_of_frames();
@@ -84,19 +87,21 @@ pub fn a_device_puts_nothing_together_of_two()
 
 /// A member makes one call to a node at a time, for 1,000 ms, and forgets it as it stands for election. So a transfer ID
 /// of its calls to a node comes round only when more time has passed than a call and its answer may take, or one of the
-/// calls since was answered: where its clock does not run fast, and it rests when it is opened. Append requests come
-/// round after 32 s, vote requests after 21 s.
+/// calls since was answered: where its clock does not run fast, and it rests before it is opened. Append requests come
+/// round after 32 s, vote requests after 21 s. A member that is opened calls nobody for 2,000 ms, since it follows
+/// and stands for election only after such a wait: so calls over an opening are as far apart as the rest and these.
 pub fn calls_come_round_late()
     ensures { (limits : Limits) (ids : List ℕ) (before : List Timed) (now : Timed) (n : ℕ) → AreMembers ids →
         HoldsAreShort limits → Lawful (cluster ids) (rows_in before) →
         ClockIsNotFast limits n [] (cluster ids) before →
-        RestsWhenOpened limits (before ++ now ∷ []) (transfers_of_rows (cluster ids) (rows_in before) []) n →
+        RestsBeforeOpening limits (before ++ now ∷ []) (transfers_of_rows (cluster ids) (rows_in before) []) n →
         WaitsForAnswers limits (before ++ now ∷ []) (transfers_of_rows (cluster ids) (rows_in before) [])
         (heard_by n (cluster ids) (rows_in before)) n }
 {
     what_is_said_of_a_step();
     what_is_said_of_frames();
     a_choice_fits();
+    lawful_rows_do_no_harm();
     rows_are_shown();
 }
 
@@ -109,6 +114,7 @@ pub fn answers_come_in_order()
         AnswersInOrder n (heard_by n (cluster ids) rows) (frame_at (world_of ids rows).frames k) }
 {
     a_choice_fits();
+    lawful_rows_do_no_harm();
     rows_are_shown();
     transfers_of_a_step_are_apart();
     what_is_said_of_a_step();
@@ -117,7 +123,7 @@ pub fn answers_come_in_order()
 
 /// A member on a physical bus, whatever frames are lost, takes no response to an earlier call: where each frame comes
 /// after it was made and within the longest hold, where the member's clock goes on with the time and does not run fast,
-/// where frames come to each member in order and once, and where a member that is opened rests.
+/// where frames come to each member in order and once, and where the member rests before it is opened.
 pub fn no_response_outlives_its_transfer_id()
     ensures { (limits : Limits) (ids : List ℕ) (before : List Timed) (now : Timed) (n k ms : ℕ) →
         AreMembers ids → HoldsAreShort limits → now.row ≡ Rx n k ms →
@@ -126,7 +132,7 @@ pub fn no_response_outlives_its_transfer_id()
         ClockGoesOn limits n [] (cluster ids) (before ++ now ∷ []) → ClockIsNotFast limits n [] (cluster ids) before →
         AllComeInTurn ids (cluster ids) (rows_in before) →
         ComesInTurn n (heard_by n (cluster ids) (rows_in before)) (frame_at (world_of ids (rows_in before)).frames k) →
-        RestsWhenOpened limits (before ++ now ∷ []) (transfers_of_rows (cluster ids) (rows_in before) []) n →
+        RestsBeforeOpening limits (before ++ now ∷ []) (transfers_of_rows (cluster ids) (rows_in before) []) n →
         cause (world_of ids (rows_in before)) (Rx n k ms) ≡ Some Stale → ⊥ }
 {
     answers_come_in_order();
@@ -135,6 +141,7 @@ pub fn no_response_outlives_its_transfer_id()
     what_is_said_of_a_step();
     what_is_said_of_frames();
     a_choice_fits();
+    lawful_rows_do_no_harm();
     rows_are_shown();
 }
 
@@ -157,6 +164,7 @@ pub fn a_member_puts_nothing_together_of_two()
     what_is_said_of_a_step();
     what_is_said_of_frames();
     a_choice_fits();
+    lawful_rows_do_no_harm();
     rows_are_shown();
 }
 
@@ -171,8 +179,9 @@ pub fn premises_can_be_met()
     ensures apart { UsesIdsApart some_limits (first_rows ++ at_member ∷ [])
         (transfers_of_rows (cluster two) (rows_in first_rows) []) (heard_by 2 (cluster two) (rows_in first_rows)) 2 }
     ensures frames { ComeInOrder 2 [] (cluster two) (rows_in (first_rows ++ at_member ∷ [])) }
+    ensures short { HoldsAreShort some_limits }
     ensures fast { ClockIsNotFast some_limits 2 [] (cluster two) first_rows }
-    ensures rests { RestsWhenOpened some_limits (first_rows ++ at_member ∷ [])
+    ensures rests { RestsBeforeOpening some_limits (first_rows ++ at_member ∷ [])
         (transfers_of_rows (cluster two) (rows_in first_rows) []) 2 }
     ensures turns { AllComeInTurn two (cluster two) (rows_in first_rows) }
     ensures once { ComesOnce (heard_by 2 (cluster two) (rows_in first_rows))
@@ -210,7 +219,7 @@ pub fn traces_on_a_bus_may_happen()
     a_device_puts_nothing_together_of_two();
     a_member_puts_nothing_together_of_two();
     no_response_outlives_its_transfer_id();
-    traces_are_lawful();
+    traces_do_no_harm();
 }
 
 /// So a run of `node` whose trace happens on a physical bus stands in it, or a transfer loses frames.

@@ -17,13 +17,13 @@ use Rattle.bus_physics.proofs.laws.no_response_outlives_its_transfer_id.Goals as
 pub returns : goal.returns
 returns c = λ limits ids before now n k ms members enough row lawful comes clock slow turns turn rests e.
     let rows = rows_in before in
-    let sane : limits.drift < 58000 = omega (arith, enough) in
+    let sane : limits.drift < 58000 = omega (arith, enough.clock) in
     let waits = c.calls_come_round_late.ensures limits ids before now n members enough lawful slow rests in
     let steps = c.what_is_said_of_a_step.ensures in
     let laws : MemberLaws = record { heard = steps.heard; ticked = steps.ticked; me = steps.me; called = steps.called; now = now_of_a_step } in
     let order = c.answers_come_in_order.ensures ids rows n k members lawful (refused IsStale Stale of_stale (world_of ids rows) n k ms e).there turns turn in
-    let chosen = c.a_choice_fits.ensures ids rows members lawful in
-    let shows = (c.rows_are_shown.ensures chosen.0 ids rows members lawful chosen.1).shows in
+    let chosen = c.a_choice_fits.ensures ids rows members (c.lawful_rows_do_no_harm.ensures (cluster ids) rows lawful) in
+    let shows = (c.rows_are_shown.ensures chosen.0 ids rows members (c.lawful_rows_do_no_harm.ensures (cluster ids) rows lawful) chosen.1).shows in
     let stale = c.what_is_refused.ensures.stale ids rows n k ms members lawful e in
     let stands = along limits (before ++ now ∷ []) laws of_its_key sane n now before [] (cluster ids) [] refl refl
     (λ t up. absurd (cc (up))) clock comes lawful in

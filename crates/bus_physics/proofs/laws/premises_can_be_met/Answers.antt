@@ -54,11 +54,14 @@ pub returns-clause-frames : goal.returns-clause-frames
 unfolding step all_nodes queued_frames next_out left_behind frames_of
 returns-clause-frames c = (tt, (tt, (tt, (tt, (tt, ((λ other key i first second. absurd i), tt))))))
 
+pub returns-clause-short : goal.returns-clause-short
+returns-clause-short c = record { round = omega arith; rested = omega arith; clock = omega arith }
+
 pub returns-clause-fast : goal.returns-clause-fast
 returns-clause-fast c = (tt, (tt, (tt, (tt, (tt, tt)))))
 
 pub returns-clause-rests : goal.returns-clause-rests
-returns-clause-rests c = λ x y i j mine own what to id call opened. absurd (omega (arith, (made_in x i).1, mine))
+returns-clause-rests c = λ x number told moment word i mine less opened. absurd (omega (arith, (made_in x i).1, mine))
 
 pub returns-clause-turns : goal.returns-clause-turns
 returns-clause-turns c = λ m i. (tt, (tt, (tt, (tt, (tt, tt)))))
@@ -148,7 +151,6 @@ returns-clause-bus c = (
               turn = (λ other key i first second. absurd i, returns-clause-once c);
               fast = returns-clause-fast c;
               rests = returns-clause-rests c;
-              earlier = (tt, (tt, (tt, (tt, (tt, tt)))));
               apart = returns-clause-apart c;
             },
             (device_hears, tt),

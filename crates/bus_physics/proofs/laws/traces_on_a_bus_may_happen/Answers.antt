@@ -1,25 +1,25 @@
 use Rattle.std.proofs.Common.{◌<◌, arith, refl, inl, inr}
 use Rattle.std.specs.Prelude.{[]}
 use Rattle.cluster_spec.specs.Cluster.{cluster}
-use Rattle.bus_physics.proofs.Scheduled.{DeviceLaw, StaleLaw, TornLaw}
+use Rattle.bus_physics.proofs.Scheduled.{DeviceLaw, StaleLaw, TornLaw, heard_in_order}
 use Rattle.bus_physics.proofs.Traced.{traced}
 use Rattle.bus_physics.proofs.laws.traces_on_a_bus_may_happen.Goals as goal
 
 pub returns-clause-may : goal.returns-clause-may
 returns-clause-may c = λ limits ids trace all members enough rows happen may.
-    let sane : limits.drift < 58000 = omega (arith, enough) in
+    let sane : limits.drift < 58000 = omega (arith, enough.clock) in
     let device : DeviceLaw limits ids = λ before now a k ms word row lawful hears e.
     c.a_device_puts_nothing_together_of_two.ensures limits ids before now a k ms word members sane row lawful hears.comes hears.slow e in
     let torn : TornLaw limits ids = λ before now n k ms row lawful hears e.
-    c.a_member_puts_nothing_together_of_two.ensures limits ids before now n k ms members sane row lawful hears.comes hears.clock hears.earlier hears.turn.0 hears.apart e in
+    c.a_member_puts_nothing_together_of_two.ensures limits ids before now n k ms members sane row lawful hears.comes hears.clock (heard_in_order limits ids before n k ms hears.turns e) hears.turn.0 hears.apart e in
     let stale : StaleLaw limits ids = λ before now n k ms row lawful hears e.
     c.no_response_outlives_its_transfer_id.ensures limits ids before now n k ms members enough row lawful hears.comes hears.clock
     hears.fast hears.turns hears.turn hears.rests e in
-    traced limits ids device torn stale (λ done so_far. c.traces_are_lawful.ensures.rows ids done so_far) trace [] [] all (cluster ids) refl
-    tt refl rows happen may
+    traced limits ids device torn stale (λ done so_far. c.traces_do_no_harm.ensures.rows ids done so_far) trace [] [] all (cluster ids) refl
+    tt tt refl rows happen may
 
 pub returns-clause-headline : goal.returns-clause-headline
 returns-clause-headline c = λ limits ids trace all members enough rows happen may. elim (returns-clause-may c limits ids trace all members enough rows happen may) [
-  | inl all ↦ inl (c.traces_are_lawful.ensures.headline ids trace members all)
+  | inl all ↦ inl (c.traces_do_no_harm.ensures.headline ids trace members all)
   | inr loses ↦ inr loses
 ]
