@@ -6,7 +6,7 @@ use Rattle.can_frame.specs.declared.identifier.Ident.{Ident}
 use Rattle.can_frame.specs.declared.identifier.Kind.TheVariants.{Response}
 use Rattle.can_frame.specs.declared.mark.Mark.{Mark}
 use Rattle.can_frame.specs.declared.step.What.{What}
-use Rattle.can_frame.specs.declared.step.Judged.TheVariants.{Fine}
+use Rattle.can_frame.specs.declared.step.Judged.TheVariants.{Fine, Stale, Torn}
 use Rattle.raft_core.specs.Times.{Sending, Times, awaits}
 use Rattle.raft_model.specs.Lists.{In}
 use Rattle.raft_model.specs.Messages.{Request}
@@ -16,12 +16,12 @@ use Rattle.replay_text.specs.declared.row.Row.{Row}
 use Rattle.replay_text.specs.declared.row.Row.TheVariants.{Rx}
 use Rattle.transfer_rx.specs.Acceptance.{is_for, is_service}
 use Rattle.transfer_rx.specs.Keys.{is_anonymous}
-use Rattle.transfer_rx.specs.Reassembly.{Arrival, Delivery, Gives, answer}
+use Rattle.transfer_rx.specs.Reassembly.{Answer, Arrival, Delivery, Gives, answer}
 use Rattle.transfer_rx.specs.Sound.{IsDelivered}
 use Rattle.transfer_tx.specs.Queue.{Queued}
 use Rattle.alloc_spec.specs.Accepted.{rows, setting_for}
 use Rattle.alloc_spec.specs.AllocatorState.{AllocatorState, members_of}
-use Rattle.alloc_spec.specs.Judging.{arrival_judgement, is_response, is_stale, misses, service_of, would_take}
+use Rattle.alloc_spec.specs.Judging.{answer_judgement, arrival_judgement, is_response, is_stale, misses, service_of, would_take}
 use Rattle.alloc_spec.specs.Step.{begin_phase}
 use Rattle.alloc_spec.specs.Transfers.{SentTransfer, number_of}
 use Rattle.alloc_spec_laws.proofs.Choices.{eq_false, eq_true}
@@ -35,7 +35,7 @@ use Rattle.cluster_agreement.specs.Frames.{WasMade}
 use Rattle.cluster_agreement.specs.LawsBelow.{FrameLaws}
 use Rattle.cluster_agreement.specs.Said.{IsCalled, carrier}
 use Rattle.cluster_agreement.specs.Shows.{Shows, ShowsMember, ShowsUp}
-use Rattle.cluster_agreement.proofs.Deliveries.{IsFine, judged_fine, judges_fine, listed_in}
+use Rattle.cluster_agreement.proofs.Deliveries.{listed_in}
 use Rattle.cluster_agreement.proofs.DeliveredTransfers.{was_made}
 use Rattle.cluster_agreement.proofs.Idents.{IsWanted, service_is, wanted_is}
 use Rattle.cluster_agreement.proofs.Lists.{in_back, never}
@@ -48,6 +48,30 @@ use Rattle.bus_physics.specs.Physics.{heard_in}
 use Rattle.bus_physics.proofs.SpacedCalls.{Answers, IsHeard}
 use Rattle.bus_physics.proofs.StepCalls.{IsAnswerOf, IsSpaced}
 use Rattle.bus_physics.proofs.Waiting.{WaitsLast}
+
+-- ---- what is fine is not torn, and not stale
+
+record IsFine (t : AllocatorState) (now : ℕ) (d : Delivery) : Type 0 where
+  untorn : d.whole ≡ false → d.mark.step ≡ 0
+  fresh : is_stale t d now ≡ false
+
+fine_from : (whole unmarked stale : Bool) → (if not whole && not unmarked then Torn else (if stale then Stale else Fine)) ≡ Fine
+    → (whole ≡ false → unmarked ≡ true) × (stale ≡ false)
+fine_from true unmarked true e = absurd (cc (e))
+fine_from true unmarked false e = ((λ w. never (sym w)), refl)
+fine_from false true true e = absurd (cc (e))
+fine_from false true false e = ((λ w. refl), refl)
+fine_from false false stale e = absurd (cc (e))
+
+judged_fine : (t : AllocatorState) (step now : ℕ) (a : Answer) (d : Delivery) → a ≡ Gives d → answer_judgement t step now a ≡ Fine → d.mark.step ≡ step → IsFine t now d
+judged_fine t step now a d e fine mark =
+    let f = fine_from d.whole (nat_eq step 0) (is_stale t d now) (ap (λ (x : Answer). answer_judgement t step now x) (sym e) ∙ fine) in
+    record { untorn = λ w. mark ∙ eq_true step 0 (f.0 w); fresh = f.1 }
+
+judges_fine : (t : AllocatorState) (arrival : Arrival) → arrival_judgement t arrival ≡ Fine
+    → answer_judgement t arrival.mark.step (max t.now arrival.moment) (answer (setting_for t.me) t.sessions (record arrival { moment = max t.now arrival.moment })) ≡ Fine
+unfolding arrival_judgement
+judges_fine t arrival e = e
 
 -- ---- what is not stale answers the call that waits
 

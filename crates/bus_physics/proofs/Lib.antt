@@ -1,3 +1,4 @@
+pub mod LawfulRows
 pub mod Refusals
 pub mod Torn
 pub mod Stale

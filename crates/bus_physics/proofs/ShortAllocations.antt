@@ -20,10 +20,11 @@ use Rattle.cluster_spec.specs.Members.MemberStatus.{Down, Failed, Up}
 use Rattle.cluster_spec.specs.Refinement.{transfers_of_offers, transfers_of_row, transfers_of_rows, transfers_of_step}
 use Rattle.cluster_agreement.specs.Said.{IsRunWritable, IsStoreWritable}
 use Rattle.cluster_agreement.specs.Shows.{Shows, ShowsMember, ShowsUp}
-use Rattle.cluster_agreement.proofs.Concatenations.{cause_at, first_lawful, rows_joined}
+use Rattle.cluster_agreement.proofs.Concatenations.{rows_joined}
 use Rattle.cluster_agreement.proofs.Lists.{tell}
 use Rattle.cluster_agreement.proofs.MadeTransfers.{made_when}
 use Rattle.cluster_agreement.proofs.RowsWithoutEvents.{is_one, past_first}
+use Rattle.bus_physics.proofs.LawfulRows.{cause_at, first_lawful}
 use Rattle.bus_physics.proofs.StepAllocations.{AreWhole, short}
 
 abbrev pub AreShortOf : List SentTransfer → Type 0

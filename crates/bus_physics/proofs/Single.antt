@@ -32,12 +32,13 @@ use Rattle.cluster_spec.specs.Refinement.{transfers_of_rows}
 use Rattle.cluster_agreement.specs.Frames.{IsPiece}
 use Rattle.cluster_agreement.specs.LawsBelow.{FrameLaws}
 use Rattle.cluster_agreement.specs.Shows.{Shows, ShowsMember, ShowsUp}
-use Rattle.cluster_agreement.proofs.Concatenations.{cause_at, first_lawful, ids_stay, rows_joined}
+use Rattle.cluster_agreement.proofs.Concatenations.{ids_stay, rows_joined}
 use Rattle.cluster_agreement.proofs.Lists.{in_append, of_each}
 use Rattle.cluster_agreement.proofs.Pieces.{IsPieceOf, no_piece, piece_of}
 use Rattle.cluster_agreement.proofs.RowsWithoutEvents.{is_one, out_of_queue, past_first}
 use Rattle.cluster_agreement.proofs.WholeTransfers.{members_own, read_back}
 use Rattle.transfer_rx.specs.Reassembly.{Arrival}
+use Rattle.bus_physics.proofs.LawfulRows.{cause_at, first_lawful}
 
 -- the first of its transfer
 abbrev pub IsFirst : Queued → Type 0

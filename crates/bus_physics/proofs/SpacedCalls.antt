@@ -576,13 +576,13 @@ module _ (append : Bool) (p width : ℕ) (P : ℕ → ℕ → Memory → Times �
     longer (x ∷ xs) t = ap suc (longer xs t)
 
     -- what was sent stays so along rows
-    sent_by_step : (number m : ℕ) (event : Event) (status : MemberStatus) (y : Member) (made : List SentTransfer) (x : SentTransfer) → In x made
-        → In x (transfers_of_step number m event status y made)
-    sent_by_step number m event Down y made x i = i
-    sent_by_step number m event (Failed failure) y made x i = i
-    sent_by_step number m event (Up t) y made x i = by (are_put (puts_of y (step t number event).step_state) y.disk.calls) where
-      by : (b : Bool) → In x (if b then transfers_of_offers number m (step t number event).step_state.offers made else made)
-      by true = still_made number m (step t number event).step_state.offers made x i
+    sent_by_step : (row m : ℕ) (event : Event) (status : MemberStatus) (y : Member) (made : List SentTransfer) (x : SentTransfer) → In x made
+        → In x (transfers_of_step row m event status y made)
+    sent_by_step row m event Down y made x i = i
+    sent_by_step row m event (Failed failure) y made x i = i
+    sent_by_step row m event (Up t) y made x i = by (are_put (puts_of y (step t row event).step_state) y.disk.calls) where
+      by : (b : Bool) → In x (if b then transfers_of_offers row m (step t row event).step_state.offers made else made)
+      by true = still_made row m (step t row event).step_state.offers made x i
       by false = i
 
     sent_by_row : (w : Cluster) (row : Row) (made : List SentTransfer) (x : SentTransfer) → In x made → In x (transfers_of_row w row made)

@@ -1,0 +1,14 @@
+-- Two lists of rows, one behind the other, that are lawful together.
+use Rattle.std.proofs.Common.{◌≡◌, List, [], ◌∷◌, ◌++◌}
+use Rattle.std.specs.Prelude.{None}
+use Rattle.replay_text.specs.declared.row.Row.{Row}
+use Rattle.cluster_spec.specs.Cluster.{Cluster, after_row, after_rows}
+use Rattle.cluster_spec.specs.Lawful.{Lawful, cause}
+
+pub first_lawful : (w : Cluster) (rows more : List Row) → Lawful w (rows ++ more) → Lawful w rows
+first_lawful w [] more all = tt
+first_lawful w (row ∷ rows) more all = (all.0, first_lawful (after_row w row) rows more all.1)
+
+pub cause_at : (w : Cluster) (rows rest : List Row) (row : Row) → Lawful w (rows ++ (row ∷ rest)) → cause (after_rows w rows) row ≡ None
+cause_at w [] rest row all = all.0
+cause_at w (first ∷ rows) rest row all = cause_at (after_row w first) rows rest row all.1
