@@ -92,14 +92,14 @@ run_of step place (mark ∷ marks) d each =
     same : (a b : ℕ) → a ≡ b → nat_eq a b ≡ true
     same a b e = elim (eqb_tells a b) [ inl s ↦ s.0 | inr apart ↦ absurd (apart.1 e) ]
 
--- ---- frames of one transfer
+-- ---- a frame of a transfer, at a place of what was put together
 
-module _ (laws : FrameLaws) (x : SentTransfer) (small : x.offer.id < 32) (few : frame_count (length x.offer.payload) ≤ 3) (all : List Arrival) (default : Arrival)
-    (each : (arrival : Arrival) → In arrival all → IsFrameOf x arrival) (signature id : ℕ) (payload : List ℕ)
+module _ (laws : FrameLaws) (x : SentTransfer) (small : x.offer.id < 32) (all : List Arrival) (default : Arrival) (signature id : ℕ) (payload : List ℕ)
     (cutting : map piece_in all ≡ pieces_of signature id payload) where
   abbrev get : ℕ → Arrival
   get i = slice_index_or all i default
 
+  -- the last places of the two
   abbrev n : ℕ
   n = frames_before_last (signature_of x.offer.what) x.offer.payload
 
@@ -109,21 +109,10 @@ module _ (laws : FrameLaws) (x : SentTransfer) (small : x.offer.id < 32) (few : 
   count : length all ≡ suc m
   count = sym (length-map all piece_in) ∙ (ap length cutting ∙ laws.count signature id payload)
 
-  short : n ≤ 2
-  short = omega (
-    arith,
-    few,
-    laws.cut_count (signature_of x.offer.what) x.offer.id x.offer.payload,
-    laws.count (signature_of x.offer.what) x.offer.id x.offer.payload,
-  )
+  there : (i : ℕ) → i ≤ m → i < length all
+  there i inside = omega (arith, inside, count)
 
-  module _ (i : ℕ) (inside : i ≤ m) where
-    there : i < length all
-    there = omega (arith, inside, count)
-
-    is : IsFrameOf x (get i)
-    is = each (get i) (in_at all i default there)
-
+  module _ (i : ℕ) (inside : i ≤ m) (is : IsFrameOf x (get i)) where
     abbrev p : ℕ
     p = (get i).mark.place
 
@@ -137,7 +126,7 @@ module _ (laws : FrameLaws) (x : SentTransfer) (small : x.offer.id < 32) (few : 
     same_tail : tail_at x.offer.id p (nat_eq p n) ≡ tail_at id i (nat_eq i m)
     same_tail = sym (tail_is laws (signature_of x.offer.what) x.offer.id x.offer.payload p in_it)
         ∙ (ap (λ (q : Piece). q.tail) (sym piece_is)
-        ∙ (ap (λ (q : Piece). q.tail) (sym (get_or-map piece_in all i default no_piece there))
+        ∙ (ap (λ (q : Piece). q.tail) (sym (get_or-map piece_in all i default no_piece (there i inside)))
         ∙ (ap (λ (l : List Piece). (slice_index_or l i no_piece).tail) cutting ∙ tail_is laws signature id payload i inside)))
 
     alike : AreAlike p n i m
@@ -147,11 +136,59 @@ module _ (laws : FrameLaws) (x : SentTransfer) (small : x.offer.id < 32) (few : 
       toggle = ap (λ (t : Tail). t.toggle) same_tail;
     }
 
+  -- a transfer of one frame is not put together with others
+  pub not_alone : (i : ℕ) → i < length all → IsFrameOf x (get i) → 2 ≤ length all → 2 ≤ frame_count (length x.offer.payload)
+  not_alone i below is many = elim (eqb_tells n 0) [
+    | inr some ↦ omega (
+      arith,
+      some.1,
+      laws.cut_count (signature_of x.offer.what) x.offer.id x.offer.payload,
+      laws.count (signature_of x.offer.what) x.offer.id x.offer.payload,
+    )
+    | inl none ↦
+        let inside : i ≤ m = omega (arith, below, count) in
+        let like = alike i inside is in
+        let first : p i inside is ≡ 0 = omega (arith, in_it i inside is, none.1) in
+        absurd (omega (arith, to (p i inside is) 0 i 0 like.start first, to (p i inside is) n i m like.end (first ∙ sym none.1), many, count))
+  ]
+
+-- ---- frames of one transfer
+
+module _ (laws : FrameLaws) (x : SentTransfer) (small : x.offer.id < 32) (few : frame_count (length x.offer.payload) ≤ 3) (all : List Arrival) (default : Arrival)
+    (each : (arrival : Arrival) → In arrival all → IsFrameOf x arrival) (signature id : ℕ) (payload : List ℕ)
+    (cutting : map piece_in all ≡ pieces_of signature id payload) where
+  abbrev last_theirs : ℕ
+  last_theirs = frames_before_last (signature_of x.offer.what) x.offer.payload
+
+  abbrev last : ℕ
+  last = frames_before_last signature payload
+
+  short : last_theirs ≤ 2
+  short = omega (
+    arith,
+    few,
+    laws.cut_count (signature_of x.offer.what) x.offer.id x.offer.payload,
+    laws.count (signature_of x.offer.what) x.offer.id x.offer.payload,
+  )
+
+  module _ (i : ℕ) (inside : i ≤ last) where
+    its : IsFrameOf x (slice_index_or all i default)
+    its = each (slice_index_or all i default) (in_at all i default (there laws x small all default signature id payload cutting i inside))
+
+    abbrev place : ℕ
+    place = (slice_index_or all i default).mark.place
+
+    in_theirs : place ≤ last_theirs
+    in_theirs = in_it laws x small all default signature id payload cutting i inside its
+
+    alike_it : AreAlike place last_theirs i last
+    alike_it = alike laws x small all default signature id payload cutting i inside its
+
   -- the transfer that was put together is as short
-  not_more : m ≤ 2
-  not_more = elim (leb_or m) [
+  not_more : last ≤ 2
+  not_more = elim (leb_or last) [
     | inl few_too ↦ few_too
-    | inr long ↦ absurd (not_longer (p 2 (omega (arith, long))) n m (alike 2 (omega (arith, long))) (in_it 2 (omega (arith, long))) short long)
+    | inr long ↦ absurd (not_longer (place 2 (omega (arith, long))) last_theirs last (alike_it 2 (omega (arith, long))) (in_theirs 2 (omega (arith, long))) short long)
   ]
     where
       leb_or : (k : ℕ) → (k ≤ 2) ⊎ (3 ≤ k)
@@ -165,10 +202,10 @@ module _ (laws : FrameLaws) (x : SentTransfer) (small : x.offer.id < 32) (few : 
       × ((slice_index_or (map (λ (a : Arrival). a.mark) all) i default.mark).place ≡ 0 + i)
   marks_are i h =
       let below : i < length all = omega (arith, h, length-map all (λ (a : Arrival). a.mark)) in
-      let inside : i ≤ m = omega (arith, below, count) in
-      let at : slice_index_or (map (λ (a : Arrival). a.mark) all) i default.mark ≡ (get i).mark = get_or-map (λ (a : Arrival). a.mark) all i default default.mark below in
-      let place : (get i).mark.place ≡ i = place_is (p i inside) n i m (alike i inside) (in_it i inside) short (omega (arith, inside, not_more)) in
-      (ap (λ (k : Mark). k.step) at ∙ (is i inside).step, ap (λ (k : Mark). k.place) at ∙ (place ∙ omega arith))
+      let inside : i ≤ last = omega (arith, below, count laws x small all default signature id payload cutting) in
+      let at : slice_index_or (map (λ (a : Arrival). a.mark) all) i default.mark ≡ (slice_index_or all i default).mark = get_or-map (λ (a : Arrival). a.mark) all i default default.mark below in
+      let same : place i inside ≡ i = place_is (place i inside) last_theirs i last (alike_it i inside) (in_theirs i inside) short (omega (arith, inside, not_more)) in
+      (ap (λ (k : Mark). k.step) at ∙ (its i inside).step, ap (λ (k : Mark). k.place) at ∙ (same ∙ omega arith))
 
   pub short_is_whole : is_whole (map (λ (a : Arrival). a.mark) all) ≡ true
   short_is_whole = by (map (λ (a : Arrival). a.mark) all) marks_are where
