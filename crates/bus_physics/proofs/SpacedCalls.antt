@@ -255,28 +255,28 @@ module _ (append : Bool) (p width : ℕ) (P : ℕ → ℕ → Memory → Times �
         each = λ x i call. by x call (made_when number n g.offers made x i);
       }
         where
-        old : (x : SentTransfer) → In x made → IsCallTo x → IsEnded made heard runs.opening.at x ⊎ Waits past t x
-            → Answers event begun.allocator ⊎ (Answers event begun.allocator → ⊥) → IsEnded more further runs.opening.at x ⊎ Waits later_past g.allocator x
-        old x i call (inl (inl a)) decided = inl (inl (answered_more made more heard further grows hears x a))
-        old x i call (inl (inr rested)) decided = inl (inr rested)
-        old x i call (inr w) (inl answers) =
-            inl (inl (answered_more made more further further grows (λ f j. j) x (answered_by made further number (heard_it answers) x i call)))
-        old x i call (inr w) (inr silent) = inr (record {
-          moment = w.moment;
-          reading = inr w.reading;
-          since = called.opened.past x.offer.id w.moment
-              (record { x = x; there = i; call = call; same = refl; waits = w; moment = refl; silent = silent });
-        })
+          old : (x : SentTransfer) → In x made → IsCallTo x → IsEnded made heard runs.opening.at x ⊎ Waits past t x
+              → Answers event begun.allocator ⊎ (Answers event begun.allocator → ⊥) → IsEnded more further runs.opening.at x ⊎ Waits later_past g.allocator x
+          old x i call (inl (inl a)) decided = inl (inl (answered_more made more heard further grows hears x a))
+          old x i call (inl (inr rested)) decided = inl (inr rested)
+          old x i call (inr w) (inl answers) =
+              inl (inl (answered_more made more further further grows (λ f j. j) x (answered_by made further number (heard_it answers) x i call)))
+          old x i call (inr w) (inr silent) = inr (record {
+            moment = w.moment;
+            reading = inr w.reading;
+            since = called.opened.past x.offer.id w.moment
+                (record { x = x; there = i; call = call; same = refl; waits = w; moment = refl; silent = silent });
+          })
 
-        by : (x : SentTransfer) → IsCallTo x → In x made ⊎ IsNew number n g.offers x → IsEnded more further runs.opening.at x ⊎ Waits later_past g.allocator x
-        by x call (inl i) = old x i call (runs.each x i call) (event_is event begun.allocator)
-        by x call (inr new) = inr (record {
-          moment = g.allocator.now;
-          reading = inl (ap (λ (k : ℕ). record { at = time_of all k; now = g.allocator.now }) (ap (λ (y : SentTransfer). y.step) new.is)
-              ∙ (ap (λ (k : ℕ). record { at = k; now = g.allocator.now }) its_time ∙ ap (λ (k : ℕ). record { at = came; now = k }) now_is));
-          since = subst (λ (o : Offer). Since append p P o.id g.allocator.now g.allocator.raft_server.memory g.allocator.times g.allocator.ids g.allocator.now)
-              (ap (λ (y : SentTransfer). y.offer) (sym new.is)) (called.own new.offer new.offered (new_call x new call));
-        })
+          by : (x : SentTransfer) → IsCallTo x → In x made ⊎ IsNew number n g.offers x → IsEnded more further runs.opening.at x ⊎ Waits later_past g.allocator x
+          by x call (inl i) = old x i call (runs.each x i call) (event_is event begun.allocator)
+          by x call (inr new) = inr (record {
+            moment = g.allocator.now;
+            reading = inl (ap (λ (k : ℕ). record { at = time_of all k; now = g.allocator.now }) (ap (λ (y : SentTransfer). y.step) new.is)
+                ∙ (ap (λ (k : ℕ). record { at = k; now = g.allocator.now }) its_time ∙ ap (λ (k : ℕ). record { at = came; now = k }) now_is));
+            since = subst (λ (o : Offer). Since append p P o.id g.allocator.now g.allocator.raft_server.memory g.allocator.times g.allocator.ids g.allocator.now)
+                (ap (λ (y : SentTransfer). y.offer) (sym new.is)) (called.own new.offer new.offered (new_call x new call));
+          })
 
       pub settled_then : AreSettled more further
       settled_then x y i j call called_too id less = by (made_when number n g.offers made x i) (made_when number n g.offers made y j) where
@@ -341,10 +341,10 @@ module _ (append : Bool) (p width : ℕ) (P : ℕ → ℕ → Memory → Times �
           each = λ x i c. by x (r.each x (only x i c) c);
         }
           where
-          by : (x : SentTransfer) → IsEnded made heard r.opening.at x ⊎ Waits past t x → IsEnded more further r.opening.at x ⊎ Waits past t x
-          by x (inl (inl a)) = inl (inl (answered_more made more heard further grows hears x a))
-          by x (inl (inr rested)) = inl (inr rested)
-          by x (inr v) = inr v
+            by : (x : SentTransfer) → IsEnded made heard r.opening.at x ⊎ Waits past t x → IsEnded more further r.opening.at x ⊎ Waits past t x
+            by x (inl (inl a)) = inl (inl (answered_more made more heard further grows hears x a))
+            by x (inl (inr rested)) = inl (inr rested)
+            by x (inr v) = inr v
 
         -- its status stays
         still : (status : MemberStatus) → ((u : AllocatorState) → status ≡ Up u → (w.member n).status ≡ Up u) → Next more further past status

@@ -1,6 +1,7 @@
--- Each Allocation of a step has 17 bytes at the most, where the unique IDs of the log have 16 before it and after it.
-use Rattle.std.proofs.Common.{◌≡◌, ℕ, zero, suc, ◌+◌, ◌≤◌, Bool, true, false, List, [], ◌∷◌, ◌++◌, length, length-append, refl, sym, ap, subst, ◌∙◌, arith, inl, inr, Option, Some, None, drop}
-use Rattle.std.specs.Prelude.{⊤, ◌&&◌, max, not, nat_eq, nat_lt, slice_index_or}
+-- Each Allocation of a step has 17 bytes at the most, where the unique IDs of the log have 16 before it and after it; and
+-- what is no Allocation, no request of Raft and no response of GetNodeInfo has 7 bytes at the most.
+use Rattle.std.proofs.Common.{◌≡◌, ℕ, zero, suc, ◌+◌, ◌≤◌, Bool, true, false, List, [], ◌∷◌, ◌++◌, length, length-append, refl, sym, ap, subst, ◌∙◌, arith, ◌⊎◌, inl, inr, Option, Some, None, drop}
+use Rattle.std.specs.Prelude.{⊤, ◌-◌, ◌&&◌, max, not, nat_eq, nat_le, nat_lt, slice_index_or}
 use Rattle.alloc_exchange.specs.declared.heard.Heard.{Heard}
 use Rattle.alloc_exchange.specs.declared.heard.Heard.TheVariants.{Denied, FollowUp, Ignored, Whole}
 use Rattle.alloc_exchange.specs.declared.stage.Stage.{Stage}
@@ -10,19 +11,20 @@ use Rattle.can_frame.specs.declared.entry.Entry.{Entry}
 use Rattle.can_frame.specs.declared.identifier.Kind.{Kind}
 use Rattle.can_frame.specs.declared.identifier.Kind.TheVariants.{Anonymous, Message as Broadcast, Request as RequestKind, Response}
 use Rattle.can_frame.specs.declared.step.What.{What}
-use Rattle.can_frame.specs.declared.step.What.TheVariants.{Alloc, App, AppQ, Info, Vote, VoteQ}
+use Rattle.can_frame.specs.declared.step.What.TheVariants.{Alloc, App, AppQ, Disc, Info, InfoQ, Stat, Vote, VoteQ}
 use Rattle.can_frame.specs.Log.{blank}
+use Rattle.cluster_discovery.specs.Members.{is_due}
 use Rattle.dsdl_codec.specs.declared.allocation.Allocation.{Allocation}
 use Rattle.dsdl_codec.specs.Allocation.{allocation_of}
 use Rattle.dsdl_codec.specs.AppendAnswer.{append_answer_bytes, append_answer_of}
 use Rattle.dsdl_codec.specs.AppendRequest.{append_request_of}
-use Rattle.dsdl_codec.specs.Discovery.{discovery_of}
+use Rattle.dsdl_codec.specs.Discovery.{discovery_bytes, discovery_of}
 use Rattle.dsdl_codec.specs.NodeInfo.{node_info_bytes, node_info_of}
-use Rattle.dsdl_codec.specs.NodeStatus.{node_status_of}
+use Rattle.dsdl_codec.specs.NodeStatus.{node_status_bytes, node_status_of}
 use Rattle.dsdl_codec.specs.VoteAnswer.{vote_answer_bytes, vote_answer_of}
 use Rattle.dsdl_codec.specs.VoteRequest.{vote_request_of}
 use Rattle.id_selector.specs.Choice.{chosen}
-use Rattle.node_discovery.specs.Watch.{some_unknown}
+use Rattle.node_discovery.specs.Watch.{next_query, some_unknown}
 use Rattle.raft_core.specs.Calls.{owed}
 use Rattle.raft_core.specs.Handled.{append_request_of as asked_append, moves_of_expire, vote_request_of as asked_vote}
 use Rattle.raft_core.specs.Times.{given_at, is_awaited, overdue}
@@ -33,7 +35,7 @@ use Rattle.raft_model.specs.Messages.{Message, Request}
 use Rattle.raft_model.specs.Messages.Message.{Answers, Requests}
 use Rattle.raft_model.specs.Moves.{Move, next_entry}
 use Rattle.raft_model.specs.Moves.Appending.{Verdict, is_accepted}
-use Rattle.raft_model.specs.Moves.Elections.{with_term}
+use Rattle.raft_model.specs.Moves.Elections.{is_leader, with_term}
 use Rattle.raft_model.specs.Moves.Leading.{answer_to, append_request, vote_request}
 use Rattle.raft_model.specs.Moves.Move.{AnswerAgain, CallForVote, CallToAppend, TakeAppendRequest, TakeVoteRequest, TellPair}
 use Rattle.raft_model.specs.Server.{RaftServer, Store}
@@ -46,14 +48,13 @@ use Rattle.alloc_spec.specs.Services.{answers_append, answers_call, answers_vote
 use Rattle.alloc_spec.specs.Step.{Event, all_nodes, at_moment, begin_phase, event_phase, moment_of, step, with_answer, with_sessions}
 use Rattle.alloc_spec.specs.Step.Event.{Rx, Tick}
 use Rattle.alloc_spec.specs.StepState.{StepState, with_moves, with_response_to, with_transfer}
-use Rattle.alloc_spec.specs.Tick.{clock_phase}
-use Rattle.alloc_spec.specs.AllocatorState.{AllocatorState, is_zero, known, may_propose, members_of, recorded_at, taken}
-use Rattle.alloc_spec.specs.Transfers.{Offer, has_room}
-use Rattle.alloc_spec_laws.specs.Apart.{AreAllApart}
+use Rattle.alloc_spec.specs.Tick.{asks, candidate, clock_phase, discovery_of as own_discovery, discovery_phase, election_phase, new_uid, query_phase, record_phase, records_as, records_node, status_phase, tells_members, tells_status, with_query}
+use Rattle.alloc_spec.specs.AllocatorState.{AllocatorState, is_zero, known, may_propose, members_of, recorded_at, start_of, status_of, taken}
+use Rattle.alloc_spec.specs.Transfers.{Offer, has_room, id_of}
 use Rattle.alloc_spec_laws.proofs.Choices.{either, eq_true}
-use Rattle.alloc_spec_laws.proofs.DistinctTransfers.{rank, sent}
+use Rattle.alloc_spec_laws.proofs.DistinctTransfers.{sent}
 use Rattle.alloc_spec_laws.proofs.Lists.{in_append}
-use Rattle.alloc_spec_laws.proofs.TickOffers.{Upto, ticks_offer}
+use Rattle.alloc_spec_laws.proofs.Peers.{members_list}
 use Rattle.cluster_agreement.proofs.Lists.{tell}
 
 -- ---- unique IDs
@@ -109,8 +110,18 @@ answers_short accepted message now may = elim (tell (has_length message)) [
 
 -- ---- offers
 
+-- by its kind
+abbrev pub IsShortAs : What → List ℕ → Type 0
+IsShortAs Alloc payload = length payload ≤ 17
+IsShortAs Disc payload = length payload ≤ 7
+IsShortAs Stat payload = length payload ≤ 7
+IsShortAs InfoQ payload = length payload ≤ 7
+IsShortAs Vote payload = length payload ≤ 7
+IsShortAs App payload = length payload ≤ 7
+IsShortAs what payload = ⊤
+
 abbrev pub IsShort : Offer → Type 0
-IsShort offer = offer.what ≡ Alloc → length offer.payload ≤ 17
+IsShort offer = IsShortAs offer.what offer.payload
 
 abbrev pub AreShort : StepState → Type 0
 AreShort g = (offer : Offer) → In offer g.offers → IsShort offer
@@ -126,16 +137,14 @@ one_more g later new e short old offer i = elim (in_append offer g.offers (new �
 ]
 
 module _ (number : ℕ) where
-  other : (what : What) (to : ℕ) (payload : List ℕ) (says : Option Message) (g : StepState) → (what ≡ Alloc → ⊥) → AreShort g
+  sends : (what : What) (to : ℕ) (payload : List ℕ) (says : Option Message) (g : StepState) → IsShortAs what payload → AreShort g
       → AreShort (with_transfer number what to payload says g)
-  other what to payload says g is old =
-      one_more g (with_transfer number what to payload says g) (sent what to payload says g) refl (λ e. absurd (is e)) old
+  sends what to payload says g short old =
+      one_more g (with_transfer number what to payload says g) (sent what to payload says g) refl short old
 
   allocates : (node : ℕ) (uid : List ℕ) (g : StepState) → length uid ≤ 16 → AreShort g
       → AreShort (with_transfer number Alloc 0 (allocation_payload node uid) None g)
-  allocates node uid g short old =
-      one_more g (with_transfer number Alloc 0 (allocation_payload node uid) None g) (sent Alloc 0 (allocation_payload node uid) None g) refl
-      (λ e. omega (arith, short)) old
+  allocates node uid g short old = sends Alloc 0 (allocation_payload node uid) None g (omega (arith, short)) old
 
   gives : (move : Move) (place : ℕ) (g : StepState) → AreWhole g.allocator.raft_server.store.log → AreShort g → AreShort (gives_pair number move place g)
   gives move place g whole old =
@@ -186,9 +195,9 @@ module _ (number : ℕ) where
       (λ e. read (λ status. hears_status d) (node_status_of d.payload) g old (λ status. old))
       (λ e. read (hears_discovery d) (discovery_of d.payload) g old (λ message. old))
 
-  responds : (what : What) (d : Delivery) (payload : List ℕ) (says : Option Message) (g : StepState) → (what ≡ Alloc → ⊥) → AreShort g
+  responds : (what : What) (d : Delivery) (payload : List ℕ) (says : Option Message) (g : StepState) → IsShortAs what payload → AreShort g
       → AreShort (with_response_to number what d payload says g)
-  responds what d payload says g is old = one_more g (with_response_to number what d payload says g) (record {
+  responds what d payload says g short old = one_more g (with_response_to number what d payload says g) (record {
     what = what;
     to = d.ident.source;
     id = d.id;
@@ -196,10 +205,10 @@ module _ (number : ℕ) where
     re = d.mark.step;
     says = says;
     fitted = has_room g.allocator.queue payload;
-  }) refl (λ e. absurd (is e)) old
+  }) refl short old
 
   asked : (d : Delivery) (bytes : List ℕ) (g : StepState) → AreShort g → Shows (asks_info number d bytes g)
-  asked d [] g old = responds Info d (node_info_bytes (info_of g.allocator)) None g (λ e. absurd (cc (e))) old
+  asked d [] g old = responds Info d (node_info_bytes (info_of g.allocator)) None g tt old
   asked d (byte ∷ bytes) g old = old
 
   voted : (d : Delivery) (call : Request) (g : StepState) → AreShort g → AreShort (answers_vote number d call g)
@@ -207,7 +216,7 @@ module _ (number : ℕ) where
       let store = with_term g.allocator.raft_server.store call.term in
       let granted : Bool = grants store call in
       responds Vote d (vote_answer_bytes (record { term = store.term; granted = granted }) 0) (Some (Answers (answer_to g.allocator.me number store call granted)))
-      (with_moves number (given_at g.allocator.now) (TakeVoteRequest call granted ∷ []) g) (λ e. absurd (cc (e))) old
+      (with_moves number (given_at g.allocator.now) (TakeVoteRequest call granted ∷ []) g) (omega arith) old
 
   appended : (d : Delivery) (call : Request) (g : StepState) → AreShort g → AreShort (answers_append number d call g)
   appended d call g old =
@@ -215,7 +224,7 @@ module _ (number : ℕ) where
       let verdict : Verdict = verdict_on g.allocator.raft_server call in
       responds App d (append_answer_bytes (record { term = store.term; success = is_accepted verdict }) 0)
       (Some (Answers (answer_to g.allocator.me number store call (is_accepted verdict))))
-      (with_moves number (given_at g.allocator.now) (TakeAppendRequest call verdict ∷ []) g) (λ e. absurd (cc (e))) old
+      (with_moves number (given_at g.allocator.now) (TakeAppendRequest call verdict ∷ []) g) (omega arith) old
 
   request_comes : (d : Delivery) (g : StepState) → AreShort g → Shows (request number d g)
   request_comes d g old =
@@ -265,19 +274,49 @@ module _ (number : ℕ) where
   by_answer Continues g whole old = old
   by_answer (Drops why) g whole old = old
 
-  ticks : (word : ℕ) (g : StepState) → g.offers ≡ [] → AreShort (clock_phase number word g)
-  ticks word g silent offer i is = absurd (omega (arith, (ticks_offer number word g nothing).each offer i, ap rank is)) where
-    nothing : Upto 0 1 g
-    nothing = record {
-      few = omega (arith, ap length silent);
-      apart = subst (λ (l : List Offer). AreAllApart l) (sym silent) tt;
-      each = λ offer i. absurd (subst (λ (l : List Offer). In offer l) silent i);
-    }
+  discovers : (g : StepState) → g.allocator.size ≤ 5 → AreShort g → AreShort (discovery_phase number g)
+  discovers g few old = either AreShort (is_due (start_of g.allocator) g.allocator.heard g.allocator.now) (tells_members number g) g
+      (λ e. sends Disc 0 (discovery_bytes (own_discovery g.allocator)) None g (listed (members_list (start_of g.allocator) g.allocator.heard).few) old) (λ e. old)
+    where
+      listed : (length (members_of g.allocator) ≤ g.allocator.size) ⊎ (length (members_of g.allocator) ≡ 1)
+          → length (discovery_bytes (own_discovery g.allocator)) ≤ 7
+      listed (inl most) = omega (arith, most, few)
+      listed (inr one) = omega (arith, one)
 
-  happens : (event : Event) (g : StepState) → g.offers ≡ [] → AreWhole g.allocator.raft_server.store.log → Shows (event_phase number event g)
-  happens (Tick now word) g silent whole = ticks word g silent
-  happens (Rx arrival) g silent whole =
-      by_answer _ (with_sessions arrival g) whole (λ offer i. absurd (subst (λ (l : List Offer). In offer l) silent i))
+  tells_status_of : (g : StepState) → AreShort g → AreShort (status_phase number g)
+  tells_status_of g old = either AreShort (nat_le 1000 (g.allocator.now - g.allocator.status_at)) (tells_status number g) g
+      (λ e. sends Stat 0 (node_status_bytes (status_of g.allocator)) None g (omega arith) old) (λ e. old)
+
+  recorded : (g : StepState) → AreShort g → AreShort (record_phase number g)
+  recorded g old = either AreShort (may_propose g.allocator) (records_node number (candidate g.allocator) g) g (λ e. go (candidate g.allocator)) (λ e. old) where
+    one : (node : ℕ) (uid : Option (List ℕ)) → AreShort (records_as number node uid g)
+    one node None = old
+    one node (Some uid) = old
+
+    go : (node : Option ℕ) → AreShort (records_node number node g)
+    go None = old
+    go (Some node) = one node (new_uid g.allocator node)
+
+  queried : (g : StepState) → AreShort g → AreShort (query_phase number g)
+  queried g old = either AreShort (is_leader g.allocator.raft_server.memory.role) (asks number (next_query g.allocator.watch (known g.allocator) g.allocator.now) g) g
+      (λ e. go (next_query g.allocator.watch (known g.allocator) g.allocator.now)) (λ e. old)
+    where
+      go : (node : Option ℕ) → AreShort (asks number node g)
+      go None = old
+      go (Some node) =
+          let asked_it : AreShort (with_transfer number InfoQ node [] None g) = sends InfoQ node [] None g (omega arith) old in
+          either AreShort (has_room g.allocator.queue []) (with_query node (id_of g.allocator.ids InfoQ node) (with_transfer number InfoQ node [] None g))
+          (with_transfer number InfoQ node [] None g) (λ e. asked_it) (λ e. asked_it)
+
+  ticks : (word : ℕ) (g : StepState) → g.allocator.size ≤ 5 → AreShort g → AreShort (clock_phase number word g)
+  ticks word g few old =
+      let told : AreShort (status_phase number (discovery_phase number g)) = tells_status_of (discovery_phase number g) (discovers g few old) in
+      queried (record_phase number (election_phase number word (status_phase number (discovery_phase number g))))
+      (recorded (election_phase number word (status_phase number (discovery_phase number g))) told)
+
+  happens : (event : Event) (g : StepState) → g.allocator.size ≤ 5 → AreWhole g.allocator.raft_server.store.log → AreShort g → Shows (event_phase number event g)
+  happens (Tick now word) g few whole old = ticks word g few old
+  happens (Rx arrival) g few whole old = by_answer _ (with_sessions arrival g) whole old
 
   -- ---- the end
 
@@ -287,19 +326,19 @@ module _ (number : ℕ) where
       (λ e. either AreShort (is_zero (next_entry g.allocator.raft_server).uid) _ _ (λ z. old)
       (λ z. gives TellPair g.allocator.raft_server.memory.told g whole old)) (λ e. old)
 
-  one_call : (what : What) (peer : ℕ) (move : Move) (call : Request) (payload : List ℕ) (g : StepState) → (what ≡ Alloc → ⊥) → AreShort g
+  one_call : (what : What) (peer : ℕ) (move : Move) (call : Request) (payload : List ℕ) (g : StepState) → IsShortAs what payload → AreShort g
       → AreShort (calls_by number what peer move call payload g)
-  one_call what peer move call payload g is old =
-      either AreShort (has_room g.allocator.queue payload) _ _ (λ e. other what peer payload (Some (Requests call)) g is old)
-      (λ e. other what peer payload (Some (Requests call)) g is old)
+  one_call what peer move call payload g short old =
+      either AreShort (has_room g.allocator.queue payload) _ _ (λ e. sends what peer payload (Some (Requests call)) g short old)
+      (λ e. sends what peer payload (Some (Requests call)) g short old)
 
   some_call : (call : Option Move) (g : StepState) → AreShort g → AreShort (calls_owed number call g)
   some_call None g old = old
   some_call (Some (CallForVote peer)) g old = one_call VoteQ peer (CallForVote peer) (vote_request g.allocator.me number g.allocator.raft_server.store peer)
-      (vote_call_bytes (vote_request g.allocator.me number g.allocator.raft_server.store peer)) g (λ e. absurd (cc (e))) old
+      (vote_call_bytes (vote_request g.allocator.me number g.allocator.raft_server.store peer)) g tt old
   some_call (Some (CallToAppend peer previous with_entry)) g old = one_call AppQ peer (CallToAppend peer previous with_entry)
       (append_request g.allocator.me number g.allocator.raft_server.store peer previous with_entry)
-      (append_call_bytes (append_request g.allocator.me number g.allocator.raft_server.store peer previous with_entry)) g (λ e. absurd (cc (e))) old
+      (append_call_bytes (append_request g.allocator.me number g.allocator.raft_server.store peer previous with_entry)) g tt old
   some_call (Some move) g old = old
 
   all_calls : (peers : List ℕ) (g : StepState) → AreShort g → AreShort (calls_all number peers g)
@@ -339,11 +378,11 @@ module _ (number : ℕ) where
   log_all_called (peer ∷ peers) g = log_all_called peers (calls_peer number peer g)
       ∙ log_called (owed g.allocator.raft_server g.allocator.times peer g.allocator.now) g
 
-pub short : (t : AllocatorState) (number : ℕ) (event : Event) → AreWhole t.raft_server.store.log
+pub short : (t : AllocatorState) (number : ℕ) (event : Event) → t.size ≤ 5 → AreWhole t.raft_server.store.log
     → AreWhole (step t number event).step_state.allocator.raft_server.store.log → AreShort (step t number event).step_state
 unfolding step
-short t number event before after =
-    all_calls number (drop 1 (members_of told.allocator)) told (tells number committed at_the_end (happens number event begun refl at_the_event))
+short t number event few before after =
+    all_calls number (drop 1 (members_of told.allocator)) told (tells number committed at_the_end (happens number event begun few at_the_event (λ offer i. absurd i)))
   where
     begun : StepState
     begun = begin_phase number (moment_of event) t

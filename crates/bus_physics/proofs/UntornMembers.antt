@@ -1,8 +1,8 @@
 -- A member on a physical bus puts no transfer together of two.
-use Rattle.std.proofs.Common.{◌≡◌, ◌≢◌, ℕ, ◌+◌, ◌<◌, ◌≤◌, Bool, true, false, List, [], ◌∷◌, ◌++◌, length, map, refl, sym, ap, subst, ◌∙◌, arith, ◌⊎◌, inl, inr, Some}
+use Rattle.std.proofs.Common.{◌≡◌, ◌≢◌, ℕ, ◌+◌, ◌<◌, ◌≤◌, Bool, true, false, List, [], ◌∷◌, ◌++◌, length, length-append, map, refl, sym, ap, subst, ◌∙◌, arith, ◌⊎◌, inl, inr, Some}
 use Rattle.std.specs.Prelude.{max, nat_eq, not, ◌&&◌, slice_index_or}
 use Rattle.can_frame.specs.declared.mark.Mark.{Mark}
-use Rattle.transfer_rx.specs.Acceptance.{wanted}
+use Rattle.transfer_rx.specs.Acceptance.{first_signature, wanted}
 use Rattle.transfer_rx.specs.Run.{has_session_key, is_of}
 use Rattle.transfer_rx.proofs.Completeness.{is_own}
 use Rattle.cluster_agreement.proofs.Pieces.{piece_id}
@@ -12,6 +12,8 @@ use Rattle.can_frame.specs.declared.identifier.Ident.{Ident}
 use Rattle.can_frame.specs.declared.identifier.Kind.{Kind}
 use Rattle.can_frame.specs.declared.identifier.Kind.TheVariants.{Message, Anonymous, Request, Response}
 use Rattle.can_frame.specs.declared.step.Judged.TheVariants.{Torn}
+use Rattle.can_frame.specs.declared.step.What.{What}
+use Rattle.can_frame.specs.declared.step.What.TheVariants.{Alloc, App, AppQ, Disc, Info, InfoQ, Stat, Vote, VoteQ}
 use Rattle.can_frame.specs.Cutting.{Piece, frame_count, frames_of as pieces_of, piece_from}
 use Rattle.raft_model.specs.Lists.{In}
 use Rattle.raft_model.specs.Runs as machine
@@ -27,7 +29,7 @@ use Rattle.transfer_rx.proofs.Steps.{anonymous}
 use Rattle.transfer_tx.specs.Queue.{Queued}
 use Rattle.alloc_spec.specs.Accepted.{rows, setting_for}
 use Rattle.alloc_spec.specs.AllocatorState.{AllocatorState}
-use Rattle.alloc_spec.specs.Transfers.{SentTransfer, signature_of}
+use Rattle.alloc_spec.specs.Transfers.{SentTransfer, kind_of, number_of, signature_of}
 use Rattle.cluster_spec.specs.declared.unlawful.Unlawful.TheVariants.{Torn as IsTorn}
 use Rattle.cluster_spec.specs.Cluster.{AreMembers, Cluster, arrival_at, frame_at}
 use Rattle.cluster_spec.specs.Lawful.{cause, is_forged}
@@ -37,18 +39,18 @@ use Rattle.cluster_agreement.specs.LawsBelow.{FrameLaws}
 use Rattle.cluster_agreement.specs.Shows.{Shows, ShowsMember, ShowsUp}
 use Rattle.cluster_agreement.proofs.DeliveredTransfers.{HasTaken, IsOfKey}
 use Rattle.cluster_agreement.proofs.Idents.{IsWanted, to_for, wanted_is}
-use Rattle.cluster_agreement.proofs.Lists.{in_append, in_back, never}
+use Rattle.cluster_agreement.proofs.Lists.{in_append, in_back, never, tell}
 use Rattle.cluster_agreement.proofs.OneRow.{stands}
-use Rattle.bus_physics.specs.Physics.{AreApart, ClockGoesOnAt, ComesInTime, FrameComesInTime, ComesInOrder, GoesOn, HasKeyAt, IsParted, Limits, Reading, Timed, UsesIdsApart, now_in, time_of}
+use Rattle.bus_physics.specs.Physics.{AreApart, ClockGoesOnAt, ComesInTime, FrameComesInTime, ComesInOrder, GoesOn, HasKeyAt, IsParted, Limits, Reading, Timed, UsesIdsApart, may_be_long, now_in, time_of}
 use Rattle.bus_physics.specs.Reuse.{AreOfOne, AreOfTwo, IsFrameOf, LacksFrames}
 use Rattle.bus_physics.proofs.Devices.{IsTimely, soon, width}
 use Rattle.bus_physics.proofs.InTime.{AreClose, Heard, IsIdle, IsInTime, IsYoung, close_more, comes, filtered, found}
 use Rattle.bus_physics.proofs.Following.{KeepsIn}
 use Rattle.bus_physics.proofs.Members.{IsKnownTo, MemberBefore}
 use Rattle.bus_physics.proofs.Refusals.{IsRefused, marked_at, of_torn, refused, torn_at}
-use Rattle.bus_physics.proofs.Short.{short_is_whole}
+use Rattle.bus_physics.proofs.Short.{not_alone, short_is_whole}
 use Rattle.bus_physics.proofs.Single.{IsOrigin, IsSingle}
-use Rattle.bus_physics.proofs.Torn.{completes, forged_has_source, how_to}
+use Rattle.bus_physics.proofs.Torn.{completes, forged_has_source, how_to, place_of}
 use Rattle.bus_physics.proofs.Unstale.{of_it}
 use Rattle.bus_physics.proofs.Untorn.{AreNeighbours, in_its_turn, in_mapped, in_marks, tails_of, alone_is, first_alone, map_in, mapped, neighbours, one_ident, unmarked_not}
 
@@ -101,6 +103,11 @@ module _ (limits : Limits) (all : List Timed) (sane : limits.drift < 58000) (set
 
 -- ---- the row
 
+-- a member does not receive the Allocations of others
+no_allocation : {s : ℕ} → first_signature rows (kind_of Alloc) (number_of Alloc) ≡ Some s → ⊥
+unfolding rows
+no_allocation e = absurd (cc (e))
+
 apart_not : (hold drift m n p q : ℕ) → m ≤ p → p ≤ m + hold → n ≤ q → q ≤ n + hold → p ≤ q → q ≤ p + (2000 + drift)
     → AreApart (hold + 2000 + drift) m n → ⊥
 apart_not hold drift m n p q a b c d e f (inl h) = absurd (omega (arith, a, b, c, d, e, f, h))
@@ -110,6 +117,7 @@ module _ (laws : FrameLaws) (choice : ℕ → Bool) (made : List SentTransfer) (
     (shows : Shows choice made w run) (limits : Limits) (all : List Timed) (sane : limits.drift < 58000) (now : Timed) (n k ms : ℕ)
     (row : now.row ≡ Rx n k ms) (before : MemberBefore limits all n w now) (heard : List Queued) (apart : UsesIdsApart limits all made heard n)
     (order : ComesInOrder n heard (frame_at w.frames k)) (follows : KeepsIn n heard (w.member n).status) (listed : In n w.ids)
+    (others : (x : SentTransfer) → In x made → may_be_long x.offer.what ≡ false → frame_count (length x.offer.payload) ≤ 1)
     (t : AllocatorState) (runs : (w.member n).status ≡ MemberStatus.Up t) (inside : In (frame_at w.frames k) w.frames) where
   abbrev setting : Setting
   setting = setting_for t.me
@@ -255,27 +263,62 @@ module _ (laws : FrameLaws) (choice : ℕ → Bool) (made : List SentTransfer) (
               ∙ (ap (λ (b : Bool). not b && not (nat_eq (next_id (piece_from part.frame.bytes).tail.id) c.session.expected)) (ap (nat_eq (piece_from part.frame.bytes).tail.id) (sym same) ∙ part.other)
               ∙ ap (λ (b : Bool). not b) (ap (nat_eq (next_id (piece_from part.frame.bytes).tail.id)) (sym same) ∙ part.not_before))
 
-      meant : (kind : Kind) (to : ℕ) → to ≡ to_for kind t.me → (to ≡ 0) ⊎ (to ≡ n)
-      meant Message to e = inl e
-      meant Anonymous to e = inl e
-      meant Request to e = inr (e ∙ me_is)
-      meant Response to e = inr (e ∙ me_is)
+      -- a transfer of one frame is put together with no other
+      is_long : (x : SentTransfer) (b : Arrival) → In x made → In b (map (λ (h : Heard). h.arrival) hs ++ coming ∷ []) → IsFrameOf x b
+          → 2 ≤ length (map (λ (h : Heard). h.arrival) hs ++ coming ∷ []) → may_be_long x.offer.what ≡ true
+      is_long x b there i is many = elim (tell (may_be_long x.offer.what)) [
+        | inl long ↦ long
+        | inr short ↦
+            let at = place_of (map (λ (h : Heard). h.arrival) hs ++ coming ∷ []) b coming i in
+            absurd (omega (
+              arith,
+              others x there short,
+              not_alone laws x (shows.holds.transfers.ranges x there).id (map (λ (h : Heard). h.arrival) hs ++ coming ∷ []) coming its.w.signature d.id d.payload cutting
+                  at.0 at.1 (subst (λ (c : Arrival). IsFrameOf x c) (sym at.2) is) many,
+            ))
+      ]
+
+      -- so it goes to this member
+      meant : (two : AreOfTwo made d.ident (map (λ (h : Heard). h.arrival) hs ++ coming ∷ [])) → may_be_long two.first.offer.what ≡ true
+          → two.first.offer.to ≡ to_for d.ident.kind t.me → two.first.offer.to ≡ n
+      meant two long to = to ∙ (ap (λ (kind : Kind). to_for kind t.me) (sym two.kind) ∙ (by two.first.offer.what long taken_it ∙ me_is)) where
+        taken_it : first_signature rows (kind_of two.first.offer.what) (number_of two.first.offer.what) ≡ Some wants.signature.0
+        taken_it = ap (λ (kind : Kind). first_signature rows kind (number_of two.first.offer.what)) (two.kind ∙ ap (λ (i : Ident). i.kind) its.ident)
+            ∙ (ap (λ (number : ℕ). first_signature rows its.w.ident.kind number) (two.number ∙ ap (λ (i : Ident). i.number) its.ident) ∙ wants.signature.1)
+
+        by : (what : What) → may_be_long what ≡ true → {s : ℕ} → first_signature rows (kind_of what) (number_of what) ≡ Some s → to_for (kind_of what) t.me ≡ t.me
+        by Alloc long is = absurd (no_allocation is)
+        by Disc long is = never long
+        by Stat long is = never long
+        by InfoQ long is = refl
+        by Info long is = refl
+        by VoteQ long is = refl
+        by Vote long is = refl
+        by AppQ long is = refl
+        by App long is = refl
 
       of_two : (two : AreOfTwo made d.ident (map (λ (h : Heard). h.arrival) hs ++ coming ∷ [])) → two.first.offer.to ≡ to_for d.ident.kind t.me → ⊥
-      of_two two to = elim (lt_trichotomy two.first.step two.second.step) [
-        | inl less ↦ elim (apart two.first two.second two.twice.first_made two.twice.second_made two.twice.by two.twice.what two.twice.to two.twice.id less
-            (meant d.ident.kind two.first.offer.to to)) [
-              | inl far ↦ near far
-              | inr part ↦ parted two.first two.second two.twice.first_made part pair.first pair.first_in (subst (λ (b : Arrival). IsFrameOf two.first b) (sym pair.one_is) two.of_first)
-            ]
-        | inr more ↦ elim (apart two.second two.first two.twice.second_made two.twice.first_made (sym two.twice.by) (sym two.twice.what) (sym two.twice.to) (sym two.twice.id)
-            (below (two.twice.apart) more) (meant d.ident.kind two.second.offer.to (sym two.twice.to ∙ to))) [
+      of_two two to_it = elim (lt_trichotomy two.first.step two.second.step) [
+        | inl less ↦ elim (apart two.first two.second two.twice.first_made two.twice.second_made two.twice.by two.twice.what to (sym two.twice.to ∙ to) two.twice.id less long) [
+          | inl far ↦ near far
+          | inr part ↦ parted two.first two.second two.twice.first_made part pair.first pair.first_in (subst (λ (b : Arrival). IsFrameOf two.first b) (sym pair.one_is) two.of_first)
+        ]
+        | inr more ↦ elim (apart two.second two.first two.twice.second_made two.twice.first_made (sym two.twice.by) (sym two.twice.what) (sym two.twice.to ∙ to) to (sym two.twice.id)
+            (below (two.twice.apart) more) (ap may_be_long (sym two.twice.what) ∙ long)) [
               | inl (inl far) ↦ near (inr far)
               | inl (inr far) ↦ near (inl far)
               | inr part ↦ parted two.second two.first two.twice.second_made part pair.second pair.second_in (subst (λ (b : Arrival). IsFrameOf two.second b) (sym pair.next_is) two.of_second)
             ]
       ]
         where
+          long : may_be_long two.first.offer.what ≡ true
+          long = is_long two.first two.one two.twice.first_made
+              (subst (λ (l : List Arrival). In two.one l) (sym two.split) (in_back two.one two.front (two.one ∷ (two.next ∷ two.back)) (inl refl))) two.of_first
+              (omega (arith, ap length two.split, length-append two.front (two.one ∷ (two.next ∷ two.back))))
+
+          to : two.first.offer.to ≡ n
+          to = meant two long to_it
+
           below : {a b : ℕ} → (a ≢ b) → b ≤ a → b < a
           below {a} {b} apart less = elim (eqb_tells a b) [ inl same ↦ absurd (apart same.1) | inr differ ↦ omega (arith, less, differ.1) ]
 
@@ -322,14 +365,14 @@ module _ (laws : FrameLaws) (choice : ℕ → Bool) (made : List SentTransfer) (
 pub only_gaps : (laws : FrameLaws) (choice : ℕ → Bool) (made : List SentTransfer) (w : Cluster) (run : machine.World) (members : AreMembers w.ids)
     (shows : Shows choice made w run) (limits : Limits) (all : List Timed) → limits.drift < 58000 → (now : Timed) (n k ms : ℕ)
     → now.row ≡ Rx n k ms → MemberBefore limits all n w now → (heard : List Queued) → UsesIdsApart limits all made heard n → ComesInOrder n heard (frame_at w.frames k)
-    → KeepsIn n heard (w.member n).status → IsSingle w.ids w → cause w (Rx n k ms) ≡ Some IsTorn
+    → ((x : SentTransfer) → In x made → may_be_long x.offer.what ≡ false → frame_count (length x.offer.payload) ≤ 1) → KeepsIn n heard (w.member n).status → IsSingle w.ids w → cause w (Rx n k ms) ≡ Some IsTorn
     → (moment : ℕ) × LacksFrames made (arrival_at (frame_at w.frames k) moment)
-only_gaps laws choice made w run members shows limits all sane now n k ms row before heard apart order follows single e =
+only_gaps laws choice made w run members shows limits all sane now n k ms row before heard apart order others follows single e =
     let r : IsRefused w n k ms Torn = refused IsTorn Torn of_torn w n k ms e in
     let b = torn_at r.server (arrival_at (frame_at w.frames k) ms) r.judgement in
     let inside = stands w k r.there in
-    let member = forged laws choice made w run members shows limits all sane now n k ms row before heard apart order follows r.member r.server r.runs inside b.delivery b.gives b.is
+    let member = forged laws choice made w run members shows limits all sane now n k ms row before heard apart order follows r.member others r.server r.runs inside b.delivery b.gives b.is
     (marked_at r.server (arrival_at (frame_at w.frames k) ms) r.judgement) (single.bus (frame_at w.frames k) inside) in (
       max r.server.now ms,
-      lacks laws choice made w run members shows limits all sane now n k ms row before heard apart order follows r.member r.server r.runs inside b.delivery b.gives b.is member,
+      lacks laws choice made w run members shows limits all sane now n k ms row before heard apart order follows r.member others r.server r.runs inside b.delivery b.gives b.is member,
     )

@@ -4,7 +4,8 @@
 use Rattle.std.specs.Prelude.{⊤, ◌≡◌, ◌≢◌, ◌⊎◌, ℕ, ◌+◌, ◌-◌, ◌*◌, ◌<◌, ◌≤◌, ◌==◌, Bool, true, false, List, [], ◌∷◌, ◌++◌, max, min, slice_index_or, nat_eq, Option, None, Some, if◌then◌else◌}
 use Rattle.can_frame.specs.declared.identifier.Ident.{Ident}
 use Rattle.can_frame.specs.declared.identifier.Kind.TheVariants.{Response}
-use Rattle.can_frame.specs.declared.step.What.TheVariants.{Alloc, AppQ, VoteQ}
+use Rattle.can_frame.specs.declared.step.What.{What}
+use Rattle.can_frame.specs.declared.step.What.TheVariants.{Alloc, AppQ, Info, VoteQ}
 use Rattle.can_frame.specs.Cutting.{piece_from}
 use Rattle.can_frame.specs.Identifier.{identifier_number, identifier_of}
 use Rattle.raft_model.specs.Lists.{In}
@@ -275,12 +276,20 @@ pub record IsParted (heard : List Queued) (x y : SentTransfer) : Type 0 where
   pub later : x.step < frame.mark.step
   pub sooner : frame.mark.step < y.step
 
--- No member uses a transfer ID for one kind, and for all or for member n, again so soon, or member n heard a transfer
--- that it made between the two.
+-- a transfer of this kind may have several frames; of another kind each has one
+abbrev pub may_be_long : What → Bool
+may_be_long Alloc = true
+may_be_long Info = true
+may_be_long VoteQ = true
+may_be_long AppQ = true
+may_be_long what = false
+
+-- No member uses a transfer ID again so soon for one kind of transfers to member n that may have several frames: the
+-- requests of Raft, and the responses of GetNodeInfo. Or member n heard a transfer that it made between the two.
 abbrev pub UsesIdsApart : Limits → List Timed → List SentTransfer → List Queued → ℕ → Type 0
 UsesIdsApart limits all made heard n = (x y : SentTransfer) → In x made → In y made → x.by ≡ y.by
-    → x.offer.what ≡ y.offer.what → x.offer.to ≡ y.offer.to → x.offer.id ≡ y.offer.id → x.step < y.step
-    → (x.offer.to ≡ 0) ⊎ (x.offer.to ≡ n)
+    → x.offer.what ≡ y.offer.what → x.offer.to ≡ n → y.offer.to ≡ n → x.offer.id ≡ y.offer.id → x.step < y.step
+    → may_be_long x.offer.what ≡ true
     → AreApart (joining_span limits) (time_of all x.step) (time_of all y.step) ⊎ IsParted heard x y
 
 -- ---- Allocations

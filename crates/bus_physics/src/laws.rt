@@ -1,6 +1,6 @@
 //! Laws of the definitions, each the contract of a function that does nothing.
 
-ghost use Rattle.std.specs.Prelude.{None, ◌≡◌, ◌⊎◌, ◌+◌, ◌*◌, ◌<◌, ◌≤◌, ◌∷◌, ◌++◌, ℕ, List, length, Some, []};
+ghost use Rattle.std.specs.Prelude.{None, false, ◌≡◌, ◌⊎◌, ◌+◌, ◌*◌, ◌<◌, ◌≤◌, ◌∷◌, ◌++◌, ℕ, List, length, Some, []};
 ghost use Rattle.can_frame.specs.Cutting.{frame_count};
 ghost use Rattle.can_frame.specs.declared.step.What.TheVariants.{Alloc};
 ghost use Rattle.raft_model.specs.Lists.{In};
@@ -17,7 +17,7 @@ ghost use Rattle.bus_physics.specs.Physics.{AllocatesApart, AnswersInOrder, AreP
 ghost use Rattle.bus_physics.specs.Physics.{ComeInOrderToDevice, ComesInOrderToDevice, device_heard_by};
 ghost use Rattle.bus_physics.specs.Physics.{ComesInOrder, FramesComeInTime};
 ghost use Rattle.bus_physics.specs.Physics.{ClockIsNotFast, HoldsAreShort, Limits, RestsBeforeOpening, Timed, UsesIdsApart, WaitsForAnswers, heard_by};
-ghost use Rattle.bus_physics.specs.Physics.{rows_in};
+ghost use Rattle.bus_physics.specs.Physics.{may_be_long, rows_in};
 ghost use Rattle.bus_physics.specs.Example.{at_allocatee, at_member, before as first_rows, everything, limits as some_limits, two};
 ghost use Rattle.bus_physics.specs.Reuse.{IsStaleAt, IsTornAt, IsTornAtDevice, LacksFrames};
 ghost use Rattle.cluster_agreement.specs.Headline.{HasHeadline};
@@ -57,6 +57,17 @@ pub fn an_allocation_has_at_most_three_frames()
     ensures { (ids : List ℕ) (rows : List Row) (x : SentTransfer) → AreMembers ids → Lawful (cluster ids) rows →
         In x (transfers_of_rows (cluster ids) rows []) → x.offer.what ≡ Alloc →
         frame_count (length x.offer.payload) ≤ 3 }
+{
+    a_choice_fits();
+    lawful_rows_do_no_harm();
+    rows_are_shown();
+}
+
+/// What a member made that is no Allocation, no request of Raft and no response of GetNodeInfo has one frame.
+pub fn other_transfers_have_one_frame()
+    ensures { (ids : List ℕ) (rows : List Row) (x : SentTransfer) → AreMembers ids → Lawful (cluster ids) rows →
+        In x (transfers_of_rows (cluster ids) rows []) → may_be_long x.offer.what ≡ false →
+        frame_count (length x.offer.payload) ≤ 1 }
 {
     a_choice_fits();
     lawful_rows_do_no_harm();
@@ -161,6 +172,7 @@ pub fn a_member_puts_nothing_together_of_two()
         (moment : ℕ) × LacksFrames (transfers_of_rows (cluster ids) (rows_in before) [])
         (arrival_at (frame_at (world_of ids (rows_in before)).frames k) moment) }
 {
+    other_transfers_have_one_frame();
     what_is_said_of_a_step();
     what_is_said_of_frames();
     a_choice_fits();

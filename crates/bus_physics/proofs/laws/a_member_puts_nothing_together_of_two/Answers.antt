@@ -24,7 +24,8 @@ returns c = λ limits ids before now n k ms members sane row lawful comes clock 
     only_gaps c.what_is_said_of_frames.ensures chosen.0 (transfers_of_rows (cluster ids) rows []) (world_of ids rows)
     (run (initial_world ids) (events chosen.0 (cluster ids) rows)) (subst AreMembers (sym (ids_stay (cluster ids) rows)) members)
     (c.rows_are_shown.ensures chosen.0 ids rows members (c.lawful_rows_do_no_harm.ensures (cluster ids) rows lawful) chosen.1).shows limits (before ++ now ∷ []) sane now n k ms row stands
-    (heard_by n (cluster ids) rows) apart behind (follow n laws rows (cluster ids) [] (λ t up. absurd (cc (up))) order)
+    (heard_by n (cluster ids) rows) apart behind
+    (λ x there other. c.other_transfers_have_one_frame.ensures ids rows x members lawful there other) (follow n laws rows (cluster ids) [] (λ t up. absurd (cc (up))) order)
     (subst (λ (l : List ℕ). IsSingle l (world_of ids rows)) (sym (ids_stay (cluster ids) rows)) (single c.what_is_said_of_frames.ensures ids members
     (λ rows lawful.
     let chosen = c.a_choice_fits.ensures ids rows members (c.lawful_rows_do_no_harm.ensures (cluster ids) rows lawful) in

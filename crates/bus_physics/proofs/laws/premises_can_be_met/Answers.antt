@@ -48,7 +48,7 @@ made_in x (inr (inl e)) = (ap (λ (y : SentTransfer). y.step) e, ap (λ (y : Sen
 made_in x (inr (inr i)) = absurd i
 
 pub returns-clause-apart : goal.returns-clause-apart
-returns-clause-apart c = λ x y i j by what to id less meant. absurd (omega (arith, (made_in x i).0, (made_in y j).0, less))
+returns-clause-apart c = λ x y i j by what to to_too id less long. absurd (omega (arith, (made_in x i).0, (made_in y j).0, less))
 
 pub returns-clause-frames : goal.returns-clause-frames
 unfolding step all_nodes queued_frames next_out left_behind frames_of

@@ -1,0 +1,12 @@
+use Rattle.std.specs.Prelude.{[]}
+use Rattle.cluster_spec.specs.Cluster.{cluster}
+use Rattle.cluster_spec.specs.Refinement.{transfers_of_rows}
+use Rattle.bus_physics.proofs.ShortAllocations.{made_short, one_frame}
+use Rattle.bus_physics.proofs.laws.other_transfers_have_one_frame.Goals as goal
+
+pub returns : goal.returns
+returns c = λ ids rows x members lawful there other.
+    one_frame (transfers_of_rows (cluster ids) rows []) (made_short ids members (λ done so_far.
+    let harmless = c.lawful_rows_do_no_harm.ensures (cluster ids) done so_far in
+    let chosen = c.a_choice_fits.ensures ids done members harmless in
+    (chosen.0, c.rows_are_shown.ensures chosen.0 ids done members harmless chosen.1)) rows lawful) x there other
