@@ -16,7 +16,7 @@ use Rattle.replay_text.specs.declared.row.Row.TheVariants.{AEnd, AOpen, ARx, ASe
 use Rattle.alloc_spec.specs.AllocatorState.{AllocatorState}
 use Rattle.alloc_spec.specs.Step.{Event, step}
 use Rattle.alloc_spec.specs.StepState.{StepState}
-use Rattle.alloc_spec.specs.Transfers.{Offer, SentTransfer}
+use Rattle.alloc_spec.specs.Transfers.{SentTransfer}
 use Rattle.cluster_spec.specs.Cluster.{AreMembers, Cluster, after_row, arrival_at, cluster, frame_at, receipt_of, tick_of, world_of}
 use Rattle.cluster_spec.specs.Lawful.{Lawful, arrival_refusal, cause, no_node, no_such_frame, not_running, or_else}
 use Rattle.cluster_spec.specs.Members.{Member, MemberStatus, after_cut_off, member_after_step, puts_of}

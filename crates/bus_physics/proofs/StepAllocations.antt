@@ -1,6 +1,6 @@
 -- Each Allocation of a step has 17 bytes at the most, where the unique IDs of the log have 16 before it and after it; and
 -- what is no Allocation, no request of Raft and no response of GetNodeInfo has 7 bytes at the most.
-use Rattle.std.proofs.Common.{◌≡◌, ℕ, zero, suc, ◌+◌, ◌≤◌, Bool, true, false, List, [], ◌∷◌, ◌++◌, length, length-append, refl, sym, ap, subst, ◌∙◌, arith, ◌⊎◌, inl, inr, Option, Some, None, drop}
+use Rattle.std.proofs.Common.{◌≡◌, ℕ, zero, suc, ◌+◌, ◌≤◌, Bool, true, false, List, [], ◌∷◌, ◌++◌, length, length-append, refl, sym, subst, ◌∙◌, arith, ◌⊎◌, inl, inr, Option, Some, None, drop}
 use Rattle.std.specs.Prelude.{⊤, ◌-◌, ◌&&◌, max, not, nat_eq, nat_le, nat_lt, slice_index_or}
 use Rattle.alloc_exchange.specs.declared.heard.Heard.{Heard}
 use Rattle.alloc_exchange.specs.declared.heard.Heard.TheVariants.{Denied, FollowUp, Ignored, Whole}

@@ -26,7 +26,7 @@ use Rattle.node_discovery.specs.Watch.{next_query, some_unknown}
 use Rattle.raft_core.specs.Calls.{due, due_unless, owed}
 use Rattle.raft_core.specs.Handled.{append_request_of as asked_append, moves_of_expire, vote_request_of as asked_vote}
 use Rattle.raft_core.specs.Taken.{proposal}
-use Rattle.raft_core.specs.Times.{Given, Sending, Times, awaits, end_call, end_vote_call, given_at, given_call, given_proposal, given_tick, has_waited, is_awaited, is_overdue, is_silent, overdue, stand, step_down, times_after, times_after_all, wait, win}
+use Rattle.raft_core.specs.Times.{Given, Sending, Times, awaits, end_call, given_at, given_call, given_proposal, given_tick, has_waited, is_awaited, is_overdue, is_silent, overdue, times_after, times_after_all, wait}
 use Rattle.raft_model.specs.Decisions.{commit_index, grants, verdict_on}
 use Rattle.raft_model.specs.Duty as duty
 use Rattle.raft_model.specs.Handlers.{server_after, server_after_all}
@@ -34,8 +34,7 @@ use Rattle.raft_model.specs.Lists.{In}
 use Rattle.raft_model.specs.Messages.{Answer, Message, Request}
 use Rattle.raft_model.specs.Messages.Message.{Requests}
 use Rattle.raft_model.specs.Moves.{Move, memory_after, next_entry}
-use Rattle.raft_model.specs.Moves.Appending.Verdict.{Added, Held, Outdated, Refused}
-use Rattle.raft_model.specs.Moves.Elections.{counts, has_quorum, is_leader, own_vote, term_limit, votes_with, with_term}
+use Rattle.raft_model.specs.Moves.Elections.{is_leader, term_limit, with_term}
 use Rattle.raft_model.specs.Moves.Leading.{append_request, vote_request}
 use Rattle.raft_model.specs.Moves.Move.{AnswerAgain, CallForVote, CallToAppend, CommitTo, GiveUp, ProposeEntry, TakeAppendAnswer, TakeAppendRequest, TakeVoteAnswer, TakeVoteRequest, TellNothing, TellPair, TimeOut}
 use Rattle.raft_model.specs.Server.{Memory, RaftServer, Role}

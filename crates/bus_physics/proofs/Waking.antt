@@ -2,9 +2,8 @@
 use Rattle.std.proofs.Common.{◌≡◌, ℕ, ◌+◌, ◌≤◌, Bool, true, false, List, refl, sym, ap, subst, ◌∙◌, arith, ◌⊎◌, inl, inr}
 use Rattle.std.specs.Prelude.{⊤, ◌==◌, ◌&&◌, nat_lt, if◌then◌else◌}
 use Rattle.raft_core.specs.Times.{Given, Times, end_call, end_vote_call, stand, step_down, times_after, win}
-use Rattle.raft_model.specs.Messages.{Answer, Request}
 use Rattle.raft_model.specs.Moves.{Move, memory_after}
-use Rattle.raft_model.specs.Moves.Appending.{Verdict, acknowledges, matched_memory}
+use Rattle.raft_model.specs.Moves.Appending.{acknowledges, matched_memory}
 use Rattle.raft_model.specs.Moves.Appending.Verdict.{Added, Held, Outdated, Refused}
 use Rattle.raft_model.specs.Moves.Elections.{counting_memory, counts, has_quorum, is_candidate, memory_without_call, own_vote, stepped_down, votes_with}
 use Rattle.raft_model.specs.Moves.Move.{AnswerAgain, CallForVote, CallToAppend, CommitTo, GiveUp, ProposeEntry, TakeAppendAnswer, TakeAppendRequest, TakeVoteAnswer, TakeVoteRequest, TellNothing, TellPair, TimeOut}

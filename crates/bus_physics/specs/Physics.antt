@@ -1,6 +1,6 @@
--- What a physical bus does with the frames that members and allocatees hear: a frame comes after it was made, and not much
--- later, and may be lost, come twice or overtake another one; clocks go on with the time. What a law asks beyond this, as
--- that a member's clock does not run fast or that frames come in order, has a definition of its own.
+-- What a physical bus does with the frames that members and allocatees hear: a frame comes after it was made, and not
+-- much later, and their clocks go on with the time. That a frame is lost, comes twice or overtakes another one is not
+-- excluded. What a law asks besides, as that frames come in order or that a clock does not run fast, is said apart.
 use Rattle.std.specs.Prelude.{⊤, ◌≡◌, ◌≢◌, ◌⊎◌, ℕ, ◌+◌, ◌-◌, ◌*◌, ◌<◌, ◌≤◌, ◌==◌, Bool, true, false, List, [], ◌∷◌, ◌++◌, max, min, slice_index_or, nat_eq, Option, None, Some, if◌then◌else◌}
 use Rattle.can_frame.specs.declared.identifier.Ident.{Ident}
 use Rattle.can_frame.specs.declared.identifier.Kind.TheVariants.{Response}
@@ -101,9 +101,8 @@ ArePhysical limits all a past w (timed ∷ rest) = RowIsPhysical limits all a pa
 abbrev pub joining_span : Limits → ℕ
 joining_span limits = limits.hold + 2000 + limits.drift
 
--- Two holds and the drift are over before a transfer ID of vote requests comes round, which takes 21 s; and between what
--- a member made before its rest and its first call after it was opened, which it makes 2,000 ms later or more. A clock
--- goes wrong by less than these.
+-- Two holds and the drift take less than 21 s, in which no transfer ID of vote requests comes round; and less than a rest
+-- and 2,000 ms more, for which a member that is opened calls nobody. A clock goes wrong by less than these 2,000 ms.
 pub record HoldsAreShort (limits : Limits) : Type 0 where
   pub round : 2 * limits.hold + limits.drift < 21000
   pub rested : 2 * limits.hold + limits.drift < limits.rest + 2000
