@@ -37,8 +37,8 @@ rows_in (timed ∷ rest) = timed.row ∷ rows_in rest
 abbrev pub time_of : List Timed → ℕ → ℕ
 time_of all number = (slice_index_or all (number - 1) (record { at = 0; row = Send 0 })).at
 
--- in milliseconds: how long after its making a frame may come, how far a clock may go wrong within a minute, and for how
--- long a member made nothing when it is opened
+-- in milliseconds: how long after its making a frame may come, how far a clock may go wrong within a minute, and for
+-- how long a member made nothing when it is opened
 pub record Limits : Type 0 where
   pub hold : ℕ
   pub drift : ℕ
@@ -101,8 +101,8 @@ ArePhysical limits all a past w (timed ∷ rest) = RowIsPhysical limits all a pa
 abbrev pub joining_span : Limits → ℕ
 joining_span limits = limits.hold + 2000 + limits.drift
 
--- Two holds and the drift take less than 21 s, in which no transfer ID of vote requests comes round; and less than a rest
--- and 2,000 ms more, for which a member that is opened calls nobody. A clock goes wrong by less than these 2,000 ms.
+-- Two holds and the drift take less than 21 s, in which no transfer ID of vote requests comes round; and less than a
+-- rest and 2,000 ms more, for which a member that is opened calls nobody. A clock goes wrong by less than 2,000 ms.
 pub record HoldsAreShort (limits : Limits) : Type 0 where
   pub round : 2 * limits.hold + limits.drift < 21000
   pub rested : 2 * limits.hold + limits.drift < limits.rest + 2000

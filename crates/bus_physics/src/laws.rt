@@ -158,8 +158,9 @@ pub fn no_response_outlives_its_transfer_id()
 
 /// A member on such a bus, to which frames of one kind and source come in the order in which they were made, puts
 /// nothing together of two transfers, where a transfer ID of the requests of Raft to it, or of the responses of
-/// GetNodeInfo, comes round only so late, or behind a transfer that it heard; what else it takes of members has one frame.
-/// So a row is refused as torn only where one transfer of four frames or more lacks frames, and its CRC fits all the same.
+/// GetNodeInfo, comes round only so late, or behind a transfer that it heard. What else it takes of members has one
+/// frame. So a row is refused as torn only where one transfer of four frames or more lacks frames, and its CRC fits
+/// all the same.
 pub fn a_member_puts_nothing_together_of_two()
     ensures { (limits : Limits) (ids : List ℕ) (before : List Timed) (now : Timed) (n k ms : ℕ) →
         AreMembers ids → limits.drift < 58000 → now.row ≡ Rx n k ms → Lawful (cluster ids) (rows_in before) →
@@ -206,9 +207,9 @@ pub fn premises_can_be_met()
 {}
 
 /// On a physical bus a schedule whose rows are otherwise lawful is lawful, whatever frames are lost: but for a row at
-/// which one transfer of four frames or more lacks frames, and its CRC fits all the same. So the two premises on what is
-/// torn and stale follow from when frames come, how clocks go on, the order of answers, how long members rest before they
-/// are opened, and when transfer IDs of several frames are used again.
+/// which one transfer of four frames or more lacks frames, and its CRC fits all the same. So the two premises on what
+/// is torn and stale follow from when frames come, how clocks go on, the order of frames, how long members rest before
+/// they are opened, and when the transfer IDs of longer transfers are used again.
 pub fn schedules_on_a_bus_are_lawful()
     ensures { (limits : Limits) (ids : List ℕ) (all : List Timed) → AreMembers ids →
         HoldsAreShort limits → HappenOnBus limits ids [] all → LawfulButForBus (cluster ids) (rows_in all) →
