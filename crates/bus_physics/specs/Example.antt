@@ -6,9 +6,9 @@ use Rattle.bus_physics.specs.Physics.{Limits, Timed}
 abbrev pub two : List ℕ
 two = 1 ∷ 2 ∷ []
 
--- frames are held for 100 ms at the most, clocks go wrong by 5 ms, and who is opened rested for 3,500 ms
+-- frames are held for 100 ms at the most, clocks go wrong by 5 ms, and who is opened rested for 5,500 ms
 abbrev pub limits : Limits
-limits = record { hold = 100; drift = 5; rest = 3500 }
+limits = record { hold = 100; drift = 5; rest = 5500 }
 
 -- frame 1 is the first one that member 1 sends
 abbrev pub before : List Timed
