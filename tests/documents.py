@@ -9,14 +9,13 @@ import sys
 import unittest
 from typing import Callable, Dict, Iterable, Iterator, List, Set, Tuple
 
-import calls
 import support
 from support import ROOT, Ended
 
 from caldrouz import table
 
 LONGEST_ROW = 500
-GENERATED = {"docs/HEADLINE.md", "docs/CLAIMS.md"}
+GENERATED = {"docs/HEADLINE.md", "docs/CLAIMS.md", "docs/CALLS.md"}
 WORD = re.compile(r"[A-Za-z_][A-Za-z0-9_']*")
 SPAN = re.compile(r"`([^`\n]+)`")
 LINK = re.compile(r"\[[^\]\n]*\]\(([^)\s]+)\)")
@@ -178,8 +177,9 @@ class Pages(Checked):
         rows = set(re.findall(r"^\| `(\w+)`", text_of(ROOT / "docs/ARCHITECTURE.md"), re.M))
         self.has_none(crate for crate in listed if crate not in rows)
 
-    def test_each_public_call_has_a_row_and_its_clauses(self) -> None:
-        self.has_none(calls.faults(ROOT))
+    def test_the_page_of_calls_is_that_of_the_sources(self) -> None:
+        made = Ended([sys.executable, ROOT / "docs/make_calls", "--check"])
+        self.assertEqual(made.status, 0, made.written + made.errors)
 
     def test_the_text_of_the_example_is_the_one_that_the_laws_speak_of(self) -> None:
         profile = re.search(r'b"([^"]*)"', text_of(ROOT / "crates/dsdl_text/src/profile.rt"))
