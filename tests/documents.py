@@ -92,13 +92,13 @@ def is_name(word: str) -> bool:
     return len(word) > 1 and not re.fullmatch(r"[0-9a-fx]+", word)
 
 
-def unknown_names(path: pathlib.Path, words: Set[str]) -> Iterator[str]:
-    for number, line in prose(text_of(path)):
+def unknown_names(text: str, folder: pathlib.Path, words: Set[str]) -> Iterator[str]:
+    for number, line in prose(text):
         for span in SPAN.findall(line):
             first = span.split()[0]
             if first in COMMANDS:
                 continue
-            if "/" in span and ((ROOT / first.split(":")[0]).exists() or (path.parent / first).exists()):
+            if "/" in span and ((ROOT / first.split(":")[0]).exists() or (folder / first).exists()):
                 continue
             for word in WORD.findall(re.sub(r"<[a-z]+>", " ", span)):
                 if is_name(word) and word not in words:
@@ -164,7 +164,11 @@ class Documents(Checked):
 
     def test_names_stand_in_the_sources(self) -> None:
         words = source_words()
-        self.each(lambda path: unknown_names(path, words), GENERATED)
+        self.each(lambda path: unknown_names(text_of(path), path.parent, words), GENERATED)
+
+    def test_names_of_the_notes_on_calls_stand_in_the_sources(self) -> None:
+        notes = ROOT / "docs/call_notes"
+        self.has_none(unknown_names(text_of(notes).replace("\n    ", "\n"), notes.parent, source_words()))
 
 
 class Pages(Checked):
