@@ -1,13 +1,17 @@
 //! The law of this crate, the contract of a function that does nothing.
 
-ghost use Rattle.std.specs.Prelude.{ℕ, List};
+ghost use Rattle.std.specs.Prelude.{ℕ, List, [], ◌∷◌};
+ghost use Rattle.cluster_recovery.specs.Alone.{ComesBack};
 ghost use Rattle.cluster_recovery.specs.Recovery.{AreNeverStuck};
-ghost use Rattle.cluster_spec.specs.Cluster.{AreMembers, cluster};
+ghost use Rattle.cluster_spec.specs.Cluster.{AreMembers, cluster, world_of};
 ghost use Rattle.cluster_spec.specs.Lawful.{DoNoHarm};
 ghost use Rattle.replay_text.specs.declared.row.Row.{Row};
 
-use cluster_agreement::headline::{rows_are_shown, rows_grow_by_one};
+use cluster_agreement::headline::{a_choice_fits, rows_are_shown, rows_grow_by_one};
 use cluster_progress::laws::new_pairs_can_be_told;
+use raft_core::laws::an_opening_keeps_the_store;
+use raft_log::laws::the_disk_by_states;
+use raft_model::laws::law_every_run;
 
 /// After every list of rows that do no harm, whatever frames were delivered, lost or repeated, whatever clocks read and
 /// wherever inside store writes allocators stopped: each pair of a unique ID and a node ID that stand in no stored log
@@ -20,4 +24,19 @@ pub fn rows_are_never_stuck()
     new_pairs_can_be_told();
     rows_are_shown();
     rows_grow_by_one();
+}
+
+/// After every list of rows that do no harm, whatever frames came, whatever clocks read, wherever inside store writes the
+/// allocator stopped, and whatever is set to fail: an allocator that is alone comes to lead again, with all committed,
+/// by seven rows at most, where its log has room for a blank and two terms are left.
+pub fn who_is_alone_leads()
+    ensures { (n : ℕ) (rows : List Row) → AreMembers (n ∷ []) → DoNoHarm (cluster (n ∷ [])) rows →
+        ComesBack n (world_of (n ∷ []) rows) }
+{
+    a_choice_fits();
+    an_opening_keeps_the_store();
+    law_every_run();
+    rows_are_shown();
+    rows_grow_by_one();
+    the_disk_by_states();
 }

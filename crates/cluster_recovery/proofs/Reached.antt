@@ -1,0 +1,76 @@
+-- What is known of a world that rows lead to which do no harm.
+use Rattle.std.proofs.Common.{◌≡◌, ℕ, ◌≤◌, Bool, List, [], ◌∷◌, ◌++◌, length, inl, refl, sym, ◌∙◌, ap, subst}
+use Rattle.kv_store.specs.KeyDisk.{KeyDisk, restarted_on}
+use Rattle.outside.specs.declared.pattern.Pattern.TheVariants.{Old}
+use Rattle.raft_core.specs.StoredPuts.{store_of}
+use Rattle.raft_log.specs.KeyDisk.{is_open_on, opening_on}
+use Rattle.raft_log.specs.Stored.{Stored}
+use Rattle.raft_model.specs.Invariants.{Invariants}
+use Rattle.raft_model.specs.Lists.{In}
+use Rattle.raft_model.specs.Runs.{World}
+use Rattle.raft_model.specs.Server.{RaftServer, Store}
+use Rattle.replay_text.specs.declared.row.Row.{Row}
+use Rattle.alloc_spec.specs.AllocatorState.{AllocatorState}
+use Rattle.alloc_spec.specs.Transfers.{SentTransfer}
+use Rattle.cluster_agreement.specs.Shows.{Shows, ShowsDown, ShowsMember, ShowsUp}
+use Rattle.cluster_agreement.proofs.StopsAndOpenings.{firm_finds}
+use Rattle.cluster_spec.specs.Cluster.{Cluster, after_row, after_rows, cluster, world_of}
+use Rattle.cluster_spec.specs.Lawful.{DoNoHarm, Lawful}
+use Rattle.cluster_spec.specs.Members.{Member, MemberStatus}
+use Rattle.cluster_spec.specs.Members.MemberStatus.{Down, Up}
+use Rattle.cluster_recovery.specs.Alone.{CanGo, found}
+use Rattle.cluster_recovery.proofs.Goes.{after_both}
+use Rattle.cluster_recovery.proofs.Members.{IsDown, IsUp}
+
+pub record IsReached (ids : List ℕ) (w : Cluster) : Type 0 where
+  pub rows : List Row
+  pub harmless : DoNoHarm (cluster ids) rows
+  pub is : w ≡ world_of ids rows
+
+harmless_both : (w : Cluster) (first rest : List Row) → DoNoHarm w first → Lawful (after_rows w first) rest → DoNoHarm w (first ++ rest)
+harmless_both w [] [] a b = tt
+harmless_both w [] (row ∷ rest) a b = (inl b.0, harmless_both (after_row w row) [] rest tt b.1)
+harmless_both w (row ∷ first) rest a b = (a.0, harmless_both (after_row w row) first rest a.1 b)
+
+reaches : (ids : List ℕ) (w : Cluster) (rows : List Row) → IsReached ids w → Lawful w rows → IsReached ids (after_rows w rows)
+reaches ids w rows r lawful = record {
+  rows = r.rows ++ rows;
+  harmless = harmless_both (cluster ids) r.rows rows r.harmless (subst (λ (v : Cluster). Lawful v rows) r.is lawful);
+  is = ap (λ (v : Cluster). after_rows v rows) r.is ∙ sym (after_both (cluster ids) r.rows rows);
+}
+
+pub reached : (ids : List ℕ) (P : Cluster → Type 0) (w : Cluster) (count : ℕ) → IsReached ids w → CanGo w count P
+    → CanGo w count (λ v. P v × IsReached ids v)
+reached ids P w count r c = record {
+  rows = c.rows;
+  few = c.few;
+  lawful = c.lawful;
+  holds = (c.holds, reaches ids w c.rows r c.lawful);
+}
+
+-- ---- what is found stored
+
+-- the world shows a run whose invariants hold
+pub record IsShown (w : Cluster) : Type 0 where
+  pub choice : ℕ → Bool
+  pub made : List SentTransfer
+  pub run : World
+  pub shows : Shows choice made w run
+  pub invariants : Invariants run
+
+-- a member that is stopped has committed no more than it has
+pub stopped_inside : (ids : List ℕ) (w : Cluster) (n : ℕ) (store : Store) → In n w.ids → IsShown w → IsDown store (w.member n)
+    → store.commit ≤ length store.log
+stopped_inside ids w n store listed s down =
+    subst (λ (x : Store). x.commit ≤ length x.log) (is.stored ∙ down.found) (s.invariants.stores n).commit
+  where
+    is : ShowsDown s.run n (w.member n).disk
+    is = subst (λ (status : MemberStatus). ShowsMember s.choice s.made w.ids w.frames s.run n status (w.member n).disk) down.status (s.shows.lives n listed)
+
+-- one that runs would find what its server has stored
+pub finds_own : (ids : List ℕ) (w : Cluster) (n : ℕ) (t : AllocatorState) → In n w.ids → IsShown w → (w.member n).status ≡ Up t
+    → found w n ≡ t.raft_server.store
+finds_own ids w n t listed s up = firm_finds (w.member n).disk is.runs.nothing_unsynced Old ∙ is.runs.stored
+  where
+    is : ShowsUp s.made w.ids w.frames s.run n t (w.member n).disk
+    is = subst (λ (status : MemberStatus). ShowsMember s.choice s.made w.ids w.frames s.run n status (w.member n).disk) up (s.shows.lives n listed)

@@ -1,0 +1,43 @@
+-- What an allocator that is alone can still do, whatever happened.
+use Rattle.std.specs.Prelude.{◌≡◌, ℕ, ◌+◌, ◌<◌, ◌≤◌, List, length}
+use Rattle.can_frame.specs.declared.entry.Entry.{Entry}
+use Rattle.can_frame.specs.Log.{log_limit}
+use Rattle.kv_store.specs.KeyDisk.{restarted_on}
+use Rattle.outside.specs.declared.pattern.Pattern.TheVariants.{Old}
+use Rattle.raft_core.specs.StoredPuts.{store_of}
+use Rattle.raft_model.specs.Moves.Elections.{term_limit}
+use Rattle.raft_model.specs.Server.{Store}
+use Rattle.raft_model.specs.Server.Role.{Leader}
+use Rattle.replay_text.specs.declared.row.Row.{Row}
+use Rattle.alloc_spec.specs.AllocatorState.{AllocatorState}
+use Rattle.cluster_progress.specs.ComingBack.{HasGrown}
+use Rattle.cluster_spec.specs.Cluster.{Cluster, after_rows}
+use Rattle.cluster_spec.specs.Lawful.{Lawful}
+use Rattle.cluster_spec.specs.Members.MemberStatus.{Up}
+
+-- at most so many rows, each lawful when its turn is there, lead from this world to one of which this holds
+pub record CanGo (w : Cluster) (most : ℕ) (Holds : Cluster → Type 0) : Type 0 where
+  pub rows : List Row
+  pub few : length rows ≤ most
+  pub lawful : Lawful w rows
+  pub holds : Holds (after_rows w rows)
+
+-- What a member would find stored if it stopped now, and a selector that is not synced were lost. Of a member that has
+-- not failed it is what it has stored.
+abbrev pub found : Cluster → ℕ → Store
+found w n = store_of (restarted_on Old (w.member n).disk).store
+
+-- the member leads, has committed its whole log, which is this one or has a blank more, and owes nobody a pair of it
+pub record IsBackWith (n : ℕ) (log : List Entry) (w : Cluster) : Type 0 where
+  pub server : AllocatorState
+  pub runs : (w.member n).status ≡ Up server
+  pub leads : server.raft_server.memory.role ≡ Leader
+  pub committed : server.raft_server.store.commit ≡ length server.raft_server.store.log
+  pub told : server.raft_server.memory.told ≡ server.raft_server.store.commit
+  pub grown : HasGrown log server.raft_server.store.log
+
+-- Where its log has room for a blank, and two terms are left: it is stopped, opened, and ticks after its wait, twice. By
+-- the second time all that was stored is committed.
+abbrev pub ComesBack : ℕ → Cluster → Type 0
+ComesBack n w = length (found w n).log < log_limit → (found w n).term + 1 < term_limit →
+    CanGo w 7 (IsBackWith n (found w n).log)
