@@ -44,11 +44,11 @@ none_overdue : (times : Times) (now : ℕ) (nodes : List ℕ) → ((node : ℕ) 
 none_overdue times now [] none = refl
 none_overdue times now (node ∷ nodes) none = rw (none node) (none_overdue times now nodes none)
 
-none_found : (test : ℕ → Bool) (nodes : List ℕ) → ((node : ℕ) → test node ≡ false) → find test nodes ≡ None
+pub none_found : (test : ℕ → Bool) (nodes : List ℕ) → ((node : ℕ) → test node ≡ false) → find test nodes ≡ None
 none_found test [] none = refl
 none_found test (node ∷ nodes) none = rw (none node) (none_found test nodes none)
 
-and_false : (b : Bool) → (b && false) ≡ false
+pub and_false : (b : Bool) → (b && false) ≡ false
 and_false true = refl
 and_false false = refl
 

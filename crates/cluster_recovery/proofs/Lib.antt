@@ -5,3 +5,6 @@ pub mod Leads
 pub mod Scenes
 pub mod Reached
 pub mod Leading
+pub mod Sending
+pub mod Serving
+pub mod Asking

@@ -46,7 +46,7 @@ module _ (n a : ℕ) where
     pub there : w.allocatee a ≡ x
     pub sent : w.frames ≡ frames
 
-  it_is : (w : Cluster) → w.ids ≡ n ∷ [] → is_member w.ids n ≡ true
+  pub it_is : (w : Cluster) → w.ids ≡ n ∷ [] → is_member w.ids n ≡ true
   it_is w e = ap (λ (ids : List ℕ). is_member ids n) e ∙ rw (same_number n) refl
 
   -- ---- a stop
