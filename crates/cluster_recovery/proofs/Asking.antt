@@ -27,7 +27,7 @@ use Rattle.cluster_recovery.proofs.Goes.{and_then, at_most, one_row, so, stays}
 use Rattle.cluster_recovery.proofs.Scenes.{At}
 use Rattle.cluster_recovery.proofs.Sending.{first_out, frames_of_one, others_left}
 
-its_own : (w : Cluster) (a : ℕ) (x : Option Device) → (with_allocatee w a x).allocatee a ≡ x
+pub its_own : (w : Cluster) (a : ℕ) (x : Option Device) → (with_allocatee w a x).allocatee a ≡ x
 its_own w a x = at_here w.allocatee a a x refl
 
 module _ (n a : ℕ) (place : is_place a ≡ true) where

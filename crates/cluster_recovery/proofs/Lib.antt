@@ -8,3 +8,6 @@ pub mod Leading
 pub mod Sending
 pub mod Serving
 pub mod Asking
+pub mod Receiving
+pub mod Hearing
+pub mod Taking
