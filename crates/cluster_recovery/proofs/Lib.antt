@@ -11,3 +11,4 @@ pub mod Asking
 pub mod Receiving
 pub mod Hearing
 pub mod Taking
+pub mod Answering

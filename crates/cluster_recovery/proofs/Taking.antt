@@ -113,7 +113,7 @@ module _ (uid : List ℕ) (preferred moment : ℕ) where
 -- ---- what the answer leaves
 
 -- an answer to so many bytes, and not to all
-part_taken : (uid : List ℕ) (preferred moment id node known : ℕ) → 1 ≤ known → known < length uid
+pub part_taken : (uid : List ℕ) (preferred moment id node known : ℕ) → 1 ≤ known → known < length uid
     → after_allocation 0 false (record { node = node; first_part = false; uid = record { items = take known uid } }) (asking_with uid preferred moment id None [])
     ≡ asking_with uid preferred moment id (Some (follow_up_behind uid preferred moment known)) []
 unfolding after_allocation
@@ -134,7 +134,7 @@ part_taken uid preferred moment id node known some part = rw (not_all) (rw (size
     same : bytes_eq (take known uid) (take known uid) ≡ true
     same = (bytes_eq-Decides (take known uid) (take known uid)).1 refl
 
-whole_taken : (uid : List ℕ) (preferred moment id node : ℕ) → 1 ≤ node → node ≤ 125
+pub whole_taken : (uid : List ℕ) (preferred moment id node : ℕ) → 1 ≤ node → node ≤ 125
     → after_allocation 0 false (record { node = node; first_part = false; uid = record { items = uid } }) (asking_with uid preferred moment id None [])
     ≡ record (asking_with uid preferred moment id None []) { holds = Some node }
 unfolding after_allocation
