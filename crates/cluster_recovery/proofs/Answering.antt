@@ -51,7 +51,7 @@ use Rattle.cluster_recovery.proofs.Taking.{HasTaken, frame_is, part_taken, takes
 
 -- ---- a request may be given to it
 
-is_fine : (t : AllocatorState) (frame : Queued) (message : Allocation) (moment : ℕ) → t.now ≡ moment → Asked message moment frame
+is_fine : (t : AllocatorState) (frame : Queued) (message : Allocation) (moment : ℕ) → t.now ≤ moment → Asked message moment frame
     → arrival_judgement t (comes_at frame moment) ≡ Fine
 unfolding arrival_judgement
 is_fine t frame message moment now asked =
@@ -61,7 +61,7 @@ is_fine t frame message moment now asked =
 
 module _ (n a : ℕ) where
   pub receives : (t : AllocatorState) (x : Option Device) (frames front : List Queued) (frame : Queued) (message : Allocation) (moment : ℕ) (w : Cluster)
-      → t.now ≡ moment → Asked message moment frame → frames ≡ front ++ frame ∷ [] → At n a t x frames w
+      → t.now ≤ moment → Asked message moment frame → frames ≡ front ++ frame ∷ [] → At n a t x frames w
       → CanGo w 1 (At n a (step t (w.rows + 1) (Rx (comes_at frame moment))).step_state.allocator x frames)
   receives t x frames front frame message moment w now asked cut is =
       one_row (At n a (step t (w.rows + 1) (Rx (comes_at frame moment))).step_state.allocator x frames) w (RxRow n (length front + 1) moment)

@@ -52,7 +52,7 @@ pub and_false : (b : Bool) → (b && false) ≡ false
 and_false true = refl
 and_false false = refl
 
-same_either : {A : Type 0} (b : Bool) (x : A) → (if b then x else x) ≡ x
+pub same_either : {A : Type 0} (b : Bool) (x : A) → (if b then x else x) ≡ x
 same_either true x = refl
 same_either false x = refl
 
@@ -77,7 +77,7 @@ asks_nothing number g e =
     (no_query g.allocator.watch (known g.allocator) g.allocator.now e)
     ∙ same_either (is_leader g.allocator.raft_server.memory.role) g
 
-lt_is : (a b : ℕ) → a < b → nat_lt a b ≡ true
+pub lt_is : (a b : ℕ) → a < b → nat_lt a b ≡ true
 lt_is a b h = elim (lt_tells a b) [ inl z ↦ z.0 | inr z ↦ absurd (omega (arith, z.1, h)) ]
 
 top : (limit : ℕ) (test : ℕ → Bool) → test limit ≡ true → greatest_to limit test ≡ Some limit

@@ -12,3 +12,5 @@ pub mod Receiving
 pub mod Hearing
 pub mod Taking
 pub mod Answering
+pub mod Choosing
+pub mod Served

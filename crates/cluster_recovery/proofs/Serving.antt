@@ -43,7 +43,7 @@ pub record IsServing (n : ℕ) (log : List Entry) (moment next : ℕ) (accepted 
   pub heard : t.heard ≡ []
   pub watch : t.watch ≡ []
   pub accepts : t.accepted ≡ accepted
-  pub now : t.now ≡ moment
+  pub now : t.now ≤ moment
   pub id : t.ids.alloc ≡ next
   pub role : t.raft_server.memory.role ≡ Leader
   pub log_is : t.raft_server.store.log ≡ log
@@ -63,15 +63,15 @@ pub all_told : (n : ℕ) (log : List Entry) (moment next : ℕ) (accepted : List
     → IsServing n log moment next accepted t → t.raft_server.memory.told ≡ t.raft_server.store.commit
 all_told n log moment next accepted t s = s.told ∙ sym s.committed
 
-pub serves_fresh : (n : ℕ) (store : Store) (moment : ℕ) (t : AllocatorState) → IsFreshLeader n store moment t
-    → IsServing n store.log moment 0 [] (with_queue [] t)
-serves_fresh n store moment t f = record {
+pub serves_fresh : (n : ℕ) (store : Store) (moment later : ℕ) (t : AllocatorState) → IsFreshLeader n store moment t → moment ≤ later
+    → IsServing n store.log later 0 [] (with_queue [] t)
+serves_fresh n store moment later t f after_it = record {
   me = f.me;
   size = f.size;
   heard = f.heard;
   watch = f.watch;
   accepts = f.accepted;
-  now = f.now;
+  now = omega (arith, f.now, after_it);
   id = f.next;
   role = f.role;
   log_is = f.log;
@@ -162,7 +162,7 @@ module _ (n : ℕ) (log : List Entry) (moment next : ℕ) (accepted : List Accep
     heard = gives_it.ready.heard ∙ s.heard;
     watch = gives_it.ready.watch ∙ s.watch;
     accepts = gives_it.accepted ∙ (λ i. after (s.accepts i) message (now_is i) true);
-    now = gives_it.now ∙ now_is;
+    now = omega (arith, gives_it.now, now_is);
     id = ap (λ (r : StepResult). r.step_state.allocator.ids.alloc) exactly
         ∙ (ap (λ (b : Bool). (counted_if b Alloc 0 t.ids).alloc) room ∙ ap id_after s.id);
     role = gives_it.ready.role ∙ s.role;

@@ -1,7 +1,8 @@
 -- What an allocator that is alone can still do, whatever happened.
-use Rattle.std.specs.Prelude.{◌≡◌, ℕ, ◌+◌, ◌<◌, ◌≤◌, List, length}
+use Rattle.std.specs.Prelude.{◌≡◌, ◌≢◌, ℕ, ◌+◌, ◌<◌, ◌≤◌, List, length}
 use Rattle.can_frame.specs.declared.entry.Entry.{Entry}
-use Rattle.can_frame.specs.Log.{log_limit}
+use Rattle.can_frame.specs.Log.{HasNodeId, HasUid, log_limit}
+use Rattle.can_frame.specs.Zeros.{zeros}
 use Rattle.kv_store.specs.KeyDisk.{restarted_on}
 use Rattle.outside.specs.declared.pattern.Pattern.TheVariants.{Old}
 use Rattle.raft_core.specs.StoredPuts.{store_of}
@@ -41,3 +42,22 @@ pub record IsBackWith (n : ℕ) (log : List Entry) (w : Cluster) : Type 0 where
 abbrev pub ComesBack : ℕ → Cluster → Type 0
 ComesBack n w = length (found w n).log < log_limit → (found w n).term + 1 < term_limit →
     CanGo w 7 (IsBackWith n (found w n).log)
+
+-- ---- a device
+
+-- a node ID is left for a device: it is not the allocator's own, and stands in no entry of its log
+pub record IsLeft (me : ℕ) (log : List Entry) (node : ℕ) : Type 0 where
+  pub least : 1 ≤ node
+  pub most : node ≤ 125
+  pub other : node ≢ me
+  pub free : HasNodeId log node → ⊥
+
+-- The device may be given a node ID: its unique ID is one, stands in no entry, and a node ID is left. There is room for a
+-- blank and a pair, and two terms are left.
+pub record MayBeServed (me : ℕ) (store : Store) (uid : List ℕ) : Type 0 where
+  pub whole : length uid ≡ 16
+  pub device : uid ≢ zeros
+  pub new : HasUid store.log uid → ⊥
+  pub left : (node : ℕ) × IsLeft me store.log node
+  pub room : length store.log + 1 < log_limit
+  pub terms : store.term + 1 < term_limit

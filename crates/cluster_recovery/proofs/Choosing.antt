@@ -1,0 +1,143 @@
+-- An allocator that leads alone may record a new unique ID, and gives it one of the node IDs that are left.
+use Rattle.std.proofs.Common.{◌≡◌, ◌≢◌, ◌⊎◌, ℕ, zero, suc, ◌+◌, ◌<◌, ◌≤◌, Bool, true, false, List, [], ◌∷◌, ◌++◌, length, max, inl, inr, refl, sym, ◌∙◌, ap, subst, arith, Option, None, Some}
+use Rattle.std.specs.Prelude.{◌&&◌, ◌||◌, nat_eq, nat_lt, position, slice_index_or}
+use Rattle.std.specs.List.{list_any, position_or_len}
+use Rattle.std.specs.Str.{bytes_eq}
+use Rattle.std.proofs.Math.Seq.{get_or-append_seam}
+use Rattle.std.proofs.lemmas.Bool.Decides.{eqb_tells}
+use Rattle.std.proofs.lemmas.List.{get_or_append_left}
+use Rattle.std.proofs.lemmas.List.FromFn.{get_or-map-range_with_len}
+use Rattle.std.proofs.lemmas.Slice.Eq.{bytes_eq-Decides}
+use Rattle.alloc_exchange.specs.Exchange.{Accepted}
+use Rattle.can_frame.specs.declared.entry.Entry.{Entry}
+use Rattle.can_frame.specs.Log.{HasNodeId, HasUid, blank, log_limit}
+use Rattle.can_frame.specs.Zeros.{zeros}
+use Rattle.id_selector.specs.Choice.{IsChoice, IsFree, chosen}
+use Rattle.node_discovery.specs.History.{is_online}
+use Rattle.node_discovery.specs.Watch.{Watched, devices, history, is_unknown, some_unknown}
+use Rattle.raft_model.specs.Moves.Elections.{is_leader}
+use Rattle.raft_model.specs.Server.{Role}
+use Rattle.alloc_spec.specs.AllocatorState.{AllocatorState, is_known, is_recorded, is_taken, is_zero, known, may_propose, members_of, recorded_at, taken}
+use Rattle.alloc_spec.specs.Step.{at_moment}
+use Rattle.alloc_spec_laws.proofs.Choices.{lt_tells, tell}
+use Rattle.cluster_discovery.specs.Members.{is_on_list}
+use Rattle.cluster_progress.specs.ComingBack.{HasGrown}
+use Rattle.cluster_progress.specs.Serving.{MayRecord}
+use Rattle.cluster_progress.proofs.Alone.{one_longer}
+use Rattle.cluster_recovery.specs.Alone.{IsLeft}
+use Rattle.cluster_recovery.proofs.Leads.{lt_is}
+use Rattle.cluster_recovery.proofs.Serving.{IsServing, is_alone}
+
+-- ---- what has no place in a log
+
+past_all : (log : List Entry) (uid : List ℕ) → (HasUid log uid → ⊥) → position_or_len (λ (entry : Entry). bytes_eq entry.uid uid) log ≡ length log
+past_all [] uid none = refl
+past_all (entry ∷ log) uid none = rw (other)
+    (let e = past_all log uid (λ h. none (record { place = suc h.place; within = omega (arith, h.within); same = h.same })) in omega (arith, e))
+  where
+    other : bytes_eq entry.uid uid ≡ false
+    other = elim (tell (bytes_eq entry.uid uid)) [
+      | inl z ↦ absurd (none (record { place = 0; within = omega arith; same = (bytes_eq-Decides entry.uid uid).0 z }))
+      | inr z ↦ z
+    ]
+
+not_first : (log : List Entry) (uid : List ℕ) → (HasUid log uid → ⊥) → recorded_at log uid ≡ None
+not_first log uid none = rw (past_all log uid none) (elim (lt_tells (length log) (length log)) [ inl z ↦ absurd (omega (arith, z.1)) | inr z ↦ rw (z.0) refl ])
+
+not_recorded : (log : List Entry) (node : ℕ) → (HasNodeId log node → ⊥) → is_recorded log node ≡ false
+not_recorded [] node none = refl
+not_recorded (entry ∷ log) node none = rw (other) (not_recorded log node (λ h. none (record { place = suc h.place; within = omega (arith, h.within); same = h.same })))
+  where
+    other : nat_eq entry.node node ≡ false
+    other = elim (eqb_tells entry.node node) [ inl z ↦ absurd (none (record { place = 0; within = omega arith; same = z.1 })) | inr z ↦ z.0 ]
+
+-- an entry of a log that has a blank more at most is one of the former log, or the blank
+grown_entry : (before now : List Entry) (place : ℕ) → HasGrown before now → place < length now
+    → ((place < length before) × (slice_index_or before place (blank 0) ≡ slice_index_or now place (blank 0)))
+    ⊎ ((term : ℕ) × (slice_index_or now place (blank 0) ≡ blank term))
+grown_entry before now place (inl e) within =
+    inl (omega (arith, within, ap length e), ap (λ (l : List Entry). slice_index_or l place (blank 0)) (sym e))
+grown_entry before now place (inr (term, e)) within = elim (lt_tells place (length before)) [
+  | inl z ↦ inl (z.1, sym (ap (λ (l : List Entry). slice_index_or l place (blank 0)) e ∙ get_or_append_left before (blank term ∷ []) (blank 0) place z.1))
+  | inr z ↦ let last : place ≡ length before = omega (arith, z.1, within, ap length e, one_longer before (blank term)) in
+      inr (term, ap (λ (l : List Entry). slice_index_or l place (blank 0)) e
+      ∙ (ap (λ (k : ℕ). slice_index_or (before ++ blank term ∷ []) k (blank 0)) last ∙ get_or-append_seam before (blank term) [] (blank 0)))
+]
+
+pub still_new : (before now : List Entry) (uid : List ℕ) → uid ≢ zeros → HasGrown before now → (HasUid before uid → ⊥) → HasUid now uid → ⊥
+still_new before now uid some grown none h = elim (grown_entry before now h.place grown h.within) [
+  | inl z ↦ none (record { place = h.place; within = z.0; same = ap (λ (e : Entry). e.uid) z.1 ∙ h.same })
+  | inr z ↦ some (sym h.same ∙ ap (λ (e : Entry). e.uid) z.1)
+]
+
+still_free : (before now : List Entry) (node : ℕ) → 1 ≤ node → HasGrown before now → (HasNodeId before node → ⊥) → HasNodeId now node → ⊥
+still_free before now node some grown none h = elim (grown_entry before now h.place grown h.within) [
+  | inl z ↦ none (record { place = h.place; within = z.0; same = ap (λ (e : Entry). e.node) z.1 ∙ h.same })
+  | inr z ↦ let e = ap (λ (x : Entry). x.node) z.1 in omega (arith, e, h.same, some)
+]
+
+pub still_left : (me : ℕ) (before now : List Entry) (node : ℕ) → HasGrown before now → IsLeft me before node → IsLeft me now node
+still_left me before now node grown left = record {
+  least = left.least;
+  most = left.most;
+  other = left.other;
+  free = still_free before now node left.least grown left.free;
+}
+
+pub grown_length : (before now : List Entry) → HasGrown before now → length now ≤ length before + 1
+grown_length before now (inl e) = omega (arith, ap length e)
+grown_length before now (inr (term, e)) = omega (arith, ap length e, one_longer before (blank term))
+
+-- ---- it may record the pair
+
+none_any : (test : ℕ → Bool) (nodes : List ℕ) → ((node : ℕ) → test node ≡ false) → list_any test nodes ≡ false
+none_any test [] none = refl
+none_any test (node ∷ nodes) none = rw (none node) (none_any test nodes none)
+
+none_unknown : (watch : List Watched) (known_ones : List Bool) (now : ℕ) → watch ≡ [] → some_unknown watch known_ones now ≡ false
+unfolding some_unknown
+none_unknown watch known_ones now e = none_any (λ node. is_unknown watch known_ones node now) devices
+    (λ node. ap (λ (w : List Watched). is_unknown w known_ones node now) e)
+
+-- who chooses gives an ID of 1 to 125, where one is free
+pub record Chooses (ids : List Bool) (preferred : ℕ) : Type 0 where
+  pub node : ℕ
+  pub least : 1 ≤ node
+  pub most : node ≤ 125
+  pub chosen_is : chosen ids preferred ≡ Some node
+
+chooses : ((ids : List Bool) (preferred : ℕ) → IsChoice ids preferred (chosen ids preferred)) → (ids : List Bool) (preferred free : ℕ)
+    → 1 ≤ free → free ≤ 125 → slice_index_or ids free true ≡ false → Chooses ids preferred
+chooses law ids preferred free least most is_free_one = by (chosen ids preferred) refl (law ids preferred)
+  where
+    by : (o : Option ℕ) → chosen ids preferred ≡ o → IsChoice ids preferred o → Chooses ids preferred
+    by None e none = absurd (cc (none free least most, is_free_one))
+    by (Some node) e (inl best) = record { node = node; least = best.free.least; most = best.free.most; chosen_is = e }
+    by (Some node) e (inr second) = record { node = node; least = second.next.free.least; most = second.next.free.most; chosen_is = e }
+
+module _ (n : ℕ) (log : List Entry) (moment next : ℕ) (accepted : List Accepted) (t : AllocatorState) (s : IsServing n log moment next accepted t) where
+  not_taken : (node : ℕ) → IsLeft n log node → is_taken (at_moment moment t) node ≡ false
+  not_taken node left =
+      (λ i. (is_on_list (alone i) node || is_recorded (s.log_is i) node) || is_online (history node (s.watch i)) (max t.now moment))
+      ∙ rw (other) (rw (not_recorded log node left.free) refl)
+    where
+      alone : members_of (at_moment moment t) ≡ n ∷ []
+      alone = is_alone n log moment next accepted t s ∙ ap (λ (m : ℕ). m ∷ []) s.me
+
+      other : nat_eq n node ≡ false
+      other = elim (eqb_tells n node) [ inl z ↦ absurd (left.other (sym z.1)) | inr z ↦ z.0 ]
+
+  pub finds_one : ((ids : List Bool) (preferred : ℕ) → IsChoice ids preferred (chosen ids preferred)) → (preferred node : ℕ) → IsLeft n log node
+      → Chooses (taken (at_moment moment t)) preferred
+  finds_one law preferred node left = chooses law (taken (at_moment moment t)) preferred node left.least left.most
+      (get_or-map-range_with_len (is_taken (at_moment moment t)) 0 128 node node true (omega (arith, left.most)) (omega arith) ∙ not_taken node left)
+
+  pub may_record : (preferred : ℕ) (uid : List ℕ) → uid ≢ zeros → (HasUid log uid → ⊥) → length log < log_limit
+      → (c : Chooses (taken (at_moment moment t)) preferred) → MayRecord t moment preferred uid c.node
+  may_record preferred uid device new room c = record {
+    device = elim (tell (is_zero uid)) [ inl z ↦ absurd (device ((bytes_eq-Decides uid zeros).0 z)) | inr z ↦ z ];
+    new = ap (λ (l : List Entry). recorded_at l uid) s.log_is ∙ not_first log uid new;
+    may = (λ i. is_leader (s.role i) && nat_lt (length (s.log_is i)) 127) ∙ lt_is (length log) log_limit room;
+    all_known = none_unknown t.watch (known t) moment s.watch;
+    choice = c.chosen_is;
+  }
