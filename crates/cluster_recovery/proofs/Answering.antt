@@ -38,9 +38,8 @@ use Rattle.cluster_spec.specs.Allocatees.{is_place}
 use Rattle.cluster_spec.specs.Cluster.{Cluster, arrival_at, frame_at, receipt_of}
 use Rattle.cluster_spec.specs.Lawful.{arrival_refusal, because, cause, cause_of_judgement, or_else}
 use Rattle.cluster_spec.specs.Members.{is_running, member_after_step}
-use Rattle.cluster_recovery.specs.Alone.{CanGo}
 use Rattle.cluster_recovery.proofs.Asking.{Asked, asking_with, device_with, follow_up_behind}
-use Rattle.cluster_recovery.proofs.Goes.{and_then, at_most, one_row, so}
+use Rattle.cluster_recovery.proofs.Goes.{CanGo, and_then, at_most, one_row, so}
 use Rattle.cluster_recovery.proofs.Hearing.{HearingLaws, its_key}
 use Rattle.cluster_recovery.proofs.Members.{IsUp, steps_up}
 use Rattle.cluster_recovery.proofs.Receiving.{Awaits}

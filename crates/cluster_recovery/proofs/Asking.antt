@@ -22,8 +22,7 @@ use Rattle.cluster_spec.specs.declared.unlawful.Unlawful.TheVariants.{Absent, No
 use Rattle.cluster_spec.specs.Allocatees.{after_sending_from, device_after_step, is_place, next_from}
 use Rattle.cluster_spec.specs.Cluster.{Cluster, after_row, in_list, with_allocatee}
 use Rattle.cluster_spec.specs.Lawful.{because, cause, nothing_to_send, or_else}
-use Rattle.cluster_recovery.specs.Alone.{CanGo}
-use Rattle.cluster_recovery.proofs.Goes.{and_then, at_most, one_row, so, stays}
+use Rattle.cluster_recovery.proofs.Goes.{CanGo, and_then, at_most, one_row, so, stays}
 use Rattle.cluster_recovery.proofs.Scenes.{At}
 use Rattle.cluster_recovery.proofs.Sending.{first_out, frames_of_one, others_left}
 

@@ -60,8 +60,11 @@ grown_entry before now place (inl e) within =
 grown_entry before now place (inr (term, e)) within = elim (lt_tells place (length before)) [
   | inl z ↦ inl (z.1, sym (ap (λ (l : List Entry). slice_index_or l place (blank 0)) e ∙ get_or_append_left before (blank term ∷ []) (blank 0) place z.1))
   | inr z ↦ let last : place ≡ length before = omega (arith, z.1, within, ap length e, one_longer before (blank term)) in
-      inr (term, ap (λ (l : List Entry). slice_index_or l place (blank 0)) e
-      ∙ (ap (λ (k : ℕ). slice_index_or (before ++ blank term ∷ []) k (blank 0)) last ∙ get_or-append_seam before (blank term) [] (blank 0)))
+      inr (
+        term,
+        ap (λ (l : List Entry). slice_index_or l place (blank 0)) e
+            ∙ (ap (λ (k : ℕ). slice_index_or (before ++ blank term ∷ []) k (blank 0)) last ∙ get_or-append_seam before (blank term) [] (blank 0)),
+      )
 ]
 
 pub still_new : (before now : List Entry) (uid : List ℕ) → uid ≢ zeros → HasGrown before now → (HasUid before uid → ⊥) → HasUid now uid → ⊥

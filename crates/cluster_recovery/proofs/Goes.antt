@@ -3,7 +3,13 @@ use Rattle.std.proofs.Common.{◌≡◌, ℕ, suc, ◌+◌, ◌≤◌, List, [],
 use Rattle.replay_text.specs.declared.row.Row.{Row}
 use Rattle.cluster_spec.specs.Cluster.{Cluster, after_row, after_rows}
 use Rattle.cluster_spec.specs.Lawful.{Lawful, cause}
-use Rattle.cluster_recovery.specs.Alone.{CanGo}
+
+-- at most so many rows, each lawful when its turn is there, lead from this world to one of which this holds
+pub record CanGo (w : Cluster) (most : ℕ) (Holds : Cluster → Type 0) : Type 0 where
+  pub rows : List Row
+  pub few : length rows ≤ most
+  pub lawful : Lawful w rows
+  pub holds : Holds (after_rows w rows)
 
 pub after_both : (w : Cluster) (first rest : List Row) → after_rows w (first ++ rest) ≡ after_rows (after_rows w first) rest
 after_both w [] rest = refl

@@ -17,8 +17,8 @@ use Rattle.alloc_spec.specs.Step.Event.{Tick}
 use Rattle.cluster_progress.specs.ComingBack.{HasGrown}
 use Rattle.cluster_spec.specs.Cluster.{Cluster}
 use Rattle.cluster_spec.specs.Members.{is_running}
-use Rattle.cluster_recovery.specs.Alone.{CanGo, IsBackWith, found}
-use Rattle.cluster_recovery.proofs.Goes.{and_then, so}
+use Rattle.cluster_recovery.specs.Alone.{IsBackWith, found}
+use Rattle.cluster_recovery.proofs.Goes.{CanGo, and_then, so}
 use Rattle.cluster_recovery.proofs.Leads.{IsFreshLeader, IsSettled, fresh, settles_all}
 use Rattle.cluster_recovery.proofs.Members.{IsDown}
 use Rattle.cluster_recovery.proofs.Reached.{IsReached, IsShown, finds_own, reached, stopped_inside}

@@ -7,19 +7,22 @@ use Rattle.raft_log.specs.KeyDisk.{is_open_on, opening_on}
 use Rattle.raft_log.specs.Stored.{Stored}
 use Rattle.raft_model.specs.Invariants.{Invariants}
 use Rattle.raft_model.specs.Lists.{In}
-use Rattle.raft_model.specs.Runs.{World}
+use Rattle.raft_model.specs.Runs.{InEveryRun, World, initial_world, run}
 use Rattle.raft_model.specs.Server.{RaftServer, Store}
 use Rattle.replay_text.specs.declared.row.Row.{Row}
 use Rattle.alloc_spec.specs.AllocatorState.{AllocatorState}
 use Rattle.alloc_spec.specs.Transfers.{SentTransfer}
+use Rattle.cluster_agreement.specs.Continues.{Continues}
 use Rattle.cluster_agreement.specs.Shows.{Shows, ShowsDown, ShowsMember, ShowsUp}
 use Rattle.cluster_agreement.proofs.StopsAndOpenings.{firm_finds}
 use Rattle.cluster_spec.specs.Cluster.{Cluster, after_row, after_rows, cluster, world_of}
+use Rattle.cluster_spec.specs.Choices.{AgreesWithDisk}
+use Rattle.cluster_spec.specs.Refinement.{events, transfers_of_rows}
 use Rattle.cluster_spec.specs.Lawful.{DoNoHarm, Lawful}
 use Rattle.cluster_spec.specs.Members.{Member, MemberStatus}
 use Rattle.cluster_spec.specs.Members.MemberStatus.{Down, Up}
-use Rattle.cluster_recovery.specs.Alone.{CanGo, found}
-use Rattle.cluster_recovery.proofs.Goes.{after_both}
+use Rattle.cluster_recovery.specs.Alone.{CanGoOn, found}
+use Rattle.cluster_recovery.proofs.Goes.{CanGo, after_both}
 use Rattle.cluster_recovery.proofs.Members.{IsDown, IsUp}
 
 pub record IsReached (ids : List ℕ) (w : Cluster) : Type 0 where
@@ -74,3 +77,33 @@ finds_own ids w n t listed s up = firm_finds (w.member n).disk is.runs.nothing_u
   where
     is : ShowsUp s.made w.ids w.frames s.run n t (w.member n).disk
     is = subst (λ (status : MemberStatus). ShowsMember s.choice s.made w.ids w.frames s.run n status (w.member n).disk) up (s.shows.lives n listed)
+
+-- ---- rows go on
+
+pub goes_on : (ids : List ℕ) (rows : List Row) (most : ℕ) (P : Cluster → Type 0) → DoNoHarm (cluster ids) rows → CanGo (world_of ids rows) most P
+    → CanGoOn ids rows most P
+goes_on ids rows most P harmless c = record {
+  more = c.rows;
+  few = c.few;
+  lawful = c.lawful;
+  harmless = harmless_both (cluster ids) rows c.rows harmless c.lawful;
+  holds = subst P (sym (after_both (cluster ids) rows c.rows)) c.holds;
+}
+
+-- ---- what the laws below say of it
+
+pub laws_say : (ids : List ℕ)
+    → ((rows : List Row) → DoNoHarm (cluster ids) rows → (choice : ℕ → Bool) × AgreesWithDisk choice (cluster ids) rows)
+    → ((choice : ℕ → Bool) (rows : List Row) → DoNoHarm (cluster ids) rows → AgreesWithDisk choice (cluster ids) rows
+    → Continues choice (transfers_of_rows (cluster ids) rows []) (world_of ids rows) (initial_world ids) (events choice (cluster ids) rows))
+    → InEveryRun Invariants → (w : Cluster) → IsReached ids w → IsShown w
+laws_say ids fit shows sound w r =
+    let fits = fit r.rows r.harmless in
+    let shown = shows fits.0 r.rows r.harmless fits.1 in
+    subst IsShown (sym r.is) (record {
+      choice = fits.0;
+      made = transfers_of_rows (cluster ids) r.rows [];
+      run = run (initial_world ids) (events fits.0 (cluster ids) r.rows);
+      shows = shown.shows;
+      invariants = sound ids (events fits.0 (cluster ids) r.rows) shown.lawful;
+    })

@@ -23,8 +23,8 @@ use Rattle.cluster_spec.specs.Lawful.{because, cause, or_else}
 use Rattle.cluster_spec.specs.Members.{Member, MemberStatus, after_crash, after_opening, is_running, member_after_step}
 use Rattle.cluster_spec.specs.Members.MemberStatus.{Down, Failed, Up}
 use Rattle.cluster_progress.proofs.FollowUps.{same_number}
-use Rattle.cluster_recovery.specs.Alone.{CanGo, found}
-use Rattle.cluster_recovery.proofs.Goes.{at_most, behind_row, one_row}
+use Rattle.cluster_recovery.specs.Alone.{found}
+use Rattle.cluster_recovery.proofs.Goes.{CanGo, at_most, behind_row, one_row}
 use Rattle.cluster_recovery.proofs.Members.{IsDown, IsUp, cut_down, opens_up, steps_up, stops_down}
 
 pub own_is : (w : Cluster) (n : ℕ) (x : Member) → (with_member w n x).member n ≡ x

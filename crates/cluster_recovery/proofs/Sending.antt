@@ -17,8 +17,7 @@ use Rattle.cluster_spec.specs.Cluster.{Cluster, after_row, in_list}
 use Rattle.cluster_spec.specs.Lawful.{because, cause, nothing_to_send, or_else}
 use Rattle.cluster_spec.specs.Members.{Member, MemberStatus, after_sending, is_running, next_frame}
 use Rattle.cluster_spec.specs.Members.MemberStatus.{Up}
-use Rattle.cluster_recovery.specs.Alone.{CanGo}
-use Rattle.cluster_recovery.proofs.Goes.{and_then, one_row, stays}
+use Rattle.cluster_recovery.proofs.Goes.{CanGo, and_then, one_row, stays}
 use Rattle.cluster_recovery.proofs.Members.{IsUp}
 use Rattle.cluster_recovery.proofs.Scenes.{At, it_is, own_is}
 

@@ -24,11 +24,11 @@ use Rattle.cluster_progress.proofs.Three.{first_after, first_answer, second_afte
 use Rattle.cluster_spec.specs.Allocatees.{is_place}
 use Rattle.cluster_agreement.specs.Allocatees.{Holds}
 use Rattle.cluster_spec.specs.Cluster.{Cluster}
-use Rattle.cluster_recovery.specs.Alone.{CanGo, IsLeft, MayBeServed, found}
+use Rattle.cluster_recovery.specs.Alone.{IsLeft, MayBeServed, found}
 use Rattle.cluster_recovery.proofs.Answering.{AnsweringLaws, HasFollowed, IsGiven, follows, gives_pair}
 use Rattle.cluster_recovery.proofs.Asking.{HasAsked, asks, asks_first, asks_more, comes, device_with, leaves}
 use Rattle.cluster_recovery.proofs.Choosing.{Chooses, finds_one, grown_length, may_record, still_left, still_new}
-use Rattle.cluster_recovery.proofs.Goes.{and_then, so}
+use Rattle.cluster_recovery.proofs.Goes.{CanGo, and_then, so}
 use Rattle.cluster_recovery.proofs.Hearing.{its_key}
 use Rattle.cluster_recovery.proofs.Leading.{HasComeToLead, Laws, comes_to_lead}
 use Rattle.cluster_recovery.proofs.Leads.{same_either}

@@ -35,9 +35,8 @@ use Rattle.cluster_spec.specs.declared.unlawful.Unlawful.TheVariants.{Absent, No
 use Rattle.cluster_spec.specs.Allocatees.{device_after_step, is_place}
 use Rattle.cluster_spec.specs.Cluster.{Cluster, after_row, arrival_at, frame_at, no_frame, receipt_at}
 use Rattle.cluster_spec.specs.Lawful.{arrival_refusal_at, because, cause, cause_of_judgement, no_such_frame, or_else}
-use Rattle.cluster_recovery.specs.Alone.{CanGo}
 use Rattle.cluster_recovery.proofs.Asking.{asking_with, device_with, follow_up_behind, its_own}
-use Rattle.cluster_recovery.proofs.Goes.{and_then, one_row, so, stays}
+use Rattle.cluster_recovery.proofs.Goes.{CanGo, and_then, one_row, so, stays}
 use Rattle.cluster_recovery.proofs.Hearing.{HearingLaws, arrival_of, arrivals_from, hears_whole, its_ident, its_key, last, last_arrival, last_arrival_id, open_part, own, part, parts, pieces}
 use Rattle.cluster_recovery.proofs.Receiving.{AreOfKey, Awaits, GivesNone, HasOnly, awaits_next, gives_none, keeps, only_run}
 use Rattle.cluster_recovery.proofs.Scenes.{At}

@@ -1,5 +1,5 @@
 -- What an allocator that is alone can still do, whatever happened.
-use Rattle.std.specs.Prelude.{◌≡◌, ◌≢◌, ℕ, ◌+◌, ◌<◌, ◌≤◌, List, length}
+use Rattle.std.specs.Prelude.{◌≡◌, ◌≢◌, ℕ, ◌+◌, ◌<◌, ◌≤◌, true, List, [], ◌∷◌, ◌++◌, length}
 use Rattle.can_frame.specs.declared.entry.Entry.{Entry}
 use Rattle.can_frame.specs.Log.{HasNodeId, HasUid, log_limit}
 use Rattle.can_frame.specs.Zeros.{zeros}
@@ -11,24 +11,29 @@ use Rattle.raft_model.specs.Server.{Store}
 use Rattle.raft_model.specs.Server.Role.{Leader}
 use Rattle.replay_text.specs.declared.row.Row.{Row}
 use Rattle.alloc_spec.specs.AllocatorState.{AllocatorState}
+use Rattle.cluster_agreement.specs.Allocatees.{Holds}
 use Rattle.cluster_progress.specs.ComingBack.{HasGrown}
-use Rattle.cluster_spec.specs.Cluster.{Cluster, after_rows}
-use Rattle.cluster_spec.specs.Lawful.{Lawful}
+use Rattle.cluster_spec.specs.Allocatees.{is_place}
+use Rattle.cluster_spec.specs.Cluster.{Cluster, cluster, world_of}
+use Rattle.cluster_spec.specs.Lawful.{DoNoHarm, Lawful}
 use Rattle.cluster_spec.specs.Members.MemberStatus.{Up}
 
--- at most so many rows, each lawful when its turn is there, lead from this world to one of which this holds
-pub record CanGo (w : Cluster) (most : ℕ) (Holds : Cluster → Type 0) : Type 0 where
-  pub rows : List Row
-  pub few : length rows ≤ most
-  pub lawful : Lawful w rows
-  pub holds : Holds (after_rows w rows)
+-- rows go on by at most so many lawful ones, to a world of which this holds
+pub record CanGoOn (ids : List ℕ) (rows : List Row) (most : ℕ) (Holds : Cluster → Type 0) : Type 0 where
+  pub more : List Row
+  pub few : length more ≤ most
+  pub lawful : Lawful (world_of ids rows) more
+  pub harmless : DoNoHarm (cluster ids) (rows ++ more)
+  pub holds : Holds (world_of ids (rows ++ more))
 
 -- What a member would find stored if it stopped now, and a selector that is not synced were lost. Of a member that has
 -- not failed it is what it has stored.
 abbrev pub found : Cluster → ℕ → Store
 found w n = store_of (restarted_on Old (w.member n).disk).store
 
--- the member leads, has committed its whole log, which is this one or has a blank more, and owes nobody a pair of it
+-- ---- it leads
+
+-- the member leads, has committed its whole log, which is this one or has a blank more, and has nothing to tell of it
 pub record IsBackWith (n : ℕ) (log : List Entry) (w : Cluster) : Type 0 where
   pub server : AllocatorState
   pub runs : (w.member n).status ≡ Up server
@@ -39,11 +44,12 @@ pub record IsBackWith (n : ℕ) (log : List Entry) (w : Cluster) : Type 0 where
 
 -- Where its log has room for a blank, and two terms are left: it is stopped, opened, and ticks after its wait, twice. By
 -- the second time all that was stored is committed.
-abbrev pub ComesBack : ℕ → Cluster → Type 0
-ComesBack n w = length (found w n).log < log_limit → (found w n).term + 1 < term_limit →
-    CanGo w 7 (IsBackWith n (found w n).log)
+abbrev pub ComesBack : ℕ → List Row → Type 0
+ComesBack n rows = let store = found (world_of (n ∷ []) rows) n in
+    length store.log < log_limit → store.term + 1 < term_limit →
+    CanGoOn (n ∷ []) rows 7 (IsBackWith n store.log)
 
--- ---- a device
+-- ---- it serves a device
 
 -- a node ID is left for a device: it is not the allocator's own, and stands in no entry of its log
 pub record IsLeft (me : ℕ) (log : List Entry) (node : ℕ) : Type 0 where
@@ -61,3 +67,10 @@ pub record MayBeServed (me : ℕ) (store : Store) (uid : List ℕ) : Type 0 wher
   pub left : (node : ℕ) × IsLeft me store.log node
   pub room : length store.log + 1 < log_limit
   pub terms : store.term + 1 < term_limit
+
+-- The allocator comes to lead as above, and sends what waits. Then the device comes to the bus, in the place of whatever
+-- was there, and asks, is answered and follows up, until it holds a node ID; with whatever preference.
+abbrev pub ServesDevices : ℕ → List Row → Type 0
+ServesDevices n rows = (a : ℕ) (uid : List ℕ) (preferred : ℕ) → is_place a ≡ true → preferred < 128 →
+    MayBeServed n (found (world_of (n ∷ []) rows) n) uid →
+    CanGoOn (n ∷ []) rows 33 (λ later. (node : ℕ) × Holds later a uid node)

@@ -1,17 +1,26 @@
 //! The law of this crate, the contract of a function that does nothing.
 
 ghost use Rattle.std.specs.Prelude.{ℕ, List, [], ◌∷◌};
-ghost use Rattle.cluster_recovery.specs.Alone.{ComesBack};
+ghost use Rattle.cluster_recovery.specs.Alone.{ComesBack, ServesDevices};
 ghost use Rattle.cluster_recovery.specs.Recovery.{AreNeverStuck};
-ghost use Rattle.cluster_spec.specs.Cluster.{AreMembers, cluster, world_of};
+ghost use Rattle.cluster_spec.specs.Cluster.{AreMembers, cluster};
 ghost use Rattle.cluster_spec.specs.Lawful.{DoNoHarm};
 ghost use Rattle.replay_text.specs.declared.row.Row.{Row};
 
+use alloc_spec_laws::bus::queue_of_a_step;
+use can_frame::laws::{
+    frames_carry_what_is_cut, frames_read_as_their_pieces, identifiers_both_ways,
+    lengths_of_cuttings,
+};
 use cluster_agreement::headline::{a_choice_fits, rows_are_shown, rows_grow_by_one};
-use cluster_progress::laws::new_pairs_can_be_told;
+use cluster_progress::laws::{new_pairs_can_be_told, requests_of_devices_are_requests};
+use dsdl_codec::laws::allocations_both_ways;
+use id_selector::laws::chosen_is_the_choice;
 use raft_core::laws::an_opening_keeps_the_store;
 use raft_log::laws::the_disk_by_states;
 use raft_model::laws::law_every_run;
+use transfer_rx::laws::delivers_what_comes_whole;
+use transfer_tx::laws::frames_by_place;
 
 /// After every list of rows that do no harm, whatever frames were delivered, lost or repeated, whatever clocks read and
 /// wherever inside store writes allocators stopped: each pair of a unique ID and a node ID that stand in no stored log
@@ -26,16 +35,40 @@ pub fn rows_are_never_stuck()
     rows_grow_by_one();
 }
 
-/// After every list of rows that do no harm, whatever frames came, whatever clocks read, wherever inside store writes the
-/// allocator stopped, and whatever is set to fail: an allocator that is alone comes to lead again, with all committed,
-/// by seven rows at most, where its log has room for a blank and two terms are left.
+/// After every list of rows that do no harm, whatever frames came, whatever clocks read, wherever inside store writes
+/// the allocator stopped, and whatever of its disk is set to fail: an allocator that is alone comes to lead again, with
+/// all committed, by seven rows more at most, where its log has room for a blank and two terms are left.
 pub fn who_is_alone_leads()
     ensures { (n : ℕ) (rows : List Row) → AreMembers (n ∷ []) → DoNoHarm (cluster (n ∷ [])) rows →
-        ComesBack n (world_of (n ∷ []) rows) }
+        ComesBack n rows }
 {
     a_choice_fits();
     an_opening_keeps_the_store();
     law_every_run();
+    rows_are_shown();
+    rows_grow_by_one();
+    the_disk_by_states();
+}
+
+/// From there it gives each device with a new unique ID a node ID that is left, as long as its log has room: by 33 rows
+/// more at most the device holds it.
+pub fn who_is_alone_serves_devices()
+    ensures { (n : ℕ) (rows : List Row) → AreMembers (n ∷ []) → DoNoHarm (cluster (n ∷ [])) rows →
+        ServesDevices n rows }
+{
+    a_choice_fits();
+    allocations_both_ways();
+    an_opening_keeps_the_store();
+    chosen_is_the_choice();
+    delivers_what_comes_whole();
+    frames_by_place();
+    frames_carry_what_is_cut();
+    frames_read_as_their_pieces();
+    identifiers_both_ways();
+    law_every_run();
+    lengths_of_cuttings();
+    queue_of_a_step();
+    requests_of_devices_are_requests();
     rows_are_shown();
     rows_grow_by_one();
     the_disk_by_states();

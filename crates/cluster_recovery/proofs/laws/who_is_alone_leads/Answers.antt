@@ -1,14 +1,13 @@
-use Rattle.std.proofs.Common.{List, [], ◌∷◌, refl, sym, subst}
-use Rattle.raft_model.specs.Runs.{initial_world, run}
+use Rattle.std.proofs.Common.{[], ◌∷◌, refl}
 use Rattle.cluster_agreement.proofs.StopsAndOpenings.{DiskLaws, opened_store}
+use Rattle.cluster_recovery.specs.Alone.{IsBackWith, found}
 use Rattle.cluster_recovery.proofs.Leading.{Laws, comes_back}
-use Rattle.cluster_recovery.proofs.Reached.{IsReached, IsShown}
+use Rattle.cluster_recovery.proofs.Reached.{goes_on, laws_say}
 use Rattle.cluster_recovery.proofs.laws.who_is_alone_leads.Goals as goal
-use Rattle.cluster_spec.specs.Cluster.{Cluster, cluster, world_of}
-use Rattle.cluster_spec.specs.Refinement.{events, transfers_of_rows}
+use Rattle.cluster_spec.specs.Cluster.{cluster, world_of}
 
 pub returns : goal.returns
-returns c = λ n rows members harmless.
+returns c = λ n rows members harmless room terms.
     let ids = n ∷ [] in
     let disk : DiskLaws = record {
       done = λ key_disk puts e. (c.the_disk_by_states.ensures.done key_disk puts e).0;
@@ -17,16 +16,9 @@ returns c = λ n rows members harmless.
     } in
     let laws : Laws ids = record {
       keeps_store = opened_store disk;
-      shown = λ w r. subst IsShown (sym r.is)
-          (let fits = c.a_choice_fits.ensures ids r.rows members r.harmless in
-          let shown = c.rows_are_shown.ensures fits.0 ids r.rows members r.harmless fits.1 in
-          record {
-            choice = fits.0;
-            made = transfers_of_rows (cluster ids) r.rows [];
-            run = run (initial_world ids) (events fits.0 (cluster ids) r.rows);
-            shows = shown.shows;
-            invariants = c.law_every_run.ensures.invariants ids (events fits.0 (cluster ids) r.rows) shown.lawful;
-          });
+      shown = laws_say ids (λ list h. c.a_choice_fits.ensures ids list members h)
+          (λ choice list h fits. c.rows_are_shown.ensures choice ids list members h fits) c.law_every_run.ensures.invariants;
     } in
-    comes_back n 1 laws (world_of ids rows) (c.rows_grow_by_one.ensures.members (cluster ids) rows)
-    (record { rows = rows; harmless = harmless; is = refl })
+    goes_on ids rows 7 (IsBackWith n (found (world_of ids rows) n).log) harmless
+    (comes_back n 1 laws (world_of ids rows) (c.rows_grow_by_one.ensures.members (cluster ids) rows)
+    (record { rows = rows; harmless = harmless; is = refl }) room terms)

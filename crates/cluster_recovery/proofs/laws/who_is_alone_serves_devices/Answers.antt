@@ -1,0 +1,42 @@
+use Rattle.std.proofs.Common.{ℕ, [], ◌∷◌, inl, refl}
+use Rattle.cluster_agreement.proofs.StopsAndOpenings.{DiskLaws, opened_store}
+use Rattle.cluster_agreement.specs.Allocatees.{Holds}
+use Rattle.cluster_recovery.proofs.Leading.{Laws}
+use Rattle.cluster_recovery.proofs.Reached.{goes_on, laws_say}
+use Rattle.cluster_recovery.proofs.Served.{ServedLaws, is_served}
+use Rattle.cluster_recovery.proofs.laws.who_is_alone_serves_devices.Goals as goal
+use Rattle.cluster_spec.specs.Cluster.{cluster, world_of}
+
+pub returns : goal.returns
+returns c = λ n rows members harmless a uid preferred place few may.
+    let ids = n ∷ [] in
+    let disk : DiskLaws = record {
+      done = λ key_disk puts e. (c.the_disk_by_states.ensures.done key_disk puts e).0;
+      found_again = c.the_disk_by_states.ensures.found_again;
+      keeps_store = c.an_opening_keeps_the_store.ensures;
+    } in
+    let laws : Laws ids = record {
+      keeps_store = opened_store disk;
+      shown = laws_say ids (λ list h. c.a_choice_fits.ensures ids list members h)
+          (λ choice list h fits. c.rows_are_shown.ensures choice ids list members h fits) c.law_every_run.ensures.invariants;
+    } in
+    let served : ServedLaws = record {
+      answering = record {
+        hearing = record {
+          ident_read = c.identifiers_both_ways.ensures.read_again;
+          piece_read = c.frames_read_as_their_pieces.ensures;
+          cut = c.lengths_of_cuttings.ensures.cut;
+          carried = c.frames_carry_what_is_cut.ensures.carried;
+          whole = c.delivers_what_comes_whole.ensures;
+        };
+        read = c.allocations_both_ways.ensures.read_again;
+        count = c.frames_by_place.ensures.count;
+        queue = c.queue_of_a_step.ensures;
+      };
+      requests = c.requests_of_devices_are_requests.ensures;
+      choice = c.chosen_is_the_choice.ensures.is;
+    } in
+    let node = members.nodes n (inl refl) in
+    goes_on ids rows 33 (λ later. (chosen : ℕ) × Holds later a uid chosen) harmless
+    (is_served n a served laws node.0 node.1 place uid preferred few 0 (world_of ids rows) (c.rows_grow_by_one.ensures.members (cluster ids) rows)
+    (record { rows = rows; harmless = harmless; is = refl }) may)
