@@ -61,9 +61,9 @@ is_fine t frame message moment now asked =
 module _ (n a : ℕ) where
   pub receives : (t : AllocatorState) (x : Option Device) (frames front : List Queued) (frame : Queued) (message : Allocation) (moment : ℕ) (w : Cluster)
       → t.now ≤ moment → Asked message moment frame → frames ≡ front ++ frame ∷ [] → At n a t x frames w
-      → CanGo w 1 (At n a (step t (w.rows + 1) (Rx (comes_at frame moment))).step_state.allocator x frames)
+      → CanGo w moment moment 1 (At n a (step t (w.rows + 1) (Rx (comes_at frame moment))).step_state.allocator x frames)
   receives t x frames front frame message moment w now asked cut is =
-      one_row (At n a (step t (w.rows + 1) (Rx (comes_at frame moment))).step_state.allocator x frames) w (RxRow n (length front + 1) moment)
+      one_row (At n a (step t (w.rows + 1) (Rx (comes_at frame moment))).step_state.allocator x frames) w (RxRow n (length front + 1) moment) moment (omega arith)
       (λ i. or_else (because NoNode (not (it_is n a w is.ids i))) (or_else (because Stopped (not (is_running (is.up.status i))))
       (or_else (there_is w front [] frame (is.sent ∙ cut) i) (refuses_not i))))
       (record {
@@ -92,7 +92,7 @@ pub record AnsweringLaws : Type 0 where
   pub queue : (t : AllocatorState) (number : ℕ) (event : Event)
       → (step t number event).step_state.allocator.queue ≡ t.queue ++ all_frames_put number t.me (step t number event).step_state.offers
 
-module _ (laws : AnsweringLaws) (n a : ℕ) (low : 1 ≤ n) (high : n ≤ 125) (place : is_place a ≡ true) (uid : List ℕ) (preferred moment theirs : ℕ) where
+module _ (laws : AnsweringLaws) (n a : ℕ) (low : 1 ≤ n) (high : n ≤ 125) (place : is_place a ≡ true) (uid : List ℕ) (preferred moment : ℕ) where
   abbrev device_of : ℕ → List Session → Device
   device_of next_one sessions = device_with uid preferred moment next_one None [] sessions
 
@@ -101,12 +101,12 @@ module _ (laws : AnsweringLaws) (n a : ℕ) (low : 1 ≤ n) (high : n ≤ 125) (
       → (small : id < 32) → (short : length bytes ≤ 16) → (allowed : node < 128) → frame_count (suc (length bytes)) ≤ most
       → Awaits setting (its_key laws.hearing n low high) moment id sessions
       → At n a (with_queue (queued_frames (outgoing n Alloc 0 id (allocation_payload node bytes)) number 0) t) (Some (device_of next_one sessions)) frames w
-      → CanGo w (most + most) (HasTaken laws.hearing n a low high place uid preferred moment number id small bytes node short allowed
+      → CanGo w moment moment (most + most) (HasTaken laws.hearing n a low high place uid preferred moment number id small bytes node short allowed
       (with_queue [] t) (frames ++ queued_frames (outgoing n Alloc 0 id (allocation_payload node bytes)) number 0) next_one)
   goes_out t frames sessions w next_one id number node most bytes small short allowed few awaits at =
-      at_most Taken w (length answer_frames + length answer_frames) (most + most) (omega (arith, counted, few))
-      (and_then (At n a (with_queue [] t) (Some (device_of next_one sessions)) (frames ++ answer_frames)) Taken w (length answer_frames) (length answer_frames)
-      (drains n a t (Some (device_of next_one sessions)) (identifier_number what.ident) answer_frames frames w (frames_of_one what number 0) at)
+      at_most Taken w moment moment (length answer_frames + length answer_frames) (most + most) (omega (arith, counted, few))
+      (and_then (At n a (with_queue [] t) (Some (device_of next_one sessions)) (frames ++ answer_frames)) Taken w moment moment moment (length answer_frames) (length answer_frames)
+      (drains n a moment t (Some (device_of next_one sessions)) (identifier_number what.ident) answer_frames frames w (frames_of_one what number 0) at)
       (λ v h. takes laws.hearing n a low high place uid preferred moment number id small bytes node short allowed
       (laws.read (record { node = node; first_part = false; uid = record { items = bytes } }) (record { node = allowed; uid = short }))
       (with_queue [] t) (frames ++ answer_frames) frames v next_one sessions awaits refl h))
@@ -131,24 +131,24 @@ module _ (laws : AnsweringLaws) (n a : ℕ) (low : 1 ≤ n) (high : n ≤ 125) (
     pub server : AllocatorState
     pub sessions : List Session
     pub frames : List Queued
-    pub serves : IsServing n log theirs next accepted server
+    pub serves : IsServing n log moment next accepted server
     pub awaits : Awaits setting (its_key laws.hearing n low high) moment next sessions
     pub at : At n a server (Some (device_with uid preferred moment next_one (Some (follow_up_behind uid preferred moment known)) [] sessions)) frames w
 
   pub follows : (t : AllocatorState) (frames front : List Queued) (frame : Queued) (sessions : List Session) (w : Cluster) (log : List Entry)
       (next next_one known most : ℕ) (accepted : List Accepted) (message : Allocation)
       → next < 32 → 1 ≤ known → known ≤ 12 → known < length uid → frame_count (suc known) ≤ most
-      → IsServing n log theirs next accepted t → Asked message theirs frame
-      → answer accepted message theirs true ≡ Follows (record { items = take known uid })
+      → IsServing n log moment next accepted t → Asked message moment frame
+      → answer accepted message moment true ≡ Follows (record { items = take known uid })
       → Awaits setting (its_key laws.hearing n low high) moment next sessions → frames ≡ front ++ frame ∷ []
       → At n a t (Some (device_of next_one sessions)) frames w
-      → CanGo w (suc (most + most)) (HasFollowed log (id_after next) next_one known (after accepted message theirs true))
+      → CanGo w moment moment (suc (most + most)) (HasFollowed log (id_after next) next_one known (after accepted message moment true))
   follows t frames front frame sessions w log next next_one known most accepted message small some low_enough part few serves asked answers awaits cut at =
-      subst (λ (k : ℕ). CanGo w k Followed) (omega arith)
-      (and_then (At n a then_server (Some (device_of next_one sessions)) frames) Followed w 1 (most + most)
-      (receives n a t (Some (device_of next_one sessions)) frames front frame message theirs w serves.now asked cut at)
+      subst (λ (k : ℕ). CanGo w moment moment k Followed) (omega arith)
+      (and_then (At n a then_server (Some (device_of next_one sessions)) frames) Followed w moment moment moment 1 (most + most)
+      (receives n a t (Some (device_of next_one sessions)) frames front frame message moment w serves.now asked cut at)
       (λ v h. so (HasTaken laws.hearing n a low high place uid preferred moment number next small bytes 0 short (omega arith) (with_queue [] then_server) (frames ++ answer_frames) next_one)
-      Followed v (most + most)
+      Followed v moment moment (most + most)
       (goes_out then_server frames sessions v next_one next number 0 most bytes small short (omega arith)
       (subst (λ (k : ℕ). frame_count (suc k) ≤ most) (sym size) few) awaits
       (subst (λ (s : AllocatorState). At n a s (Some (device_of next_one sessions)) frames v) queued h))
@@ -156,7 +156,7 @@ module _ (laws : AnsweringLaws) (n a : ℕ) (low : 1 ≤ n) (high : n ≤ 125) (
         server = with_queue [] then_server;
         sessions = k.sessions;
         frames = frames ++ answer_frames;
-        serves = goes_on n log theirs next accepted t serves number arrival message bytes refl asked.request (omega (arith, size, low_enough)) answers;
+        serves = goes_on n log moment next accepted t serves number arrival message bytes refl asked.request (omega (arith, size, low_enough)) answers;
         awaits = k.awaits;
         at = subst (λ (x : Asking). At n a (with_queue [] then_server) (Some (record { asking = x; sessions = k.sessions })) (frames ++ answer_frames) u)
             as_followed k.at;
@@ -166,7 +166,7 @@ module _ (laws : AnsweringLaws) (n a : ℕ) (low : 1 ≤ n) (high : n ≤ 125) (
       number = w.rows + 1
 
       arrival : Arrival
-      arrival = comes_at frame theirs
+      arrival = comes_at frame moment
 
       bytes : List ℕ
       bytes = take known uid
@@ -185,7 +185,7 @@ module _ (laws : AnsweringLaws) (n a : ℕ) (low : 1 ≤ n) (high : n ≤ 125) (
 
       queued : then_server ≡ with_queue answer_frames then_server
       queued = λ i. record then_server {
-        queue = answers_it n log theirs next accepted t serves number arrival message bytes refl asked.request (omega (arith, size, low_enough)) answers i;
+        queue = answers_it n log moment next accepted t serves number arrival message bytes refl asked.request (omega (arith, size, low_enough)) answers i;
       }
 
       as_followed : after_allocation 0 false (record { node = 0; first_part = false; uid = record { items = bytes } }) (asking_with uid preferred moment next_one None [])
@@ -193,7 +193,7 @@ module _ (laws : AnsweringLaws) (n a : ℕ) (low : 1 ≤ n) (high : n ≤ 125) (
       as_followed = part_taken uid preferred moment next_one 0 known some part
 
       Followed : Cluster → Type 0
-      Followed v = HasFollowed log (id_after next) next_one known (after accepted message theirs true) v
+      Followed v = HasFollowed log (id_after next) next_one known (after accepted message moment true) v
 
   -- ---- the pair
 
@@ -206,18 +206,18 @@ module _ (laws : AnsweringLaws) (n a : ℕ) (low : 1 ≤ n) (high : n ≤ 125) (
   pub gives_pair : (t : AllocatorState) (frames front : List Queued) (frame : Queued) (sessions : List Session) (w : Cluster) (log : List Entry)
       (next next_one node most : ℕ) (accepted : List Accepted) (message : Allocation)
       → next < 32 → 1 ≤ node → node ≤ 125 → length uid ≤ 16 → frame_count (suc (length uid)) ≤ most
-      → IsServing n log theirs next accepted t → Asked message theirs frame
-      → answer accepted message theirs true ≡ Whole uid preferred → MayRecord t theirs preferred uid node
+      → IsServing n log moment next accepted t → Asked message moment frame
+      → answer accepted message moment true ≡ Whole uid preferred → MayRecord t moment preferred uid node
       → Awaits setting (its_key laws.hearing n low high) moment next sessions → frames ≡ front ++ frame ∷ []
       → At n a t (Some (device_of next_one sessions)) frames w
-      → CanGo w (suc (most + most)) (IsGiven node)
+      → CanGo w moment moment (suc (most + most)) (IsGiven node)
   gives_pair t frames front frame sessions w log next next_one node most accepted message small some most_node short few serves asked answers may awaits cut at =
-      subst (λ (k : ℕ). CanGo w k (IsGiven node)) (omega arith)
-      (and_then (At n a then_server (Some (device_of next_one sessions)) frames) (IsGiven node) w 1 (most + most)
-      (receives n a t (Some (device_of next_one sessions)) frames front frame message theirs w serves.now asked cut at)
+      subst (λ (k : ℕ). CanGo w moment moment k (IsGiven node)) (omega arith)
+      (and_then (At n a then_server (Some (device_of next_one sessions)) frames) (IsGiven node) w moment moment moment 1 (most + most)
+      (receives n a t (Some (device_of next_one sessions)) frames front frame message moment w serves.now asked cut at)
       (λ v h. so (HasTaken laws.hearing n a low high place uid preferred moment number next small uid node short (omega (arith, most_node))
       (with_queue [] then_server) (frames ++ answer_frames) next_one)
-      (IsGiven node) v (most + most)
+      (IsGiven node) v moment moment (most + most)
       (goes_out then_server frames sessions v next_one next number node most uid small short (omega (arith, most_node)) few awaits
       (subst (λ (s : AllocatorState). At n a s (Some (device_of next_one sessions)) frames v) queued h))
       (λ u k. record {
@@ -231,7 +231,7 @@ module _ (laws : AnsweringLaws) (n a : ℕ) (low : 1 ≤ n) (high : n ≤ 125) (
       number = w.rows + 1
 
       arrival : Arrival
-      arrival = comes_at frame theirs
+      arrival = comes_at frame moment
 
       then_server : AllocatorState
       then_server = (step t number (Rx arrival)).step_state.allocator
@@ -241,5 +241,5 @@ module _ (laws : AnsweringLaws) (n a : ℕ) (low : 1 ≤ n) (high : n ≤ 125) (
 
       queued : then_server ≡ with_queue answer_frames then_server
       queued = λ i. record then_server {
-        queue = pair_waits laws.queue n log theirs next accepted t serves number arrival message uid preferred node refl asked.request short answers may i;
+        queue = pair_waits laws.queue n log moment next accepted t serves number arrival message uid preferred node refl asked.request short answers may i;
       }

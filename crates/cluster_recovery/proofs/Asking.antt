@@ -29,28 +29,28 @@ use Rattle.cluster_recovery.proofs.Sending.{first_out, frames_of_one, others_lef
 pub its_own : (w : Cluster) (a : ℕ) (x : Option Device) → (with_allocatee w a x).allocatee a ≡ x
 its_own w a x = at_here w.allocatee a a x refl
 
-module _ (n a : ℕ) (place : is_place a ≡ true) where
+module _ (n a : ℕ) (place : is_place a ≡ true) (now : ℕ) where
   -- ---- rows of the device
 
-  ends : (t : AllocatorState) (d : Device) (frames : List Queued) (w : Cluster) → At n a t (Some d) frames w → CanGo w 1 (At n a t None frames)
-  ends t d frames w is = one_row (At n a t None frames) w (AEnd a)
+  ends : (t : AllocatorState) (d : Device) (frames : List Queued) (w : Cluster) → At n a t (Some d) frames w → CanGo w now now 1 (At n a t None frames)
+  ends t d frames w is = one_row (At n a t None frames) w (AEnd a) now (omega arith)
       (λ i. or_else (because NoAllocatee (not (place i))) (because Absent (not (is_some (is.there i)))))
       (record { ids = is.ids; up = is.up; there = its_own w a None; sent = is.sent })
 
   -- whoever is there leaves
-  pub leaves : (t : AllocatorState) (x : Option Device) (frames : List Queued) (w : Cluster) → At n a t x frames w → CanGo w 1 (At n a t None frames)
-  leaves t None frames w is = at_most (At n a t None frames) w 0 1 (omega arith) (stays (At n a t None frames) w is)
+  pub leaves : (t : AllocatorState) (x : Option Device) (frames : List Queued) (w : Cluster) → At n a t x frames w → CanGo w now now 1 (At n a t None frames)
+  leaves t None frames w is = at_most (At n a t None frames) w now now 0 1 (omega arith) (stays (At n a t None frames) w now is)
   leaves t (Some d) frames w is = ends t d frames w is
 
-  pub comes : (t : AllocatorState) (frames : List Queued) (w : Cluster) (uid : List ℕ) (preferred moment : ℕ) → At n a t None frames w
-      → CanGo w 1 (At n a t (Some (opening uid preferred moment 0)) frames)
-  comes t frames w uid preferred moment is = one_row (At n a t (Some (opening uid preferred moment 0)) frames) w (AOpen a uid preferred moment 0)
+  pub comes : (t : AllocatorState) (frames : List Queued) (w : Cluster) (uid : List ℕ) (preferred moment : ℕ) → now ≤ moment → At n a t None frames w
+      → CanGo w now moment 1 (At n a t (Some (opening uid preferred moment 0)) frames)
+  comes t frames w uid preferred moment later is = one_row (At n a t (Some (opening uid preferred moment 0)) frames) w (AOpen a uid preferred moment 0) now later
       (λ i. or_else (because NoAllocatee (not (place i))) (because Present (is_some (is.there i))))
       (record { ids = is.ids; up = is.up; there = its_own w a (Some (opening uid preferred moment 0)); sent = is.sent })
 
-  reads : (t : AllocatorState) (d : Device) (frames : List Queued) (w : Cluster) (moment : ℕ) → At n a t (Some d) frames w
-      → CanGo w 1 (At n a t (Some (step d (w.rows + 1) (device.Tick moment 0)).device) frames)
-  reads t d frames w moment is = one_row (At n a t (Some (step d (w.rows + 1) (device.Tick moment 0)).device) frames) w (ATick a moment 0)
+  reads : (t : AllocatorState) (d : Device) (frames : List Queued) (w : Cluster) (moment : ℕ) → now ≤ moment → At n a t (Some d) frames w
+      → CanGo w now moment 1 (At n a t (Some (step d (w.rows + 1) (device.Tick moment 0)).device) frames)
+  reads t d frames w moment later is = one_row (At n a t (Some (step d (w.rows + 1) (device.Tick moment 0)).device) frames) w (ATick a moment 0) now later
       (λ i. or_else (because NoAllocatee (not (place i))) (because Absent (not (is_some (is.there i)))))
       (record {
         ids = is.ids;
@@ -61,8 +61,8 @@ module _ (n a : ℕ) (place : is_place a ≡ true) where
       })
 
   sends : (t : AllocatorState) (d : Device) (frames : List Queued) (w : Cluster) (frame : Queued) → next_out d.asking.queue ≡ Some frame
-      → At n a t (Some d) frames w → CanGo w 1 (At n a t (Some (after_pop d)) (frames ++ frame ∷ []))
-  sends t d frames w frame next is = one_row (At n a t (Some (after_pop d)) (frames ++ frame ∷ [])) w (ASend a)
+      → At n a t (Some d) frames w → CanGo w now now 1 (At n a t (Some (after_pop d)) (frames ++ frame ∷ []))
+  sends t d frames w frame next is = one_row (At n a t (Some (after_pop d)) (frames ++ frame ∷ [])) w (ASend a) now (omega arith)
       (λ i. or_else (because NoAllocatee (not (place i))) (or_else (because Absent (not (is_some (is.there i)))) (nothing_to_send (out i))))
       (record {
         ids = is.ids;
@@ -136,23 +136,23 @@ pub record Asked (message : Allocation) (moment : ℕ) (frame : Queued) : Type 0
   pub request : IsRequest (comes_at frame moment) message
   pub place : frame.mark.place ≡ 0
 
-module _ (requests : RequestsAreRequests) (n a : ℕ) (place : is_place a ≡ true) (uid : List ℕ) (preferred moment theirs : ℕ) (few : preferred < 128) where
+module _ (requests : RequestsAreRequests) (n a : ℕ) (place : is_place a ≡ true) (uid : List ℕ) (preferred moment : ℕ) (few : preferred < 128) where
   abbrev pub HasAsked : AllocatorState → List Session → List Queued → ℕ → Allocation → Cluster → Type 0
-  HasAsked t sessions frames id message w = (frame : Queued) × Asked message theirs frame
+  HasAsked t sessions frames id message w = (frame : Queued) × Asked message moment frame
       × At n a t (Some (device_with uid preferred moment id None [] sessions)) (frames ++ frame ∷ []) w
 
   goes_out : (t : AllocatorState) (sessions : List Session) (frames : List Queued) (w : Cluster) (id next number : ℕ) (first : Bool) (part : List ℕ)
       → id < 32 → length part ≤ 6
       → At n a t (Some (device_with uid preferred moment next None
       (queued_frames (outgoing 0 id (allocation_bytes (asks uid preferred moment first part))) number 0) sessions)) frames w
-      → CanGo w 1 (HasAsked t sessions frames next (asks uid preferred moment first part))
+      → CanGo w moment moment 1 (HasAsked t sessions frames next (asks uid preferred moment first part))
   goes_out t sessions frames w id next number first part small short at =
       let message = asks uid preferred moment first part in
-      let made = requests 0 id number theirs message small few short in
+      let made = requests 0 id number moment message small few short in
       let waits = subst (λ (queue : List Queued). At n a t (Some (device_with uid preferred moment next None queue sessions)) frames w) made.1 at in
       so (At n a t (Some (after_pop (device_with uid preferred moment next None (made.0 ∷ []) sessions))) (frames ++ made.0 ∷ []))
-      (HasAsked t sessions frames next message) w 1
-      (sends n a place t (device_with uid preferred moment next None (made.0 ∷ []) sessions) frames w made.0
+      (HasAsked t sessions frames next message) w moment moment 1
+      (sends n a place moment t (device_with uid preferred moment next None (made.0 ∷ []) sessions) frames w made.0
       (first_out made.0.id made.0 [] (refl, tt)) waits)
       (λ v later. (
         made.0,
@@ -164,22 +164,22 @@ module _ (requests : RequestsAreRequests) (n a : ℕ) (place : is_place a ≡ tr
   -- it came before: its first request
   pub asks_first : (t : AllocatorState) (frames : List Queued) (w : Cluster) (since : ℕ) → since + 600 ≡ moment
       → At n a t (Some (opening uid preferred since 0)) frames w
-      → CanGo w 2 (HasAsked t [] frames 1 (asks uid preferred moment true (take 6 uid)))
+      → CanGo w since moment 2 (HasAsked t [] frames 1 (asks uid preferred moment true (take 6 uid)))
   asks_first t frames w since later at =
       and_then (At n a t (Some (step (opening uid preferred since 0) (w.rows + 1) (device.Tick moment 0)).device) frames)
-      (HasAsked t [] frames 1 (asks uid preferred moment true (take 6 uid))) w 1 1
-      (reads n a place t (opening uid preferred since 0) frames w moment at)
+      (HasAsked t [] frames 1 (asks uid preferred moment true (take 6 uid))) w since moment moment 1 1
+      (reads n a place since t (opening uid preferred since 0) frames w moment (omega (arith, later)) at)
       (λ v then_at. goes_out t [] frames v 0 1 (w.rows + 1) true (take 6 uid) (omega arith) (at_most_six uid preferred moment uid)
       (subst (λ (d : Device). At n a t (Some d) frames v) (offers_first uid preferred moment since (w.rows + 1) later) then_at))
 
   -- and a follow-up
   pub asks_more : (t : AllocatorState) (frames : List Queued) (sessions : List Session) (w : Cluster) (id known : ℕ) → id < 32
       → At n a t (Some (device_with uid preferred moment id (Some (follow_up_behind uid preferred moment known)) [] sessions)) frames w
-      → CanGo w 2 (HasAsked t sessions frames ((id + 1) % 32) (asks uid preferred moment false (take 6 (drop known uid))))
+      → CanGo w moment moment 2 (HasAsked t sessions frames ((id + 1) % 32) (asks uid preferred moment false (take 6 (drop known uid))))
   asks_more t frames sessions w id known small at =
       and_then (At n a t (Some (step d (w.rows + 1) (device.Tick moment 0)).device) frames)
-      (HasAsked t sessions frames ((id + 1) % 32) (asks uid preferred moment false (take 6 (drop known uid)))) w 1 1
-      (reads n a place t d frames w moment at)
+      (HasAsked t sessions frames ((id + 1) % 32) (asks uid preferred moment false (take 6 (drop known uid)))) w moment moment moment 1 1
+      (reads n a place moment t d frames w moment (omega arith) at)
       (λ v then_at. goes_out t sessions frames v id ((id + 1) % 32) (w.rows + 1) false (take 6 (drop known uid)) small
       (at_most_six uid preferred moment (drop known uid))
       (subst (λ (e : Device). At n a t (Some e) frames v) (offers_more uid preferred moment id known (w.rows + 1) sessions) then_at))

@@ -37,13 +37,13 @@ module _ (n a : ℕ) (laws : Laws (n ∷ [])) where
       × At n a (step (opening_by n (rules_by 1 []) store moment 0) number (Tick (moment + 2000) 0)).step_state.allocator x frames w
 
   once : (moment : ℕ) (store : Store) (x : Option Device) (frames : List Queued) (w : Cluster) → DownAt n a store x frames w
-      → CanGo w 2 (Once moment store x frames)
+      → CanGo w moment (moment + 2000) 2 (Once moment store x frames)
   once moment store x frames w is =
-      and_then (At n a (opening_by n (rules_by 1 []) store moment 0) x frames) (Once moment store x frames) w 1 1
+      and_then (At n a (opening_by n (rules_by 1 []) store moment 0) x frames) (Once moment store x frames) w moment moment (moment + 2000) 1 1
       (opens n a laws.keeps_store store x frames w moment is)
       (λ v at. so (At n a (step (opening_by n (rules_by 1 []) store moment 0) (v.rows + 1) (Tick (moment + 2000) 0)).step_state.allocator x frames)
-      (Once moment store x frames) v 1
-      (ticks n a (opening_by n (rules_by 1 []) store moment 0) x frames v (moment + 2000) at)
+      (Once moment store x frames) v moment (moment + 2000) 1
+      (ticks n a (opening_by n (rules_by 1 []) store moment 0) x frames v moment (moment + 2000) (omega arith) at)
       (λ u later. (v.rows + 1, later)))
 
   its_own : (w : Cluster) → w.ids ≡ n ∷ [] → In n w.ids
@@ -58,10 +58,10 @@ module _ (n a : ℕ) (laws : Laws (n ∷ [])) where
     pub reached : IsReached (n ∷ []) w
 
   settles : (moment : ℕ) (store : Store) (x : Option Device) (frames : List Queued) (w : Cluster) → DownAt n a store x frames w → IsReached (n ∷ []) w
-      → length store.log < log_limit → store.term < term_limit → CanGo w 2 (HasSettled store x frames)
+      → length store.log < log_limit → store.term < term_limit → CanGo w moment (moment + 2000) 2 (HasSettled store x frames)
   settles moment store x frames w is r room low =
-      so (λ v. Once moment store x frames v × IsReached (n ∷ []) v) (HasSettled store x frames) w 2
-      (reached (n ∷ []) (Once moment store x frames) w 2 r (once moment store x frames w is))
+      so (λ v. Once moment store x frames v × IsReached (n ∷ []) v) (HasSettled store x frames) w moment (moment + 2000) 2
+      (reached (n ∷ []) (Once moment store x frames) w moment (moment + 2000) 2 r (once moment store x frames w is))
       (λ v o. record {
         server = (step (opening_by n (rules_by 1 []) store moment 0) o.0.0 (Tick (moment + 2000) 0)).step_state.allocator;
         at = o.0.1;
@@ -80,9 +80,9 @@ module _ (n a : ℕ) (laws : Laws (n ∷ [])) where
     pub fresh : IsFreshLeader n stored moment server
 
   leads_then : (moment : ℕ) (store stored : Store) (x : Option Device) (frames : List Queued) (w : Cluster) → DownAt n a stored x frames w
-      → IsSettled store stored → stored.term < term_limit → CanGo w 2 (HasComeToLead store (moment + 2000) x frames)
+      → IsSettled store stored → stored.term < term_limit → CanGo w moment (moment + 2000) 2 (HasComeToLead store (moment + 2000) x frames)
   leads_then moment store stored x frames w is settled low =
-      so (Once moment stored x frames) (HasComeToLead store (moment + 2000) x frames) w 2
+      so (Once moment stored x frames) (HasComeToLead store (moment + 2000) x frames) w moment (moment + 2000) 2
       (once moment stored x frames w is)
       (λ v o. record {
         server = (step (opening_by n (rules_by 1 []) stored moment 0) o.0 (Tick (moment + 2000) 0)).step_state.allocator;
@@ -93,10 +93,10 @@ module _ (n a : ℕ) (laws : Laws (n ∷ [])) where
       })
 
   leads_again : (moment : ℕ) (store : Store) (x : Option Device) (frames : List Queued) (w : Cluster) → HasSettled store x frames w
-      → store.term + 1 < term_limit → CanGo w 3 (HasComeToLead store (moment + 2000) x frames)
+      → store.term + 1 < term_limit → CanGo w moment (moment + 2000) 3 (HasComeToLead store (moment + 2000) x frames)
   leads_again moment store x frames w s low =
-      and_then (DownAt n a (found w n) (w.allocatee a) w.frames) (HasComeToLead store (moment + 2000) x frames) w 1 2
-      (stops_now n a w s.at.ids (ap is_running s.at.up.status))
+      and_then (DownAt n a (found w n) (w.allocatee a) w.frames) (HasComeToLead store (moment + 2000) x frames) w moment moment (moment + 2000) 1 2
+      (stops_now n a w s.at.ids moment (ap is_running s.at.up.status))
       (λ v down. leads_then moment store s.server.raft_server.store x frames v
       (record {
         ids = down.ids;
@@ -111,21 +111,22 @@ module _ (n a : ℕ) (laws : Laws (n ∷ [])) where
 
   -- from any world that rows lead to
   pub comes_to_lead : (moment : ℕ) (w : Cluster) → w.ids ≡ n ∷ [] → IsReached (n ∷ []) w → length (found w n).log < log_limit
-      → (found w n).term + 1 < term_limit → CanGo w 7 (HasComeToLead (found w n) (moment + 4000) (w.allocatee a) w.frames)
+      → (found w n).term + 1 < term_limit → CanGo w moment (moment + 4000) 7 (HasComeToLead (found w n) (moment + 4000) (w.allocatee a) w.frames)
   comes_to_lead moment w ids r room low =
-      subst (λ (m : ℕ). CanGo w 7 (HasComeToLead (found w n) m (w.allocatee a) w.frames)) (omega arith)
+      subst (λ (m : ℕ). CanGo w moment m 7 (HasComeToLead (found w n) m (w.allocatee a) w.frames)) (omega arith)
       (and_then (λ v. DownAt n a (found w n) (w.allocatee a) w.frames v × IsReached (n ∷ []) v)
-      (HasComeToLead (found w n) ((moment + 2000) + 2000) (w.allocatee a) w.frames) w 2 5
-      (reached (n ∷ []) (DownAt n a (found w n) (w.allocatee a) w.frames) w 2 r (stops n a w ids))
-      (λ v d. and_then (HasSettled (found w n) (w.allocatee a) w.frames) (HasComeToLead (found w n) ((moment + 2000) + 2000) (w.allocatee a) w.frames) v 2 3
+      (HasComeToLead (found w n) ((moment + 2000) + 2000) (w.allocatee a) w.frames) w moment moment ((moment + 2000) + 2000) 2 5
+      (reached (n ∷ []) (DownAt n a (found w n) (w.allocatee a) w.frames) w moment moment 2 r (stops n a w ids moment))
+      (λ v d. and_then (HasSettled (found w n) (w.allocatee a) w.frames) (HasComeToLead (found w n) ((moment + 2000) + 2000) (w.allocatee a) w.frames)
+      v moment (moment + 2000) ((moment + 2000) + 2000) 2 3
       (settles moment (found w n) (w.allocatee a) w.frames v d.0 d.1 room (omega (arith, low)))
       (λ u s. leads_again (moment + 2000) (found w n) (w.allocatee a) w.frames u s low)))
 
-  pub comes_back : (w : Cluster) → w.ids ≡ n ∷ [] → IsReached (n ∷ []) w → length (found w n).log < log_limit
-      → (found w n).term + 1 < term_limit → CanGo w 7 (IsBackWith n (found w n).log)
-  comes_back w ids r room low =
-      so (HasComeToLead (found w n) 4000 (w.allocatee a) w.frames) (IsBackWith n (found w n).log) w 7
-      (comes_to_lead 0 w ids r room low)
+  pub comes_back : (moment : ℕ) (w : Cluster) → w.ids ≡ n ∷ [] → IsReached (n ∷ []) w → length (found w n).log < log_limit
+      → (found w n).term + 1 < term_limit → CanGo w moment (moment + 4000) 7 (IsBackWith n (found w n).log)
+  comes_back moment w ids r room low =
+      so (HasComeToLead (found w n) (moment + 4000) (w.allocatee a) w.frames) (IsBackWith n (found w n).log) w moment (moment + 4000) 7
+      (comes_to_lead moment w ids r room low)
       (λ v l. record {
         server = l.server;
         runs = l.at.up.status;

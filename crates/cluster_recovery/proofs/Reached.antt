@@ -1,5 +1,5 @@
 -- What is known of a world that rows lead to which do no harm.
-use Rattle.std.proofs.Common.{◌≡◌, ℕ, ◌≤◌, Bool, List, [], ◌∷◌, ◌++◌, length, inl, refl, sym, ◌∙◌, ap, subst}
+use Rattle.std.proofs.Common.{◌≡◌, ℕ, ◌+◌, ◌≤◌, Bool, List, [], ◌∷◌, ◌++◌, length, inl, refl, sym, ◌∙◌, ap, subst}
 use Rattle.kv_store.specs.KeyDisk.{KeyDisk, restarted_on}
 use Rattle.outside.specs.declared.pattern.Pattern.TheVariants.{Old}
 use Rattle.raft_core.specs.StoredPuts.{store_of}
@@ -42,11 +42,12 @@ reaches ids w rows r lawful = record {
   is = ap (λ (v : Cluster). after_rows v rows) r.is ∙ sym (after_both (cluster ids) r.rows rows);
 }
 
-pub reached : (ids : List ℕ) (P : Cluster → Type 0) (w : Cluster) (count : ℕ) → IsReached ids w → CanGo w count P
-    → CanGo w count (λ v. P v × IsReached ids v)
-reached ids P w count r c = record {
+pub reached : (ids : List ℕ) (P : Cluster → Type 0) (w : Cluster) (now last count : ℕ) → IsReached ids w → CanGo w now last count P
+    → CanGo w now last count (λ v. P v × IsReached ids v)
+reached ids P w now last count r c = record {
   rows = c.rows;
   few = c.few;
+  in_time = c.in_time;
   lawful = c.lawful;
   holds = (c.holds, reaches ids w c.rows r c.lawful);
 }
@@ -80,11 +81,12 @@ finds_own ids w n t listed s up = firm_finds (w.member n).disk is.runs.nothing_u
 
 -- ---- rows go on
 
-pub goes_on : (ids : List ℕ) (rows : List Row) (most : ℕ) (P : Cluster → Type 0) → DoNoHarm (cluster ids) rows → CanGo (world_of ids rows) most P
-    → CanGoOn ids rows most P
-goes_on ids rows most P harmless c = record {
+pub goes_on : (ids : List ℕ) (rows : List Row) (most now long : ℕ) (P : Cluster → Type 0) → DoNoHarm (cluster ids) rows
+    → CanGo (world_of ids rows) now (now + long) most P → CanGoOn ids rows most now long P
+goes_on ids rows most now long P harmless c = record {
   more = c.rows;
   few = c.few;
+  in_time = c.in_time;
   lawful = c.lawful;
   harmless = harmless_both (cluster ids) rows c.rows harmless c.lawful;
   holds = subst P (sym (after_both (cluster ids) rows c.rows)) c.holds;

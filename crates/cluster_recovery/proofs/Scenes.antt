@@ -1,5 +1,5 @@
 -- The world of an allocator that is alone, with one device: what each row leaves of both.
-use Rattle.std.proofs.Common.{◌≡◌, ℕ, ◌+◌, Bool, true, false, List, [], ◌∷◌, ◌++◌, length, refl, sym, ◌∙◌, ap, subst, arith, Option, None, Some}
+use Rattle.std.proofs.Common.{◌≡◌, ℕ, ◌+◌, ◌≤◌, Bool, true, false, List, [], ◌∷◌, ◌++◌, length, refl, sym, ◌∙◌, ap, subst, arith, Option, None, Some}
 use Rattle.std.specs.Prelude.{◌==◌, ◌||◌, if◌then◌else◌, is_some, not}
 use Rattle.kv_store.specs.KeyDisk.{restarted_on}
 use Rattle.outside.specs.declared.pattern.Pattern.TheVariants.{Old}
@@ -51,12 +51,12 @@ module _ (n a : ℕ) where
 
   -- ---- a stop
 
-  module _ (w : Cluster) (ids : w.ids ≡ n ∷ []) where
+  module _ (w : Cluster) (ids : w.ids ≡ n ∷ []) (now : ℕ) where
     abbrev pub AsFound : Cluster → Type 0
     AsFound v = DownAt (found w n) (w.allocatee a) w.frames v
 
-    pub stops_now : is_running (w.member n).status ≡ true → CanGo w 1 AsFound
-    stops_now up = one_row AsFound w (Crash n 0 Old)
+    pub stops_now : is_running (w.member n).status ≡ true → CanGo w now now 1 AsFound
+    stops_now up = one_row AsFound w (Crash n 0 Old) now (omega arith)
         (λ i. or_else (because NoNode (not (it_is w ids i))) (because Stopped (not (up i))))
         (record {
           ids = ids;
@@ -65,16 +65,16 @@ module _ (n a : ℕ) where
           sent = refl;
         })
 
-    stops_later : (w.member n).status ≡ Down → CanGo w 2 AsFound
-    stops_later down = behind_row AsFound w (Crash n 1 Old) 1
+    stops_later : (w.member n).status ≡ Down → CanGo w now now 2 AsFound
+    stops_later down = behind_row AsFound w (Crash n 1 Old) now now 1 (omega arith)
         (λ i. or_else (because NoNode (not (it_is w ids i))) None)
-        (one_row AsFound armed (Open n false 0 0)
+        (one_row AsFound armed (Open n false now 0) now (omega arith)
         (λ i. or_else (because NoNode (not (it_is w ids i))) (because Running (is_running (still_down i))))
         (record {
           ids = ids;
-          down = subst (IsDown (found w n)) (sym (own_is armed n (after_opening n (rules_of w.ids false) 0 0 (armed.member n))))
-              (subst (λ (x : Member). IsDown (found w n) (after_opening n (rules_of w.ids false) 0 0 x)) (sym (own_is w n (after_crash 1 Old (w.member n))))
-              (cut_down n (rules_of w.ids false) 0 0 (w.member n)));
+          down = subst (IsDown (found w n)) (sym (own_is armed n (after_opening n (rules_of w.ids false) now 0 (armed.member n))))
+              (subst (λ (x : Member). IsDown (found w n) (after_opening n (rules_of w.ids false) now 0 x)) (sym (own_is w n (after_crash 1 Old (w.member n))))
+              (cut_down n (rules_of w.ids false) now 0 (w.member n)));
           there = refl;
           sent = refl;
         }))
@@ -85,20 +85,20 @@ module _ (n a : ℕ) where
         still_down : (armed.member n).status ≡ Down
         still_down = ap (λ (x : Member). x.status) (own_is w n (after_crash 1 Old (w.member n))) ∙ down
 
-    pub stops : CanGo w 2 AsFound
+    pub stops : CanGo w now now 2 AsFound
     stops = by (w.member n).status refl
       where
-        by : (status : MemberStatus) → (w.member n).status ≡ status → CanGo w 2 AsFound
+        by : (status : MemberStatus) → (w.member n).status ≡ status → CanGo w now now 2 AsFound
         by Down e = stops_later e
-        by (Up t) e = at_most AsFound w 1 2 (omega arith) (stops_now (ap is_running e))
-        by (Failed failure) e = at_most AsFound w 1 2 (omega arith) (stops_now (ap is_running e))
+        by (Up t) e = at_most AsFound w now now 1 2 (omega arith) (stops_now (ap is_running e))
+        by (Failed failure) e = at_most AsFound w now now 1 2 (omega arith) (stops_now (ap is_running e))
 
   -- ---- an opening, and a step
 
   pub opens : (keeps_store : (disk : KeyDisk Stored) → is_open_on disk ≡ true → store_of (opening_on disk).store ≡ store_of disk.store)
       → (store : Store) (x : Option Device) (frames : List Queued) (w : Cluster) (moment : ℕ) → DownAt store x frames w
-      → CanGo w 1 (At (opening_by n (rules_by 1 []) store moment 0) x frames)
-  opens keeps_store store x frames w moment is = one_row (At (opening_by n (rules_by 1 []) store moment 0) x frames) w (Open n false moment 0)
+      → CanGo w moment moment 1 (At (opening_by n (rules_by 1 []) store moment 0) x frames)
+  opens keeps_store store x frames w moment is = one_row (At (opening_by n (rules_by 1 []) store moment 0) x frames) w (Open n false moment 0) moment (omega arith)
       (λ i. or_else (because NoNode (not (it_is w is.ids i))) (because Running (is_running (is.down.status i))))
       (record {
         ids = is.ids;
@@ -109,9 +109,9 @@ module _ (n a : ℕ) where
         sent = is.sent;
       })
 
-  pub ticks : (t : AllocatorState) (x : Option Device) (frames : List Queued) (w : Cluster) (moment : ℕ) → At t x frames w
-      → CanGo w 1 (At (step t (w.rows + 1) (server.Tick moment 0)).step_state.allocator x frames)
-  ticks t x frames w moment is = one_row (At (step t (w.rows + 1) (server.Tick moment 0)).step_state.allocator x frames) w (Tick n moment 0)
+  pub ticks : (t : AllocatorState) (x : Option Device) (frames : List Queued) (w : Cluster) (now moment : ℕ) → now ≤ moment → At t x frames w
+      → CanGo w now moment 1 (At (step t (w.rows + 1) (server.Tick moment 0)).step_state.allocator x frames)
+  ticks t x frames w now moment later is = one_row (At (step t (w.rows + 1) (server.Tick moment 0)).step_state.allocator x frames) w (Tick n moment 0) now later
       (λ i. or_else (because NoNode (not (it_is w is.ids i))) (because Stopped (not (is_running (is.up.status i)))))
       (record {
         ids = is.ids;

@@ -51,10 +51,10 @@ others_left id frame frames are = rw (first_least id frame frames are) refl
 
 -- ---- the allocator's frames
 
-module _ (n a : ℕ) where
+module _ (n a now : ℕ) where
   sends : (t : AllocatorState) (x : Option Device) (frames : List Queued) (w : Cluster) (id : ℕ) (frame : Queued) (rest : List Queued)
-      → AreOf id (frame ∷ rest) → At n a (with_queue (frame ∷ rest) t) x frames w → CanGo w 1 (At n a (with_queue rest t) x (frames ++ frame ∷ []))
-  sends t x frames w id frame rest are is = one_row (At n a (with_queue rest t) x (frames ++ frame ∷ [])) w (Send n)
+      → AreOf id (frame ∷ rest) → At n a (with_queue (frame ∷ rest) t) x frames w → CanGo w now now 1 (At n a (with_queue rest t) x (frames ++ frame ∷ []))
+  sends t x frames w id frame rest are is = one_row (At n a (with_queue rest t) x (frames ++ frame ∷ [])) w (Send n) now (omega arith)
       (λ i. or_else (because NoNode (not (it_is n a w is.ids i))) (or_else (because Stopped (not (is_running (is.up.status i)))) (nothing_to_send (next i))))
       (record {
         ids = is.ids;
@@ -74,12 +74,12 @@ module _ (n a : ℕ) where
 
   -- all that waits goes out
   pub drains : (t : AllocatorState) (x : Option Device) (id : ℕ) (queue frames : List Queued) (w : Cluster)
-      → AreOf id queue → At n a (with_queue queue t) x frames w → CanGo w (length queue) (At n a (with_queue [] t) x (frames ++ queue))
-  drains t x id [] frames w are is = stays (At n a (with_queue [] t) x (frames ++ [])) w
+      → AreOf id queue → At n a (with_queue queue t) x frames w → CanGo w now now (length queue) (At n a (with_queue [] t) x (frames ++ queue))
+  drains t x id [] frames w are is = stays (At n a (with_queue [] t) x (frames ++ [])) w now
       (subst (λ (l : List Queued). At n a (with_queue [] t) x l w) (sym (append-nil frames)) is)
   drains t x id (frame ∷ rest) frames w are is =
-      subst (λ (l : List Queued). CanGo w (suc (length rest)) (At n a (with_queue [] t) x l)) (append_assoc frames (frame ∷ []) rest)
-      (subst (λ (k : ℕ). CanGo w k (At n a (with_queue [] t) x ((frames ++ frame ∷ []) ++ rest))) (omega arith)
-      (and_then (At n a (with_queue rest t) x (frames ++ frame ∷ [])) (At n a (with_queue [] t) x ((frames ++ frame ∷ []) ++ rest)) w 1 (length rest)
+      subst (λ (l : List Queued). CanGo w now now (suc (length rest)) (At n a (with_queue [] t) x l)) (append_assoc frames (frame ∷ []) rest)
+      (subst (λ (k : ℕ). CanGo w now now k (At n a (with_queue [] t) x ((frames ++ frame ∷ []) ++ rest))) (omega arith)
+      (and_then (At n a (with_queue rest t) x (frames ++ frame ∷ [])) (At n a (with_queue [] t) x ((frames ++ frame ∷ []) ++ rest)) w now now now 1 (length rest)
       (sends t x frames w id frame rest are is)
       (λ v at. drains t x id rest (frames ++ frame ∷ []) v are.1 at)))

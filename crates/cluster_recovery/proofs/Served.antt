@@ -114,20 +114,20 @@ module _ (laws : ServedLaws) (n a : ℕ) (low : 1 ≤ n) (high : n ≤ 125) (pla
       ∙ (third_answer [] first second third moment moment moment in_time true ∙ ap (λ (l : List ℕ). Whole l preferred) (all_of_it uid whole)))
 
   abbrev Served : Cluster → Type 0
-  Served w = (node : ℕ) × IsGiven laws.answering n a low high place uid preferred moment moment node w
+  Served w = (node : ℕ) × IsGiven laws.answering n a low high place uid preferred moment node w
 
   abbrev Followed : ℕ → ℕ → ℕ → List Accepted → Cluster → Type 0
-  Followed next next_one known accepted w = HasFollowed laws.answering n a low high place uid preferred moment moment log next next_one known accepted w
+  Followed next next_one known accepted w = HasFollowed laws.answering n a low high place uid preferred moment log next next_one known accepted w
 
   -- ---- one stage after the other
 
   module _ (device : uid ≢ zeros) (new : HasUid log uid → ⊥) (left : (node : ℕ) × IsLeft n log node) (room : length log < log_limit) where
-    last_stage : (w : Cluster) → Followed 2 2 12 accepted_two w → CanGo w 9 Served
+    last_stage : (w : Cluster) → Followed 2 2 12 accepted_two w → CanGo w moment moment 9 Served
     last_stage w h =
-        and_then (HasAsked laws.requests n a place uid preferred moment moment few h.server h.sessions h.frames 3 third) Served w 2 7
-        (asks_more laws.requests n a place uid preferred moment moment few h.server h.frames h.sessions w 2 12 (omega arith) h.at)
-        (λ v k. so (IsGiven laws.answering n a low high place uid preferred moment moment choice.node) Served v 7
-        (gives_pair laws.answering n a low high place uid preferred moment moment h.server (h.frames ++ k.0 ∷ []) h.frames k.0 h.sessions v log 2 3 choice.node 3
+        and_then (HasAsked laws.requests n a place uid preferred moment few h.server h.sessions h.frames 3 third) Served w moment moment moment 2 7
+        (asks_more laws.requests n a place uid preferred moment few h.server h.frames h.sessions w 2 12 (omega arith) h.at)
+        (λ v k. so (IsGiven laws.answering n a low high place uid preferred moment choice.node) Served v moment moment 7
+        (gives_pair laws.answering n a low high place uid preferred moment h.server (h.frames ++ k.0 ∷ []) h.frames k.0 h.sessions v log 2 3 choice.node 3
         accepted_two third (omega arith) choice.least choice.most (omega (arith, whole)) (subst (λ (l : ℕ). frame_count (suc l) ≤ 3) (sym whole) (omega arith))
         h.serves k.1 third_says (may_record n log moment 2 accepted_two h.server h.serves preferred uid device new room choice) h.awaits refl k.2)
         (λ u g. (choice.node, g)))
@@ -135,23 +135,23 @@ module _ (laws : ServedLaws) (n a : ℕ) (low : 1 ≤ n) (high : n ≤ 125) (pla
         choice : Chooses (taken (at_moment moment h.server)) preferred
         choice = finds_one n log moment 2 accepted_two h.server h.serves laws.choice preferred left.0 left.1
 
-    middle_stage : (w : Cluster) → Followed 1 1 6 accepted_one w → CanGo w 18 Served
+    middle_stage : (w : Cluster) → Followed 1 1 6 accepted_one w → CanGo w moment moment 18 Served
     middle_stage w h =
-        and_then (HasAsked laws.requests n a place uid preferred moment moment few h.server h.sessions h.frames 2 second) Served w 2 16
-        (asks_more laws.requests n a place uid preferred moment moment few h.server h.frames h.sessions w 1 6 (omega arith) h.at)
-        (λ v k. and_then (Followed 2 2 12 accepted_two) Served v 7 9
-        (follows laws.answering n a low high place uid preferred moment moment h.server (h.frames ++ k.0 ∷ []) h.frames k.0 h.sessions v log 1 2 12 3
+        and_then (HasAsked laws.requests n a place uid preferred moment few h.server h.sessions h.frames 2 second) Served w moment moment moment 2 16
+        (asks_more laws.requests n a place uid preferred moment few h.server h.frames h.sessions w 1 6 (omega arith) h.at)
+        (λ v k. and_then (Followed 2 2 12 accepted_two) Served v moment moment moment 7 9
+        (follows laws.answering n a low high place uid preferred moment h.server (h.frames ++ k.0 ∷ []) h.frames k.0 h.sessions v log 1 2 12 3
         accepted_one second (omega arith) (omega arith) (omega arith) (omega (arith, whole)) (omega arith)
         h.serves k.1 second_says h.awaits refl k.2)
         (λ u g. last_stage u g))
 
     first_stage : (t : AllocatorState) (frames : List Queued) (w : Cluster) (since : ℕ) → since + 600 ≡ moment → IsServing n log moment 0 [] t
-        → At n a t (Some (opening uid preferred since 0)) frames w → CanGo w 23 Served
+        → At n a t (Some (opening uid preferred since 0)) frames w → CanGo w since moment 23 Served
     first_stage t frames w since later serves at =
-        and_then (HasAsked laws.requests n a place uid preferred moment moment few t [] frames 1 first) Served w 2 21
-        (asks_first laws.requests n a place uid preferred moment moment few t frames w since later at)
-        (λ v k. and_then (Followed 1 1 6 accepted_one) Served v 3 18
-        (follows laws.answering n a low high place uid preferred moment moment t (frames ++ k.0 ∷ []) frames k.0 [] v log 0 1 6 1
+        and_then (HasAsked laws.requests n a place uid preferred moment few t [] frames 1 first) Served w since moment moment 2 21
+        (asks_first laws.requests n a place uid preferred moment few t frames w since later at)
+        (λ v k. and_then (Followed 1 1 6 accepted_one) Served v moment moment moment 3 18
+        (follows laws.answering n a low high place uid preferred moment t (frames ++ k.0 ∷ []) frames k.0 [] v log 0 1 6 1
         [] first (omega arith) (omega arith) (omega arith) (omega (arith, whole)) (omega arith)
         serves k.1 first_says (awaits_first setting (its_key laws.answering.hearing n low high) moment 0 (omega arith)) refl k.2)
         (λ u g. middle_stage u g))
@@ -163,15 +163,15 @@ module _ (n a : ℕ) (laws : ServedLaws) (leading : Laws (n ∷ [])) (low : 1 �
   -- the allocator leads, its NodeStatus goes out, and the device comes in the place of whoever was there
   then_served : (since : ℕ) (store : Store) (x : Option Device) (frames : List Queued) (w : Cluster) → MayBeServed n store uid
       → HasComeToLead n a leading store since x frames w
-      → CanGo w 26 (λ v. (node : ℕ) × IsGiven laws.answering n a low high place uid preferred (since + 600) (since + 600) node v)
+      → CanGo w since (since + 600) 26 (λ v. (node : ℕ) × IsGiven laws.answering n a low high place uid preferred (since + 600) node v)
   then_served since store x frames w may l =
-      and_then (At n a (with_queue [] l.server) x (frames ++ l.fresh.status ∷ [])) Given w 1 25
-      (drains n a l.server x l.fresh.status.id (l.fresh.status ∷ []) frames w (refl, tt)
+      and_then (At n a (with_queue [] l.server) x (frames ++ l.fresh.status ∷ [])) Given w since since (since + 600) 1 25
+      (drains n a since l.server x l.fresh.status.id (l.fresh.status ∷ []) frames w (refl, tt)
       (subst (λ (s : AllocatorState). At n a s x frames w) waits l.at))
-      (λ v at. and_then (At n a (with_queue [] l.server) None (frames ++ l.fresh.status ∷ [])) Given v 1 24
-      (leaves n a place (with_queue [] l.server) x (frames ++ l.fresh.status ∷ []) v at)
-      (λ u free. and_then (At n a (with_queue [] l.server) (Some (opening uid preferred since 0)) (frames ++ l.fresh.status ∷ [])) Given u 1 23
-      (comes n a place (with_queue [] l.server) (frames ++ l.fresh.status ∷ []) u uid preferred since free)
+      (λ v at. and_then (At n a (with_queue [] l.server) None (frames ++ l.fresh.status ∷ [])) Given v since since (since + 600) 1 24
+      (leaves n a place since (with_queue [] l.server) x (frames ++ l.fresh.status ∷ []) v at)
+      (λ u free. and_then (At n a (with_queue [] l.server) (Some (opening uid preferred since 0)) (frames ++ l.fresh.status ∷ [])) Given u since since (since + 600) 1 23
+      (comes n a place since (with_queue [] l.server) (frames ++ l.fresh.status ∷ []) u uid preferred since (omega arith) free)
       (λ y there. first_stage laws n a low high place uid may.whole preferred few (since + 600) l.stored.log may.device
       (still_new store.log l.stored.log uid may.device l.settled.log may.new)
       (may.left.0, still_left n store.log l.stored.log may.left.0 l.settled.log may.left.1)
@@ -180,17 +180,19 @@ module _ (n a : ℕ) (laws : ServedLaws) (leading : Laws (n ∷ [])) (low : 1 �
       (serves_fresh n l.stored since (since + 600) l.server l.fresh (omega arith)) there)))
     where
       Given : Cluster → Type 0
-      Given v = (node : ℕ) × IsGiven laws.answering n a low high place uid preferred (since + 600) (since + 600) node v
+      Given v = (node : ℕ) × IsGiven laws.answering n a low high place uid preferred (since + 600) node v
 
       waits : l.server ≡ with_queue (l.fresh.status ∷ []) l.server
       waits = λ i. record l.server { queue = l.fresh.waiting i }
 
   pub is_served : (moment : ℕ) (w : Cluster) → w.ids ≡ n ∷ [] → IsReached (n ∷ []) w → MayBeServed n (found w n) uid
-      → CanGo w 33 (λ v. (node : ℕ) × Holds v a uid node)
+      → CanGo w moment (moment + 4600) 33 (λ v. (node : ℕ) × Holds v a uid node)
   is_served moment w ids r may =
-      and_then (HasComeToLead n a leading (found w n) (moment + 4000) (w.allocatee a) w.frames) (λ v. (node : ℕ) × Holds v a uid node) w 7 26
+      subst (λ (m : ℕ). CanGo w moment m 33 (λ v. (node : ℕ) × Holds v a uid node)) (omega arith)
+      (and_then (HasComeToLead n a leading (found w n) (moment + 4000) (w.allocatee a) w.frames) (λ v. (node : ℕ) × Holds v a uid node)
+      w moment (moment + 4000) ((moment + 4000) + 600) 7 26
       (comes_to_lead n a leading moment w ids r (let room : length (found w n).log + 1 < log_limit = may.room in omega (arith, room)) may.terms)
-      (λ v l. so (λ u. (node : ℕ) × IsGiven laws.answering n a low high place uid preferred ((moment + 4000) + 600) ((moment + 4000) + 600) node u)
-      (λ u. (node : ℕ) × Holds u a uid node) v 26
+      (λ v l. so (λ u. (node : ℕ) × IsGiven laws.answering n a low high place uid preferred ((moment + 4000) + 600) node u)
+      (λ u. (node : ℕ) × Holds u a uid node) v (moment + 4000) ((moment + 4000) + 600) 26
       (then_served (moment + 4000) (found w n) (w.allocatee a) w.frames v may l)
-      (λ u g. (g.0, record { device = g.1.device; there = g.1.there; its_uid = g.1.its_uid; its_node = g.1.its_node })))
+      (λ u g. (g.0, record { device = g.1.device; there = g.1.there; its_uid = g.1.its_uid; its_node = g.1.its_node }))))

@@ -56,9 +56,9 @@ there_is w front rest frame e = ap (because NoFrame) (is_there (length front + 1
 module _ (n a : ℕ) (place : is_place a ≡ true) where
   hears : (t : AllocatorState) (d : Device) (frames front rest : List Queued) (frame : Queued) (w : Cluster) (moment : ℕ)
       → frames ≡ front ++ frame ∷ rest → arrival_judgement d (comes_at frame moment) ≡ Fine → At n a t (Some d) frames w
-      → CanGo w 1 (At n a t (Some (step d (w.rows + 1) (device.Rx (comes_at frame moment) 0)).device) frames)
+      → CanGo w moment moment 1 (At n a t (Some (step d (w.rows + 1) (device.Rx (comes_at frame moment) 0)).device) frames)
   hears t d frames front rest frame w moment cut fine is =
-      one_row (At n a t (Some (step d (w.rows + 1) (device.Rx (comes_at frame moment) 0)).device) frames) w (ARx a (length front + 1) moment 0)
+      one_row (At n a t (Some (step d (w.rows + 1) (device.Rx (comes_at frame moment) 0)).device) frames) w (ARx a (length front + 1) moment 0) moment (omega arith)
       (λ i. or_else (because NoAllocatee (not (place i))) (or_else (because Absent (not (is_some (is.there i))))
       (or_else (there_is w front rest frame (is.sent ∙ cut) i) (refuses_not i))))
       (record {
@@ -174,13 +174,13 @@ module _ (laws : HearingLaws) (n a : ℕ) (low : 1 ≤ n) (high : n ≤ 125) (pl
       (sessions : List Session) → IsPart id at_place pieces_ → HasOnly (its_key laws n low high) sessions
       → frames ≡ front ++ (frames_from at_place pieces_ ++ rest)
       → At n a t (Some (device_with uid preferred moment next_one None [] sessions)) frames w
-      → CanGo w (length pieces_) (At n a t (Some (device_with uid preferred moment next_one None [] (run setting sessions (arrivals at_place pieces_)))) frames)
+      → CanGo w moment moment (length pieces_) (At n a t (Some (device_with uid preferred moment next_one None [] (run setting sessions (arrivals at_place pieces_)))) frames)
   hears_part t frames front rest w next_one id at_place small [] sessions is only cut at =
-      stays (At n a t (Some (device_with uid preferred moment next_one None [] sessions)) frames) w at
+      stays (At n a t (Some (device_with uid preferred moment next_one None [] sessions)) frames) w moment at
   hears_part t frames front rest w next_one id at_place small (piece ∷ pieces_) sessions is only cut at =
-      subst (λ (k : ℕ). CanGo w k After) (omega arith)
-      (and_then Then After w 1 (length pieces_)
-      (so (At n a t (Some (step d (w.rows + 1) (device.Rx arrival 0)).device) frames) Then w 1
+      subst (λ (k : ℕ). CanGo w moment moment k After) (omega arith)
+      (and_then Then After w moment moment moment 1 (length pieces_)
+      (so (At n a t (Some (step d (w.rows + 1) (device.Rx arrival 0)).device) frames) Then w moment moment 1
       (hears n a place t d frames front (frames_from (suc at_place) pieces_ ++ rest) frame w moment cut
       (judged uid preferred moment next_one sessions arrival refl (fine_none number (answer setting sessions arrival) none)) at)
       (λ v h. subst (λ (e : Device). At n a t (Some e) frames v)
@@ -238,9 +238,9 @@ module _ (laws : HearingLaws) (n a : ℕ) (low : 1 ≤ n) (high : n ≤ 125) (pl
         → answer setting sessions ends_with ≡ Gives (record { ident = its_ident laws n low high; id = id; payload = payload; mark = ends_with.mark; whole = true })
         → (t : AllocatorState) (frames front rest : List Queued) (frame : Queued) (w : Cluster) (next_one : ℕ)
         → comes_at frame moment ≡ ends_with → frames ≡ front ++ frame ∷ rest
-        → At n a t (Some (device_with uid preferred moment next_one None [] sessions)) frames w → CanGo w 1 (HasTaken t frames next_one)
+        → At n a t (Some (device_with uid preferred moment next_one None [] sessions)) frames w → CanGo w moment moment 1 (HasTaken t frames next_one)
     reads says sessions only gives t frames front rest frame w next_one same cut at =
-        so (At n a t (Some (step d (w.rows + 1) (device.Rx (comes_at frame moment) 0)).device) frames) (HasTaken t frames next_one) w 1
+        so (At n a t (Some (step d (w.rows + 1) (device.Rx (comes_at frame moment) 0)).device) frames) (HasTaken t frames next_one) w moment moment 1
         (hears n a place t d frames front rest frame w moment cut
         (subst (λ (x : Arrival). arrival_judgement d x ≡ Fine) (sym same) (judged uid preferred moment next_one sessions ends_with refl fine)) at)
         (λ v h. record {
@@ -273,10 +273,10 @@ module _ (laws : HearingLaws) (n a : ℕ) (low : 1 ≤ n) (high : n ≤ 125) (pl
         → Awaits setting (its_key laws n low high) moment id sessions
         → frames ≡ front ++ queued_frames (outgoing n Alloc 0 id payload) number 0
         → At n a t (Some (device_with uid preferred moment next_one None [] sessions)) frames w
-        → CanGo w (length (queued_frames (outgoing n Alloc 0 id payload) number 0)) (HasTaken t frames next_one)
+        → CanGo w moment moment (length (queued_frames (outgoing n Alloc 0 id payload) number 0)) (HasTaken t frames next_one)
     takes says t frames front w next_one sessions awaits cut at =
-        subst (λ (k : ℕ). CanGo w k (HasTaken t frames next_one)) count
-        (and_then (At n a t (Some (device_with uid preferred moment next_one None [] heard)) frames) (HasTaken t frames next_one) w (length before_it) 1
+        subst (λ (k : ℕ). CanGo w moment moment k (HasTaken t frames next_one)) count
+        (and_then (At n a t (Some (device_with uid preferred moment next_one None [] heard)) frames) (HasTaken t frames next_one) w moment moment moment (length before_it) 1
         (hears_part t frames front (last_frame ∷ []) w next_one id 0 small before_it sessions (parts laws n low high number moment id small payload fits).goes
         awaits.only (cut ∙ ap (λ (l : List Queued). front ++ l) in_two) at)
         (λ v h. reads says heard (only_run setting (its_key laws n low high) (arrivals 0 before_it) sessions (all_own_part 0 before_it) awaits.only)

@@ -10,6 +10,7 @@ use Rattle.raft_model.specs.Moves.Elections.{term_limit}
 use Rattle.raft_model.specs.Server.{Store}
 use Rattle.raft_model.specs.Server.Role.{Leader}
 use Rattle.replay_text.specs.declared.row.Row.{Row}
+use Rattle.replay_text.specs.declared.row.Row.TheVariants.{AOpen, ARx, ATick, Open, Rx, Tick}
 use Rattle.alloc_spec.specs.AllocatorState.{AllocatorState}
 use Rattle.cluster_agreement.specs.Allocatees.{Holds}
 use Rattle.cluster_progress.specs.ComingBack.{HasGrown}
@@ -18,10 +19,27 @@ use Rattle.cluster_spec.specs.Cluster.{Cluster, cluster, world_of}
 use Rattle.cluster_spec.specs.Lawful.{DoNoHarm, Lawful}
 use Rattle.cluster_spec.specs.Members.MemberStatus.{Up}
 
--- rows go on by at most so many lawful ones, to a world of which this holds
-pub record CanGoOn (ids : List ℕ) (rows : List Row) (most : ℕ) (Holds : Cluster → Type 0) : Type 0 where
+-- what a clock that read this reads in a row, where the row reads one
+abbrev pub clock_after : ℕ → Row → ℕ
+clock_after now (Open n told ms word) = ms
+clock_after now (Tick n ms word) = ms
+clock_after now (Rx n k ms) = ms
+clock_after now (AOpen a uid pref ms word) = ms
+clock_after now (ATick a ms word) = ms
+clock_after now (ARx a k ms word) = ms
+clock_after now row = now
+
+-- one clock gives all readings of these rows, from this moment to that one: it never goes back
+abbrev pub AreInTime : (now last : ℕ) → List Row → Type 0
+AreInTime now last [] = now ≤ last
+AreInTime now last (row ∷ rows) = (now ≤ clock_after now row) × AreInTime (clock_after now row) last rows
+
+-- Rows go on by at most so many lawful ones, to a world of which this holds. Whatever clocks read before, these rows can
+-- come from any moment on, and take so many milliseconds.
+pub record CanGoOn (ids : List ℕ) (rows : List Row) (most now long : ℕ) (Holds : Cluster → Type 0) : Type 0 where
   pub more : List Row
   pub few : length more ≤ most
+  pub in_time : AreInTime now (now + long) more
   pub lawful : Lawful (world_of ids rows) more
   pub harmless : DoNoHarm (cluster ids) (rows ++ more)
   pub holds : Holds (world_of ids (rows ++ more))
@@ -45,9 +63,9 @@ pub record IsBackWith (n : ℕ) (log : List Entry) (w : Cluster) : Type 0 where
 -- Where its log has room for a blank, and two terms are left: it is stopped, opened, and ticks after its wait, twice. By
 -- the second time all that was stored is committed.
 abbrev pub ComesBack : ℕ → List Row → Type 0
-ComesBack n rows = let store = found (world_of (n ∷ []) rows) n in
+ComesBack n rows = (now : ℕ) → let store = found (world_of (n ∷ []) rows) n in
     length store.log < log_limit → store.term + 1 < term_limit →
-    CanGoOn (n ∷ []) rows 7 (IsBackWith n store.log)
+    CanGoOn (n ∷ []) rows 7 now 4000 (IsBackWith n store.log)
 
 -- ---- it serves a device
 
@@ -71,6 +89,6 @@ pub record MayBeServed (me : ℕ) (store : Store) (uid : List ℕ) : Type 0 wher
 -- The allocator comes to lead as above, and sends what waits. Then the device comes to the bus, in the place of whatever
 -- was there, and asks, is answered and follows up, until it holds a node ID; with whatever preference.
 abbrev pub ServesDevices : ℕ → List Row → Type 0
-ServesDevices n rows = (a : ℕ) (uid : List ℕ) (preferred : ℕ) → is_place a ≡ true → preferred < 128 →
+ServesDevices n rows = (now a : ℕ) (uid : List ℕ) (preferred : ℕ) → is_place a ≡ true → preferred < 128 →
     MayBeServed n (found (world_of (n ∷ []) rows) n) uid →
-    CanGoOn (n ∷ []) rows 33 (λ later. (node : ℕ) × Holds later a uid node)
+    CanGoOn (n ∷ []) rows 33 now 4600 (λ later. (node : ℕ) × Holds later a uid node)

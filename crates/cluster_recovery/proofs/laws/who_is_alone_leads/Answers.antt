@@ -7,7 +7,7 @@ use Rattle.cluster_recovery.proofs.laws.who_is_alone_leads.Goals as goal
 use Rattle.cluster_spec.specs.Cluster.{cluster, world_of}
 
 pub returns : goal.returns
-returns c = λ n rows members harmless room terms.
+returns c = λ n rows members harmless now room terms.
     let ids = n ∷ [] in
     let disk : DiskLaws = record {
       done = λ key_disk puts e. (c.the_disk_by_states.ensures.done key_disk puts e).0;
@@ -19,6 +19,6 @@ returns c = λ n rows members harmless room terms.
       shown = laws_say ids (λ list h. c.a_choice_fits.ensures ids list members h)
           (λ choice list h fits. c.rows_are_shown.ensures choice ids list members h fits) c.law_every_run.ensures.invariants;
     } in
-    goes_on ids rows 7 (IsBackWith n (found (world_of ids rows) n).log) harmless
-    (comes_back n 1 laws (world_of ids rows) (c.rows_grow_by_one.ensures.members (cluster ids) rows)
+    goes_on ids rows 7 now 4000 (IsBackWith n (found (world_of ids rows) n).log) harmless
+    (comes_back n 1 laws now (world_of ids rows) (c.rows_grow_by_one.ensures.members (cluster ids) rows)
     (record { rows = rows; harmless = harmless; is = refl }) room terms)

@@ -8,7 +8,7 @@ use Rattle.cluster_recovery.proofs.laws.who_is_alone_serves_devices.Goals as goa
 use Rattle.cluster_spec.specs.Cluster.{cluster, world_of}
 
 pub returns : goal.returns
-returns c = λ n rows members harmless a uid preferred place few may.
+returns c = λ n rows members harmless now a uid preferred place few may.
     let ids = n ∷ [] in
     let disk : DiskLaws = record {
       done = λ key_disk puts e. (c.the_disk_by_states.ensures.done key_disk puts e).0;
@@ -37,6 +37,6 @@ returns c = λ n rows members harmless a uid preferred place few may.
       choice = c.chosen_is_the_choice.ensures.is;
     } in
     let node = members.nodes n (inl refl) in
-    goes_on ids rows 33 (λ later. (chosen : ℕ) × Holds later a uid chosen) harmless
-    (is_served n a served laws node.0 node.1 place uid preferred few 0 (world_of ids rows) (c.rows_grow_by_one.ensures.members (cluster ids) rows)
+    goes_on ids rows 33 now 4600 (λ later. (chosen : ℕ) × Holds later a uid chosen) harmless
+    (is_served n a served laws node.0 node.1 place uid preferred few now (world_of ids rows) (c.rows_grow_by_one.ensures.members (cluster ids) rows)
     (record { rows = rows; harmless = harmless; is = refl }) may)
