@@ -25,6 +25,8 @@ use Rattle.cluster_progress.specs.ComingBack.{HasGrown}
 use Rattle.cluster_progress.specs.Serving.{MayRecord}
 use Rattle.cluster_progress.proofs.Alone.{one_longer}
 use Rattle.cluster_recovery.specs.Alone.{IsLeft}
+use Rattle.cluster_progress.proofs.FollowUps.{same_number}
+use Rattle.cluster_recovery.proofs.Members.{or_true}
 use Rattle.cluster_recovery.proofs.Leads.{lt_is}
 use Rattle.cluster_recovery.proofs.Serving.{IsServing, is_alone}
 
@@ -50,6 +52,12 @@ not_recorded (entry ∷ log) node none = rw (other) (not_recorded log node (λ h
   where
     other : nat_eq entry.node node ≡ false
     other = elim (eqb_tells entry.node node) [ inl z ↦ absurd (none (record { place = 0; within = omega arith; same = z.1 })) | inr z ↦ z.0 ]
+
+recorded : (log : List Entry) (node place : ℕ) → place < length log → (slice_index_or log place (blank 0)).node ≡ node → is_recorded log node ≡ true
+recorded [] node place within same = absurd (omega (arith, within))
+recorded (entry ∷ log) node zero within same = let e : nat_eq entry.node node ≡ true = ap (λ (k : ℕ). nat_eq k node) same ∙ same_number node in rw (e) refl
+recorded (entry ∷ log) node (suc place) within same =
+    ap (λ (b : Bool). nat_eq entry.node node || b) (recorded log node place (omega (arith, within)) same) ∙ or_true (nat_eq entry.node node)
 
 -- an entry of a log that has a blank more at most is one of the former log, or the blank
 grown_entry : (before now : List Entry) (place : ℕ) → HasGrown before now → place < length now
@@ -87,11 +95,36 @@ still_left me before now node grown left = record {
   free = still_free before now node left.least grown left.free;
 }
 
+grown_node : (before now : List Entry) (node : ℕ) → HasGrown before now → HasNodeId before node → HasNodeId now node
+grown_node before now node (inl e) h = subst (λ (l : List Entry). HasNodeId l node) (sym e) h
+grown_node before now node (inr (term, e)) h = subst (λ (l : List Entry). HasNodeId l node) (sym e) (record {
+  place = h.place;
+  within = omega (arith, h.within, one_longer before (blank term));
+  same = ap (λ (x : Entry). x.node) (get_or_append_left before (blank term ∷ []) (blank 0) h.place h.within) ∙ h.same;
+})
+
+-- what is left of a log that has a blank more was left of the former
+pub was_left : (me : ℕ) (before now : List Entry) (node : ℕ) → HasGrown before now → IsLeft me now node → IsLeft me before node
+was_left me before now node grown left = record {
+  least = left.least;
+  most = left.most;
+  other = left.other;
+  free = λ h. left.free (grown_node before now node grown h);
+}
+
 pub grown_length : (before now : List Entry) → HasGrown before now → length now ≤ length before + 1
 grown_length before now (inl e) = omega (arith, ap length e)
 grown_length before now (inr (term, e)) = omega (arith, ap length e, one_longer before (blank term))
 
 -- ---- it may record the pair
+
+left_false : (a b : Bool) → (a || b) ≡ false → a ≡ false
+left_false true b e = e
+left_false false b e = refl
+
+right_false : (a b : Bool) → (a || b) ≡ false → b ≡ false
+right_false true b e = absurd (cc (e))
+right_false false b e = e
 
 none_any : (test : ℕ → Bool) (nodes : List ℕ) → ((node : ℕ) → test node ≡ false) → list_any test nodes ≡ false
 none_any test [] none = refl
@@ -107,6 +140,7 @@ pub record Chooses (ids : List Bool) (preferred : ℕ) : Type 0 where
   pub node : ℕ
   pub least : 1 ≤ node
   pub most : node ≤ 125
+  pub free : slice_index_or ids node true ≡ false
   pub chosen_is : chosen ids preferred ≡ Some node
 
 chooses : ((ids : List Bool) (preferred : ℕ) → IsChoice ids preferred (chosen ids preferred)) → (ids : List Bool) (preferred free : ℕ)
@@ -115,18 +149,20 @@ chooses law ids preferred free least most is_free_one = by (chosen ids preferred
   where
     by : (o : Option ℕ) → chosen ids preferred ≡ o → IsChoice ids preferred o → Chooses ids preferred
     by None e none = absurd (cc (none free least most, is_free_one))
-    by (Some node) e (inl best) = record { node = node; least = best.free.least; most = best.free.most; chosen_is = e }
-    by (Some node) e (inr second) = record { node = node; least = second.next.free.least; most = second.next.free.most; chosen_is = e }
+    by (Some node) e (inl best) = record { node = node; least = best.free.least; most = best.free.most; free = best.free.free; chosen_is = e }
+    by (Some node) e (inr second) = record { node = node; least = second.next.free.least; most = second.next.free.most; free = second.next.free.free; chosen_is = e }
 
 module _ (n : ℕ) (log : List Entry) (moment next : ℕ) (accepted : List Accepted) (t : AllocatorState) (s : IsServing n log moment next accepted t) where
-  not_taken : (node : ℕ) → IsLeft n log node → is_taken (at_moment moment t) node ≡ false
-  not_taken node left =
-      (λ i. (is_on_list (alone i) node || is_recorded (s.log_is i) node) || is_online (history node (s.watch i)) (max t.now moment))
-      ∙ rw (other) (rw (not_recorded log node left.free) refl)
+  -- who leads alone, and heard of no node, goes by its log and its own node ID
+  judged : (node : ℕ) → is_taken (at_moment moment t) node ≡ ((is_on_list (n ∷ []) node || is_recorded log node) || is_online [] (max t.now moment))
+  judged node = λ i. (is_on_list (alone i) node || is_recorded (s.log_is i) node) || is_online (history node (s.watch i)) (max t.now moment)
     where
       alone : members_of (at_moment moment t) ≡ n ∷ []
       alone = is_alone n log moment next accepted t s ∙ ap (λ (m : ℕ). m ∷ []) s.me
 
+  not_taken : (node : ℕ) → IsLeft n log node → is_taken (at_moment moment t) node ≡ false
+  not_taken node left = judged node ∙ rw (other) (rw (not_recorded log node left.free) refl)
+    where
       other : nat_eq n node ≡ false
       other = elim (eqb_tells n node) [ inl z ↦ absurd (left.other (sym z.1)) | inr z ↦ z.0 ]
 
@@ -134,6 +170,21 @@ module _ (n : ℕ) (log : List Entry) (moment next : ℕ) (accepted : List Accep
       → Chooses (taken (at_moment moment t)) preferred
   finds_one law preferred node left = chooses law (taken (at_moment moment t)) preferred node left.least left.most
       (get_or-map-range_with_len (is_taken (at_moment moment t)) 0 128 node node true (omega (arith, left.most)) (omega arith) ∙ not_taken node left)
+
+  pub gives_left : (preferred : ℕ) (c : Chooses (taken (at_moment moment t)) preferred) → IsLeft n log c.node
+  gives_left preferred c = record {
+    least = c.least;
+    most = c.most;
+    other = λ e. let own : nat_eq n c.node ≡ true = ap (λ (k : ℕ). nat_eq n k) e ∙ same_number n in
+        absurd (cc (own, left_false (nat_eq n c.node) false (left_false (is_on_list (n ∷ []) c.node) (is_recorded log c.node) known)));
+    free = λ h. absurd (cc (recorded log c.node h.place h.within h.same, right_false (is_on_list (n ∷ []) c.node) (is_recorded log c.node) known));
+  }
+    where
+      untaken : is_taken (at_moment moment t) c.node ≡ false
+      untaken = sym (get_or-map-range_with_len (is_taken (at_moment moment t)) 0 128 c.node c.node true (omega (arith, c.most)) (omega arith)) ∙ c.free
+
+      known : (is_on_list (n ∷ []) c.node || is_recorded log c.node) ≡ false
+      known = left_false (is_on_list (n ∷ []) c.node || is_recorded log c.node) (is_online [] (max t.now moment)) (sym (judged c.node) ∙ untaken)
 
   pub may_record : (preferred : ℕ) (uid : List ℕ) → uid ≢ zeros → (HasUid log uid → ⊥) → length log < log_limit
       → (c : Chooses (taken (at_moment moment t)) preferred) → MayRecord t moment preferred uid c.node

@@ -120,7 +120,7 @@ stops_down x = stopped_down x.disk x
 -- One that is stopped cannot be: but it can be stopped in its next opening, at the first device call. So nothing is set
 -- to fail any more.
 
-or_true : (b : Bool) → (b || true) ≡ true
+pub or_true : (b : Bool) → (b || true) ≡ true
 or_true true = refl
 or_true false = refl
 

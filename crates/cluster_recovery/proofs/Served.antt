@@ -27,7 +27,7 @@ use Rattle.cluster_spec.specs.Cluster.{Cluster}
 use Rattle.cluster_recovery.specs.Alone.{IsLeft, MayBeServed, found}
 use Rattle.cluster_recovery.proofs.Answering.{AnsweringLaws, HasFollowed, IsGiven, follows, gives_pair}
 use Rattle.cluster_recovery.proofs.Asking.{HasAsked, asks, asks_first, asks_more, comes, device_with, leaves}
-use Rattle.cluster_recovery.proofs.Choosing.{Chooses, finds_one, grown_length, may_record, still_left, still_new}
+use Rattle.cluster_recovery.proofs.Choosing.{Chooses, finds_one, gives_left, grown_length, may_record, still_left, still_new, was_left}
 use Rattle.cluster_recovery.proofs.Goes.{CanGo, and_then, so}
 use Rattle.cluster_recovery.proofs.Hearing.{its_key}
 use Rattle.cluster_recovery.proofs.Leading.{HasComeToLead, Laws, comes_to_lead}
@@ -114,7 +114,7 @@ module _ (laws : ServedLaws) (n a : ℕ) (low : 1 ≤ n) (high : n ≤ 125) (pla
       ∙ (third_answer [] first second third moment moment moment in_time true ∙ ap (λ (l : List ℕ). Whole l preferred) (all_of_it uid whole)))
 
   abbrev Served : Cluster → Type 0
-  Served w = (node : ℕ) × IsGiven laws.answering n a low high place uid preferred moment node w
+  Served w = (node : ℕ) × IsLeft n log node × IsGiven laws.answering n a low high place uid preferred moment node w
 
   abbrev Followed : ℕ → ℕ → ℕ → List Accepted → Cluster → Type 0
   Followed next next_one known accepted w = HasFollowed laws.answering n a low high place uid preferred moment log next next_one known accepted w
@@ -130,7 +130,7 @@ module _ (laws : ServedLaws) (n a : ℕ) (low : 1 ≤ n) (high : n ≤ 125) (pla
         (gives_pair laws.answering n a low high place uid preferred moment h.server (h.frames ++ k.0 ∷ []) h.frames k.0 h.sessions v log 2 3 choice.node 3
         accepted_two third (omega arith) choice.least choice.most (omega (arith, whole)) (subst (λ (l : ℕ). frame_count (suc l) ≤ 3) (sym whole) (omega arith))
         h.serves k.1 third_says (may_record n log moment 2 accepted_two h.server h.serves preferred uid device new room choice) h.awaits refl k.2)
-        (λ u g. (choice.node, g)))
+        (λ u g. (choice.node, gives_left n log moment 2 accepted_two h.server h.serves preferred choice, g)))
       where
         choice : Chooses (taken (at_moment moment h.server)) preferred
         choice = finds_one n log moment 2 accepted_two h.server h.serves laws.choice preferred left.0 left.1
@@ -163,7 +163,7 @@ module _ (n a : ℕ) (laws : ServedLaws) (leading : Laws (n ∷ [])) (low : 1 �
   -- the allocator leads, its NodeStatus goes out, and the device comes in the place of whoever was there
   then_served : (since : ℕ) (store : Store) (x : Option Device) (frames : List Queued) (w : Cluster) → MayBeServed n store uid
       → HasComeToLead n a leading store since x frames w
-      → CanGo w since (since + 600) 26 (λ v. (node : ℕ) × IsGiven laws.answering n a low high place uid preferred (since + 600) node v)
+      → CanGo w since (since + 600) 26 (λ v. (node : ℕ) × IsLeft n store.log node × IsGiven laws.answering n a low high place uid preferred (since + 600) node v)
   then_served since store x frames w may l =
       and_then (At n a (with_queue [] l.server) x (frames ++ l.fresh.status ∷ [])) Given w since since (since + 600) 1 25
       (drains n a since l.server x l.fresh.status.id (l.fresh.status ∷ []) frames w (refl, tt)
@@ -172,27 +172,30 @@ module _ (n a : ℕ) (laws : ServedLaws) (leading : Laws (n ∷ [])) (low : 1 �
       (leaves n a place since (with_queue [] l.server) x (frames ++ l.fresh.status ∷ []) v at)
       (λ u free. and_then (At n a (with_queue [] l.server) (Some (opening uid preferred since 0)) (frames ++ l.fresh.status ∷ [])) Given u since since (since + 600) 1 23
       (comes n a place since (with_queue [] l.server) (frames ++ l.fresh.status ∷ []) u uid preferred since (omega arith) free)
-      (λ y there. first_stage laws n a low high place uid may.whole preferred few (since + 600) l.stored.log may.device
+      (λ y there. so (λ z. (node : ℕ) × IsLeft n l.stored.log node × IsGiven laws.answering n a low high place uid preferred (since + 600) node z) Given y
+      since (since + 600) 23
+      (first_stage laws n a low high place uid may.whole preferred few (since + 600) l.stored.log may.device
       (still_new store.log l.stored.log uid may.device l.settled.log may.new)
       (may.left.0, still_left n store.log l.stored.log may.left.0 l.settled.log may.left.1)
       (let g = grown_length store.log l.stored.log l.settled.log in let room : length store.log + 1 < log_limit = may.room in omega (arith, g, room))
       (with_queue [] l.server) (frames ++ l.fresh.status ∷ []) y since refl
-      (serves_fresh n l.stored since (since + 600) l.server l.fresh (omega arith)) there)))
+      (serves_fresh n l.stored since (since + 600) l.server l.fresh (omega arith)) there)
+      (λ z g. (g.0, was_left n store.log l.stored.log g.0 l.settled.log g.1, g.2)))))
     where
       Given : Cluster → Type 0
-      Given v = (node : ℕ) × IsGiven laws.answering n a low high place uid preferred (since + 600) node v
+      Given v = (node : ℕ) × IsLeft n store.log node × IsGiven laws.answering n a low high place uid preferred (since + 600) node v
 
       waits : l.server ≡ with_queue (l.fresh.status ∷ []) l.server
       waits = λ i. record l.server { queue = l.fresh.waiting i }
 
   pub is_served : (moment : ℕ) (w : Cluster) → w.ids ≡ n ∷ [] → IsReached (n ∷ []) w → MayBeServed n (found w n) uid
-      → CanGo w moment (moment + 4600) 33 (λ v. (node : ℕ) × Holds v a uid node)
+      → CanGo w moment (moment + 4600) 33 (λ v. (node : ℕ) × IsLeft n (found w n).log node × Holds v a uid node)
   is_served moment w ids r may =
-      subst (λ (m : ℕ). CanGo w moment m 33 (λ v. (node : ℕ) × Holds v a uid node)) (omega arith)
-      (and_then (HasComeToLead n a leading (found w n) (moment + 4000) (w.allocatee a) w.frames) (λ v. (node : ℕ) × Holds v a uid node)
+      subst (λ (m : ℕ). CanGo w moment m 33 (λ v. (node : ℕ) × IsLeft n (found w n).log node × Holds v a uid node)) (omega arith)
+      (and_then (HasComeToLead n a leading (found w n) (moment + 4000) (w.allocatee a) w.frames) (λ v. (node : ℕ) × IsLeft n (found w n).log node × Holds v a uid node)
       w moment (moment + 4000) ((moment + 4000) + 600) 7 26
       (comes_to_lead n a leading moment w ids r (let room : length (found w n).log + 1 < log_limit = may.room in omega (arith, room)) may.terms)
-      (λ v l. so (λ u. (node : ℕ) × IsGiven laws.answering n a low high place uid preferred ((moment + 4000) + 600) node u)
-      (λ u. (node : ℕ) × Holds u a uid node) v (moment + 4000) ((moment + 4000) + 600) 26
+      (λ v l. so (λ u. (node : ℕ) × IsLeft n (found w n).log node × IsGiven laws.answering n a low high place uid preferred ((moment + 4000) + 600) node u)
+      (λ u. (node : ℕ) × IsLeft n (found w n).log node × Holds u a uid node) v (moment + 4000) ((moment + 4000) + 600) 26
       (then_served (moment + 4000) (found w n) (w.allocatee a) w.frames v may l)
-      (λ u g. (g.0, record { device = g.1.device; there = g.1.there; its_uid = g.1.its_uid; its_node = g.1.its_node }))))
+      (λ u g. (g.0, g.1, record { device = g.2.device; there = g.2.there; its_uid = g.2.its_uid; its_node = g.2.its_node }))))

@@ -90,5 +90,5 @@ pub record MayBeServed (me : ℕ) (store : Store) (uid : List ℕ) : Type 0 wher
 -- was there, and asks, is answered and follows up, until it holds a node ID; with whatever preference.
 abbrev pub ServesDevices : ℕ → List Row → Type 0
 ServesDevices n rows = (now a : ℕ) (uid : List ℕ) (preferred : ℕ) → is_place a ≡ true → preferred < 128 →
-    MayBeServed n (found (world_of (n ∷ []) rows) n) uid →
-    CanGoOn (n ∷ []) rows 33 now 4600 (λ later. (node : ℕ) × Holds later a uid node)
+    let store = found (world_of (n ∷ []) rows) n in MayBeServed n store uid →
+    CanGoOn (n ∷ []) rows 33 now 4600 (λ later. (node : ℕ) × IsLeft n store.log node × Holds later a uid node)

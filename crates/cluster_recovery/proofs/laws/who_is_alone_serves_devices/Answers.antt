@@ -1,6 +1,7 @@
 use Rattle.std.proofs.Common.{ℕ, [], ◌∷◌, inl, refl}
 use Rattle.cluster_agreement.proofs.StopsAndOpenings.{DiskLaws, opened_store}
 use Rattle.cluster_agreement.specs.Allocatees.{Holds}
+use Rattle.cluster_recovery.specs.Alone.{IsLeft, found}
 use Rattle.cluster_recovery.proofs.Leading.{Laws}
 use Rattle.cluster_recovery.proofs.Reached.{goes_on, laws_say}
 use Rattle.cluster_recovery.proofs.Served.{ServedLaws, is_served}
@@ -37,6 +38,6 @@ returns c = λ n rows members harmless now a uid preferred place few may.
       choice = c.chosen_is_the_choice.ensures.is;
     } in
     let node = members.nodes n (inl refl) in
-    goes_on ids rows 33 now 4600 (λ later. (chosen : ℕ) × Holds later a uid chosen) harmless
+    goes_on ids rows 33 now 4600 (λ later. (chosen : ℕ) × IsLeft n (found (world_of ids rows) n).log chosen × Holds later a uid chosen) harmless
     (is_served n a served laws node.0 node.1 place uid preferred few now (world_of ids rows) (c.rows_grow_by_one.ensures.members (cluster ids) rows)
     (record { rows = rows; harmless = harmless; is = refl }) may)
