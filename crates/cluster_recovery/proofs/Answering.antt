@@ -1,11 +1,10 @@
 -- A request of a device reaches an allocator that leads alone, and its answer reaches the device.
-use Rattle.std.proofs.Common.{◌≡◌, ℕ, suc, ◌+◌, ◌<◌, ◌≤◌, Bool, true, false, List, [], ◌∷◌, ◌++◌, length, length-take, max, take, refl, sym, ◌∙◌, ap, subst, arith, Option, None, Some}
-use Rattle.std.specs.Prelude.{◌&&◌, nat_eq, nat_le, not, if◌then◌else◌}
+use Rattle.std.proofs.Common.{◌≡◌, ℕ, suc, ◌+◌, ◌<◌, ◌≤◌, true, false, List, [], ◌∷◌, ◌++◌, length, length-take, max, take, refl, sym, ◌∙◌, ap, subst, arith, Option, None, Some}
+use Rattle.std.specs.Prelude.{not}
 use Rattle.alloc_exchange.specs.declared.heard.Heard.TheVariants.{FollowUp as Follows, Whole}
 use Rattle.alloc_exchange.specs.Exchange.{Accepted, after, answer}
 use Rattle.can_frame.specs.declared.entry.Entry.{Entry}
-use Rattle.can_frame.specs.declared.step.Judged.{Judged}
-use Rattle.can_frame.specs.declared.step.Judged.TheVariants.{Fine, Stale, Torn}
+use Rattle.can_frame.specs.declared.step.Judged.TheVariants.{Fine}
 use Rattle.can_frame.specs.declared.step.What.TheVariants.{Alloc}
 use Rattle.can_frame.specs.Cutting.{frame_count}
 use Rattle.can_frame.specs.Identifier.{identifier_number}
@@ -28,15 +27,14 @@ use Rattle.alloc_spec.specs.Step.{Event, step}
 use Rattle.alloc_spec.specs.Step.Event.{Rx}
 use Rattle.alloc_spec.specs.Transfers.{id_after, outgoing}
 use Rattle.alloc_spec_laws.specs.Waiting.{all_frames_put}
-use Rattle.cluster_progress.specs.Devices.{RequestsAreRequests, comes_at}
-use Rattle.cluster_progress.specs.Requests.{IsRequest, delivery_of}
+use Rattle.cluster_progress.specs.Devices.{comes_at}
 use Rattle.cluster_progress.specs.Serving.{MayRecord, with_queue}
 use Rattle.cluster_progress.proofs.FollowUps.{same_number}
 use Rattle.cluster_progress.proofs.Requests.{delivered}
 use Rattle.cluster_spec.specs.declared.unlawful.Unlawful.TheVariants.{NoNode, Stopped}
 use Rattle.cluster_spec.specs.Allocatees.{is_place}
 use Rattle.cluster_spec.specs.Cluster.{Cluster, arrival_at, frame_at, receipt_of}
-use Rattle.cluster_spec.specs.Lawful.{arrival_refusal, because, cause, cause_of_judgement, or_else}
+use Rattle.cluster_spec.specs.Lawful.{arrival_refusal, because, cause_of_judgement, or_else}
 use Rattle.cluster_spec.specs.Members.{is_running, member_after_step}
 use Rattle.cluster_recovery.proofs.Asking.{Asked, asking_with, device_with, follow_up_behind}
 use Rattle.cluster_recovery.proofs.Goes.{CanGo, and_then, at_most, one_row, so}

@@ -1,7 +1,7 @@
 -- A device that comes to the bus, and what its clock makes it send.
-use Rattle.std.proofs.Common.{◌≡◌, ℕ, zero, suc, ◌+◌, ◌<◌, ◌≤◌, Bool, true, false, List, [], ◌∷◌, ◌++◌, length, length-take, length-drop, take, drop, max, refl, sym, ◌∙◌, ap, subst, arith, Option, None, Some}
-use Rattle.std.specs.Prelude.{◌-◌, ◌%◌, is_some, nat_le, not, slice_index_or}
-use Rattle.can_frame.specs.Cutting.{Piece, frame_count, frames_of}
+use Rattle.std.proofs.Common.{◌≡◌, ℕ, suc, ◌+◌, ◌<◌, ◌≤◌, Bool, true, false, List, [], ◌∷◌, ◌++◌, length, length-take, take, drop, max, refl, sym, ◌∙◌, ap, subst, arith, Option, None, Some}
+use Rattle.std.specs.Prelude.{◌-◌, ◌%◌, is_some, not, slice_index_or}
+use Rattle.can_frame.specs.Cutting.{Piece, frames_of}
 use Rattle.can_frame.specs.DataTypes.{allocation}
 use Rattle.can_frame.specs.Identifier.{identifier_number}
 use Rattle.dsdl_codec.specs.declared.allocation.Allocation.{Allocation}
@@ -12,7 +12,7 @@ use Rattle.transfer_rx.specs.Sessions.{Session}
 use Rattle.transfer_tx.specs.Queue.{Queued, marked, next_out, queued_frames}
 use Rattle.allocatee.specs.Allocatee.{Device, Tick, after_pop, opening, step}
 use Rattle.allocatee.specs.Allocatee as device
-use Rattle.allocatee.specs.Asking.{Asking, at_moment, clock_phase, has_room, ident_of, outgoing, timer_from}
+use Rattle.allocatee.specs.Asking.{Asking, clock_phase, has_room, ident_of, outgoing, timer_from}
 use Rattle.allocatee.specs.declared.timer.FollowUp.{FollowUp}
 use Rattle.allocatee.proofs.Requests.{le_is}
 use Rattle.alloc_spec.specs.AllocatorState.{AllocatorState}
@@ -20,11 +20,11 @@ use Rattle.cluster_progress.specs.Devices.{RequestsAreRequests, comes_at}
 use Rattle.cluster_progress.specs.Requests.{IsRequest}
 use Rattle.cluster_spec.specs.declared.unlawful.Unlawful.TheVariants.{Absent, NoAllocatee, Present}
 use Rattle.cluster_spec.specs.Allocatees.{after_sending_from, device_after_step, is_place, next_from}
-use Rattle.cluster_spec.specs.Cluster.{Cluster, after_row, in_list, with_allocatee}
-use Rattle.cluster_spec.specs.Lawful.{because, cause, nothing_to_send, or_else}
+use Rattle.cluster_spec.specs.Cluster.{Cluster, in_list, with_allocatee}
+use Rattle.cluster_spec.specs.Lawful.{because, nothing_to_send, or_else}
 use Rattle.cluster_recovery.proofs.Goes.{CanGo, and_then, at_most, one_row, so, stays}
 use Rattle.cluster_recovery.proofs.Scenes.{At}
-use Rattle.cluster_recovery.proofs.Sending.{first_out, frames_of_one, others_left}
+use Rattle.cluster_recovery.proofs.Sending.{first_out, others_left}
 
 pub its_own : (w : Cluster) (a : ℕ) (x : Option Device) → (with_allocatee w a x).allocatee a ≡ x
 its_own w a x = at_here w.allocatee a a x refl

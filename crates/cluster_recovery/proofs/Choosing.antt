@@ -1,6 +1,6 @@
 -- An allocator that leads alone may record a new unique ID, and gives it one of the node IDs that are left.
 use Rattle.std.proofs.Common.{◌≡◌, ◌≢◌, ◌⊎◌, ℕ, zero, suc, ◌+◌, ◌<◌, ◌≤◌, Bool, true, false, List, [], ◌∷◌, ◌++◌, length, max, inl, inr, refl, sym, ◌∙◌, ap, subst, arith, Option, None, Some}
-use Rattle.std.specs.Prelude.{◌&&◌, ◌||◌, nat_eq, nat_lt, position, slice_index_or}
+use Rattle.std.specs.Prelude.{◌&&◌, ◌||◌, nat_eq, nat_lt, slice_index_or}
 use Rattle.std.specs.List.{list_any, position_or_len}
 use Rattle.std.specs.Str.{bytes_eq}
 use Rattle.std.proofs.Math.Seq.{get_or-append_seam}
@@ -12,12 +12,11 @@ use Rattle.alloc_exchange.specs.Exchange.{Accepted}
 use Rattle.can_frame.specs.declared.entry.Entry.{Entry}
 use Rattle.can_frame.specs.Log.{HasNodeId, HasUid, blank, log_limit}
 use Rattle.can_frame.specs.Zeros.{zeros}
-use Rattle.id_selector.specs.Choice.{IsChoice, IsFree, chosen}
+use Rattle.id_selector.specs.Choice.{IsChoice, chosen}
 use Rattle.node_discovery.specs.History.{is_online}
 use Rattle.node_discovery.specs.Watch.{Watched, devices, history, is_unknown, some_unknown}
 use Rattle.raft_model.specs.Moves.Elections.{is_leader}
-use Rattle.raft_model.specs.Server.{Role}
-use Rattle.alloc_spec.specs.AllocatorState.{AllocatorState, is_known, is_recorded, is_taken, is_zero, known, may_propose, members_of, recorded_at, taken}
+use Rattle.alloc_spec.specs.AllocatorState.{AllocatorState, is_recorded, is_taken, is_zero, known, members_of, recorded_at, taken}
 use Rattle.alloc_spec.specs.Step.{at_moment}
 use Rattle.alloc_spec_laws.proofs.Choices.{lt_tells, tell}
 use Rattle.cluster_discovery.specs.Members.{is_on_list}

@@ -1,32 +1,28 @@
 -- A device that is sent the frames of one answer, in order and at one moment, takes the whole answer.
-use Rattle.std.proofs.Common.{◌≡◌, ℕ, zero, suc, ◌+◌, ◌*◌, ◌<◌, ◌≤◌, Bool, true, false, List, [], ◌∷◌, ◌++◌, length, drop, map, refl, sym, ◌∙◌, ap, subst, arith, inl, inr, Option, None, Some}
-use Rattle.std.specs.Prelude.{⊤, ◌-◌, AllPairs, Result, Ok, Err, filter, nat_lt, not, slice_index_or, cond, flat_map}
+use Rattle.std.proofs.Common.{◌≡◌, ℕ, zero, suc, ◌+◌, ◌<◌, ◌≤◌, true, false, List, [], ◌∷◌, ◌++◌, length, drop, map, refl, sym, ◌∙◌, ap, subst, arith, inl, inr, Some}
+use Rattle.std.specs.Prelude.{◌-◌, AllPairs, Ok, slice_index_or}
 use Rattle.std.proofs.lemmas.Bool.Decides.{leb_tells}
 use Rattle.std.proofs.lemmas.List.{map-append}
 use Rattle.can_frame.specs.declared.identifier.Ident.{Ident}
-use Rattle.can_frame.specs.declared.mark.Mark.{Mark}
 use Rattle.can_frame.specs.declared.tail.Tail.{Tail}
 use Rattle.can_frame.specs.declared.step.What.TheVariants.{Alloc}
-use Rattle.can_frame.specs.declared.step.Why.{Why}
-use Rattle.can_frame.specs.Cutting.{IsCutting, Piece, bytes_cut, cut_length, frame_bytes, frames_of, joined, piece_from, tail_at}
+use Rattle.can_frame.specs.Cutting.{Piece, bytes_cut, cut_length, frame_bytes, frames_of, joined, piece_from, tail_at}
 use Rattle.can_frame.specs.DataTypes.{allocation}
 use Rattle.can_frame.specs.Identifier.{IsIdentifier, identifier_number, identifier_of}
 use Rattle.transfer_rx.specs.declared.accept.Wanted.{Wanted}
 use Rattle.transfer_rx.specs.declared.key.Key.{Key}
 use Rattle.transfer_rx.specs.Acceptance.{wanted}
-use Rattle.transfer_rx.specs.Keys.{is_anonymous, key_of}
+use Rattle.transfer_rx.specs.Keys.{key_of}
 use Rattle.transfer_rx.specs.Marks.{is_run, is_whole}
 use Rattle.transfer_rx.specs.Parts.{IsPart}
-use Rattle.transfer_rx.specs.Reassembly.{Arrival, Delivery, Gives, Setting, answer, next, piece_in}
+use Rattle.transfer_rx.specs.Reassembly.{Arrival, Gives, Setting, answer, piece_in}
 use Rattle.transfer_rx.specs.Run.{ComesWhole, is_of, of_key, run}
 use Rattle.transfer_rx.specs.Sessions.{Session}
 use Rattle.transfer_rx.proofs.Completeness.{is_own}
 use Rattle.transfer_rx.proofs.Earlier.{Parts, frame_parts}
-use Rattle.transfer_tx.specs.Queue.{Queued, marked, queued_frames}
 use Rattle.allocatee.specs.Accepted.{rows, setting}
-use Rattle.alloc_spec.specs.Transfers.{ident_of, outgoing, signature_of}
+use Rattle.alloc_spec.specs.Transfers.{ident_of}
 use Rattle.cluster_agreement.proofs.Idents.{ident_ok}
-use Rattle.cluster_progress.specs.Devices.{comes_at}
 use Rattle.cluster_progress.proofs.FollowUps.{same_number}
 use Rattle.cluster_recovery.proofs.Receiving.{AreOfKey, Awaits, has_blocks}
 

@@ -1,5 +1,5 @@
 -- Whatever happened, an allocator that is alone comes to lead.
-use Rattle.std.proofs.Common.{◌≡◌, ℕ, ◌+◌, ◌<◌, ◌≤◌, List, [], ◌∷◌, ◌++◌, length, inl, inr, refl, sym, ◌∙◌, ap, subst, arith, true, Option}
+use Rattle.std.proofs.Common.{◌≡◌, ℕ, ◌+◌, ◌<◌, List, [], ◌∷◌, length, inl, refl, sym, ◌∙◌, ap, subst, arith, true, Option}
 use Rattle.can_frame.specs.Log.{log_limit}
 use Rattle.kv_store.specs.KeyDisk.{KeyDisk}
 use Rattle.raft_core.specs.StoredPuts.{store_of}

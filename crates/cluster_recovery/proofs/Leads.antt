@@ -1,6 +1,6 @@
 -- An allocator that is alone leads at the first tick after its wait.
 use Rattle.std.proofs.Common.{◌≡◌, ℕ, zero, suc, ◌+◌, ◌<◌, ◌≤◌, Bool, true, false, List, [], ◌∷◌, ◌++◌, length, max, inl, inr, refl, sym, ◌∙◌, ap, subst, arith, Option, None, Some}
-use Rattle.std.specs.Prelude.{◌-◌, ◌&&◌, ◌||◌, find, is_some, nat_le, nat_lt, not, if◌then◌else◌}
+use Rattle.std.specs.Prelude.{◌-◌, ◌&&◌, ◌||◌, find, is_some, nat_lt, not, if◌then◌else◌}
 use Rattle.can_frame.specs.declared.entry.Entry.{Entry}
 use Rattle.can_frame.specs.declared.step.What.TheVariants.{Stat}
 use Rattle.can_frame.specs.Cutting.{Piece, frame_bytes, tail_at}
@@ -21,15 +21,15 @@ use Rattle.raft_model.specs.Moves.Move.{CommitTo, ProposeEntry, TimeOut}
 use Rattle.raft_model.specs.Server.{RaftServer, Store, memory_when_opened}
 use Rattle.raft_model.specs.Server.Role.{Leader}
 use Rattle.transfer_tx.specs.Queue.{Queued, marked, queued_frames}
-use Rattle.alloc_spec.specs.AllocatorState.{AllocatorState, is_known, known, may_propose, members_of, status_of}
+use Rattle.alloc_spec.specs.AllocatorState.{AllocatorState, is_known, known, may_propose, status_of}
 use Rattle.can_frame.specs.declared.step.Seen.TheVariants.{Ticked}
 use Rattle.alloc_spec.specs.Delivered.{StepResult}
 use Rattle.alloc_spec.specs.Ending.{call_phase, commit_phase, end_phase, has_to_tell, tell_phase, tells_next}
 use Rattle.alloc_spec.specs.Rules.{opening_by, rules_by}
 use Rattle.alloc_spec.specs.Step.{all_nodes, at_moment, begin_phase, step, with_end_phase}
 use Rattle.alloc_spec.specs.Step.Event.{Tick}
-use Rattle.alloc_spec.specs.StepState.{StepState, initial_state, with_moves, with_transfer}
-use Rattle.alloc_spec.specs.Tick.{asks, candidate, clock_phase, election_moves, election_phase, is_candidate, query_phase, record_phase, records_node, status_phase, tells_status, with_status}
+use Rattle.alloc_spec.specs.StepState.{StepState, initial_state, with_moves}
+use Rattle.alloc_spec.specs.Tick.{asks, candidate, clock_phase, election_moves, election_phase, is_candidate, query_phase, record_phase, records_node, status_phase, tells_status}
 use Rattle.alloc_spec.specs.Transfers.{Offer, frames_of, ident_of, signature_of}
 use Rattle.cluster_progress.specs.ComingBack.{HasGrown}
 use Rattle.cluster_progress.proofs.Alone.{last_entry, one_longer}

@@ -1,10 +1,9 @@
 -- A member over a disk of which no call is set to fail: it opens, and takes its steps whole.
-use Rattle.std.proofs.Common.{◌≡◌, ℕ, ◌+◌, Bool, true, false, List, [], ◌∷◌, refl, sym, ap, subst, ◌∙◌, Option, None, Some}
+use Rattle.std.proofs.Common.{◌≡◌, ℕ, Bool, true, false, List, [], ◌∷◌, refl, sym, ap, subst, ◌∙◌, Option, None, Some}
 use Rattle.std.specs.Prelude.{◌||◌, if◌then◌else◌}
-use Rattle.disk_model.specs.declared.calls.Calls.{Calls}
 use Rattle.disk_model.specs.Calls.{after_call}
 use Rattle.disk_model.specs.Memory.{nothing_set}
-use Rattle.kv_store.specs.KeyDisk.{KeyDisk, Unsynced, keeps, restarted_on, settled_by}
+use Rattle.kv_store.specs.KeyDisk.{KeyDisk, Unsynced, restarted_on, settled_by}
 use Rattle.outside.specs.declared.pattern.Pattern.TheVariants.{Old}
 use Rattle.raft_core.specs.StoredPuts.{store_of}
 use Rattle.raft_log.specs.KeyDisk.{are_put, is_open_on, opening_on, put_state_on, puts_on}
@@ -16,7 +15,7 @@ use Rattle.alloc_spec.specs.Rules.{Rules, opening_by}
 use Rattle.alloc_spec.specs.Step.{Event, step}
 use Rattle.alloc_spec.specs.StepState.{StepState}
 use Rattle.cluster_spec.specs.Members.{Member, MemberStatus, after_crash, after_cut_off, after_failed_opening, after_opening, after_writing, member_after_step, puts_of, stopped_with, with_stop_armed}
-use Rattle.cluster_spec.specs.Members.MemberStatus.{Down, Failed, Up}
+use Rattle.cluster_spec.specs.Members.MemberStatus.{Down, Up}
 
 -- no device call is set to fail
 pub record IsQuiet (disk : KeyDisk Stored) : Type 0 where

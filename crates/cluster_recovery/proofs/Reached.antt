@@ -1,14 +1,10 @@
 -- What is known of a world that rows lead to which do no harm.
-use Rattle.std.proofs.Common.{◌≡◌, ℕ, ◌+◌, ◌≤◌, Bool, List, [], ◌∷◌, ◌++◌, length, inl, refl, sym, ◌∙◌, ap, subst}
-use Rattle.kv_store.specs.KeyDisk.{KeyDisk, restarted_on}
+use Rattle.std.proofs.Common.{◌≡◌, ℕ, ◌+◌, ◌≤◌, Bool, List, [], ◌∷◌, ◌++◌, length, inl, sym, ◌∙◌, ap, subst}
 use Rattle.outside.specs.declared.pattern.Pattern.TheVariants.{Old}
-use Rattle.raft_core.specs.StoredPuts.{store_of}
-use Rattle.raft_log.specs.KeyDisk.{is_open_on, opening_on}
-use Rattle.raft_log.specs.Stored.{Stored}
 use Rattle.raft_model.specs.Invariants.{Invariants}
 use Rattle.raft_model.specs.Lists.{In}
 use Rattle.raft_model.specs.Runs.{InEveryRun, World, initial_world, run}
-use Rattle.raft_model.specs.Server.{RaftServer, Store}
+use Rattle.raft_model.specs.Server.{Store}
 use Rattle.replay_text.specs.declared.row.Row.{Row}
 use Rattle.alloc_spec.specs.AllocatorState.{AllocatorState}
 use Rattle.alloc_spec.specs.Transfers.{SentTransfer}
@@ -19,11 +15,11 @@ use Rattle.cluster_spec.specs.Cluster.{Cluster, after_row, after_rows, cluster, 
 use Rattle.cluster_spec.specs.Choices.{AgreesWithDisk}
 use Rattle.cluster_spec.specs.Refinement.{events, transfers_of_rows}
 use Rattle.cluster_spec.specs.Lawful.{DoNoHarm, Lawful}
-use Rattle.cluster_spec.specs.Members.{Member, MemberStatus}
-use Rattle.cluster_spec.specs.Members.MemberStatus.{Down, Up}
+use Rattle.cluster_spec.specs.Members.{MemberStatus}
+use Rattle.cluster_spec.specs.Members.MemberStatus.{Up}
 use Rattle.cluster_recovery.specs.Alone.{CanGoOn, found}
 use Rattle.cluster_recovery.proofs.Goes.{CanGo, after_both}
-use Rattle.cluster_recovery.proofs.Members.{IsDown, IsUp}
+use Rattle.cluster_recovery.proofs.Members.{IsDown}
 
 pub record IsReached (ids : List ℕ) (w : Cluster) : Type 0 where
   pub rows : List Row

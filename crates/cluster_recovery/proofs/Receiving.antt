@@ -1,18 +1,15 @@
 -- A receiver to which frames of one key come alone.
-use Rattle.std.proofs.Common.{◌≡◌, ℕ, suc, ◌+◌, ◌<◌, ◌≤◌, Bool, true, false, List, [], ◌∷◌, ◌++◌, append-nil, length, length-append, refl, sym, ◌∙◌, ap, subst, arith, inl, inr, Option, None, Some}
-use Rattle.std.specs.Prelude.{⊤, ◌-◌, ◌/◌, ◌&&◌, flat_map, map, nat_lt, if◌then◌else◌, MatchOption, Result, Ok, Err, not, nat_le, cond}
+use Rattle.std.proofs.Common.{◌≡◌, ℕ, ◌+◌, ◌<◌, ◌≤◌, Bool, true, false, List, [], ◌∷◌, ◌++◌, append-nil, length, length-append, refl, sym, ◌∙◌, ap, subst, arith, inl, inr, Option, None, Some}
+use Rattle.std.specs.Prelude.{⊤, ◌-◌, ◌/◌, ◌&&◌, map, nat_lt, if◌then◌else◌, MatchOption, Result, Ok, Err, not, cond}
 use Rattle.std.proofs.lemmas.Bool.{le-leb}
 use Rattle.std.proofs.lemmas.Grind.{flat_map-append}
 use Rattle.std.proofs.lemmas.List.{map-append}
-use Rattle.can_frame.specs.declared.mark.Mark.{Mark}
 use Rattle.can_frame.specs.declared.step.Why.{Why}
 use Rattle.can_frame.specs.declared.step.Why.TheVariants.{Length, NoBlock}
-use Rattle.can_frame.specs.declared.tail.Tail.{Tail}
 use Rattle.can_frame.specs.Cutting.{Piece, joined}
 use Rattle.transfer_rx.specs.declared.accept.Wanted.{Wanted}
 use Rattle.transfer_rx.specs.declared.key.Key.{Key}
-use Rattle.transfer_rx.specs.Acceptance.{wanted}
-use Rattle.transfer_rx.specs.Keys.{is_anonymous, key_of, same_key}
+use Rattle.transfer_rx.specs.Keys.{key_of, same_key}
 use Rattle.transfer_rx.specs.Outcome.{Outcome, Delivers, Grows, Spoils, assembled, blocks_used, is_wrong_length, lacks_blocks, out_of_turn, outcome}
 use Rattle.transfer_rx.specs.Reassembly.{Answer, Arrival, Continues, Delivery, Drops, Gives, Setting, Step, answer, answer_of, at_session, in_turn, next, piece_in, session_after, session_step}
 use Rattle.transfer_rx.specs.Reassembly as rx
@@ -21,10 +18,10 @@ use Rattle.transfer_rx.specs.Sessions.{Session, is_recent, next_id, others, rece
 use Rattle.alloc_spec_laws.proofs.Choices.{lt_tells}
 use Rattle.cluster_recovery.proofs.Leads.{and_false}
 use Rattle.transfer_rx.proofs.Comes.{for-key}
-use Rattle.transfer_rx.proofs.Completeness.{IsOwn, own_wanted}
+use Rattle.transfer_rx.proofs.Completeness.{own_wanted}
 use Rattle.transfer_rx.proofs.Found.{filter-filter, same_key-equal, session_of-filter}
 use Rattle.transfer_rx.proofs.InTurn.{in_turn_id}
-use Rattle.transfer_rx.proofs.Steps.{key-after, of_session}
+use Rattle.transfer_rx.proofs.Steps.{of_session}
 
 -- all its sessions are of this key
 abbrev pub HasOnly : Key → List Session → Type 0

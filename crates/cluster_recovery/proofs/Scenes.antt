@@ -1,7 +1,6 @@
 -- The world of an allocator that is alone, with one device: what each row leaves of both.
-use Rattle.std.proofs.Common.{◌≡◌, ℕ, ◌+◌, ◌≤◌, Bool, true, false, List, [], ◌∷◌, ◌++◌, length, refl, sym, ◌∙◌, ap, subst, arith, Option, None, Some}
-use Rattle.std.specs.Prelude.{◌==◌, ◌||◌, if◌then◌else◌, is_some, not}
-use Rattle.kv_store.specs.KeyDisk.{restarted_on}
+use Rattle.std.proofs.Common.{◌≡◌, ℕ, ◌+◌, ◌≤◌, true, false, List, [], ◌∷◌, refl, sym, ◌∙◌, ap, subst, arith, Option, None}
+use Rattle.std.specs.Prelude.{not}
 use Rattle.outside.specs.declared.pattern.Pattern.TheVariants.{Old}
 use Rattle.raft_core.specs.StoredPuts.{store_of}
 use Rattle.raft_log.specs.KeyDisk.{is_open_on, opening_on}
@@ -9,7 +8,6 @@ use Rattle.raft_log.specs.Stored.{Stored}
 use Rattle.kv_store.specs.KeyDisk.{KeyDisk}
 use Rattle.raft_model.specs.Lists.{at_here}
 use Rattle.raft_model.specs.Server.{Store}
-use Rattle.replay_text.specs.declared.row.Row.{Row}
 use Rattle.replay_text.specs.declared.row.Row.TheVariants.{Crash, Open, Tick}
 use Rattle.transfer_tx.specs.Queue.{Queued}
 use Rattle.allocatee.specs.Allocatee.{Device}
@@ -19,7 +17,7 @@ use Rattle.alloc_spec.specs.Step.{Event, step}
 use Rattle.alloc_spec.specs.Step as server
 use Rattle.cluster_spec.specs.declared.unlawful.Unlawful.TheVariants.{NoNode, Running, Stopped}
 use Rattle.cluster_spec.specs.Cluster.{Cluster, after_row, is_member, rules_of, with_member}
-use Rattle.cluster_spec.specs.Lawful.{because, cause, or_else}
+use Rattle.cluster_spec.specs.Lawful.{because, or_else}
 use Rattle.cluster_spec.specs.Members.{Member, MemberStatus, after_crash, after_opening, is_running, member_after_step}
 use Rattle.cluster_spec.specs.Members.MemberStatus.{Down, Failed, Up}
 use Rattle.cluster_progress.proofs.FollowUps.{same_number}

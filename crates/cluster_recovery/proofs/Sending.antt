@@ -1,5 +1,5 @@
 -- Frames of one identifier go out in their order.
-use Rattle.std.proofs.Common.{◌≡◌, ℕ, zero, suc, ◌≤◌, true, List, [], ◌∷◌, ◌++◌, length, append-nil, append_assoc, refl, sym, ◌∙◌, ap, subst, arith, Option, Some}
+use Rattle.std.proofs.Common.{◌≡◌, ℕ, suc, true, List, [], ◌∷◌, ◌++◌, length, append-nil, append_assoc, refl, sym, ◌∙◌, ap, subst, arith, Option, Some}
 use Rattle.std.specs.Prelude.{⊤, nat_le, not}
 use Rattle.std.specs.List.{list_all}
 use Rattle.can_frame.specs.Cutting.{Piece, frames_of}
@@ -10,12 +10,11 @@ use Rattle.transfer_tx.specs.Queue.{Queued, is_least, left_behind, marked, next_
 use Rattle.allocatee.specs.Allocatee.{Device}
 use Rattle.allocatee.proofs.Requests.{le_is}
 use Rattle.alloc_spec.specs.AllocatorState.{AllocatorState}
-use Rattle.alloc_spec.specs.Step.{after_pop}
 use Rattle.cluster_progress.specs.Serving.{with_queue}
 use Rattle.cluster_spec.specs.declared.unlawful.Unlawful.TheVariants.{NoNode, Stopped}
-use Rattle.cluster_spec.specs.Cluster.{Cluster, after_row, in_list}
-use Rattle.cluster_spec.specs.Lawful.{because, cause, nothing_to_send, or_else}
-use Rattle.cluster_spec.specs.Members.{Member, MemberStatus, after_sending, is_running, next_frame}
+use Rattle.cluster_spec.specs.Cluster.{Cluster, in_list}
+use Rattle.cluster_spec.specs.Lawful.{because, nothing_to_send, or_else}
+use Rattle.cluster_spec.specs.Members.{Member, after_sending, is_running, next_frame}
 use Rattle.cluster_spec.specs.Members.MemberStatus.{Up}
 use Rattle.cluster_recovery.proofs.Goes.{CanGo, and_then, one_row, stays}
 use Rattle.cluster_recovery.proofs.Members.{IsUp}

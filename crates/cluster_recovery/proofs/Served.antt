@@ -1,5 +1,5 @@
 -- Whatever happened, an allocator that is alone can still give a device its node ID.
-use Rattle.std.proofs.Common.{◌≡◌, ◌≢◌, ℕ, suc, ◌+◌, ◌<◌, ◌≤◌, Bool, true, false, List, [], ◌∷◌, ◌++◌, length, length-drop, length-take, take, drop, inl, inr, refl, sym, ◌∙◌, ap, subst, arith, Option, None, Some}
+use Rattle.std.proofs.Common.{◌≡◌, ◌≢◌, ℕ, suc, ◌+◌, ◌<◌, ◌≤◌, Bool, true, false, List, [], ◌∷◌, ◌++◌, length, length-drop, length-take, take, drop, refl, sym, ◌∙◌, ap, subst, arith, Option, None, Some}
 use Rattle.std.specs.Prelude.{nat_lt}
 use Rattle.std.proofs.Math.Seq.{take-append-add}
 use Rattle.std.proofs.lemmas.List.{take-append-drop, take_all}
@@ -17,7 +17,6 @@ use Rattle.allocatee.specs.Accepted.{setting}
 use Rattle.allocatee.specs.Allocatee.{Device, opening}
 use Rattle.alloc_spec.specs.AllocatorState.{AllocatorState, taken}
 use Rattle.alloc_spec.specs.Step.{at_moment}
-use Rattle.alloc_spec.specs.Transfers.{id_after}
 use Rattle.cluster_progress.specs.Devices.{RequestsAreRequests}
 use Rattle.cluster_progress.specs.Serving.{AsksInTime, with_queue}
 use Rattle.cluster_progress.proofs.Three.{first_after, first_answer, second_after, second_answer, third_answer}
@@ -26,14 +25,14 @@ use Rattle.cluster_agreement.specs.Allocatees.{Holds}
 use Rattle.cluster_spec.specs.Cluster.{Cluster}
 use Rattle.cluster_recovery.specs.Alone.{IsLeft, MayBeServed, found}
 use Rattle.cluster_recovery.proofs.Answering.{AnsweringLaws, HasFollowed, IsGiven, follows, gives_pair}
-use Rattle.cluster_recovery.proofs.Asking.{HasAsked, asks, asks_first, asks_more, comes, device_with, leaves}
+use Rattle.cluster_recovery.proofs.Asking.{HasAsked, asks, asks_first, asks_more, comes, leaves}
 use Rattle.cluster_recovery.proofs.Choosing.{Chooses, finds_one, gives_left, grown_length, may_record, still_left, still_new, was_left}
 use Rattle.cluster_recovery.proofs.Goes.{CanGo, and_then, so}
 use Rattle.cluster_recovery.proofs.Hearing.{its_key}
 use Rattle.cluster_recovery.proofs.Leading.{HasComeToLead, Laws, comes_to_lead}
 use Rattle.cluster_recovery.proofs.Leads.{same_either}
 use Rattle.cluster_recovery.proofs.Reached.{IsReached}
-use Rattle.cluster_recovery.proofs.Receiving.{Awaits, awaits_first}
+use Rattle.cluster_recovery.proofs.Receiving.{awaits_first}
 use Rattle.cluster_recovery.proofs.Scenes.{At}
 use Rattle.cluster_recovery.proofs.Sending.{drains}
 use Rattle.cluster_recovery.proofs.Serving.{IsServing, serves_fresh}

@@ -1,21 +1,19 @@
 -- A device takes an answer from the bus, frame by frame.
-use Rattle.std.proofs.Common.{◌≡◌, ℕ, zero, suc, ◌+◌, ◌<◌, ◌≤◌, Bool, true, false, List, [], ◌∷◌, ◌++◌, append_assoc, length, length-append, length-take, take, max, refl, sym, ◌∙◌, ap, subst, arith, inl, inr, Option, None, Some}
-use Rattle.std.specs.Prelude.{⊤, ◌-◌, ◌==◌, ◌&&◌, ◌||◌, is_some, nat_lt, nat_eq, nat_le, not, if◌then◌else◌}
+use Rattle.std.proofs.Common.{◌≡◌, ℕ, suc, ◌+◌, ◌<◌, ◌≤◌, true, false, List, [], ◌∷◌, ◌++◌, append_assoc, length, length-append, length-take, take, max, refl, sym, ◌∙◌, ap, subst, arith, inl, inr, Option, None, Some}
+use Rattle.std.specs.Prelude.{◌-◌, ◌==◌, ◌||◌, is_some, nat_lt, nat_eq, not}
 use Rattle.std.specs.Str.{bytes_eq}
 use Rattle.std.proofs.lemmas.Bool.Decides.{eqb_tells}
 use Rattle.std.proofs.lemmas.List.{get_or_at}
 use Rattle.std.proofs.lemmas.Slice.Eq.{bytes_eq-Decides}
-use Rattle.can_frame.specs.declared.step.Judged.{Judged}
-use Rattle.can_frame.specs.declared.step.Judged.TheVariants.{Fine, Torn}
+use Rattle.can_frame.specs.declared.step.Judged.TheVariants.{Fine}
 use Rattle.can_frame.specs.declared.step.What.TheVariants.{Alloc}
-use Rattle.can_frame.specs.Cutting.{Piece, frame_bytes, frame_count, frames_of}
-use Rattle.can_frame.specs.DataTypes.{allocation}
+use Rattle.can_frame.specs.Cutting.{Piece, frame_bytes, frames_of}
 use Rattle.can_frame.specs.Identifier.{identifier_number}
 use Rattle.dsdl_codec.specs.declared.allocation.Allocation.{Allocation}
 use Rattle.dsdl_codec.specs.Allocation.{allocation_of}
 use Rattle.replay_text.specs.declared.row.Row.TheVariants.{ARx}
 use Rattle.transfer_rx.specs.Parts.{IsPart}
-use Rattle.transfer_rx.specs.Reassembly.{Answer, Arrival, Continues, Delivery, Drops, Gives, answer, next}
+use Rattle.transfer_rx.specs.Reassembly.{Answer, Arrival, Continues, Drops, Gives, answer, next}
 use Rattle.transfer_rx.specs.Run.{is_of, run}
 use Rattle.transfer_rx.specs.Sessions.{Session, next_id}
 use Rattle.transfer_tx.specs.declared.outgoing.Outgoing.{Outgoing}
@@ -33,11 +31,11 @@ use Rattle.alloc_spec_laws.proofs.Choices.{tell}
 use Rattle.cluster_progress.specs.Devices.{comes_at}
 use Rattle.cluster_spec.specs.declared.unlawful.Unlawful.TheVariants.{Absent, NoAllocatee, NoFrame}
 use Rattle.cluster_spec.specs.Allocatees.{device_after_step, is_place}
-use Rattle.cluster_spec.specs.Cluster.{Cluster, after_row, arrival_at, frame_at, no_frame, receipt_at}
-use Rattle.cluster_spec.specs.Lawful.{arrival_refusal_at, because, cause, cause_of_judgement, no_such_frame, or_else}
+use Rattle.cluster_spec.specs.Cluster.{Cluster, arrival_at, frame_at, no_frame, receipt_at}
+use Rattle.cluster_spec.specs.Lawful.{arrival_refusal_at, because, cause_of_judgement, no_such_frame, or_else}
 use Rattle.cluster_recovery.proofs.Asking.{asking_with, device_with, follow_up_behind, its_own}
 use Rattle.cluster_recovery.proofs.Goes.{CanGo, and_then, one_row, so, stays}
-use Rattle.cluster_recovery.proofs.Hearing.{HearingLaws, arrival_of, arrivals_from, hears_whole, its_ident, its_key, last, last_arrival, last_arrival_id, open_part, own, part, parts, pieces}
+use Rattle.cluster_recovery.proofs.Hearing.{HearingLaws, arrival_of, arrivals_from, hears_whole, its_ident, its_key, last, last_arrival, last_arrival_id, open_part, own, part, parts}
 use Rattle.cluster_recovery.proofs.Receiving.{AreOfKey, Awaits, GivesNone, HasOnly, awaits_next, gives_none, keeps, only_run}
 use Rattle.cluster_recovery.proofs.Scenes.{At}
 

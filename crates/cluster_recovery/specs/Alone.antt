@@ -44,8 +44,8 @@ pub record CanGoOn (ids : List ℕ) (rows : List Row) (most now long : ℕ) (Hol
   pub harmless : DoNoHarm (cluster ids) (rows ++ more)
   pub holds : Holds (world_of ids (rows ++ more))
 
--- What a member would find stored if it stopped now, and a selector that is not synced were lost. Of a member that has
--- not failed it is what it has stored.
+-- What a member would find stored if it stopped now, and a selector that is not synced were lost. Of a member that
+-- has not failed it is what it has stored.
 abbrev pub found : Cluster → ℕ → Store
 found w n = store_of (restarted_on Old (w.member n).disk).store
 
@@ -60,8 +60,8 @@ pub record IsBackWith (n : ℕ) (log : List Entry) (w : Cluster) : Type 0 where
   pub told : server.raft_server.memory.told ≡ server.raft_server.store.commit
   pub grown : HasGrown log server.raft_server.store.log
 
--- Where its log has room for a blank, and two terms are left: it is stopped, opened, and ticks after its wait, twice. By
--- the second time all that was stored is committed.
+-- Where its log has room for a blank, and two terms are left: it is stopped, opened, and ticks after its wait, twice.
+-- By the second time all that was stored is committed.
 abbrev pub ComesBack : ℕ → List Row → Type 0
 ComesBack n rows = (now : ℕ) → let store = found (world_of (n ∷ []) rows) n in
     length store.log < log_limit → store.term + 1 < term_limit →
@@ -76,8 +76,8 @@ pub record IsLeft (me : ℕ) (log : List Entry) (node : ℕ) : Type 0 where
   pub other : node ≢ me
   pub free : HasNodeId log node → ⊥
 
--- The device may be given a node ID: its unique ID is one, stands in no entry, and a node ID is left. There is room for a
--- blank and a pair, and two terms are left.
+-- The device may be given a node ID: its unique ID is one, stands in no entry, and a node ID is left. There is room
+-- for a blank and a pair, and two terms are left.
 pub record MayBeServed (me : ℕ) (store : Store) (uid : List ℕ) : Type 0 where
   pub whole : length uid ≡ 16
   pub device : uid ≢ zeros
@@ -86,8 +86,9 @@ pub record MayBeServed (me : ℕ) (store : Store) (uid : List ℕ) : Type 0 wher
   pub room : length store.log + 1 < log_limit
   pub terms : store.term + 1 < term_limit
 
--- The allocator comes to lead as above, and sends what waits. Then the device comes to the bus, in the place of whatever
--- was there, and asks, is answered and follows up, until it holds a node ID; with whatever preference.
+-- The allocator comes to lead as above, and sends what waits. Then the device comes to the bus, in the place of
+-- whatever was there, and asks, is answered and follows up, until it holds a node ID that was left; with whatever
+-- preference.
 abbrev pub ServesDevices : ℕ → List Row → Type 0
 ServesDevices n rows = (now a : ℕ) (uid : List ℕ) (preferred : ℕ) → is_place a ≡ true → preferred < 128 →
     let store = found (world_of (n ∷ []) rows) n in MayBeServed n store uid →
