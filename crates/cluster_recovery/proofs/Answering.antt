@@ -26,7 +26,6 @@ use Rattle.alloc_spec.specs.Judging.{answer_judgement, arrival_judgement}
 use Rattle.alloc_spec.specs.Step.{Event, step}
 use Rattle.alloc_spec.specs.Step.Event.{Rx}
 use Rattle.alloc_spec.specs.Transfers.{id_after, outgoing}
-use Rattle.alloc_spec_laws.specs.Waiting.{all_frames_put}
 use Rattle.cluster_progress.specs.Devices.{comes_at}
 use Rattle.cluster_progress.specs.Serving.{MayRecord, with_queue}
 use Rattle.cluster_progress.proofs.FollowUps.{same_number}
@@ -43,7 +42,7 @@ use Rattle.cluster_recovery.proofs.Members.{IsUp, steps_up}
 use Rattle.cluster_recovery.proofs.Receiving.{Awaits}
 use Rattle.cluster_recovery.proofs.Scenes.{At, it_is, own_is}
 use Rattle.cluster_recovery.proofs.Sending.{drains, frames_of_one}
-use Rattle.cluster_recovery.proofs.Serving.{IsServing, answers_it, goes_on, pair_waits}
+use Rattle.cluster_recovery.proofs.Serving.{IsServing, answers_it, goes_on}
 use Rattle.cluster_recovery.proofs.Taking.{HasTaken, frame_is, part_taken, takes, there_is, whole_taken}
 
 -- ---- a request may be given to it
@@ -87,8 +86,6 @@ pub record AnsweringLaws : Type 0 where
   pub hearing : HearingLaws
   pub read : (value : Allocation) → IsAllocation value → allocation_of (allocation_bytes value) ≡ Some value
   pub count : (what : Outgoing) (number re : ℕ) → length (queued_frames what number re) ≡ frame_count (length what.payload.items)
-  pub queue : (t : AllocatorState) (number : ℕ) (event : Event)
-      → (step t number event).step_state.allocator.queue ≡ t.queue ++ all_frames_put number t.me (step t number event).step_state.offers
 
 module _ (laws : AnsweringLaws) (n a : ℕ) (low : 1 ≤ n) (high : n ≤ 125) (place : is_place a ≡ true) (uid : List ℕ) (preferred moment : ℕ) where
   abbrev device_of : ℕ → List Session → Device
@@ -205,11 +202,12 @@ module _ (laws : AnsweringLaws) (n a : ℕ) (low : 1 ≤ n) (high : n ≤ 125) (
       (next next_one node most : ℕ) (accepted : List Accepted) (message : Allocation)
       → next < 32 → 1 ≤ node → node ≤ 125 → length uid ≤ 16 → frame_count (suc (length uid)) ≤ most
       → IsServing n log moment next accepted t → Asked message moment frame
-      → answer accepted message moment true ≡ Whole uid preferred → MayRecord t moment preferred uid node
+      → (step t (w.rows + 1) (Rx (comes_at frame moment))).step_state.allocator.queue
+      ≡ queued_frames (outgoing n Alloc 0 next (allocation_payload node uid)) (w.rows + 1) 0
       → Awaits setting (its_key laws.hearing n low high) moment next sessions → frames ≡ front ++ frame ∷ []
       → At n a t (Some (device_of next_one sessions)) frames w
       → CanGo w moment moment (suc (most + most)) (IsGiven node)
-  gives_pair t frames front frame sessions w log next next_one node most accepted message small some most_node short few serves asked answers may awaits cut at =
+  gives_pair t frames front frame sessions w log next next_one node most accepted message small some most_node short few serves asked waits awaits cut at =
       subst (λ (k : ℕ). CanGo w moment moment k (IsGiven node)) (omega arith)
       (and_then (At n a then_server (Some (device_of next_one sessions)) frames) (IsGiven node) w moment moment moment 1 (most + most)
       (receives n a t (Some (device_of next_one sessions)) frames front frame message moment w serves.now asked cut at)
@@ -239,5 +237,5 @@ module _ (laws : AnsweringLaws) (n a : ℕ) (low : 1 ≤ n) (high : n ≤ 125) (
 
       queued : then_server ≡ with_queue answer_frames then_server
       queued = λ i. record then_server {
-        queue = pair_waits laws.queue n log moment next accepted t serves number arrival message uid preferred node refl asked.request short answers may i;
+        queue = waits i;
       }

@@ -10,7 +10,7 @@ use Rattle.std.proofs.lemmas.List.FromFn.{get_or-map-range_with_len}
 use Rattle.std.proofs.lemmas.Slice.Eq.{bytes_eq-Decides}
 use Rattle.alloc_exchange.specs.Exchange.{Accepted}
 use Rattle.can_frame.specs.declared.entry.Entry.{Entry}
-use Rattle.can_frame.specs.Log.{HasNodeId, HasUid, blank, log_limit}
+use Rattle.can_frame.specs.Log.{HasNodeId, HasPair, HasUid, IsBlank, IsInjective, IsPair, blank, log_limit}
 use Rattle.can_frame.specs.Zeros.{zeros}
 use Rattle.id_selector.specs.Choice.{IsChoice, chosen}
 use Rattle.node_discovery.specs.History.{is_online}
@@ -44,6 +44,45 @@ past_all (entry ∷ log) uid none = rw (other)
 
 not_first : (log : List Entry) (uid : List ℕ) → (HasUid log uid → ⊥) → recorded_at log uid ≡ None
 not_first log uid none = rw (past_all log uid none) (elim (lt_tells (length log) (length log)) [ inl z ↦ absurd (omega (arith, z.1)) | inr z ↦ rw (z.0) refl ])
+
+-- where it stands first
+pub record StandsAt (log : List Entry) (uid : List ℕ) : Type 0 where
+  pub place : ℕ
+  pub first : position_or_len (λ (entry : Entry). bytes_eq entry.uid uid) log ≡ place
+  pub inside : place < length log
+  pub its_uid : (slice_index_or log place (blank 0)).uid ≡ uid
+
+pub stands : (log : List Entry) (uid : List ℕ) (place : ℕ) → place < length log → (slice_index_or log place (blank 0)).uid ≡ uid → StandsAt log uid
+stands [] uid place within same = absurd (omega (arith, within))
+stands (entry ∷ log) uid place within same = elim (tell (bytes_eq entry.uid uid)) [
+  | inl z ↦ record { place = 0; first = rw (z) refl; inside = omega arith; its_uid = (bytes_eq-Decides entry.uid uid).0 z }
+  | inr z ↦ behind place within same z (λ k w e. stands log uid k w e)
+]
+  where
+    behind : (k : ℕ) → k < suc (length log) → (slice_index_or (entry ∷ log) k (blank 0)).uid ≡ uid → bytes_eq entry.uid uid ≡ false
+        → ((k : ℕ) → k < length log → (slice_index_or log k (blank 0)).uid ≡ uid → StandsAt log uid) → StandsAt (entry ∷ log) uid
+    behind zero w e z rest = absurd (cc (z, (bytes_eq-Decides entry.uid uid).1 e))
+    behind (suc k) w e z rest = let h = rest k (omega (arith, w)) e in record {
+      place = suc h.place;
+      first = rw (z) (let f = h.first in omega (arith, f));
+      inside = omega (arith, h.inside);
+      its_uid = h.its_uid;
+    }
+
+pub recorded_first : (log : List Entry) (uid : List ℕ) (h : StandsAt log uid) → recorded_at log uid ≡ Some h.place
+recorded_first log uid h = rw (h.first) (rw (lt_is h.place (length log) h.inside) refl)
+
+-- an injective log has one node ID for a unique ID
+pub same_node : (log : List Entry) (uid : List ℕ) (i j : ℕ) → IsInjective log → uid ≢ zeros → i < length log → j < length log
+    → (slice_index_or log i (blank 0)).uid ≡ uid → (slice_index_or log j (blank 0)).uid ≡ uid
+    → (slice_index_or log i (blank 0)).node ≡ (slice_index_or log j (blank 0)).node
+same_node log uid i j injective device li lj ei ej = elim (eqb_tells i j) [
+  | inl z ↦ ap (λ (k : ℕ). (slice_index_or log k (blank 0)).node) z.1
+  | inr z ↦ elim (lt_tells i j) [
+    | inl y ↦ absurd (device (sym ei ∙ (injective i j y.1 lj).uids (λ b. device (sym ei ∙ b.1)) (λ b. device (sym ej ∙ b.1)) (ei ∙ sym ej)))
+    | inr y ↦ absurd (device (sym ej ∙ (injective j i (omega (arith, y.1, z.1)) li).uids (λ b. device (sym ej ∙ b.1)) (λ b. device (sym ei ∙ b.1)) (ej ∙ sym ei)))
+  ]
+]
 
 not_recorded : (log : List Entry) (node : ℕ) → (HasNodeId log node → ⊥) → is_recorded log node ≡ false
 not_recorded [] node none = refl
@@ -111,11 +150,32 @@ was_left me before now node grown left = record {
   free = λ h. left.free (grown_node before now node grown h);
 }
 
+pub grown_pair : (before now : List Entry) (uid : List ℕ) (node : ℕ) → HasGrown before now → HasPair before uid node → HasPair now uid node
+grown_pair before now uid node (inl e) h = subst (λ (l : List Entry). HasPair l uid node) (sym e) h
+grown_pair before now uid node (inr (term, e)) h = subst (λ (l : List Entry). HasPair l uid node) (sym e) (record {
+  place = h.place;
+  within = omega (arith, h.within, one_longer before (blank term));
+  pair = subst IsPair (sym there) h.pair;
+  its_uid = ap (λ (x : Entry). x.uid) there ∙ h.its_uid;
+  its_node = ap (λ (x : Entry). x.node) there ∙ h.its_node;
+})
+  where
+    there : slice_index_or (before ++ blank term ∷ []) h.place (blank 0) ≡ slice_index_or before h.place (blank 0)
+    there = get_or_append_left before (blank term ∷ []) (blank 0) h.place h.within
+
+pub still_injective : ((log : List Entry) (entry : Entry) → IsBlank entry → IsInjective log → IsInjective (log ++ entry ∷ []))
+    → (before now : List Entry) → HasGrown before now → IsInjective before → IsInjective now
+still_injective blanks before now (inl e) h = subst IsInjective (sym e) h
+still_injective blanks before now (inr (term, e)) h = subst IsInjective (sym e) (blanks before (blank term) (refl, refl) h)
+
 pub grown_length : (before now : List Entry) → HasGrown before now → length now ≤ length before + 1
 grown_length before now (inl e) = omega (arith, ap length e)
 grown_length before now (inr (term, e)) = omega (arith, ap length e, one_longer before (blank term))
 
 -- ---- it may record the pair
+
+pub not_zeros : (uid : List ℕ) → uid ≢ zeros → is_zero uid ≡ false
+not_zeros uid device = elim (tell (is_zero uid)) [ inl z ↦ absurd (device ((bytes_eq-Decides uid zeros).0 z)) | inr z ↦ z ]
 
 left_false : (a b : Bool) → (a || b) ≡ false → a ≡ false
 left_false true b e = e
@@ -188,7 +248,7 @@ module _ (n : ℕ) (log : List Entry) (moment next : ℕ) (accepted : List Accep
   pub may_record : (preferred : ℕ) (uid : List ℕ) → uid ≢ zeros → (HasUid log uid → ⊥) → length log < log_limit
       → (c : Chooses (taken (at_moment moment t)) preferred) → MayRecord t moment preferred uid c.node
   may_record preferred uid device new room c = record {
-    device = elim (tell (is_zero uid)) [ inl z ↦ absurd (device ((bytes_eq-Decides uid zeros).0 z)) | inr z ↦ z ];
+    device = not_zeros uid device;
     new = ap (λ (l : List Entry). recorded_at l uid) s.log_is ∙ not_first log uid new;
     may = (λ i. is_leader (s.role i) && nat_lt (length (s.log_is i)) 127) ∙ lt_is (length log) log_limit room;
     all_known = none_unknown t.watch (known t) moment s.watch;

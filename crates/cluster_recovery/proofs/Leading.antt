@@ -5,6 +5,7 @@ use Rattle.kv_store.specs.KeyDisk.{KeyDisk}
 use Rattle.raft_core.specs.StoredPuts.{store_of}
 use Rattle.raft_log.specs.KeyDisk.{is_open_on, opening_on}
 use Rattle.raft_log.specs.Stored.{Stored}
+use Rattle.raft_model.specs.Invariants.{SoundStore}
 use Rattle.raft_model.specs.Lists.{In}
 use Rattle.raft_model.specs.Moves.Elections.{term_limit}
 use Rattle.raft_model.specs.Server.{Store}
@@ -21,7 +22,7 @@ use Rattle.cluster_recovery.specs.Alone.{IsBackWith, found}
 use Rattle.cluster_recovery.proofs.Goes.{CanGo, and_then, so}
 use Rattle.cluster_recovery.proofs.Leads.{IsFreshLeader, IsSettled, fresh, settles_all}
 use Rattle.cluster_recovery.proofs.Members.{IsDown}
-use Rattle.cluster_recovery.proofs.Reached.{IsReached, IsShown, finds_own, reached, stopped_inside}
+use Rattle.cluster_recovery.proofs.Reached.{IsReached, IsShown, finds_own, reached, stopped_sound}
 use Rattle.cluster_recovery.proofs.Scenes.{At, DownAt, opens, stops, stops_now, ticks}
 
 -- what the laws below say
@@ -54,6 +55,7 @@ module _ (n a : ℕ) (laws : Laws (n ∷ [])) where
   pub record HasSettled (store : Store) (x : Option Device) (frames : List Queued) (w : Cluster) : Type 0 where
     pub server : AllocatorState
     pub at : At n a server x frames w
+    pub sound : SoundStore store
     pub settled : IsSettled store server.raft_server.store
     pub reached : IsReached (n ∷ []) w
 
@@ -65,10 +67,13 @@ module _ (n a : ℕ) (laws : Laws (n ∷ [])) where
       (λ v o. record {
         server = (step (opening_by n (rules_by 1 []) store moment 0) o.0.0 (Tick (moment + 2000) 0)).step_state.allocator;
         at = o.0.1;
-        settled = settles_all n store moment o.0.0
-            (stopped_inside (n ∷ []) w n store (its_own w is.ids) (laws.shown w r) is.down) room low;
+        sound = sound;
+        settled = settles_all n store moment o.0.0 sound.commit room low;
         reached = o.1;
       })
+    where
+      sound : SoundStore store
+      sound = stopped_sound w n store (its_own w is.ids) (laws.shown w r) is.down
 
   -- ---- once more: then it leads, and all that it committed counts as told
 
@@ -76,18 +81,20 @@ module _ (n a : ℕ) (laws : Laws (n ∷ [])) where
     pub server : AllocatorState
     pub at : At n a server x frames w
     pub stored : Store
+    pub sound : SoundStore store
     pub settled : IsSettled store stored
     pub fresh : IsFreshLeader n stored moment server
 
   leads_then : (moment : ℕ) (store stored : Store) (x : Option Device) (frames : List Queued) (w : Cluster) → DownAt n a stored x frames w
-      → IsSettled store stored → stored.term < term_limit → CanGo w moment (moment + 2000) 2 (HasComeToLead store (moment + 2000) x frames)
-  leads_then moment store stored x frames w is settled low =
+      → SoundStore store → IsSettled store stored → stored.term < term_limit → CanGo w moment (moment + 2000) 2 (HasComeToLead store (moment + 2000) x frames)
+  leads_then moment store stored x frames w is sound settled low =
       so (Once moment stored x frames) (HasComeToLead store (moment + 2000) x frames) w moment (moment + 2000) 2
       (once moment stored x frames w is)
       (λ v o. record {
         server = (step (opening_by n (rules_by 1 []) stored moment 0) o.0 (Tick (moment + 2000) 0)).step_state.allocator;
         at = o.1;
         stored = stored;
+        sound = sound;
         settled = settled;
         fresh = fresh n stored moment o.0 settled.commit low;
       })
@@ -104,10 +111,10 @@ module _ (n a : ℕ) (laws : Laws (n ∷ [])) where
         there = down.there ∙ s.at.there;
         sent = down.sent ∙ s.at.sent;
       })
-      s.settled (omega (arith, s.settled.term, low)))
+      s.sound s.settled (omega (arith, s.settled.term, low)))
     where
       own : found w n ≡ s.server.raft_server.store
-      own = finds_own (n ∷ []) w n s.server (its_own w s.at.ids) (laws.shown w s.reached) s.at.up.status
+      own = finds_own w n s.server (its_own w s.at.ids) (laws.shown w s.reached) s.at.up.status
 
   -- from any world that rows lead to
   pub comes_to_lead : (moment : ℕ) (w : Cluster) → w.ids ≡ n ∷ [] → IsReached (n ∷ []) w → length (found w n).log < log_limit

@@ -1,7 +1,7 @@
 -- What is known of a world that rows lead to which do no harm.
 use Rattle.std.proofs.Common.{◌≡◌, ℕ, ◌+◌, ◌≤◌, Bool, List, [], ◌∷◌, ◌++◌, length, inl, sym, ◌∙◌, ap, subst}
 use Rattle.outside.specs.declared.pattern.Pattern.TheVariants.{Old}
-use Rattle.raft_model.specs.Invariants.{Invariants}
+use Rattle.raft_model.specs.Invariants.{Invariants, SoundStore}
 use Rattle.raft_model.specs.Lists.{In}
 use Rattle.raft_model.specs.Runs.{InEveryRun, World, initial_world, run}
 use Rattle.raft_model.specs.Server.{Store}
@@ -58,19 +58,17 @@ pub record IsShown (w : Cluster) : Type 0 where
   pub shows : Shows choice made w run
   pub invariants : Invariants run
 
--- a member that is stopped has committed no more than it has
-pub stopped_inside : (ids : List ℕ) (w : Cluster) (n : ℕ) (store : Store) → In n w.ids → IsShown w → IsDown store (w.member n)
-    → store.commit ≤ length store.log
-stopped_inside ids w n store listed s down =
-    subst (λ (x : Store). x.commit ≤ length x.log) (is.stored ∙ down.found) (s.invariants.stores n).commit
+-- what a member that is stopped found is sound
+pub stopped_sound : (w : Cluster) (n : ℕ) (store : Store) → In n w.ids → IsShown w → IsDown store (w.member n) → SoundStore store
+stopped_sound w n store listed s down = subst SoundStore (is.stored ∙ down.found) (s.invariants.stores n)
   where
     is : ShowsDown s.run n (w.member n).disk
     is = subst (λ (status : MemberStatus). ShowsMember s.choice s.made w.ids w.frames s.run n status (w.member n).disk) down.status (s.shows.lives n listed)
 
 -- one that runs would find what its server has stored
-pub finds_own : (ids : List ℕ) (w : Cluster) (n : ℕ) (t : AllocatorState) → In n w.ids → IsShown w → (w.member n).status ≡ Up t
+pub finds_own : (w : Cluster) (n : ℕ) (t : AllocatorState) → In n w.ids → IsShown w → (w.member n).status ≡ Up t
     → found w n ≡ t.raft_server.store
-finds_own ids w n t listed s up = firm_finds (w.member n).disk is.runs.nothing_unsynced Old ∙ is.runs.stored
+finds_own w n t listed s up = firm_finds (w.member n).disk is.runs.nothing_unsynced Old ∙ is.runs.stored
   where
     is : ShowsUp s.made w.ids w.frames s.run n t (w.member n).disk
     is = subst (λ (status : MemberStatus). ShowsMember s.choice s.made w.ids w.frames s.run n status (w.member n).disk) up (s.shows.lives n listed)

@@ -1,39 +1,41 @@
 -- What a leader that is alone leaves for the next request when it answers one.
-use Rattle.std.proofs.Common.{◌≡◌, ℕ, suc, ◌+◌, ◌≤◌, Bool, true, false, List, [], ◌∷◌, ◌++◌, append-nil, length, inl, inr, refl, sym, ◌∙◌, ap, subst, arith, None}
-use Rattle.std.specs.Prelude.{◌&&◌, if◌then◌else◌}
+use Rattle.std.proofs.Common.{◌≡◌, ℕ, suc, ◌+◌, ◌<◌, ◌≤◌, Bool, true, false, List, [], ◌∷◌, ◌++◌, append-nil, length, inl, inr, refl, sym, ◌∙◌, ap, subst, arith, Option, None, Some}
+use Rattle.std.specs.Prelude.{◌&&◌, if◌then◌else◌, slice_index_or}
 use Rattle.std.proofs.lemmas.Bool.Decides.{leb_tells}
 use Rattle.alloc_exchange.specs.declared.heard.Heard.{Heard}
 use Rattle.alloc_exchange.specs.declared.heard.Heard.TheVariants.{FollowUp, Whole}
 use Rattle.alloc_exchange.specs.Exchange.{Accepted, after, answer}
 use Rattle.can_frame.specs.declared.entry.Entry.{Entry}
 use Rattle.can_frame.specs.declared.step.What.TheVariants.{Alloc}
+use Rattle.can_frame.specs.Log.{blank}
 use Rattle.can_frame.specs.Cutting.{frame_count}
 use Rattle.cluster_discovery.specs.Members.{Event as Heard_, members}
 use Rattle.dsdl_codec.specs.declared.allocation.Allocation.{Allocation}
 use Rattle.raft_core.specs.Times.{given_at}
 use Rattle.raft_model.specs.Moves.Elections.{is_leader}
+use Rattle.raft_model.specs.Moves.Move.{AnswerAgain}
 use Rattle.raft_model.specs.Server.{Store}
 use Rattle.raft_model.specs.Server.Role.{Leader}
 use Rattle.transfer_rx.specs.Reassembly.{Arrival}
 use Rattle.transfer_tx.specs.Queue.{Queued, queued_frames}
-use Rattle.alloc_spec.specs.AllocatorState.{AllocatorState, members_of, start_of}
+use Rattle.alloc_spec.specs.AllocatorState.{AllocatorState, is_zero, members_of, recorded_at, start_of}
 use Rattle.alloc_spec.specs.Delivered.{StepResult, took}
 use Rattle.alloc_spec.specs.Ending.{call_phase, end_phase, has_to_tell, tell_phase, tells_next}
-use Rattle.alloc_spec.specs.Exchange.{allocation_payload, answers_request, hears_allocation, may_follow, with_request}
+use Rattle.alloc_spec.specs.Exchange.{allocation_payload, answers_or_records, answers_request, gives_pair, hears_allocation, may_follow, with_request}
 use Rattle.alloc_spec.specs.Step.{Event, step, with_end_phase}
 use Rattle.alloc_spec.specs.Step.Event.{Rx}
-use Rattle.alloc_spec.specs.StepState.{StepState, with_moves, with_transfer}
+use Rattle.alloc_spec.specs.StepState.{StepState, with_move_if, with_moves, with_transfer}
 use Rattle.alloc_spec.specs.Transfers.{Offer, has_room, id_after, outgoing}
 use Rattle.alloc_spec.specs.Outbox.{counted_if}
 use Rattle.alloc_spec_laws.specs.Waiting.{all_frames_put}
 use Rattle.alloc_spec_laws.proofs.Choices.{lt_tells}
 use Rattle.allocatee.proofs.Requests.{le_is}
 use Rattle.cluster_progress.specs.Requests.{IsRequest, moment_at}
-use Rattle.cluster_progress.specs.Serving.{FollowsUp, IsReady, MayRecord, TellsAtOnce, with_queue}
+use Rattle.cluster_progress.specs.Serving.{FollowsUp, IsReady, MayRecord, TellsAtOnce, allocation_from, with_queue}
 use Rattle.cluster_progress.proofs.Alone.{tells_at_once}
 use Rattle.cluster_progress.proofs.Begins.{IsAsBefore}
 use Rattle.cluster_progress.proofs.FollowUps.{begun, commits_nothing, gives, may, same_follow, step_is, when_come}
-use Rattle.cluster_recovery.proofs.Leads.{IsFreshLeader, and_false}
+use Rattle.cluster_recovery.proofs.Leads.{IsFreshLeader, and_false, lt_is}
 
 -- it leads, with this log, which is committed and told; it accepted these requests; its next Allocation has this transfer
 -- ID; and nothing waits
@@ -175,6 +177,18 @@ module _ (n : ℕ) (log : List Entry) (moment next : ℕ) (accepted : List Accep
 
 -- ---- the pair
 
+-- one Allocation that is offered waits alone
+one_waits : (queue_law : (t : AllocatorState) (number : ℕ) (event : Event)
+    → (step t number event).step_state.allocator.queue ≡ t.queue ++ all_frames_put number t.me (step t number event).step_state.offers)
+    → (n : ℕ) (log : List Entry) (moment next : ℕ) (accepted : List Accepted) (t : AllocatorState) → IsServing n log moment next accepted t
+    → (number : ℕ) (event : Event) (node : ℕ) (uid : List ℕ) → (step t number event).step_state.offers ≡ allocation_from t node uid ∷ []
+    → (step t number event).step_state.allocator.queue ≡ queued_frames (outgoing n Alloc 0 next (allocation_payload node uid)) number 0
+one_waits queue_law n log moment next accepted t s number event node uid offered =
+    queue_law t number event
+    ∙ (ap (λ (offers : List Offer). t.queue ++ all_frames_put number t.me offers) offered
+    ∙ ((λ i. s.queue i ++ (queued_frames (outgoing (s.me i) Alloc 0 (s.id i) (allocation_payload node uid)) number 0 ++ []))
+    ∙ append-nil (queued_frames (outgoing n Alloc 0 next (allocation_payload node uid)) number 0)))
+
 module _ (queue_law : (t : AllocatorState) (number : ℕ) (event : Event)
     → (step t number event).step_state.allocator.queue ≡ t.queue ++ all_frames_put number t.me (step t number event).step_state.offers)
     (n : ℕ) (log : List Entry) (moment next : ℕ) (accepted : List Accepted) (t : AllocatorState) (s : IsServing n log moment next accepted t)
@@ -194,7 +208,70 @@ module _ (queue_law : (t : AllocatorState) (number : ℕ) (event : Event)
 
   pub pair_waits : (step t number (Rx arrival)).step_state.allocator.queue
       ≡ queued_frames (outgoing n Alloc 0 next (allocation_payload node uid)) number 0
-  pair_waits = queue_law t number (Rx arrival)
-      ∙ (ap (λ (offers : List Offer). t.queue ++ all_frames_put number t.me offers) tells.offered
-      ∙ ((λ i. s.queue i ++ (queued_frames (outgoing (s.me i) Alloc 0 (s.id i) (allocation_payload node uid)) number 0 ++ []))
-      ∙ append-nil (queued_frames (outgoing n Alloc 0 next (allocation_payload node uid)) number 0)))
+  pair_waits = one_waits queue_law n log moment next accepted t s number (Rx arrival) node uid tells.offered
+
+-- ---- a pair that stands in the log is told again
+
+module _ (queue_law : (t : AllocatorState) (number : ℕ) (event : Event)
+    → (step t number event).step_state.allocator.queue ≡ t.queue ++ all_frames_put number t.me (step t number event).step_state.offers)
+    (n : ℕ) (log : List Entry) (moment next : ℕ) (accepted : List Accepted) (t : AllocatorState) (s : IsServing n log moment next accepted t)
+    (number : ℕ) (arrival : Arrival) (message : Allocation) (uid : List ℕ) (preferred node at : ℕ) (in_time : arrival.moment ≡ moment)
+    (request : IsRequest arrival message) (short : length uid ≤ 16) (whole : answer accepted message moment true ≡ Whole uid preferred)
+    (device : is_zero uid ≡ false) (stands : recorded_at log uid ≡ Some at) (inside : at < length log)
+    (its_uid : (slice_index_or log at (blank 0)).uid ≡ uid) (its_node : (slice_index_or log at (blank 0)).node ≡ node) where
+  abbrev come : StepState
+  come = when_come t number arrival
+
+  as_before : IsAsBefore t.raft_server come.allocator.raft_server
+  as_before = begun t number arrival
+
+  at_moment_is : moment_at t arrival ≡ moment
+  at_moment_is = omega (arith, s.now, in_time)
+
+  log_then : come.allocator.raft_server.store.log ≡ log
+  log_then = ap (λ (x : Store). x.log) as_before.store ∙ s.log_is
+
+  abbrev offered : StepState
+  offered = with_transfer number Alloc 0 (allocation_payload node uid) None (with_request message come)
+
+  abbrev told_again : StepState
+  told_again = with_moves number (given_at come.allocator.now) (AnswerAgain at ∷ []) offered
+
+  hears_again : hears_allocation number message come ≡ told_again
+  hears_again = ap (λ (h : Heard). answers_request number h asked)
+      ((λ i. answer (s.accepts i) message (at_moment_is i) ((same_follow t come.allocator.raft_server as_before.store as_before.role
+      ∙ may t (is_ready n log moment next accepted t s)) i)) ∙ whole)
+      ∙ (ap (λ (b : Bool). if b then asked else answers_or_records number uid preferred (recorded_at come.allocator.raft_server.store.log uid) asked) device
+      ∙ (ap (λ (o : Option ℕ). answers_or_records number uid preferred o asked) (ap (λ (l : List Entry). recorded_at l uid) log_then ∙ stands)
+      ∙ (ap (λ (b : Bool). if b then gives_pair number (AnswerAgain at) at asked else asked) (lt_is at come.allocator.raft_server.store.commit
+      (omega (arith, inside, ap (λ (x : Store). x.commit) as_before.store, s.committed)))
+      ∙ ((λ i. gives_as (node_then i) (uid_then i))
+      ∙ ap (λ (b : Bool). with_move_if b number (given_at come.allocator.now) (AnswerAgain at) offered) (room_in t.queue node uid s.queue short)))))
+    where
+      asked : StepState
+      asked = with_request message come
+
+      gives_as : ℕ → List ℕ → StepState
+      gives_as k u = with_move_if (has_room t.queue (allocation_payload k u)) number (given_at come.allocator.now) (AnswerAgain at)
+          (with_transfer number Alloc 0 (allocation_payload k u) None asked)
+
+      node_then : (slice_index_or come.allocator.raft_server.store.log at (blank 0)).node ≡ node
+      node_then = ap (λ (l : List Entry). (slice_index_or l at (blank 0)).node) log_then ∙ its_node
+
+      uid_then : (slice_index_or come.allocator.raft_server.store.log at (blank 0)).uid ≡ uid
+      uid_then = ap (λ (l : List Entry). (slice_index_or l at (blank 0)).uid) log_then ∙ its_uid
+
+  ends_again : end_phase number told_again ≡ with_moves number (given_at told_again.allocator.now) [] told_again
+  ends_again = quiet_end number told_again
+      (rw (as_before.store) (s.committed ∙ ap length (sym s.log_is)))
+      (as_before.told ∙ (all_told n log moment next accepted t s ∙ ap (λ (x : Store). x.commit) (sym as_before.store)))
+      (is_alone n log moment next accepted t s)
+
+  offers_it : (step t number (Rx arrival)).step_state.offers ≡ allocation_from t node uid ∷ []
+  offers_it = ap (λ (r : StepResult). r.step_state.offers) (step_is t number arrival message request)
+      ∙ (ap (λ (k : StepState). (end_phase number k).offers) hears_again
+      ∙ (ap (λ (k : StepState). k.offers) ends_again ∙ rw (room_in t.queue node uid s.queue short) refl))
+
+  pub pair_waits_again : (step t number (Rx arrival)).step_state.allocator.queue
+      ≡ queued_frames (outgoing n Alloc 0 next (allocation_payload node uid)) number 0
+  pair_waits_again = one_waits queue_law n log moment next accepted t s number (Rx arrival) node uid offers_it

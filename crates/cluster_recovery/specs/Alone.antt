@@ -1,7 +1,7 @@
 -- What an allocator that is alone can still do, whatever happened.
 use Rattle.std.specs.Prelude.{◌≡◌, ◌≢◌, ℕ, ◌+◌, ◌<◌, ◌≤◌, true, List, [], ◌∷◌, ◌++◌, length}
 use Rattle.can_frame.specs.declared.entry.Entry.{Entry}
-use Rattle.can_frame.specs.Log.{HasNodeId, HasUid, log_limit}
+use Rattle.can_frame.specs.Log.{HasNodeId, HasPair, HasUid, log_limit}
 use Rattle.can_frame.specs.Zeros.{zeros}
 use Rattle.kv_store.specs.KeyDisk.{restarted_on}
 use Rattle.outside.specs.declared.pattern.Pattern.TheVariants.{Old}
@@ -93,3 +93,11 @@ abbrev pub ServesDevices : ℕ → List Row → Type 0
 ServesDevices n rows = (now a : ℕ) (uid : List ℕ) (preferred : ℕ) → is_place a ≡ true → preferred < 128 →
     let store = found (world_of (n ∷ []) rows) n in MayBeServed n store uid →
     CanGoOn (n ∷ []) rows 33 now 4600 (λ later. (node : ℕ) × IsLeft n store.log node × Holds later a uid node)
+
+-- A device whose unique ID stands in its log gets the node ID that it has there, in the same way; the log may be as good
+-- as full.
+abbrev pub TellsAgain : ℕ → List Row → Type 0
+TellsAgain n rows = (now a : ℕ) (uid : List ℕ) (preferred node : ℕ) → is_place a ≡ true → length uid ≡ 16 →
+    preferred < 128 → let store = found (world_of (n ∷ []) rows) n in HasPair store.log uid node →
+    length store.log < log_limit → store.term + 1 < term_limit →
+    CanGoOn (n ∷ []) rows 33 now 4600 (λ later. Holds later a uid node)

@@ -1,7 +1,7 @@
 //! The law of this crate, the contract of a function that does nothing.
 
 ghost use Rattle.std.specs.Prelude.{ℕ, List, [], ◌∷◌};
-ghost use Rattle.cluster_recovery.specs.Alone.{ComesBack, ServesDevices};
+ghost use Rattle.cluster_recovery.specs.Alone.{ComesBack, ServesDevices, TellsAgain};
 ghost use Rattle.cluster_recovery.specs.Recovery.{AreNeverStuck};
 ghost use Rattle.cluster_spec.specs.Cluster.{AreMembers, cluster};
 ghost use Rattle.cluster_spec.specs.Lawful.{DoNoHarm};
@@ -10,7 +10,7 @@ ghost use Rattle.replay_text.specs.declared.row.Row.{Row};
 use alloc_spec_laws::bus::queue_of_a_step;
 use can_frame::laws::{
     frames_carry_what_is_cut, frames_read_as_their_pieces, identifiers_both_ways,
-    lengths_of_cuttings,
+    lengths_of_cuttings, logs_stay_injective,
 };
 use cluster_agreement::headline::{a_choice_fits, rows_are_shown, rows_grow_by_one};
 use cluster_progress::laws::{new_pairs_can_be_told, requests_of_devices_are_requests};
@@ -37,7 +37,7 @@ pub fn rows_are_never_stuck()
 
 /// After every list of rows that do no harm, whatever frames came, whatever clocks read, wherever inside store writes
 /// the allocator stopped, and whatever of its disk is set to fail: an allocator that is alone comes to lead again, with
-/// all committed, by seven rows more at most, where its log has room for a blank and two terms are left.
+/// all committed, where its log has room for a blank and two terms are left. Seven rows more are enough, and 4,000 ms.
 pub fn who_is_alone_leads()
     ensures { (n : ℕ) (rows : List Row) → AreMembers (n ∷ []) → DoNoHarm (cluster (n ∷ [])) rows →
         ComesBack n rows }
@@ -50,11 +50,14 @@ pub fn who_is_alone_leads()
     the_disk_by_states();
 }
 
-/// From there it gives each device with a new unique ID a node ID that is left, as long as its log has room: by 33 rows
-/// more at most the device holds it.
+/// And from there it serves each device that asks: one whose unique ID is new gets a node ID that is left, where its log
+/// has room; one whose unique ID stands in its log gets the node ID that it has there. By 33 rows more at most, which
+/// take 4,600 ms at most, the device holds it.
 pub fn who_is_alone_serves_devices()
-    ensures { (n : ℕ) (rows : List Row) → AreMembers (n ∷ []) → DoNoHarm (cluster (n ∷ [])) rows →
+    ensures new { (n : ℕ) (rows : List Row) → AreMembers (n ∷ []) → DoNoHarm (cluster (n ∷ [])) rows →
         ServesDevices n rows }
+    ensures again { (n : ℕ) (rows : List Row) → AreMembers (n ∷ []) → DoNoHarm (cluster (n ∷ [])) rows →
+        TellsAgain n rows }
 {
     a_choice_fits();
     allocations_both_ways();
@@ -67,6 +70,7 @@ pub fn who_is_alone_serves_devices()
     identifiers_both_ways();
     law_every_run();
     lengths_of_cuttings();
+    logs_stay_injective();
     queue_of_a_step();
     requests_of_devices_are_requests();
     rows_are_shown();

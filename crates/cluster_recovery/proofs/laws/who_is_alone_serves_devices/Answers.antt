@@ -1,25 +1,24 @@
-use Rattle.std.proofs.Common.{ℕ, [], ◌∷◌, inl, refl}
+use Rattle.std.proofs.Common.{◌≡◌, ℕ, ◌<◌, List, [], ◌∷◌, inl, length, refl}
 use Rattle.cluster_agreement.proofs.StopsAndOpenings.{DiskLaws, opened_store}
 use Rattle.cluster_agreement.specs.Allocatees.{Holds}
 use Rattle.cluster_recovery.specs.Alone.{IsLeft, found}
 use Rattle.cluster_recovery.proofs.Leading.{Laws}
 use Rattle.cluster_recovery.proofs.Reached.{goes_on, laws_say}
-use Rattle.cluster_recovery.proofs.Served.{ServedLaws, is_served}
+use Rattle.cluster_recovery.proofs.Served.{ServedLaws, is_served, is_told_again}
 use Rattle.cluster_recovery.proofs.laws.who_is_alone_serves_devices.Goals as goal
-use Rattle.cluster_spec.specs.Cluster.{cluster, world_of}
+use Rattle.cluster_spec.specs.Cluster.{AreMembers, cluster, world_of}
 
 pub returns : goal.returns
-returns c = λ n rows members harmless now a uid preferred place few may.
-    let ids = n ∷ [] in
+returns c =
     let disk : DiskLaws = record {
       done = λ key_disk puts e. (c.the_disk_by_states.ensures.done key_disk puts e).0;
       found_again = c.the_disk_by_states.ensures.found_again;
       keeps_store = c.an_opening_keeps_the_store.ensures;
     } in
-    let laws : Laws ids = record {
+    let laws : (n : ℕ) → AreMembers (n ∷ []) → Laws (n ∷ []) = λ n members. record {
       keeps_store = opened_store disk;
-      shown = laws_say ids (λ list h. c.a_choice_fits.ensures ids list members h)
-          (λ choice list h fits. c.rows_are_shown.ensures choice ids list members h fits) c.law_every_run.ensures.invariants;
+      shown = laws_say (n ∷ []) (λ list h. c.a_choice_fits.ensures (n ∷ []) list members h)
+          (λ choice list h fits. c.rows_are_shown.ensures choice (n ∷ []) list members h fits) c.law_every_run.ensures.invariants;
     } in
     let served : ServedLaws = record {
       answering = record {
@@ -32,12 +31,23 @@ returns c = λ n rows members harmless now a uid preferred place few may.
         };
         read = c.allocations_both_ways.ensures.read_again;
         count = c.frames_by_place.ensures.count;
-        queue = c.queue_of_a_step.ensures;
       };
+      queue = c.queue_of_a_step.ensures;
+      blanks = λ log entry blank injective. (c.logs_stay_injective.ensures.blank log entry blank).1 injective;
       requests = c.requests_of_devices_are_requests.ensures;
       choice = c.chosen_is_the_choice.ensures.is;
     } in
-    let node = members.nodes n (inl refl) in
-    goes_on ids rows 33 now 4600 (λ later. (chosen : ℕ) × IsLeft n (found (world_of ids rows) n).log chosen × Holds later a uid chosen) harmless
-    (is_served n a served laws node.0 node.1 place uid preferred few now (world_of ids rows) (c.rows_grow_by_one.ensures.members (cluster ids) rows)
-    (record { rows = rows; harmless = harmless; is = refl }) may)
+    record {
+      new = λ n rows members harmless now a uid preferred place few may.
+          let w = world_of (n ∷ []) rows in
+          let node = members.nodes n (inl refl) in
+          goes_on (n ∷ []) rows 33 now 4600 (λ later. (chosen : ℕ) × IsLeft n (found w n).log chosen × Holds later a uid chosen) harmless
+          (is_served n a served (laws n members) node.0 node.1 place uid may.whole preferred few now w
+          (c.rows_grow_by_one.ensures.members (cluster (n ∷ [])) rows) (record { rows = rows; harmless = harmless; is = refl }) may);
+      again = λ n rows members harmless now a uid preferred given place whole few pair room terms.
+          let w = world_of (n ∷ []) rows in
+          let node = members.nodes n (inl refl) in
+          goes_on (n ∷ []) rows 33 now 4600 (λ later. Holds later a uid given) harmless
+          (is_told_again n a served (laws n members) node.0 node.1 place uid whole preferred few now w
+          (c.rows_grow_by_one.ensures.members (cluster (n ∷ [])) rows) (record { rows = rows; harmless = harmless; is = refl }) given pair room terms);
+    }
