@@ -1,7 +1,7 @@
 -- A request of a device reaches an allocator that leads alone, and its answer reaches the device.
 use Rattle.std.proofs.Common.{◌≡◌, ℕ, suc, ◌+◌, ◌<◌, ◌≤◌, true, false, List, [], ◌∷◌, ◌++◌, length, length-take, max, take, refl, sym, ◌∙◌, ap, subst, arith, Option, None, Some}
 use Rattle.std.specs.Prelude.{not}
-use Rattle.alloc_exchange.specs.declared.heard.Heard.TheVariants.{FollowUp as Follows, Whole}
+use Rattle.alloc_exchange.specs.declared.heard.Heard.TheVariants.{FollowUp as Follows}
 use Rattle.alloc_exchange.specs.Exchange.{Accepted, after, answer}
 use Rattle.can_frame.specs.declared.entry.Entry.{Entry}
 use Rattle.can_frame.specs.declared.step.Judged.TheVariants.{Fine}
@@ -23,11 +23,11 @@ use Rattle.alloc_spec.specs.Accepted.{setting_for}
 use Rattle.alloc_spec.specs.AllocatorState.{AllocatorState}
 use Rattle.alloc_spec.specs.Exchange.{allocation_payload}
 use Rattle.alloc_spec.specs.Judging.{answer_judgement, arrival_judgement}
-use Rattle.alloc_spec.specs.Step.{Event, step}
+use Rattle.alloc_spec.specs.Step.{step}
 use Rattle.alloc_spec.specs.Step.Event.{Rx}
 use Rattle.alloc_spec.specs.Transfers.{id_after, outgoing}
 use Rattle.cluster_progress.specs.Devices.{comes_at}
-use Rattle.cluster_progress.specs.Serving.{MayRecord, with_queue}
+use Rattle.cluster_progress.specs.Serving.{with_queue}
 use Rattle.cluster_progress.proofs.FollowUps.{same_number}
 use Rattle.cluster_progress.proofs.Requests.{delivered}
 use Rattle.cluster_spec.specs.declared.unlawful.Unlawful.TheVariants.{NoNode, Stopped}

@@ -29,13 +29,14 @@ clock_after now (ATick a ms word) = ms
 clock_after now (ARx a k ms word) = ms
 clock_after now row = now
 
--- one clock gives all readings of these rows, from this moment to that one: it never goes back
+-- one clock may give all readings of these rows, from this moment to that one: none is below an earlier one
 abbrev pub AreInTime : (now last : ℕ) → List Row → Type 0
 AreInTime now last [] = now ≤ last
 AreInTime now last (row ∷ rows) = (now ≤ clock_after now row) × AreInTime (clock_after now row) last rows
 
--- Rows go on by at most so many lawful ones, to a world of which this holds. Whatever clocks read before, these rows can
--- come from any moment on, and take so many milliseconds.
+-- From the moment `now` on, rows can go on by at most so many lawful ones, in so many milliseconds, to a world of which
+-- this holds. Which frames come, what clocks read and which random words are drawn is theirs: the draws are those of the
+-- least waits.
 pub record CanGoOn (ids : List ℕ) (rows : List Row) (most now long : ℕ) (Holds : Cluster → Type 0) : Type 0 where
   pub more : List Row
   pub few : length more ≤ most
@@ -94,8 +95,8 @@ ServesDevices n rows = (now a : ℕ) (uid : List ℕ) (preferred : ℕ) → is_p
     let store = found (world_of (n ∷ []) rows) n in MayBeServed n store uid →
     CanGoOn (n ∷ []) rows 33 now 4600 (λ later. (node : ℕ) × IsLeft n store.log node × Holds later a uid node)
 
--- A device whose unique ID stands in its log gets the node ID that it has there, in the same way; the log may be as good
--- as full.
+-- A device whose unique ID stands in its log gets the node ID that it has there, in the same way. There need be room
+-- for a blank alone.
 abbrev pub TellsAgain : ℕ → List Row → Type 0
 TellsAgain n rows = (now a : ℕ) (uid : List ℕ) (preferred node : ℕ) → is_place a ≡ true → length uid ≡ 16 →
     preferred < 128 → let store = found (world_of (n ∷ []) rows) n in HasPair store.log uid node →

@@ -37,7 +37,8 @@ pub fn rows_are_never_stuck()
 
 /// After every list of rows that do no harm, whatever frames came, whatever clocks read, wherever inside store writes
 /// the allocator stopped, and whatever of its disk is set to fail: an allocator that is alone comes to lead again, with
-/// all committed, where its log has room for a blank and two terms are left. Seven rows more are enough, and 4,000 ms.
+/// all committed, where its log has room for a blank and two terms are left. There are seven rows at most, which take
+/// 4,000 ms at most, that do it.
 pub fn who_is_alone_leads()
     ensures { (n : ℕ) (rows : List Row) → AreMembers (n ∷ []) → DoNoHarm (cluster (n ∷ [])) rows →
         ComesBack n rows }
@@ -51,8 +52,8 @@ pub fn who_is_alone_leads()
 }
 
 /// And from there it serves each device that asks: one whose unique ID is new gets a node ID that is left, where its log
-/// has room; one whose unique ID stands in its log gets the node ID that it has there. By 33 rows more at most, which
-/// take 4,600 ms at most, the device holds it.
+/// has room; one whose unique ID stands in its log gets the node ID that it has there. There are 33 rows at most, which
+/// take 4,600 ms at most, after which the device holds it.
 pub fn who_is_alone_serves_devices()
     ensures new { (n : ℕ) (rows : List Row) → AreMembers (n ∷ []) → DoNoHarm (cluster (n ∷ [])) rows →
         ServesDevices n rows }

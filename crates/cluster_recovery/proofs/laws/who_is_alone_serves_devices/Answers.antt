@@ -1,4 +1,4 @@
-use Rattle.std.proofs.Common.{◌≡◌, ℕ, ◌<◌, List, [], ◌∷◌, inl, length, refl}
+use Rattle.std.proofs.Common.{ℕ, [], ◌∷◌, inl, refl}
 use Rattle.cluster_agreement.proofs.StopsAndOpenings.{DiskLaws, opened_store}
 use Rattle.cluster_agreement.specs.Allocatees.{Holds}
 use Rattle.cluster_recovery.specs.Alone.{IsLeft, found}
