@@ -34,9 +34,8 @@ abbrev pub AreInTime : (now last : ℕ) → List Row → Type 0
 AreInTime now last [] = now ≤ last
 AreInTime now last (row ∷ rows) = (now ≤ clock_after now row) × AreInTime (clock_after now row) last rows
 
--- From the moment `now` on, rows can go on by at most so many lawful ones, in so many milliseconds, to a world of which
--- this holds. Which frames come, what clocks read and which random words are drawn is theirs: the draws are those of the
--- least waits.
+-- From the moment `now` on, rows can go on by at most so many lawful ones, in so many milliseconds, to a world of
+-- which this holds. They choose which frames come, what clocks read, and the random words: those of the least waits.
 pub record CanGoOn (ids : List ℕ) (rows : List Row) (most now long : ℕ) (Holds : Cluster → Type 0) : Type 0 where
   pub more : List Row
   pub few : length more ≤ most

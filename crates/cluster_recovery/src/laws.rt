@@ -51,9 +51,9 @@ pub fn who_is_alone_leads()
     the_disk_by_states();
 }
 
-/// And from there it serves each device that asks: one whose unique ID is new gets a node ID that is left, where its log
-/// has room; one whose unique ID stands in its log gets the node ID that it has there. There are 33 rows at most, which
-/// take 4,600 ms at most, after which the device holds it.
+/// And from there it serves each device that asks: one whose unique ID is new gets a node ID that is left, where its
+/// log has room; one whose unique ID stands in its log gets the node ID that it has there. There are 33 rows at most,
+/// which take 4,600 ms at most, after which the device holds it.
 pub fn who_is_alone_serves_devices()
     ensures new { (n : ℕ) (rows : List Row) → AreMembers (n ∷ []) → DoNoHarm (cluster (n ∷ [])) rows →
         ServesDevices n rows }
