@@ -122,6 +122,6 @@ module _ {L D : Type 0} (coming : L → Option (List Received)) (sent : L → Op
         ]
         | inr (inr damaged) ↦ let left = subst Ended damaged.1 runs.leaves in inl (opening_in_traces given id tell (widened id left.end.1))
       ];
-      broken = λ given tell is. let left = subst Ended is runs.leaves in by_end given tell left.0 left.1.end;
+      output_failed = λ given tell is. let left = subst Ended is runs.leaves in by_end given tell left.0 left.1.end;
       bus = on_bus;
     }

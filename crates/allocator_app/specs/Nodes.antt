@@ -60,8 +60,8 @@ module _ {L D : Type 0} (coming : L → Option (List Received)) (sent : L → Op
     pub promise : KeepsInTraces (Turning taken place)
 
 -- what it leaves and writes; and, where links, disks and the clock tell what they have, what it is in the traces of a
--- cluster. A run that was cut off at an opening touched no link; one whose output failed is one of the three. Where the
--- rows of a trace happen on a physical bus, the run stands in it without a premise on what is torn or stale
+-- cluster. A run that was cut off at an opening touched no link; one whose output failed is what one of the others says.
+-- Where the rows of a trace happen on a physical bus, the run stands in it without a premise on what is torn or stale
 pub record RunsInTraces {L D : Type 0} (coming : L → Option (List Received)) (sent : L → Option (List RawFrame))
     (link_faults : L → ℕ) (disk : Ghosts D) (rules : Rules) (turns : ℕ) (ids : List ℕ) (links_old links : List L)
     (disks_old disks : List (Option D)) (readings_old readings : Option (List ℕ)) (faults_old faults : ℕ)
@@ -74,7 +74,7 @@ pub record RunsInTraces {L D : Type 0} (coming : L → Option (List Received)) (
       EndsAt id status →
       IsCutOpeningInTraces coming sent disk links disks rules ids given links_old disks_old readings_old readings id
       ⊎ IsCutInTraces coming sent disk links disks rules ids given turns id
-  pub broken : (given : Given) → Tell coming sent disk links_old disks_old readings_old given → status ≡ WriteFault →
+  pub output_failed : (given : Given) → Tell coming sent disk links_old disks_old readings_old given → status ≡ WriteFault →
       IsDoneInTraces coming sent disk links disks rules ids given turns
       ⊎ ((id : ℕ) × (IsCutOpeningInTraces coming sent disk links disks rules ids given links_old disks_old readings_old
       readings id ⊎ IsCutInTraces coming sent disk links disks rules ids given turns id))

@@ -92,10 +92,10 @@ use store_audit::audit_stores;
 /// trace. After each row what each allocator has committed is a prefix of one list, which only grows and never
 /// gives one node ID to two unique IDs, nor two to one; every Allocation with a node ID that waits for the bus, or
 /// was on it, is a pair of the list by then; and the log of every later leader whose term is at least a member's
-/// stored one begins with what that member has committed. What an allocatee holds is a pair of that list, so no
-/// two with different unique IDs ever hold one node ID. Along the rows of a report each allocator by itself keeps
-/// its word, too (`KeepsItsWord` of `cluster_spec`): its whole log gives nothing twice, and whatever pair it
-/// offers is one of its own committed log.
+/// stored one begins with what that member has committed. What a device has that takes a node ID by the standard's
+/// rule is a pair of that list, so two with different unique IDs never have one node ID, and one unique ID never has
+/// two. Along the rows of a report each allocator by itself keeps its word, too (`KeepsItsWord` of `cluster_spec`):
+/// its whole log gives nothing twice, and whatever pair it offers is one of its own committed log.
 pub fn run<S: Source, K: Sink, L: Link, D: Disk, C: Clock>(
     alloc: Global,
     words: &[String],

@@ -204,6 +204,7 @@ module _ (limits : Limits) (ids : List ℕ) where
               k = k;
               ms = ms;
               row = row;
+              torn = e;
               moment = lacks.0;
               lacks = lacks.1;
             }

@@ -344,14 +344,18 @@ module _ (laws : FrameLaws) (choice : ℕ → Bool) (made : List SentTransfer) (
 
       of_one : AreOfOne made d.ident (map (λ (h : Heard). h.arrival) hs ++ coming ∷ []) → LacksFrames made coming
       of_one one = record {
-        whose = one.whose;
-        was_made = one.was_made;
-        its = one.each coming (in_back coming (map (λ (h : Heard). h.arrival) hs) (coming ∷ []) (inl refl));
+        before = map (λ (h : Heard). h.arrival) hs;
+        ident = d.ident;
+        one = one;
         long = elim (leb_tells (frame_count (length one.whose.offer.payload)) 3) [
           | inl few ↦ never (sym one.not_whole ∙ short_is_whole laws one.whose (shows.holds.transfers.ranges one.whose one.was_made).id few.1
               (map (λ (h : Heard). h.arrival) hs ++ coming ∷ []) coming one.each its.w.signature d.id d.payload cutting)
           | inr many ↦ omega (arith, many.1)
         ];
+        signature = its.w.signature;
+        id = d.id;
+        payload = d.payload;
+        cutting = cutting;
       }
 
       pub lacks : LacksFrames made coming

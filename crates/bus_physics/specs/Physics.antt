@@ -88,7 +88,7 @@ RowIsPhysical limits all a past w at (ARx b k ms word) =
     OfIt (a == b) (GoesOn limits past at (now_of (w.allocatee b) ms) × ComesInTime limits all at (frame_at w.frames k))
 RowIsPhysical limits all a past w at row = ⊤
 
--- for allocatee a each row is
+-- each frame that allocatee a takes comes in time, and its clock had gone on by then; of its ticks nothing is asked
 abbrev pub ArePhysical : Limits → List Timed → ℕ → List Reading → Cluster → List Timed → Type 0
 ArePhysical limits all a past w [] = ⊤
 ArePhysical limits all a past w (timed ∷ rest) = RowIsPhysical limits all a past w timed.at timed.row

@@ -131,9 +131,14 @@ pub record IsStaleAt (made : List SentTransfer) (w : Cluster) (n k ms : ℕ) : T
 
 -- ---- what is torn on a physical bus
 
--- the frame completes what was put together of frames of one transfer, of four frames or more, that are not all of it
+-- A frame completes what was put together behind these frames. All of them are frames of one transfer, of four frames or
+-- more, and they are not all of it; but their pieces are those of some payload, so that the CRC fits.
 pub record LacksFrames (made : List SentTransfer) (last : Arrival) : Type 0 where
-  pub whose : SentTransfer
-  pub was_made : In whose made
-  pub its : IsFrameOf whose last
-  pub long : 4 ≤ frame_count (length whose.offer.payload)
+  pub before : List Arrival
+  pub ident : Ident
+  pub one : AreOfOne made ident (before ++ last ∷ [])
+  pub long : 4 ≤ frame_count (length one.whose.offer.payload)
+  pub signature : ℕ
+  pub id : ℕ
+  pub payload : List ℕ
+  pub cutting : map piece_in (before ++ last ∷ []) ≡ pieces_of signature id payload

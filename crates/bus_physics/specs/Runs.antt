@@ -10,8 +10,8 @@ use Rattle.bus_physics.specs.Physics.{HoldsAreShort, Limits, Timed, rows_in}
 use Rattle.bus_physics.specs.Processes.{MayAllDo}
 use Rattle.bus_physics.specs.Schedule.{HappenOnBus, LosesFrames}
 
--- The rows of the trace happen at these times on such a bus. Of what comes from it nothing is asked but that it was
--- sent; but for that the run stands in the trace.
+-- The rows of the trace happen at these times on such a bus. All that `IsRunIn` asks holds, but that nothing which is
+-- taken from the bus is torn or stale: of that it is asked alone that it was sent.
 pub record IsRunOnBus (limits : Limits) (timed : List Timed) (ids : List ℕ) (before during : List Event) (rules : Rules)
     (mine : List ℕ) (given : Given) (to : Point) : Type 0 where
   pub members : AreMembers ids
@@ -21,7 +21,7 @@ pub record IsRunOnBus (limits : Limits) (timed : List Timed) (ids : List ℕ) (b
   pub may : MayAllDo (before ++ during) (cluster ids)
   pub stands : MayAllHappen (before ++ during) (cluster ids) → IsRunIn ids before during rules mine given to
 
--- such a run stands in the trace, or a transfer loses frames
+-- such a run stands in the trace, or a row of it is torn, since a transfer lost frames
 abbrev pub StandOnBus : Rules → List ℕ → Type 0
 StandOnBus rules mine = (limits : Limits) (timed : List Timed) (ids : List ℕ) (before during : List Event) (given : Given)
     (to : Point) → IsRunOnBus limits timed ids before during rules mine given to →

@@ -24,7 +24,7 @@ pub record MemberHears (limits : Limits) (ids : List ℕ) (before : List Timed) 
   pub apart : UsesIdsApart limits (before ++ now ∷ []) (transfers_of_rows (cluster ids) (rows_in before) [])
       (heard_by n (cluster ids) (rows_in before)) n
 
--- an allocatee does
+-- allocatee a receives frame k
 pub record DeviceHears (limits : Limits) (ids : List ℕ) (before : List Timed) (now : Timed) (a k : ℕ) : Type 0 where
   pub comes : ArePhysical limits (before ++ now ∷ []) a [] (cluster ids) (before ++ now ∷ [])
   pub slow : AllocatesApart limits (before ++ now ∷ []) (transfers_of_rows (cluster ids) (rows_in before) [])
@@ -37,7 +37,7 @@ HappensOnBus limits ids before now (Rx n k ms) = MemberHears limits ids before n
 HappensOnBus limits ids before now (ARx a k ms word) = DeviceHears limits ids before now a k
 HappensOnBus limits ids before now row = ⊤
 
--- each row does, after those before it
+-- each row meets `HappensOnBus`, after the rows before it
 abbrev pub HappenOnBus : Limits → List ℕ → List Timed → List Timed → Type 0
 HappenOnBus limits ids before [] = ⊤
 HappenOnBus limits ids before (now ∷ rest) =
@@ -49,7 +49,7 @@ is_of_bus Torn = true
 is_of_bus Stale = true
 is_of_bus other = false
 
--- no row is refused for another one
+-- no row is refused for a cause other than `Torn` and `Stale`
 abbrev pub LawfulButForBus : Cluster → List Row → Type 0
 LawfulButForBus w [] = ⊤
 LawfulButForBus w (row ∷ rows) =
@@ -57,7 +57,8 @@ LawfulButForBus w (row ∷ rows) =
 
 -- ---- what may still be refused
 
--- after lawful rows a member hears a frame of a transfer of four frames or more, of which it lacks some
+-- After lawful rows a row is refused as torn: a member hears a frame that completes what it has of a transfer of four
+-- frames or more, of which it lacks some, and the CRC fits all the same.
 pub record LosesFrames (ids : List ℕ) (all : List Timed) : Type 0 where
   pub before : List Timed
   pub now : Timed
@@ -68,6 +69,7 @@ pub record LosesFrames (ids : List ℕ) (all : List Timed) : Type 0 where
   pub k : ℕ
   pub ms : ℕ
   pub row : now.row ≡ Rx n k ms
+  pub torn : cause (world_of ids (rows_in before)) (Rx n k ms) ≡ Some Torn
   pub moment : ℕ
   pub lacks : LacksFrames (transfers_of_rows (cluster ids) (rows_in before) [])
       (arrival_at (frame_at (world_of ids (rows_in before)).frames k) moment)

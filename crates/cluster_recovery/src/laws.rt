@@ -1,4 +1,4 @@
-//! The law of this crate, the contract of a function that does nothing.
+//! The laws of this crate, each the contract of a function that does nothing.
 
 ghost use Rattle.std.specs.Prelude.{ℕ, List, [], ◌∷◌};
 ghost use Rattle.cluster_recovery.specs.Alone.{ComesBack, ServesDevices, TellsAgain};
