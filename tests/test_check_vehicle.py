@@ -159,13 +159,19 @@ class Logs(unittest.TestCase):
         said = check("--log", self.log, "--members", "1,2,3", "--hold", "15000")
         self.assertRegex(said.written, r"A8 +NOT SO: +member 1 began anew \d+ ms after its last frame")
 
-    def test_allocations_that_use_an_id_again(self) -> None:
+    def allocations(self, apart: float) -> Ended:
+        """64 Allocations of member 1, so many seconds from each to the next."""
         begin = 1_600_000_000
         data = [f"0001020304050{at % 10}{0xC0 | at % 32:02X}" for at in range(64)]
-        lines = [f"({begin + at / 10:.6f}) can0 1E000101#{data[at]}" for at in range(64)]
-        said = self.of(lines)
-        soon = "member 1 Allocation message: a transfer ID was used again after 3200 ms"
-        self.assertRegex(said.written, rf"A8 +NOT SO: +{soon}")
+        return self.of([f"({begin + at * apart:.6f}) can0 1E000101#{data[at]}" for at in range(64)])
+
+    def test_allocations_that_use_an_id_again(self) -> None:
+        """A frame may be 3,500 ms late, a session lasts 2,000 ms, and a clock goes wrong by less than 500 ms."""
+        for apart, time in ((0.1, 3200), (0.175, 5600)):
+            said = self.allocations(apart)
+            soon = f"member 1 Allocation message: a transfer ID was used again after {time} ms"
+            self.assertRegex(said.written, rf"A8 +NOT SO: +{soon}")
+        self.assertRegex(self.allocations(0.1875).written, r"A8 +ok: +transfer IDs came round later")
 
     def test_words(self) -> None:
         self.assertEqual(run_tool("check_vehicle", "--help").status, 0)
